@@ -1,2 +1,4 @@
 pub mod Compared
+pub mod Order
 pub mod Sets
+pub mod Totals

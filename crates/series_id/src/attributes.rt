@@ -3,12 +3,11 @@
 ghost use Rattle.std.specs.Prelude.{◌≡◌, IfOk, []};
 ghost use Rattle.series_id.specs.Attributes.{IsAttrSet, attribute_cmp, attrs_cmp};
 
+use crate::texts::Text;
+use crate::values::AttrValue;
 use std::alloc::{AllocError, Global};
 use std::cmp::Ordering;
 use std::marker::Model;
-
-use crate::texts::Text;
-use crate::values::AttrValue;
 
 /// A key with its value.
 #[derive(Drop)]

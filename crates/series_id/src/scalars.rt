@@ -4,11 +4,10 @@ ghost use Rattle.std.specs.Prelude.{◌≡◌, IfOk};
 ghost use Rattle.std.specs.Cmp.Lexicographic.{slice_cmp};
 ghost use Rattle.series_id.specs.Values.{scalar_cmp, scalar_rank};
 
+use crate::texts::Text;
 use std::alloc::{AllocError, Global};
 use std::cmp::Ordering;
 use std::marker::Model;
-
-use crate::texts::Text;
 
 /// A single value of an attribute.
 #[derive(Drop)]

@@ -5,13 +5,12 @@ ghost use Rattle.series_id.specs.Checks.{checked_identity};
 ghost use Rattle.series_id.specs.Identity.{IsIdentity, row_length};
 ghost use Rattle.series_id.specs.Order.{metric_cmp, same_series, scope_cmp, series_before, series_cmp};
 
-use std::alloc::{AllocError, Global};
-use std::cmp::Ordering;
-use std::marker::Model;
-
 use crate::attributes::AttrSet;
 use crate::kinds::Kind;
 use crate::texts::Text;
+use std::alloc::{AllocError, Global};
+use std::cmp::Ordering;
+use std::marker::Model;
 
 /// Why no identity is made.
 #[derive(Clone, Copy, Debug, PartialEq, Eq)]

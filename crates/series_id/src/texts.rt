@@ -3,11 +3,10 @@
 ghost use Rattle.std.specs.Prelude.{◌≡◌, IfOk};
 ghost use Rattle.series_id.specs.Texts.{is_long, text_cmp};
 
+use crate::limits::MAX_TEXT;
 use std::alloc::{AllocError, Global};
 use std::cmp::Ordering;
 use std::marker::Model;
-
-use crate::limits::MAX_TEXT;
 
 /// A text. Contracts see it as the list of its bytes.
 #[derive(Drop)]
