@@ -1,0 +1,17 @@
+pub use Rattle.series_id.specs.Identity
+pub use Rattle.series_id.specs.Order
+pub mod Interval
+pub mod Rows
+pub mod DataPoint
+pub mod Senders
+pub mod NameFaults
+pub mod PointFaults
+pub mod History
+pub mod Points
+pub mod Running
+pub mod Series
+pub mod Legal
+pub mod Choice
+pub mod Standing
+pub mod Strike
+pub mod Settled
