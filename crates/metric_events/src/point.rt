@@ -82,6 +82,14 @@ impl Point {
         }
     }
 
+    /// The point of these parts, which are a point's.
+    pub fn from_parts(series: SeriesId, span: Span, row: Row) -> Point
+        requires { IsPoint (record { series = series; span = span; row = row }) }
+        ensures { result ≡ record { series = series; span = span; row = row } }
+    {
+        Point { series, span, row }
+    }
+
     pub fn series(&self) -> &SeriesId
         ensures { result.now ≡ self.now.series }
     {
