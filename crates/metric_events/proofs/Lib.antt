@@ -1,0 +1,9 @@
+pub mod Lists
+pub mod Identities
+pub mod Senders
+pub mod Moves
+pub mod Invariants
+pub mod Counts
+pub mod Owners
+pub mod Room
+pub mod WithinLimits
