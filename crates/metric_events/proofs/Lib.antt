@@ -1,1 +1,10 @@
+pub mod Lists
+pub mod Identities
+pub mod Senders
+pub mod Moves
+pub mod Invariants
+pub mod Counts
+pub mod Owners
+pub mod Room
+pub mod WithinLimits
 pub mod Sums

@@ -1,11 +1,11 @@
 -- Why a point can't be made.
-use Rattle.std.specs.Prelude.{ℕ, ℤ, pos, negsuc, Bool, true, false, not, ◌&&◌, List, nat_le, nat_lt, if◌then◌else◌, Some, None}
+use Rattle.std.specs.Prelude.{ℕ, ℤ, pos, negsuc, Bool, true, false, not, ◌&&◌, nat_le, nat_lt, if◌then◌else◌, Some, None}
 use Rattle.std.specs.declared.option.Option.{Option}
 use Rattle.series_id.specs.declared.kinds.Kind.{Kind}
 use Rattle.series_id.specs.declared.kinds.Kind.TheVariants.{Sum, Histogram}
 use Rattle.metric_events.specs.Rows.{fits, sum_row}
 use Rattle.metric_events.specs.declared.point.PointFault.{PointFault}
-use Rattle.metric_events.specs.declared.point.PointFault.TheVariants.{BadSpan, NegativeMonotonic, BucketMismatch, TooLarge}
+use Rattle.metric_events.specs.declared.point.PointFault.TheVariants.{BadSpan, NegativeMonotonic, TooLarge}
 
 abbrev pub IsSum : Kind → Type 0
 IsSum (Sum monotonic) = Unit {0}
