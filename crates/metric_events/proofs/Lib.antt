@@ -8,3 +8,6 @@ pub mod Owners
 pub mod Room
 pub mod WithinLimits
 pub mod Sums
+pub mod Fits
+pub mod Balance
+pub mod InOrder
