@@ -143,8 +143,8 @@ sums_fit (E ▸ Admit b body) l x = both (list_any (λ p. same_series p.series x
     both true e r = small_at x (points E ++ map (admitted b body.sender) body.points) body.points e l.1.small
     both false e r =
         let same : of_series x (points E ++ map (admitted b body.sender) body.points) ≡ of_series x (points E) =
-          filter-append (is_of x) (points E) (map (admitted b body.sender) body.points)
-          ∙ (ap (λ zs. of_series x (points E) ++ zs) (none_admitted b body.sender x body.points e) ∙ append-nil (of_series x (points E))) in
+        filter-append (is_of x) (points E) (map (admitted b body.sender) body.points)
+        ∙ (ap (λ zs. of_series x (points E) ++ zs) (none_admitted b body.sender x body.points e) ∙ append-nil (of_series x (points E))) in
         subst (λ (zs : List Accepted). fits x.kind (row_sum (row_length x.kind) zs) ≡ true) (sym same) r
 sums_fit (E ▸ Undo b) l x =
     fits_le x.kind (sum_of x (filter (is_of_other_batch b) (points E))) (sum_of x (points E))
