@@ -21,11 +21,15 @@ const GATEWAY_TIMEOUT: u16 = 504;
 #[tactic(auto, unfolding(crate::specs::Answers::answer_of))]
 pub fn classify(status: u16, retry_after: Option<&[u8]>) -> Answer
     ensures answer { result ≡ answer_of status (option_copied retry_after.entry) }
+
+    // The same in the protocol's words: a class has these statuses and no other.
     ensures success { (result ≡ Answer.Success) ↔ IsSuccess status }
     ensures is_final { (result ≡ Answer.Final) ↔ (IsError status × ¬ (IsRetryable status)) }
     ensures retryable { ((after : Option ℕ) × (result ≡ Answer.Retryable after)) ↔ IsRetryable status }
-    ensures waits { (n : ℕ) → (result ≡ Answer.Retryable (Some n)) ↔ (IsThrottling status × IsSomeAnd (option_copied retry_after.entry) (λ value. TellsDelay value n)) }
     ensures unknown { (result ≡ Answer.Unknown) ↔ ¬ (IsSuccess status ⊎ IsError status) }
+
+    // The seconds are those that the value tells, where the status is one that may tell some.
+    ensures waits { (n : ℕ) → (result ≡ Answer.Retryable (Some n)) ↔ (IsThrottling status × IsSomeAnd (option_copied retry_after.entry) (λ value. TellsDelay value n)) }
 {
     match status {
         200..=299 => Answer::Success,
