@@ -7,3 +7,4 @@ pub mod Counts
 pub mod Owners
 pub mod Room
 pub mod WithinLimits
+pub mod Rows
