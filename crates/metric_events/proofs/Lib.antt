@@ -8,3 +8,6 @@ pub mod Owners
 pub mod Room
 pub mod WithinLimits
 pub mod Rows
+pub mod Sums
+pub mod SmallSums
+pub mod InOrder

@@ -1,6 +1,6 @@
 -- Rows of words: how they add by place, and when one has no more than another in any place.
-use Rattle.std.proofs.Common.{◌≡◌, ℕ, ◌+◌, ◌≤◌, Bool, true, false, List, [], ◌∷◌, length, drop, max, refl, ap, sym, ◌∙◌, arith, zero, suc}
-use Rattle.std.specs.Prelude.{◌&&◌, sum, nat_le, slice_index, if◌then◌else◌}
+use Rattle.std.proofs.Common.{◌≡◌, ℕ, ◌+◌, ◌≤◌, true, false, List, [], ◌∷◌, length, drop, max, refl, ap, sym, ◌∙◌, arith, zero, suc}
+use Rattle.std.specs.Prelude.{◌&&◌, sum, nat_le, slice_index}
 use Rattle.std.specs.List.{list_all}
 use Rattle.std.proofs.lemmas.Bool.{and_parts, and_from, leb-true, le-leb}
 use Rattle.std.proofs.lemmas.List.Sums.{sum_by-cons}
