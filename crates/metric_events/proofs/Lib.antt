@@ -7,7 +7,8 @@ pub mod Counts
 pub mod Owners
 pub mod Room
 pub mod WithinLimits
-pub mod Rows
 pub mod Sums
-pub mod SmallSums
+pub mod Fits
+pub mod Balance
 pub mod InOrder
+pub mod SeriesOnce

@@ -1,105 +1,140 @@
--- The sums of rows of accepted points.
-use Rattle.std.proofs.Common.{◌≡◌, ℕ, Bool, true, false, cond, not, ◌&&◌, List, [], ◌∷◌, ◌++◌, map, length, refl, ap, sym, ◌∙◌, arith}
-use Rattle.std.specs.List.{list_all, filter}
-use Rattle.std.specs.Prelude.{nat_eq}
-use Rattle.std.proofs.lemmas.Bool.{and_parts, eqb-true}
-use Rattle.series_id.specs.Identity.{Identity, row_length}
-use Rattle.metric_events.proofs.Rows.{IsNoMore, no_more-refl, no_more-trans, no_more_right, no_more_added, add_rows-comm, add_rows-assoc, add_rows-swap, length-add_rows, length-zeros, zeros-add_rows}
+-- Rows that add by place, and the sums of points.
+use Rattle.std.proofs.Common.{◌≡◌, ℕ, ◌+◌, ◌≤◌, ◌<◌, Bool, true, false, cond, not, ◌&&◌, List, [], ◌∷◌, ◌++◌, length, refl, ap, sym, ◌∙◌, subst, arith, zero, suc, drop, sum, add_assoc, add_comm}
+use Rattle.std.specs.Prelude.{nat_le, slice_index}
+use Rattle.std.specs.List.{list_all, filter, sum_by}
+use Rattle.std.proofs.lemmas.Bool.{and_parts, and_from, leb-true, le-leb}
+use Rattle.std.proofs.lemmas.List.Sums.{sum_by-cons}
 use Rattle.metric_events.specs.Rows.{add_rows, zeros}
-use Rattle.metric_events.specs.Points.{is_home, is_flying, is_acknowledged, is_dropped, taken, landed, at, is_in_flight, is_among}
-use Rattle.metric_events.specs.Series.{row_sum, of_series, owner}
-use Rattle.metric_events.specs.Legal.{is_held}
-use Rattle.metric_events.specs.Standing.{stands, sum_where, series_standing, AddsUp}
-use Rattle.metric_events.specs.DataPoint.{DataPoint}
+use Rattle.metric_events.specs.Series.{row_sum}
 use Rattle.metric_events.specs.declared.accepted.Accepted.{Accepted}
-use Rattle.metric_events.specs.declared.place.Place.{Place}
-use Rattle.metric_events.specs.declared.place.Place.TheVariants.{Home, InFlight, Acknowledged, Dropped}
 
--- zeros add nothing to a sum
-pub zeros-row_sum : (n : ℕ) (qs : List Accepted) → add_rows (zeros n) (row_sum n qs) ≡ row_sum n qs
-zeros-row_sum n [] = zeros-add_rows n (zeros n) (omega (arith, length-zeros n))
-zeros-row_sum n (a ∷ qs) = add_rows-swap (zeros n) a.point.row (row_sum n qs) ∙ ap (add_rows a.point.row) (zeros-row_sum n qs)
+-- addition by place
 
--- the sum over two lists
+pub add_rows-nil : (xs : List ℕ) → add_rows xs [] ≡ xs
+add_rows-nil [] = refl
+add_rows-nil (x ∷ xs) = refl
+
+pub add_rows-comm : (xs ys : List ℕ) → add_rows xs ys ≡ add_rows ys xs
+add_rows-comm [] [] = refl
+add_rows-comm [] (y ∷ ys) = refl
+add_rows-comm (x ∷ xs) [] = refl
+add_rows-comm (x ∷ xs) (y ∷ ys) = ap (λ n. n ∷ add_rows xs ys) (omega arith) ∙ ap (λ zs. (y + x) ∷ zs) (add_rows-comm xs ys)
+
+pub add_rows-assoc : (xs ys zs : List ℕ) → add_rows (add_rows xs ys) zs ≡ add_rows xs (add_rows ys zs)
+add_rows-assoc [] ys zs = refl
+add_rows-assoc (x ∷ xs) [] zs = refl
+add_rows-assoc (x ∷ xs) (y ∷ ys) [] = refl
+add_rows-assoc (x ∷ xs) (y ∷ ys) (z ∷ zs) = ap (λ n. n ∷ add_rows (add_rows xs ys) zs) (omega arith) ∙ ap (λ ws. (x + (y + z)) ∷ ws) (add_rows-assoc xs ys zs)
+
+pub add_rows_swap : (xs ys zs : List ℕ) → add_rows xs (add_rows ys zs) ≡ add_rows ys (add_rows xs zs)
+add_rows_swap xs ys zs = sym (add_rows-assoc xs ys zs) ∙ (ap (λ ws. add_rows ws zs) (add_rows-comm xs ys) ∙ add_rows-assoc ys xs zs)
+
+pub length-zeros : (n : ℕ) → length (zeros n) ≡ n
+length-zeros zero = refl
+length-zeros (suc n) = omega (arith, length-zeros n)
+
+pub add_rows-zeros : (n : ℕ) (xs : List ℕ) → n ≤ length xs → add_rows (zeros n) xs ≡ xs
+add_rows-zeros zero xs h = refl
+add_rows-zeros (suc n) [] h = absurd (omega arith)
+add_rows-zeros (suc n) (x ∷ xs) h = ap (λ m. m ∷ add_rows (zeros n) xs) (omega arith) ∙ ap (λ ys. x ∷ ys) (add_rows-zeros n xs (omega arith))
+
+pub length-add_rows : (xs ys : List ℕ) (n : ℕ) → length xs ≡ n → length ys ≡ n → length (add_rows xs ys) ≡ n
+length-add_rows [] ys n h k = k
+length-add_rows (x ∷ xs) [] n h k = h
+length-add_rows (x ∷ xs) (y ∷ ys) n h k = omega (arith, length-add_rows xs ys (length xs) refl (omega arith))
+
+pub add_rows_longer : (xs ys : List ℕ) (n : ℕ) → n ≤ length ys → n ≤ length (add_rows xs ys)
+add_rows_longer [] ys n h = h
+add_rows_longer (x ∷ xs) [] n h = omega arith
+add_rows_longer (x ∷ xs) (y ∷ ys) zero h = omega arith
+add_rows_longer (x ∷ xs) (y ∷ ys) (suc n) h = omega (arith, add_rows_longer xs ys n (omega arith))
+
+-- one row is at most another, place by place
+
+abbrev pub RowLe : List ℕ → List ℕ → Type 0
+RowLe [] ys = Unit {0}
+RowLe (x ∷ xs) [] = (x ≡ 0) × RowLe xs []
+RowLe (x ∷ xs) (y ∷ ys) = (x ≤ y) × RowLe xs ys
+
+pub row_le_same : (xs : List ℕ) → RowLe xs xs
+row_le_same [] = tt
+row_le_same (x ∷ xs) = (omega arith, row_le_same xs)
+
+pub row_le_trans : (xs ys zs : List ℕ) → RowLe xs ys → RowLe ys zs → RowLe xs zs
+row_le_trans [] ys zs h k = tt
+row_le_trans (x ∷ xs) [] [] h k = h
+row_le_trans (x ∷ xs) [] (z ∷ zs) h k = (omega (arith, h.0), row_le_trans xs [] zs h.1 tt)
+row_le_trans (x ∷ xs) (y ∷ ys) [] h k = (omega (arith, h.0, k.0), row_le_trans xs ys [] h.1 k.1)
+row_le_trans (x ∷ xs) (y ∷ ys) (z ∷ zs) h k = (omega (arith, h.0, k.0), row_le_trans xs ys zs h.1 k.1)
+
+pub row_le_zeros : (n : ℕ) (ys : List ℕ) → RowLe (zeros n) ys
+row_le_zeros zero ys = tt
+row_le_zeros (suc n) [] = (refl, row_le_zeros n [])
+row_le_zeros (suc n) (y ∷ ys) = (omega arith, row_le_zeros n ys)
+
+pub row_le_add : (xs ys : List ℕ) → RowLe ys (add_rows xs ys)
+row_le_add [] ys = row_le_same ys
+row_le_add (x ∷ xs) [] = tt
+row_le_add (x ∷ xs) (y ∷ ys) = (omega arith, row_le_add xs ys)
+
+pub row_le_add_both : (ws xs ys : List ℕ) → RowLe xs ys → RowLe (add_rows ws xs) (add_rows ws ys)
+row_le_add_both [] xs ys h = h
+row_le_add_both (w ∷ ws) [] [] h = row_le_same (w ∷ ws)
+row_le_add_both (w ∷ ws) [] (y ∷ ys) h = (omega arith, subst (λ zs. RowLe zs (add_rows ws ys)) (add_rows-nil ws) (row_le_add_both ws [] ys tt))
+row_le_add_both (w ∷ ws) (x ∷ xs) [] h = (omega (arith, h.0), subst (λ zs. RowLe (add_rows ws xs) zs) (add_rows-nil ws) (row_le_add_both ws xs [] h.1))
+row_le_add_both (w ∷ ws) (x ∷ xs) (y ∷ ys) h = (omega (arith, h.0), row_le_add_both ws xs ys h.1)
+
+pub row_le_drop : (n : ℕ) (xs ys : List ℕ) → RowLe xs ys → RowLe (drop n xs) (drop n ys)
+row_le_drop zero xs ys h = h
+row_le_drop (suc n) [] ys h = tt
+row_le_drop (suc n) (x ∷ xs) [] h = row_le_drop_none n xs h.1
+  where
+    row_le_drop_none : (n : ℕ) (xs : List ℕ) → RowLe xs [] → RowLe (drop n xs) []
+    row_le_drop_none zero xs h = h
+    row_le_drop_none (suc n) [] h = tt
+    row_le_drop_none (suc n) (x ∷ xs) h = row_le_drop_none n xs h.1
+row_le_drop (suc n) (x ∷ xs) (y ∷ ys) h = row_le_drop n xs ys h.1
+
+pub row_le_sum : (xs ys : List ℕ) → RowLe xs ys → sum xs ≤ sum ys
+row_le_sum [] ys h = omega arith
+row_le_sum (x ∷ xs) [] h = omega (arith, h.0, row_le_sum xs [] h.1, sum_by-cons (λ n. n) x xs)
+row_le_sum (x ∷ xs) (y ∷ ys) h = omega (arith, h.0, row_le_sum xs ys h.1, sum_by-cons (λ n. n) x xs, sum_by-cons (λ n. n) y ys)
+
+pub row_le_at : (xs ys : List ℕ) (k : ℕ) → RowLe xs ys → slice_index xs k ≤ slice_index ys k
+row_le_at [] ys k h = omega arith
+row_le_at (x ∷ xs) [] zero h = omega (arith, h.0)
+row_le_at (x ∷ xs) [] (suc k) h = row_le_at xs [] k h.1
+row_le_at (x ∷ xs) (y ∷ ys) zero h = h.0
+row_le_at (x ∷ xs) (y ∷ ys) (suc k) h = row_le_at xs ys k h.1
+
+-- sums of points
+
+pub row_sum_long : (n : ℕ) (qs : List Accepted) → n ≤ length (row_sum n qs)
+row_sum_long n [] = omega (arith, length-zeros n)
+row_sum_long n (a ∷ qs) = add_rows_longer a.point.row (row_sum n qs) n (row_sum_long n qs)
+
 pub row_sum-append : (n : ℕ) (qs rs : List Accepted) → row_sum n (qs ++ rs) ≡ add_rows (row_sum n qs) (row_sum n rs)
-row_sum-append n [] rs = sym (zeros-row_sum n rs)
+row_sum-append n [] rs = sym (add_rows-zeros n (row_sum n rs) (row_sum_long n rs))
 row_sum-append n (a ∷ qs) rs = ap (add_rows a.point.row) (row_sum-append n qs rs) ∙ sym (add_rows-assoc a.point.row (row_sum n qs) (row_sum n rs))
 
--- where the points themselves stay, so does their sum
-pub row_sum_map : (n : ℕ) (f : Accepted → Accepted) → ((a : Accepted) → (f a).point ≡ a.point) → (qs : List Accepted) → row_sum n (map f qs) ≡ row_sum n qs
-row_sum_map n f k [] = refl
-row_sum_map n f k (a ∷ qs) = ap (λ (p : DataPoint). add_rows p.row (row_sum n (map f qs))) (k a) ∙ ap (add_rows a.point.row) (row_sum_map n f k qs)
+-- one more point at the end
+pub row_sum_push : (n : ℕ) (qs : List Accepted) (a : Accepted) → row_sum n (qs ++ a ∷ []) ≡ add_rows (row_sum n qs) a.point.row
+row_sum_push n qs a =
+    row_sum-append n qs (a ∷ [])
+    ∙ (ap (add_rows (row_sum n qs)) (add_rows-comm a.point.row (zeros n))
+    ∙ (add_rows_swap (row_sum n qs) (zeros n) a.point.row
+    ∙ add_rows-zeros n (add_rows (row_sum n qs) a.point.row) (subst (λ ws. n ≤ length ws) (add_rows-comm a.point.row (row_sum n qs)) (add_rows_longer a.point.row (row_sum n qs) n (row_sum_long n qs)))))
 
-pub taken_point : (f : ℕ) (series : List Identity) (a : Accepted) → (taken f series a).point ≡ a.point
-taken_point f series a =
-    elim (is_home a.place && is_among a.point.series series) as (λ v. (cond v (at (InFlight f) a) a).point ≡ a.point) [ true ↦ refl | false ↦ refl ]
-
-pub landed_point : (f : ℕ) (q : Place) (a : Accepted) → (landed f q a).point ≡ a.point
-landed_point f q a =
-    elim (is_in_flight f a.place) as (λ v. (cond v (at q a) a).point ≡ a.point) [ true ↦ refl | false ↦ refl ]
-
--- some of the points have no more than all of them
-pub row_sum_filter : (n : ℕ) (t : Accepted → Bool) (qs : List Accepted) → IsNoMore (row_sum n (filter t qs)) (row_sum n qs)
-row_sum_filter n t [] = no_more-refl (zeros n)
-row_sum_filter n t (a ∷ qs) =
-    elim (t a) as (λ v. IsNoMore (row_sum n (cond v (a ∷ filter t qs) (filter t qs))) (row_sum n (a ∷ qs))) [
-      | true ↦ no_more_added a.point.row (row_sum n (filter t qs)) a.point.row (row_sum n qs) (no_more-refl a.point.row) (row_sum_filter n t qs)
-      | false ↦ no_more-trans (row_sum n (filter t qs)) (row_sum n qs) (row_sum n (a ∷ qs)) (row_sum_filter n t qs) (no_more_right a.point.row (row_sum n qs))
+-- fewer points have no greater sum
+pub row_sum_filter_le : (n : ℕ) (t : Accepted → Bool) (qs : List Accepted) → RowLe (row_sum n (filter t qs)) (row_sum n qs)
+row_sum_filter_le n t [] = row_le_same (zeros n)
+row_sum_filter_le n t (a ∷ qs) =
+    elim (t a) as (λ v. RowLe (row_sum n (cond v (a ∷ filter t qs) (filter t qs))) (add_rows a.point.row (row_sum n qs))) [
+      | true ↦ row_le_add_both a.point.row (row_sum n (filter t qs)) (row_sum n qs) (row_sum_filter_le n t qs)
+      | false ↦ row_le_trans (row_sum n (filter t qs)) (row_sum n qs) (add_rows a.point.row (row_sum n qs)) (row_sum_filter_le n t qs) (row_le_add a.point.row (row_sum n qs))
     ]
 
--- those that pass a test and those that do not add up to all
-pub row_sum_parted : (n : ℕ) (t : Accepted → Bool) (qs : List Accepted) → add_rows (row_sum n (filter t qs)) (row_sum n (filter (λ a. not (t a)) qs)) ≡ row_sum n qs
-row_sum_parted n t [] = zeros-row_sum n []
-row_sum_parted n t (a ∷ qs) =
-    let yes = row_sum n (filter t qs) in
-    let no = row_sum n (filter (λ a. not (t a)) qs) in
-    elim (t a) as (λ v. add_rows (row_sum n (cond v (a ∷ filter t qs) (filter t qs))) (row_sum n (cond (not v) (a ∷ filter (λ a. not (t a)) qs) (filter (λ a. not (t a)) qs))) ≡ row_sum n (a ∷ qs)) [
-      | true ↦ add_rows-assoc a.point.row yes no ∙ ap (add_rows a.point.row) (row_sum_parted n t qs)
-      | false ↦ add_rows-swap yes a.point.row no ∙ ap (add_rows a.point.row) (row_sum_parted n t qs)
-    ]
-
--- the sum of rows of one length has that length
-pub length-row_sum : (n : ℕ) (qs : List Accepted) → list_all (λ a. nat_eq (length a.point.row) n) qs ≡ true → length (row_sum n qs) ≡ n
-length-row_sum n [] h = length-zeros n
-length-row_sum n (a ∷ qs) h =
-    let p = and_parts (nat_eq (length a.point.row) n) (list_all (λ a. nat_eq (length a.point.row) n) qs) h in
-    omega (arith, length-add_rows a.point.row (row_sum n qs), eqb-true (length a.point.row) n p.0, length-row_sum n qs p.1)
-
--- what became of points adds up
-
-abbrev where_sum : ℕ → (Place → Bool) → List Accepted → List ℕ
-where_sum n t qs = row_sum n (filter (stands t) qs)
-
-abbrev four_sums : ℕ → List Accepted → List ℕ
-four_sums n qs = add_rows (where_sum n is_acknowledged qs) (add_rows (where_sum n is_dropped qs) (add_rows (where_sum n is_flying qs) (where_sum n is_home qs)))
-
--- the third of three comes first
-to_front : (r xs ys zs : List ℕ) → add_rows xs (add_rows ys (add_rows r zs)) ≡ add_rows r (add_rows xs (add_rows ys zs))
-to_front r xs ys zs = ap (add_rows xs) (add_rows-swap ys r zs) ∙ add_rows-swap xs r (add_rows ys zs)
-
-four_places : (n : ℕ) (qs : List Accepted) → four_sums n qs ≡ row_sum n qs
-four_places n [] = ap (λ rs. add_rows (zeros n) (add_rows (zeros n) rs)) (zeros-row_sum n []) ∙ (ap (add_rows (zeros n)) (zeros-row_sum n []) ∙ zeros-row_sum n [])
-four_places n (a ∷ qs) = one_more a.place ∙ ap (add_rows a.point.row) (four_places n qs)
-  where
-    one_more : (place : Place) → add_rows (row_sum n (cond (is_acknowledged place) (a ∷ filter (stands is_acknowledged) qs) (filter (stands is_acknowledged) qs))) (add_rows (row_sum n (cond (is_dropped place) (a ∷ filter (stands is_dropped) qs) (filter (stands is_dropped) qs))) (add_rows (row_sum n (cond (is_flying place) (a ∷ filter (stands is_flying) qs) (filter (stands is_flying) qs))) (row_sum n (cond (is_home place) (a ∷ filter (stands is_home) qs) (filter (stands is_home) qs))))) ≡ add_rows a.point.row (four_sums n qs)
-    one_more Home =
-        ap (λ rs. add_rows (where_sum n is_acknowledged qs) (add_rows (where_sum n is_dropped qs) rs)) (add_rows-swap (where_sum n is_flying qs) a.point.row (where_sum n is_home qs))
-        ∙ to_front a.point.row (where_sum n is_acknowledged qs) (where_sum n is_dropped qs) (add_rows (where_sum n is_flying qs) (where_sum n is_home qs))
-    one_more (InFlight f) =
-        ap (λ rs. add_rows (where_sum n is_acknowledged qs) (add_rows (where_sum n is_dropped qs) rs)) (add_rows-assoc a.point.row (where_sum n is_flying qs) (where_sum n is_home qs))
-        ∙ to_front a.point.row (where_sum n is_acknowledged qs) (where_sum n is_dropped qs) (add_rows (where_sum n is_flying qs) (where_sum n is_home qs))
-    one_more Acknowledged = add_rows-assoc a.point.row (where_sum n is_acknowledged qs) (add_rows (where_sum n is_dropped qs) (add_rows (where_sum n is_flying qs) (where_sum n is_home qs)))
-    one_more Dropped =
-        ap (add_rows (where_sum n is_acknowledged qs)) (add_rows-assoc a.point.row (where_sum n is_dropped qs) (add_rows (where_sum n is_flying qs) (where_sum n is_home qs)))
-        ∙ add_rows-swap (where_sum n is_acknowledged qs) a.point.row (add_rows (where_sum n is_dropped qs) (add_rows (where_sum n is_flying qs) (where_sum n is_home qs)))
-
--- what is at home is stored or quarantined
-at_home : (held : Bool) (n : ℕ) (qs : List Accepted) → add_rows (cond held (zeros n) (row_sum n qs)) (cond held (row_sum n qs) (zeros n)) ≡ row_sum n qs
-at_home true n qs = zeros-row_sum n qs
-at_home false n qs = add_rows-comm (row_sum n qs) (zeros n) ∙ zeros-row_sum n qs
-
--- the sums by place of a series add up to what was accepted of it
-pub adds_up : (qs : List Accepted) (held : List (List ℕ)) (x : Identity) → AddsUp (series_standing qs held x)
-adds_up qs held x =
-    ap (λ rs. add_rows (sum_where is_acknowledged x qs) (add_rows (sum_where is_dropped x qs) (add_rows (sum_where is_flying x qs) rs))) (at_home (is_held (owner x qs) held) (row_length x.kind) (filter (stands is_home) (of_series x qs)))
-    ∙ four_places (row_length x.kind) (of_series x qs)
+-- the first of a list has no greater sum than the whole
+pub row_sum_first_le : (n : ℕ) (qs rs : List Accepted) → RowLe (row_sum n qs) (row_sum n (qs ++ rs))
+row_sum_first_le n [] rs = row_le_zeros n (row_sum n rs)
+row_sum_first_le n (a ∷ qs) rs = row_le_add_both a.point.row (row_sum n qs) (row_sum n (qs ++ rs)) (row_sum_first_le n qs rs)
