@@ -102,7 +102,7 @@ row_sum-map : (n : ℕ) (f : Accepted → Accepted) → ((a : Accepted) → (f a
 row_sum-map n f k [] = refl
 row_sum-map n f k (a ∷ qs) = ap (λ (p : DataPoint). add_rows p.row (row_sum n (map f qs))) (k a) ∙ ap (add_rows a.point.row) (row_sum-map n f k qs)
 
-sum_of-map : (x : Identity) (f : Accepted → Accepted) → ((a : Accepted) → (f a).point ≡ a.point) → (qs : List Accepted) → sum_of x (map f qs) ≡ sum_of x qs
+pub sum_of-map : (x : Identity) (f : Accepted → Accepted) → ((a : Accepted) → (f a).point ≡ a.point) → (qs : List Accepted) → sum_of x (map f qs) ≡ sum_of x qs
 sum_of-map x f k qs =
     ap (row_sum (row_length x.kind)) (filter-map (is_of x) f (λ a. ap (λ (p : DataPoint). same_series p.series x) (k a)) qs)
     ∙ row_sum-map (row_length x.kind) f k (of_series x qs)

@@ -12,3 +12,6 @@ pub mod Fits
 pub mod Balance
 pub mod InOrder
 pub mod SeriesOnce
+pub mod Fewer
+pub mod Struck
+pub mod StruckOthers
