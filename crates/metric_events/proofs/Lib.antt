@@ -15,3 +15,4 @@ pub mod SeriesOnce
 pub mod Fewer
 pub mod Struck
 pub mod StruckOthers
+pub mod Striking
