@@ -16,3 +16,6 @@ pub mod Fewer
 pub mod Struck
 pub mod StruckOthers
 pub mod Striking
+pub mod Passing
+pub mod Settling
+pub mod Ordering
