@@ -1,9 +1,9 @@
 -- The points of a legal history are points, and their sums are within the limits of their series.
-use Rattle.std.proofs.Common.{◌≡◌, ℕ, ◌+◌, ◌≤◌, ◌<◌, Bool, true, false, cond, not, ◌&&◌, ◌||◌, List, [], ◌∷◌, ◌++◌, map, length, min, max, refl, ap, sym, ◌∙◌, subst, arith, zero, suc, drop, sum, Some, None}
+use Rattle.std.proofs.Common.{◌≡◌, ℕ, ◌+◌, ◌≤◌, Bool, true, false, cond, ◌&&◌, List, [], ◌∷◌, ◌++◌, map, length, refl, ap, sym, ◌∙◌, subst, arith, zero, suc, drop, sum, Some, None}
 use Rattle.std.specs.Prelude.{nat_le, slice_index}
 use Rattle.std.specs.declared.option.Option.{Option}
 use Rattle.std.specs.List.{list_all, list_any, filter, All}
-use Rattle.std.proofs.lemmas.Bool.{and_parts, and_from, or_parts, leb-true, le-leb, not-true, not-false}
+use Rattle.std.proofs.lemmas.Bool.{and_parts, and_from, or_parts, leb-true, le-leb, not-false}
 use Rattle.std.proofs.lemmas.List.{append-nil}
 use Rattle.series_id.specs.Identity.{Identity, IsIdentity, row_length}
 use Rattle.series_id.specs.Order.{same_series}
@@ -23,8 +23,7 @@ use Rattle.metric_events.specs.declared.place.Place.{Place}
 use Rattle.metric_events.specs.declared.place.Place.TheVariants.{Home, InFlight, Acknowledged, Dropped}
 use Rattle.metric_events.specs.declared.event.Event.TheVariants.{Admit, Undo, Confirm, Take, Settle, Drop, GiveBack, Quarantine, Lift}
 use Rattle.metric_events.proofs.Lists.{filter-map, filter-filter}
-use Rattle.metric_events.proofs.Moves.{taken_blind, landed_blind}
-use Rattle.metric_events.proofs.Sums.{RowLe, row_le_same, row_le_trans, row_le_zeros, row_le_drop, row_le_sum, row_le_at, row_sum_filter_le, length-zeros, length-add_rows, add_rows-nil}
+use Rattle.metric_events.proofs.Sums.{RowLe, row_le_zeros, row_le_drop, row_le_sum, row_le_at, row_sum_filter_le, length-zeros, length-add_rows, add_rows-nil}
 
 -- each of them is a point
 
@@ -102,7 +101,7 @@ row_sum-map : (n : ℕ) (f : Accepted → Accepted) → ((a : Accepted) → (f a
 row_sum-map n f k [] = refl
 row_sum-map n f k (a ∷ qs) = ap (λ (p : DataPoint). add_rows p.row (row_sum n (map f qs))) (k a) ∙ ap (add_rows a.point.row) (row_sum-map n f k qs)
 
-sum_of-map : (x : Identity) (f : Accepted → Accepted) → ((a : Accepted) → (f a).point ≡ a.point) → (qs : List Accepted) → sum_of x (map f qs) ≡ sum_of x qs
+pub sum_of-map : (x : Identity) (f : Accepted → Accepted) → ((a : Accepted) → (f a).point ≡ a.point) → (qs : List Accepted) → sum_of x (map f qs) ≡ sum_of x qs
 sum_of-map x f k qs =
     ap (row_sum (row_length x.kind)) (filter-map (is_of x) f (λ a. ap (λ (p : DataPoint). same_series p.series x) (k a)) qs)
     ∙ row_sum-map (row_length x.kind) f k (of_series x qs)

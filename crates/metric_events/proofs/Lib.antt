@@ -11,3 +11,11 @@ pub mod Sums
 pub mod Fits
 pub mod Balance
 pub mod InOrder
+pub mod SeriesOnce
+pub mod Fewer
+pub mod Struck
+pub mod StruckOthers
+pub mod Striking
+pub mod Passing
+pub mod Settling
+pub mod Ordering

@@ -9,6 +9,7 @@ pub mod batch;
 pub mod entry;
 pub mod event;
 pub mod flight;
+pub mod laws;
 pub mod limits;
 pub mod place;
 pub mod point;
