@@ -1,4 +1,7 @@
+pub mod Ascents
 pub mod Compared
+pub mod OneSet
 pub mod Order
 pub mod Sets
-pub mod Totals
+pub mod Sorted
+pub mod Refusals

@@ -3,9 +3,12 @@
 ghost use Rattle.std.specs.Prelude.{◌≡◌, IfOk};
 ghost use Rattle.std.specs.Cmp.Lexicographic.{slice_cmp};
 ghost use Rattle.std.specs.Ordering.{int_cmp};
+ghost use Rattle.series_id.specs.Ascending.{are_ascending, has_large, histogram_of, kind_refusal};
 ghost use Rattle.series_id.specs.Bounds.{IsBounds};
 ghost use Rattle.series_id.specs.Kinds.{IsKind, kind_cmp, row_length};
 
+use crate::faults::KindFault;
+use crate::limits::{MAX_BOUND, MAX_BOUNDS};
 use std::alloc::{AllocError, Global};
 use std::cmp::Ordering;
 use std::marker::Model;
@@ -75,6 +78,22 @@ impl Bounds {
 }
 
 impl Kind {
+    /// The kind of histograms with these bounds.
+    ///
+    /// Fails, in this order, with `TooManyBounds` where there are more than `MAX_BOUNDS`,
+    /// `BoundTooLarge` where one is more than `MAX_BOUND` above or below zero, and
+    /// `NotAscending` where one is not below the next. Takes no memory.
+    pub fn histogram(bounds: Vec<i64>) -> Result<Kind, KindFault>
+        ensures { result ≡ histogram_of bounds.items }
+    {
+        if let Some(fault) = kind_fault(bounds.as_slice()) {
+            return Err(fault);
+        }
+        Ok(Kind::Histogram {
+            bounds: Bounds { bounds },
+        })
+    }
+
     /// An equal kind.
     pub fn copy(&self, alloc: Global) -> Result<Kind, AllocError>
         ensures { IfOk result (λ copy. copy ≡ self.now) }
@@ -124,4 +143,46 @@ impl Kind {
             }
         }
     }
+}
+
+/// The first fault of numbers that are to be bounds.
+#[tactic(auto, unfolding(crate::specs::Ascending::kind_refusal))]
+fn kind_fault(bounds: &[i64]) -> Option<KindFault>
+    ensures { result ≡ kind_refusal bounds.now }
+{
+    if bounds.len() > MAX_BOUNDS {
+        return Some(KindFault::TooManyBounds);
+    }
+    if has_large(bounds) {
+        return Some(KindFault::BoundTooLarge);
+    }
+    if !are_ascending(bounds) {
+        return Some(KindFault::NotAscending);
+    }
+    None
+}
+
+/// Whether one of the numbers is too large for a bound.
+#[tactic(auto, unfolding(crate::specs::Ascending::has_large))]
+fn has_large(bounds: &[i64]) -> bool
+    ensures { result ≡ has_large bounds.now }
+{
+    bounds.iter().any(|bound| bound.unsigned_abs() > MAX_BOUND)
+}
+
+/// Whether each number is below the next.
+#[tactic(auto, unfolding(crate::specs::Ascending::are_ascending))]
+fn are_ascending(bounds: &[i64]) -> bool
+    ensures { result ≡ are_ascending bounds.now }
+{
+    let mut left = bounds;
+    while let [first, rest @ ..] = left {
+        if let Some(second) = rest.first()
+            && second <= first
+        {
+            return false;
+        }
+        left = rest;
+    }
+    true
 }
