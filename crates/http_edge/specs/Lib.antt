@@ -1,0 +1,10 @@
+pub mod Message
+pub mod Framing
+pub mod Chunks
+pub mod Reading
+pub mod Framed
+pub mod Body
+pub mod Head
+pub mod Answer
+pub mod Holds
+pub mod Request
