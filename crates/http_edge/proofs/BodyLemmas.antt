@@ -113,7 +113,7 @@ returned b p open_ = record {
   less = λ e. omega arith;
 }
 
-no_line_yet : HasNoChunkLine []
+pub no_line_yet : HasNoChunkLine []
 unfolding print_chunk_line
 no_line_yet l rest h = omega (arith, h.0.digits.0, ap length h.1, simp length-append at (ap length h.1))
 

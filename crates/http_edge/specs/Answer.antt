@@ -17,21 +17,17 @@ HasBadLength bytes = (head : RequestHead) × (after : List ℕ) × IsHeadAt byte
 abbrev pub HasBadBody : List ℕ → Type 0
 HasBadBody bytes = (head : RequestHead) × (after : List ℕ) × IsHeadAt bytes head after × (framing_in head ≢ None) × Never bytes
 
--- whatever follows, the size is the first thing that is wrong behind the head
-abbrev pub StaysTooLong : List ℕ → Type 0
-StaysTooLong bytes = (more : List ℕ) → IsTooLong (bytes ++ more)
-
--- what each fault says of the bytes; Io and NoMemory say nothing of them
+-- what each fault says of the bytes; NoMemory says nothing of them, and Io is none of theirs
 abbrev pub Explains : HttpFault → List ℕ → Type 0
 Explains Closed bytes = bytes ≡ []
 Explains BadHead bytes = NeverHasRequest bytes
 Explains TooManyHeaders bytes = HasTooManyFields bytes
 Explains HeadTooLong bytes = HasLongHead bytes
 Explains BadLength bytes = HasBadLength bytes
-Explains BodyTooLong bytes = StaysTooLong bytes
+Explains BodyTooLong bytes = IsTooLong bytes
 Explains BadChunk bytes = HasBadBody bytes
 Explains Truncated bytes = (bytes ≢ []) × NotYet bytes
-Explains Io bytes = ⊤
+Explains Io bytes = ⊥
 Explains NoMemory bytes = ⊤
 
 -- of bytes that end here
@@ -60,3 +56,31 @@ abbrev pub Tells : List ℕ → Result Bool HttpFault → Type 0
 Tells bytes (Ok true) = (m : Message) × BeginsWith bytes m
 Tells bytes (Ok false) = NotYet bytes
 Tells bytes (Err e) = Fails e bytes
+
+-- where a message stands at the front, it is answered, unless memory ran out
+abbrev pub Gives : Message → Result Request HttpFault → Type 0
+Gives m (Ok r) = message_in r ≡ m
+Gives m (Err NoMemory) = ⊤
+Gives m (Err Closed) = ⊥
+Gives m (Err BadHead) = ⊥
+Gives m (Err TooManyHeaders) = ⊥
+Gives m (Err HeadTooLong) = ⊥
+Gives m (Err BadLength) = ⊥
+Gives m (Err BodyTooLong) = ⊥
+Gives m (Err BadChunk) = ⊥
+Gives m (Err Truncated) = ⊥
+Gives m (Err Io) = ⊥
+
+-- where the size is the first thing that is wrong, BodyTooLong is answered, unless memory ran out
+abbrev pub TellsTooLong : Result Request HttpFault → Type 0
+TellsTooLong (Ok r) = ⊥
+TellsTooLong (Err BodyTooLong) = ⊤
+TellsTooLong (Err NoMemory) = ⊤
+TellsTooLong (Err Closed) = ⊥
+TellsTooLong (Err BadHead) = ⊥
+TellsTooLong (Err TooManyHeaders) = ⊥
+TellsTooLong (Err HeadTooLong) = ⊥
+TellsTooLong (Err BadLength) = ⊥
+TellsTooLong (Err BadChunk) = ⊥
+TellsTooLong (Err Truncated) = ⊥
+TellsTooLong (Err Io) = ⊥

@@ -1,5 +1,5 @@
 -- What a decoder holds of the bytes that it was fed.
-use Rattle.std.specs.Prelude.{◌≡◌, ◌≢◌, ℕ, ◌+◌, ◌-◌, ◌<◌, ◌≤◌, Bool, true, false, List, [], ◌++◌, length, Option, Some, None, ⊤}
+use Rattle.std.specs.Prelude.{◌≡◌, ◌≢◌, ℕ, ◌+◌, ◌-◌, ◌<◌, ◌≤◌, Bool, true, false, List, [], ◌++◌, length, take, Option, Some, None, ⊤}
 use Rattle.httparse.specs.Grammar.{RequestHead, HasNoRequest}
 use Rattle.http_edge.specs.declared.fault.HttpFault.{HttpFault}
 use Rattle.http_edge.specs.declared.framing.Framing.{Framing}
@@ -104,3 +104,24 @@ pub record Starts (framing : Framing) (body : Stand) : Type 0 where
   pub forward : (more : List ℕ) (o : Option (List ℕ)) → HasBody (Some framing) more o → Becomes body more o
   pub backward : (more : List ℕ) (o : Option (List ℕ)) → Becomes body more o → HasBody (Some framing) more o
   pub less : most_left body ≤ most_of_chunks MAX_BODY
+
+-- from old, n bytes of the piece are of the head, and all of it where the head isn't whole
+pub record TakesHead (old new : Progress) (piece : List ℕ) (n : ℕ) : Type 0 where
+  pub within : n ≤ length piece
+  pub sound : IsSound new
+  pub fine : is_failed new ≡ false
+  pub rest : new.stage ≡ InHead → n ≡ length piece
+  pub holds : Holds new (old.head ++ take n piece)
+  pub less : most_to_come new + n ≤ most_to_come old
+
+-- from old, the piece leads to new, where done says whether the message is whole
+pub record Advances (old new : Progress) (piece : List ℕ) (done : Bool) : Type 0 where
+  pub sound : IsSound new
+  pub fine : is_failed new ≡ false
+  pub done_is : done ≡ is_done new
+  pub holds : (bytes : List ℕ) → Holds old bytes → Holds new (bytes ++ piece)
+  pub less : done ≡ false → most_to_come new + length piece ≤ most_to_come old
+
+-- from old, the piece can't be fed, for this fault
+abbrev pub Stops : Progress → List ℕ → HttpFault → Type 0
+Stops old piece e = (bytes : List ℕ) → Holds old bytes → Fails e (bytes ++ piece)

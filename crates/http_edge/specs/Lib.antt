@@ -8,3 +8,4 @@ pub mod Head
 pub mod Answer
 pub mod Holds
 pub mod Request
+pub mod Finish

@@ -1,6 +1,6 @@
 //! A body as it comes (RFC 9112, sections 6 and 7).
 ghost use Rattle.std.specs.Prelude.{◌≡◌, ◌<◌, ◌≤◌, length, take, IfOk, IfErr, OnOk};
-ghost use Rattle.http_edge.specs.Body.{stand_of, IsOpen, Reaches, Refuses};
+ghost use Rattle.http_edge.specs.Body.{stand_of, is_whole, IsOpen, Reaches, Refuses};
 
 use crate::fault::HttpFault;
 use crate::limits::{MAX_BODY, MAX_LINE, MAX_FIELDS, MAX_TRAILER};
@@ -205,5 +205,11 @@ impl Body {
             at += self.step(&piece[at..])?;
         }
         Ok(())
+    }
+
+    pub fn is_whole(&self) -> bool
+        ensures { result ≡ is_whole self.now.phase }
+    {
+        matches!(self.phase, Phase::Whole)
     }
 }

@@ -2,6 +2,7 @@
 #![tactic(auto)]
 
 mod body;
+mod decoder;
 mod fault;
 mod framing;
 mod head;
@@ -11,5 +12,6 @@ mod phase;
 mod request;
 mod stage;
 
+pub use decoder::Decoder;
 pub use fault::HttpFault;
 pub use request::Request;
