@@ -9,3 +9,4 @@ pub mod Unique
 pub mod FinishLemmas
 pub mod AnswerLemmas
 pub mod ReadLemmas
+pub mod WriteLemmas

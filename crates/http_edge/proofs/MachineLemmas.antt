@@ -1,5 +1,6 @@
 -- What a machine holds, step by step.
 use Rattle.std.proofs.Common.{◌≡◌, ◌≢◌, ℕ, ◌+◌, ◌-◌, ◌<◌, ◌≤◌, Bool, true, false, List, [], ◌∷◌, ◌++◌, length, map, drop, take, min, Option, Some, None, Ok, Err, refl, sym, ap, subst, ◌∙◌, arith, append_assoc}
+use Rattle.std.specs.Prelude.{Result, IfOk, IfErr}
 use Rattle.std.proofs.lemmas.List.{length-append, length-take, append-nil, take_at, take_all, nil_from_length}
 use Rattle.httparse.specs.Grammar.{RequestHead, print_request, ReadsRequest, HasNoRequest}
 use Rattle.httparse.specs.declared.spans.HeaderSpan.{HeaderSpan}
@@ -22,7 +23,7 @@ use Rattle.http_edge.specs.Head.{FindsHead}
 use Rattle.http_edge.specs.Reading.{HasBody, framing_in, message_of, Reads, BeginsWith, IsTooLong, NotYet}
 use Rattle.http_edge.specs.Body.{Stand, Becomes, IsOpen, is_whole, Reaches, Refuses}
 use Rattle.http_edge.specs.Answer.{Fails, Tells}
-use Rattle.http_edge.specs.Holds.{Progress, unread, IsBehind, HoldsAt, Holds, SoundAt, IsSound, IsFramed, Starts, TakesHead, Advances, Stops, is_failed_at, is_failed, is_done_at, is_done}
+use Rattle.http_edge.specs.Holds.{Progress, unread, start, IsBehind, HoldsAt, Holds, SoundAt, IsSound, IsFramed, Starts, TakesHead, Advances, Stops, is_failed_at, is_failed, is_done_at, is_done}
 use Rattle.http_edge.proofs.ListLemmas.{text_taken, EndsIn}
 use Rattle.http_edge.proofs.ChunkLemmas.{no_chunks}
 use Rattle.http_edge.proofs.BodyLemmas.{at, no_line_yet}
@@ -237,3 +238,13 @@ told_at (Failed e) head body bytes sound fine h = absurd cc
 
 pub told : (p : Progress) (bytes : List ℕ) → IsSound p → is_failed p ≡ false → Holds p bytes → Tells bytes (Ok (is_done p))
 told p bytes sound fine h = told_at p.stage p.head p.body bytes sound fine h
+
+-- ---- at first, and at an answer
+
+pub start_is_sound : IsSound start
+start_is_sound = (omega arith, λ k rest r. omega (arith, ap length r.1, length-append (print_request k) rest, no_bytes k), refl)
+
+pub tells_of : (r : Result Bool HttpFault) (old new : Progress) (piece bytes : List ℕ) → IfOk r (Advances old new piece) → IfErr r (Stops old piece) → Holds old bytes → Tells (bytes ++ piece) r
+tells_of (Err e) old new piece bytes ok err h = err bytes h
+tells_of (Ok done) old new piece bytes ok err h =
+    let P : Bool → Type 0 = λ b. Tells (bytes ++ piece) (Ok b) in subst P (sym ok.done_is) (told new (bytes ++ piece) ok.sound ok.fine (ok.holds bytes h))

@@ -2,17 +2,18 @@
 use Rattle.std.proofs.Common.{◌≡◌, ◌≢◌, ℕ, ◌<◌, List, [], ◌++◌, length, Option, Some, None, Ok, Err, refl, sym, ap, subst, ◌∙◌, arith, append_assoc}
 use Rattle.std.specs.Prelude.{Result, IfSome, IsSomeAnd, ◌⊎◌}
 use Rattle.std.proofs.Common.{inl, inr}
-use Rattle.std.proofs.lemmas.List.{length-append, append-nil}
+use Rattle.std.proofs.lemmas.List.{length-append, append-nil, nil_from_length}
 use Rattle.std.specs.Io.KnownBytes.{Consumes, IsAtEnd}
 use Rattle.http_edge.specs.declared.fault.HttpFault.{HttpFault}
-use Rattle.http_edge.specs.declared.fault.HttpFault.TheVariants.{Io}
+use Rattle.http_edge.specs.declared.fault.HttpFault.TheVariants.{Closed, Io}
 use Rattle.http_edge.specs.declared.request.Request.{Request}
 use Rattle.http_edge.specs.Message.{Message}
 use Rattle.http_edge.specs.Reading.{BeginsWith}
 use Rattle.http_edge.specs.Answer.{Answers, Explains, Fails}
+use Rattle.http_edge.specs.Delivery.{Delivers, TellsSize, IsClosed}
 use Rattle.http_edge.specs.Holds.{Progress, start, Holds}
 use Rattle.http_edge.proofs.FaultLemmas.{fails_more}
-use Rattle.http_edge.proofs.AnswerLemmas.{answers_later}
+use Rattle.http_edge.proofs.AnswerLemmas.{gives, tells_too_long, answers_later}
 
 -- the bytes at first are those that were fed and those that are left
 pub record Fed (old now : Option (List ℕ)) (p : Progress) (fed : List ℕ) : Type 0 where
@@ -63,3 +64,35 @@ at_fault (Some bytes) (Some left) None p fed piece e so took f = absurd took
 at_fault (Some bytes) (Some left) (Some more) p fed piece e so took f =
     let is : bytes ≡ (fed ++ piece) ++ more = known_more (Some bytes) (Some left) (Some more) fed piece so.known took in
     inr (subst (λ (s : List ℕ). Explains e s) (sym is) (fails_more e (fed ++ piece) more f).1)
+
+delivers_of : (bytes : List ℕ) (r : Result Request HttpFault) → (r ≡ Err Io) ⊎ Answers bytes r → Delivers bytes r
+delivers_of bytes r (inl io) m b = inl io
+delivers_of bytes r (inr x) m b = inr (gives r bytes m x b)
+
+tells_of : (bytes : List ℕ) (r : Result Request HttpFault) → (r ≡ Err Io) ⊎ Answers bytes r → TellsSize bytes r
+tells_of bytes r (inl io) t = inl io
+tells_of bytes r (inr x) t = inr (tells_too_long r bytes x t)
+
+pub delivers : (old : Option (List ℕ)) (r : Result Request HttpFault) → Said old r → IfSome old (λ bytes. Delivers bytes r)
+delivers None r x = tt
+delivers (Some bytes) r x = delivers_of bytes r x
+
+pub tells_size : (old : Option (List ℕ)) (r : Result Request HttpFault) → Said old r → IfSome old (λ bytes. TellsSize bytes r)
+tells_size None r x = tt
+tells_size (Some bytes) r x = tells_of bytes r x
+
+-- where there is no byte, nothing was fed
+pub closed_at_end : (old now : Option (List ℕ)) (p : Progress) (fed : List ℕ) (r : Result Request HttpFault) → Fed old now p fed → (p ≡ start → r ≡ Err Closed) → IfSome old (λ bytes. bytes ≡ [] → IsClosed r)
+closed_at_end None now p fed r so closed = tt
+closed_at_end (Some bytes) None p fed r so closed = absurd so.known
+closed_at_end (Some bytes) (Some left) p fed r so closed = λ e.
+    let none : length fed ≡ 0 = omega (arith, ap length so.known, ap length e, length-append fed left) in
+    inl (closed (so.fresh (nil_from_length fed none)))
+
+-- where a piece came, there is a byte
+pub not_closed : (old now next : Option (List ℕ)) (p : Progress) (fed piece : List ℕ) (r : Result Request HttpFault) → Fed old now p fed → Consumes now next piece → 0 < length piece → IfSome old (λ bytes. bytes ≡ [] → IsClosed r)
+not_closed None now next p fed piece r so took some = tt
+not_closed (Some bytes) None next p fed piece r so took some = absurd so.known
+not_closed (Some bytes) (Some left) None p fed piece r so took some = absurd took
+not_closed (Some bytes) (Some left) (Some more) p fed piece r so took some = λ e.
+    absurd (omega (arith, ap length so.known, ap length e, length-append fed left, ap length took, length-append piece more, some))

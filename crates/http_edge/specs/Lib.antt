@@ -9,3 +9,7 @@ pub mod Answer
 pub mod Holds
 pub mod Request
 pub mod Finish
+pub mod Delivery
+pub mod Sent
+pub mod Texts
+pub mod Parts
