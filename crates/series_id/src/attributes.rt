@@ -105,7 +105,7 @@ impl AttrSet {
     pub fn copy(&self, alloc: Global) -> Result<AttrSet, AllocError>
         ensures { IfOk result (λ copy. copy ≡ self.now) }
     {
-        let pairs = copy_pairs(alloc, self.pairs.as_slice())?;
+        let pairs = copy_pairs(alloc, &self.pairs)?;
         Ok(AttrSet { pairs })
     }
 
@@ -121,7 +121,7 @@ impl AttrSet {
     pub(crate) fn compare(&self, other: &AttrSet) -> Ordering
         ensures { result ≡ attrs_cmp self.now other.now }
     {
-        compare_pairs(self.pairs.as_slice(), other.pairs.as_slice())
+        compare_pairs(self.pairs(), other.pairs())
     }
 }
 

@@ -283,6 +283,6 @@ impl Ord for SeriesId {
     ghost matches_eq = { same_series_ties };
 
     fn cmp(&self, other: &SeriesId) -> Ordering {
-        self.compare(other)
+        SeriesId::compare(self, other)
     }
 }
