@@ -19,3 +19,4 @@ pub mod Striking
 pub mod Passing
 pub mod Settling
 pub mod Ordering
+mod WorkedHistories
