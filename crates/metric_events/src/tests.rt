@@ -1,5 +1,5 @@
 ghost use Rattle.std.specs.Prelude.{◌≡◌};
-ghost use Rattle.metric_events.specs.PointFaults.{IsSum};
+ghost use Rattle.metric_events.specs.PointFaults.{IsHistogram, IsSum};
 
 use crate::batch::Batch;
 use crate::laws::striking;
@@ -71,6 +71,30 @@ fn expect_fault(
     let series = series(rt, alloc, kind);
     let fault = Point::sum(alloc, series, start, 20, value).err();
     assert_eq!(rt; fault, want, "at {start} {value}");
+}
+
+/// A histogram's kind of these bounds.
+fn buckets_between(rt: &impl Abort, alloc: Global, bounds: &[i64]) -> Kind
+    ensures { IsHistogram result }
+{
+    let bounds = bounds.to_vec(alloc).expect(rt, "memory");
+    Kind::histogram(bounds).expect(rt, "bounds")
+}
+
+/// A histogram's point of these bounds, count, sum and buckets.
+fn histogram(
+    rt: &impl Abort,
+    alloc: Global,
+    bounds: &[i64],
+    start: u64,
+    count: u64,
+    sum: Option<u64>,
+    buckets: &[u64],
+) -> Result<Point, PointFault> {
+    let kind = buckets_between(rt, alloc, bounds);
+    let series = series(rt, alloc, kind);
+    let buckets = buckets.to_vec(alloc).expect(rt, "memory");
+    Point::histogram(alloc, series, start, 20, count, sum, buckets)
 }
 
 /// The bytes are refused as a sender's name like this, or not at all.
@@ -193,6 +217,49 @@ fn faults_of_sums(rt: HostRuntime) {
 }
 
 #[test]
+fn rows_of_histograms(rt: HostRuntime) {
+    let alloc = rt.alloc();
+    let whole = u64::MAX / 2;
+    let point = histogram(&rt, alloc, &[1, 2, 3], 10, 7, Some(20), &[1, 2, 0, 4]);
+    assert_eq!(rt;
+        point.expect(&rt, "a point").row(),
+        [1, 0, 20, 1, 2, 0, 4].as_slice()
+    );
+    let point = histogram(&rt, alloc, &[-5], 10, 3, None, &[3, 0]);
+    assert_eq!(rt;
+        point.expect(&rt, "a point").row(),
+        [1, 1, 0, 3, 0].as_slice()
+    );
+    let point = histogram(&rt, alloc, &[], 10, 5, None, &[]);
+    assert_eq!(rt; point.expect(&rt, "a point").row(), [1, 1, 0, 5].as_slice());
+    let point = histogram(&rt, alloc, &[], 10, whole, Some(9007199254740992), &[whole]);
+    assert_eq!(rt;
+        point.expect(&rt, "a point").row(),
+        [1, 0, 9007199254740992, whole].as_slice()
+    );
+}
+
+#[test]
+fn faults_of_histograms(rt: HostRuntime) {
+    let alloc = rt.alloc();
+    let past = u64::MAX / 2 + 1;
+    let fault = histogram(&rt, alloc, &[1], 20, 8, None, &[1]).err();
+    assert_eq!(rt; fault, Some(PointFault::BadSpan));
+    let fault = histogram(&rt, alloc, &[1, 2, 3], 10, 8, None, &[1, 2, 0, 4]).err();
+    assert_eq!(rt; fault, Some(PointFault::BucketMismatch));
+    let fault = histogram(&rt, alloc, &[1], 10, 0, None, &[]).err();
+    assert_eq!(rt; fault, Some(PointFault::BucketMismatch));
+    let fault = histogram(&rt, alloc, &[1], 10, 8, None, &[8]).err();
+    assert_eq!(rt; fault, Some(PointFault::BucketMismatch));
+    let fault = histogram(&rt, alloc, &[], 10, 1, Some(9007199254740993), &[1]).err();
+    assert_eq!(rt; fault, Some(PointFault::TooLarge));
+    let fault = histogram(&rt, alloc, &[], 10, past, None, &[]).err();
+    assert_eq!(rt; fault, Some(PointFault::TooLarge));
+    let fault = histogram(&rt, alloc, &[0], 10, past, None, &[past - 1, 1]).err();
+    assert_eq!(rt; fault, Some(PointFault::TooLarge));
+}
+
+#[test]
 fn copies_of_batches(rt: HostRuntime) {
     let alloc = rt.alloc();
     let sender = SenderName::new(alloc, b"shop").expect(&rt, "a name");
@@ -210,6 +277,13 @@ fn copies_of_batches(rt: HostRuntime) {
     for (mine, its) in batch.points.as_slice().iter().zip(copy.points.as_slice()) {
         expect_same(&rt, mine, its);
     }
+    assert!(rt; batch.is_same(&copy));
+    let sender = SenderName::new(alloc, b"shop").expect(&rt, "a name");
+    let mut points = Points::new(alloc);
+    points
+        .push(sum(&rt, alloc, 10, 20, 8))
+        .expect(&rt, "memory");
+    assert!(rt; !batch.is_same(&Batch { sender, points }));
 }
 
 #[test]
@@ -227,6 +301,8 @@ fn copies_of_lists(rt: HostRuntime) {
     let span = Span::new(10, 20).expect(&rt, "a span");
     let point = sum(&rt, alloc, 10, 20, 7);
     let of_parts = point.copy(alloc).expect(&rt, "memory");
+    assert!(rt; point.is_same(&of_parts));
+    assert!(rt; !point.is_same(&sum(&rt, alloc, 10, 20, -7)));
     assert_eq!(rt; of_parts.span().hull(&span).end(), 20);
     expect_same(&rt, &point, &of_parts);
 }
