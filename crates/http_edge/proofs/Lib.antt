@@ -10,3 +10,4 @@ pub mod FinishLemmas
 pub mod AnswerLemmas
 pub mod ReadLemmas
 pub mod WriteLemmas
+pub mod TextLemmas
