@@ -18,7 +18,7 @@ finds_head buf spans r k room short at within = record {
 }
 
 -- what is no front that fits is longer
-long_or_front : (p buf : List ℕ) → 16384 ≤ length buf → ¬ (length p ≤ length buf) → 16384 < length p
+pub long_or_front : (p buf : List ℕ) → 16384 ≤ length buf → ¬ (length p ≤ length buf) → 16384 < length p
 long_or_front p buf long not = omega (arith, not)
 
 -- no head of the limit's length or less stands in as many bytes
@@ -26,7 +26,7 @@ pub has_long_head : (buf : List ℕ) → HasNoRequest buf → 16384 ≤ length b
 has_long_head buf none long = (
   long,
   λ more head after reads.
-      long_or_front (print_request head) buf (omega arith) (λ short. none head (drop (length (print_request head)) buf) (reads.0, front_of buf more (print_request head) after reads.1 short)),
+      long_or_front (print_request head) buf long (λ short. none head (drop (length (print_request head)) buf) (reads.0, front_of buf more (print_request head) after reads.1 short)),
 )
 
 -- ---- where there is never a head

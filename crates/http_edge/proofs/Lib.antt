@@ -11,3 +11,4 @@ pub mod AnswerLemmas
 pub mod ReadLemmas
 pub mod WriteLemmas
 pub mod TextLemmas
+pub mod ReplyLemmas

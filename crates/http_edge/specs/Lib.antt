@@ -12,3 +12,4 @@ pub mod Finish
 pub mod Delivery
 pub mod Sent
 pub mod Texts
+pub mod Reply
