@@ -150,7 +150,7 @@ stops_body BodyTooLong head old piece refuses bytes h =
     let fed = h.1 in
     let is = h.2 in
     let P : List ℕ → Type 0 = λ s. Reads (bytes ++ s) k None in
-    (tt, (k, subst P (append-nil piece) (reads_ahead head bytes fed (piece ++ []) old k None is (is.backward (piece ++ []) None (refuses []))))) 
+    (tt, (k, subst P (append-nil piece) (reads_ahead head bytes fed (piece ++ []) old k None is (is.backward (piece ++ []) None (refuses [])))))
 stops_body NoMemory head old piece refuses bytes h = (tt, tt)
 stops_body Closed head old piece refuses bytes h = absurd refuses
 stops_body BadHead head old piece refuses bytes h = absurd refuses

@@ -142,7 +142,15 @@ pub fn write_response<K: Sink>(
     let kind = content_type.as_bytes();
     match allow {
         None => write_head(writer, status.as_str().as_bytes(), phrase, kind, size, body),
-        Some(methods) => write_allowing(writer, status.as_str().as_bytes(), phrase, kind, size, methods.as_bytes(), body),
+        Some(methods) => write_allowing(
+            writer,
+            status.as_str().as_bytes(),
+            phrase,
+            kind,
+            size,
+            methods.as_bytes(),
+            body,
+        ),
     }
 }
 

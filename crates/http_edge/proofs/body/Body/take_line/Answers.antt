@@ -104,4 +104,3 @@ returns-in-Err-clause-fault c =
     let P : List ℕ → Type 0 = λ s. Refuses BadChunk (at Line b.content.items b.part.items) s in
     let Q : List ℕ → Type 0 = λ s. (more : List ℕ) (body : Option (List ℕ)) → ¬ (HasChunks b.content.items (s ++ more) body) in
     rw c.requires.phase (subst P whole (line_refused b.content.items b.part.items u (drop c.line_len-n.result piece) (subst Q is (never_line b.content.items c.extend_from_slice.new.self.items never))))
-
