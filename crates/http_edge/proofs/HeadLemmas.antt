@@ -1,11 +1,11 @@
 -- A head within the limits, and what follows it.
-use Rattle.std.proofs.Common.{◌≡◌, ℕ, ◌<◌, ◌≤◌, List, ◌++◌, length, drop, take, sym, ap, ◌∙◌, arith}
+use Rattle.std.proofs.Common.{◌≡◌, ℕ, ◌<◌, ◌≤◌, List, length, drop, take, ap, arith}
 use Rattle.std.proofs.lemmas.List.{length-map, length-take}
-use Rattle.httparse.specs.Grammar.{RequestHead, print_request, ReadsRequest, HasNoRequest, NeverHasRequest}
+use Rattle.httparse.specs.Grammar.{RequestHead, print_request, HasNoRequest, NeverHasRequest}
 use Rattle.httparse.specs.declared.spans.HeaderSpan.{HeaderSpan}
 use Rattle.httparse.specs.declared.spans.RequestSpans.{RequestSpans}
 use Rattle.httparse.specs.Spans.{IsRequestAt, IsRequestWithin, header_bytes, name_and_value}
-use Rattle.http_edge.specs.Message.{IsHeadAt, NeverHead}
+use Rattle.http_edge.specs.Message.{NeverHead}
 use Rattle.http_edge.specs.Head.{FindsHead, HasTooManyFields, HasLongHead}
 use Rattle.http_edge.proofs.ListLemmas.{front_of}
 

@@ -1,7 +1,7 @@
 -- What was kept of a response, and what it tells.
-use Rattle.std.proofs.Common.{◌≡◌, ◌≢◌, ℕ, ◌+◌, ◌-◌, ◌<◌, ◌≤◌, true, false, List, [], ◌∷◌, ◌++◌, length, map, take, drop, get_or, min, Option, Some, None, Ok, Err, option_map, refl, sym, ap, subst, ◌∙◌, arith, append_assoc, inl, inr}
-use Rattle.std.specs.Prelude.{Result, IfSome, IsSomeAnd, ◌⊎◌, ⊤, codes}
-use Rattle.std.proofs.lemmas.List.{length-append, length-take, length-map, append-nil, take-append-drop, map-append, nil_from_length}
+use Rattle.std.proofs.Common.{◌≡◌, ℕ, ◌+◌, ◌<◌, ◌≤◌, true, false, List, [], ◌∷◌, ◌++◌, length, map, take, drop, get_or, Option, Some, None, Ok, Err, refl, sym, ap, subst, ◌∙◌, arith, append_assoc, inl, inr}
+use Rattle.std.specs.Prelude.{Result, IfSome, IsSomeAnd, ◌⊎◌, codes}
+use Rattle.std.proofs.lemmas.List.{length-append, length-take, length-map, append-nil, take-append-drop, map-append}
 use Rattle.std.specs.Io.KnownBytes.{Consumes, IsAtEnd}
 use Rattle.httparse.specs.Grammar.{ResponseHead, print_response, ReadsResponse, HasNoResponse, status_code}
 use Rattle.httparse.specs.declared.spans.HeaderSpan.{HeaderSpan}
@@ -13,7 +13,7 @@ use Rattle.http_edge.specs.declared.fault.HttpFault.TheVariants.{Closed, BadHead
 use Rattle.http_edge.specs.declared.reply.Reply.{Reply}
 use Rattle.http_edge.specs.Message.{Header}
 use Rattle.http_edge.specs.Framing.{is_named, values_of}
-use Rattle.http_edge.specs.Reply.{Told, first, told_by, told_in, IsResponseAt, BeginsSaying, NoReply, ExplainsReply, AnswersReply, LastsFor, GivesReply, DeliversReply, IsClosedReply}
+use Rattle.http_edge.specs.Reply.{Told, first, told_by, told_in, BeginsSaying, ExplainsReply, AnswersReply, LastsFor, GivesReply, DeliversReply, IsClosedReply}
 use Rattle.httparse.specs.Spans as parsed
 use Rattle.http_edge.proofs.FieldLemmas.{values_of-append, values_of_more}
 use Rattle.http_edge.proofs.ListLemmas.{front_of}

@@ -1,5 +1,5 @@
 -- The parts of a text, one behind the other, and what was written of them.
-use Rattle.std.proofs.Common.{◌≡◌, ℕ, ◌<◌, Bool, true, false, List, [], ◌++◌, length, Option, Some, None, Bor, option_map, refl, sym, ap, subst, ◌∙◌, lit<}
+use Rattle.std.proofs.Common.{◌≡◌, ℕ, ◌<◌, Bool, true, false, List, [], ◌++◌, length, Option, Some, None, Bor, option_map, sym, ap, subst, ◌∙◌, lit<}
 use Rattle.std.specs.Prelude.{if◌then◌else◌, IfSome, unwrap_or, codes, ◌==◌}
 use Rattle.std.proofs.lemmas.List.{append-nil}
 use Rattle.http.specs.StatusCode.{reason_phrase}

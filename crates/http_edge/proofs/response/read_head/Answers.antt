@@ -1,7 +1,7 @@
 use Rattle.std.proofs.Common.{◌≡◌, ◌<◌, ◌≤◌, ◌++◌, ℕ, List, length, take, drop, ap, arith, subst, sym, ◌∙◌}
 use Rattle.std.proofs.lemmas.List.{length-take-le, take-append-drop, take-take}
 use Rattle.std.proofs.lemmas.Result.{err_from_is_err_and}
-use Rattle.http_edge.specs.Reply.{LastsFor, ExplainsReply, BeginsSaying, told_in}
+use Rattle.http_edge.specs.Reply.{LastsFor, ExplainsReply}
 use Rattle.http_edge.proofs.ListLemmas.{grown}
 use Rattle.http_edge.proofs.ReplyLemmas.{begins, grows, refused, said}
 use Rattle.http_edge.proofs.response.read_head.Goals as goal

@@ -1,7 +1,7 @@
-use Rattle.std.proofs.Common.{◌≡◌, ◌≢◌, ◌<◌, ◌≤◌, ◌++◌, ◌-◌, List, ℕ, [], length, take, drop, Option, arith, sym, ap, subst, ◌∙◌}
+use Rattle.std.proofs.Common.{◌≡◌, ◌++◌, ◌-◌, List, ℕ, take, drop, Option, arith, sym, subst, ◌∙◌}
 use Rattle.std.proofs.lemmas.List.{take-append-drop}
 use Rattle.http_edge.specs.Body.{IsOpen, Refuses}
-use Rattle.http_edge.specs.Chunks.{room, HasChunks}
+use Rattle.http_edge.specs.Chunks.{HasChunks}
 use Rattle.http_edge.specs.declared.fault.HttpFault.TheVariants.{BadChunk, BodyTooLong}
 use Rattle.http_edge.specs.declared.phase.Phase.TheVariants.{Line}
 use Rattle.http_edge.proofs.BodyLemmas.{at, at_line, line_zero, line_fits, line_over, line_refused}
