@@ -1,6 +1,6 @@
 -- What an answer rules out.
-use Rattle.std.proofs.Common.{◌≡◌, ◌≢◌, ℕ, List, [], ◌++◌, Option, Some, None, Ok, Err, refl, sym, ap, subst, ◌∙◌, arith}
-use Rattle.std.specs.Prelude.{Result, ⊤, Bool, true}
+use Rattle.std.proofs.Common.{◌≡◌, ℕ, List, [], ◌++◌, Option, Some, None, Ok, Err, sym, ap, subst, ◌∙◌}
+use Rattle.std.specs.Prelude.{Result, ⊤}
 use Rattle.std.proofs.lemmas.List.{append-nil}
 use Rattle.httparse.specs.Grammar.{RequestHead}
 use Rattle.httparse.proofs.GrammarLemmas.{request_unique}
@@ -9,13 +9,13 @@ use Rattle.http_edge.specs.declared.fault.HttpFault.TheVariants.{Closed, BadHead
 use Rattle.http_edge.specs.declared.framing.Framing.{Framing}
 use Rattle.http_edge.specs.declared.request.Request.{Request}
 use Rattle.http_edge.specs.Message.{Message, IsHeadAt, NeverHead}
-use Rattle.http_edge.specs.Reading.{HasBody, framing_in, Reads, BeginsWith, IsTooLong, NotYet}
+use Rattle.http_edge.specs.Reading.{HasBody, framing_in, BeginsWith, IsTooLong, NotYet}
 use Rattle.http_edge.specs.Request.{message_in}
 use Rattle.http_edge.specs.Answer.{Explains, Answers, Gives, TellsTooLong}
 use Rattle.http_edge.proofs.HeadLemmas.{never_bad, never_few, never_short}
 use Rattle.http_edge.proofs.FaultLemmas.{begins-append}
 use Rattle.http_edge.proofs.MachineLemmas.{some_bytes}
-use Rattle.http_edge.proofs.Unique.{reads_unique, one_message, not_both}
+use Rattle.http_edge.proofs.Unique.{one_message, not_both}
 
 headless : (bytes : List ℕ) → NeverHead bytes → NotYet bytes
 headless bytes never k o r = let P : List ℕ → Type 0 = λ s. IsHeadAt s k r.0 in never [] k r.0 (subst P (sym (append-nil bytes)) r.1.at)

@@ -1,5 +1,5 @@
 -- One step of a body that is being read.
-use Rattle.std.proofs.Common.{◌≡◌, ◌≢◌, ℕ, ◌+◌, ◌-◌, ◌<◌, ◌≤◌, List, [], ◌∷◌, ◌++◌, length, drop, take, Option, Some, None, true, false, refl, sym, ap, subst, ◌∙◌, arith, append_assoc}
+use Rattle.std.proofs.Common.{◌≡◌, ℕ, ◌-◌, ◌<◌, ◌≤◌, List, [], ◌∷◌, ◌++◌, length, drop, take, Option, Some, None, refl, sym, ap, subst, ◌∙◌, arith, append_assoc}
 use Rattle.std.proofs.lemmas.List.{length-append, length-take, length-map}
 use Rattle.std.specs.List.{flat_map}
 use Rattle.httparse.proofs.GrammarLemmas.{ReadsSection-append}
@@ -253,8 +253,8 @@ trailer_overflows b part u w many = trailer_refused b part u w (λ more t. omega
 pub trailer_long : (b part u w : List ℕ) → HasNoSection (part ++ u) → 16384 ≤ length (part ++ u) → Refuses BadChunk (at Trailer b part) (u ++ w)
 trailer_long b part u w none long =
     trailer_refused b part u w (λ more t.
-        let text = print_section t.0 t.1 in
-        none t.0 t.1 (drop (length text) (part ++ u)) (t.3.reads.0, front_of (part ++ u) more text t.2 t.3.reads.1 (omega (arith, t.3.short, long))))
+    let text = print_section t.0 t.1 in
+    none t.0 t.1 (drop (length text) (part ++ u)) (t.3.reads.0, front_of (part ++ u) more text t.2 t.3.reads.1 (omega (arith, t.3.short, long))))
 
 -- a section that ends in the piece is a trailer section, whatever follows
 pub trailer_whole : (b part u w : List ℕ) (spans : List HeaderSpan) (len count : ℕ) (fields : List Field) (last : LineEnd) → IsOpen (at Trailer b part) → length (part ++ u) ≤ 16384 → length spans ≡ 64
@@ -262,8 +262,8 @@ pub trailer_whole : (b part u w : List ℕ) (spans : List HeaderSpan) (len count
 trailer_whole b part u w spans len count fields last open_ short room_ at_ within =
     let few : length fields ≤ 64 = omega (arith, ap length at_.fields_are, length-map (take count spans) (header_bytes (part ++ u)), length-map fields name_and_value, length-take count spans) in
     let there : (more : List ℕ) → HasTrailer (part ++ ((u ++ w) ++ more)) = λ more.
-        let same : (part ++ u) ++ (w ++ more) ≡ part ++ ((u ++ w) ++ more) = append_assoc part u (w ++ more) ∙ ap (λ s. part ++ s) (sym (append_assoc u w more)) in
-        subst HasTrailer same (fields, last, drop len (part ++ u) ++ (w ++ more), record { reads = ReadsSection-append (part ++ u) fields last (drop len (part ++ u)) (w ++ more) at_.reads; few = few; short = omega (arith, at_.len_is, within.len_fits, short) }) in
+    let same : (part ++ u) ++ (w ++ more) ≡ part ++ ((u ++ w) ++ more) = append_assoc part u (w ++ more) ∙ ap (λ s. part ++ s) (sym (append_assoc u w more)) in
+    subst HasTrailer same (fields, last, drop len (part ++ u) ++ (w ++ more), record { reads = ReadsSection-append (part ++ u) fields last (drop len (part ++ u)) (w ++ more) at_.reads; few = few; short = omega (arith, at_.len_is, within.len_fits, short) }) in
     record {
       opened = (open_.1, refl);
       steps = record { forward = λ more body h. whole_forward b part ((u ++ w) ++ more) more body h; backward = λ more body h. whole_backward b part ((u ++ w) ++ more) more body (there more) h };

@@ -1,9 +1,9 @@
 -- The size line that chunks begin with, and what it makes of them.
-use Rattle.std.proofs.Common.{◌≡◌, ◌≢◌, ℕ, ◌+◌, ◌-◌, ◌<◌, ◌≤◌, List, [], ◌∷◌, ◌++◌, length, drop, Option, Some, None, refl, sym, ap, subst, ◌∙◌, arith}
+use Rattle.std.proofs.Common.{◌≡◌, ℕ, ◌<◌, ◌≤◌, List, [], ◌∷◌, ◌++◌, length, drop, Option, Some, None, refl, sym, ap, subst, ◌∙◌, arith}
 use Rattle.httparse.specs.Grammar.{ChunkLine, print_chunk_line, IsChunkLine, HasNoChunkLine, NeverHasChunkLine, chunk_size}
 use Rattle.httparse.proofs.ChunkLemmas.{chunk_line_unique}
 use Rattle.http_edge.specs.Chunks.{Chunk, room, IsSizeLine, IsChunkAt, HasTrailer, AreChunks, HasChunks}
-use Rattle.http_edge.proofs.ListLemmas.{front_of, behind_same}
+use Rattle.http_edge.proofs.ListLemmas.{front_of}
 
 -- chunks begin with a size line
 pub first_line : (before buf : List ℕ) (cs : List Chunk) (body : Option (List ℕ)) → AreChunks before buf cs body → (l : ChunkLine) × (behind : List ℕ) × IsSizeLine buf l behind

@@ -1,11 +1,11 @@
 -- A head within the limits, and what follows it.
-use Rattle.std.proofs.Common.{◌≡◌, ℕ, ◌<◌, ◌≤◌, List, ◌++◌, length, drop, take, sym, ap, ◌∙◌, arith}
+use Rattle.std.proofs.Common.{◌≡◌, ℕ, ◌<◌, ◌≤◌, List, length, drop, take, ap, arith}
 use Rattle.std.proofs.lemmas.List.{length-map, length-take}
-use Rattle.httparse.specs.Grammar.{RequestHead, print_request, ReadsRequest, HasNoRequest, NeverHasRequest}
+use Rattle.httparse.specs.Grammar.{RequestHead, print_request, HasNoRequest, NeverHasRequest}
 use Rattle.httparse.specs.declared.spans.HeaderSpan.{HeaderSpan}
 use Rattle.httparse.specs.declared.spans.RequestSpans.{RequestSpans}
 use Rattle.httparse.specs.Spans.{IsRequestAt, IsRequestWithin, header_bytes, name_and_value}
-use Rattle.http_edge.specs.Message.{IsHeadAt, NeverHead}
+use Rattle.http_edge.specs.Message.{NeverHead}
 use Rattle.http_edge.specs.Head.{FindsHead, HasTooManyFields, HasLongHead}
 use Rattle.http_edge.proofs.ListLemmas.{front_of}
 
@@ -18,7 +18,7 @@ finds_head buf spans r k room short at within = record {
 }
 
 -- what is no front that fits is longer
-long_or_front : (p buf : List ℕ) → 16384 ≤ length buf → ¬ (length p ≤ length buf) → 16384 < length p
+pub long_or_front : (p buf : List ℕ) → 16384 ≤ length buf → ¬ (length p ≤ length buf) → 16384 < length p
 long_or_front p buf long not = omega (arith, not)
 
 -- no head of the limit's length or less stands in as many bytes
@@ -26,7 +26,7 @@ pub has_long_head : (buf : List ℕ) → HasNoRequest buf → 16384 ≤ length b
 has_long_head buf none long = (
   long,
   λ more head after reads.
-      long_or_front (print_request head) buf (omega arith) (λ short. none head (drop (length (print_request head)) buf) (reads.0, front_of buf more (print_request head) after reads.1 short)),
+      long_or_front (print_request head) buf long (λ short. none head (drop (length (print_request head)) buf) (reads.0, front_of buf more (print_request head) after reads.1 short)),
 )
 
 -- ---- where there is never a head

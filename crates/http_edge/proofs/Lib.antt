@@ -10,3 +10,5 @@ pub mod FinishLemmas
 pub mod AnswerLemmas
 pub mod ReadLemmas
 pub mod WriteLemmas
+pub mod TextLemmas
+pub mod ReplyLemmas

@@ -1,7 +1,7 @@
 -- What a machine holds, step by step.
-use Rattle.std.proofs.Common.{◌≡◌, ◌≢◌, ℕ, ◌+◌, ◌-◌, ◌<◌, ◌≤◌, Bool, true, false, List, [], ◌∷◌, ◌++◌, length, map, drop, take, min, Option, Some, None, Ok, Err, refl, sym, ap, subst, ◌∙◌, arith, append_assoc}
+use Rattle.std.proofs.Common.{◌≡◌, ◌≢◌, ℕ, ◌-◌, ◌<◌, ◌≤◌, Bool, true, false, List, [], ◌∷◌, ◌++◌, length, map, drop, take, min, Option, Some, None, Ok, Err, refl, sym, ap, subst, ◌∙◌, arith, append_assoc}
 use Rattle.std.specs.Prelude.{Result, IfOk, IfErr}
-use Rattle.std.proofs.lemmas.List.{length-append, length-take, append-nil, take_at, take_all, nil_from_length}
+use Rattle.std.proofs.lemmas.List.{length-append, length-take, append-nil, take_at, nil_from_length}
 use Rattle.httparse.specs.Grammar.{RequestHead, print_request, ReadsRequest, HasNoRequest}
 use Rattle.httparse.specs.declared.spans.HeaderSpan.{HeaderSpan}
 use Rattle.httparse.specs.declared.spans.RequestSpans.{RequestSpans}
@@ -20,14 +20,14 @@ use Rattle.http_edge.specs.Framing.{framing_by}
 use Rattle.http_edge.specs.Framed.{Frames}
 use Rattle.http_edge.specs.Chunks.{HasTrailer, HasChunks}
 use Rattle.http_edge.specs.Head.{FindsHead}
-use Rattle.http_edge.specs.Reading.{HasBody, framing_in, message_of, Reads, BeginsWith, IsTooLong, NotYet}
+use Rattle.http_edge.specs.Reading.{HasBody, framing_in, message_of, Reads, BeginsWith, NotYet}
 use Rattle.http_edge.specs.Body.{Stand, Becomes, IsOpen, is_whole, Reaches, Refuses}
-use Rattle.http_edge.specs.Answer.{Fails, Tells}
+use Rattle.http_edge.specs.Answer.{Tells}
 use Rattle.http_edge.specs.Holds.{Progress, unread, start, IsBehind, HoldsAt, Holds, SoundAt, IsSound, IsFramed, Starts, TakesHead, Advances, Stops, is_failed_at, is_failed, is_done_at, is_done}
 use Rattle.http_edge.proofs.ListLemmas.{text_taken, EndsIn}
 use Rattle.http_edge.proofs.ChunkLemmas.{no_chunks}
 use Rattle.http_edge.proofs.BodyLemmas.{at, no_line_yet}
-use Rattle.http_edge.proofs.FaultLemmas.{IsHeadAt-append, fails_more}
+use Rattle.http_edge.proofs.FaultLemmas.{IsHeadAt-append}
 
 abbrev pub on : Stand → List ℕ → Progress
 on body head = record { stage = InBody; head = head; body = body }
@@ -150,7 +150,7 @@ stops_body BodyTooLong head old piece refuses bytes h =
     let fed = h.1 in
     let is = h.2 in
     let P : List ℕ → Type 0 = λ s. Reads (bytes ++ s) k None in
-    (tt, (k, subst P (append-nil piece) (reads_ahead head bytes fed (piece ++ []) old k None is (is.backward (piece ++ []) None (refuses []))))) 
+    (tt, (k, subst P (append-nil piece) (reads_ahead head bytes fed (piece ++ []) old k None is (is.backward (piece ++ []) None (refuses [])))))
 stops_body NoMemory head old piece refuses bytes h = (tt, tt)
 stops_body Closed head old piece refuses bytes h = absurd refuses
 stops_body BadHead head old piece refuses bytes h = absurd refuses

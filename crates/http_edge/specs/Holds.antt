@@ -11,7 +11,6 @@ use Rattle.http_edge.specs.declared.stage.Stage.TheVariants.{InHead, InBody, Fai
 use Rattle.http_edge.specs.declared.machine.Machine.{Machine}
 use Rattle.http_edge.specs.declared.limits.TheConstants.{MAX_BODY, MAX_HEAD}
 use Rattle.http_edge.specs.Message.{IsHeadAt}
-use Rattle.http_edge.specs.Chunks.{room}
 use Rattle.http_edge.specs.Reading.{HasBody, framing_in}
 use Rattle.http_edge.specs.Body.{Stand, stand_of, Becomes, IsOpen, is_whole, most_left, most_of_chunks}
 use Rattle.http_edge.specs.Answer.{Fails}

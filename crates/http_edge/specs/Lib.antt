@@ -12,4 +12,4 @@ pub mod Finish
 pub mod Delivery
 pub mod Sent
 pub mod Texts
-pub mod Parts
+pub mod Reply

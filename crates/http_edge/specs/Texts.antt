@@ -1,31 +1,31 @@
--- The messages that are written.
+-- The messages that are written, each line ended by CR LF.
 use Rattle.std.specs.Prelude.{ℕ, List, [], ◌++◌, length, Option, Some, None, unwrap_or, codes, decimal}
 use Rattle.http.specs.StatusCode.{code_digits, reason_phrase}
 
--- a field line
-abbrev pub field_line : List ℕ → List ℕ → List ℕ
-field_line name value = name ++ codes ": " ++ value ++ codes "\r\n"
+-- a response with these digits and this phrase, of that media type and length
+abbrev pub plain_response : List ℕ → List ℕ → List ℕ → List ℕ → List ℕ → List ℕ
+plain_response digits phrase content_type size body =
+    codes "HTTP/1.1 " ++ (digits ++ (codes " " ++ (phrase ++ (codes "\r\nContent-Type: " ++ (content_type ++ (codes "\r\nContent-Length: " ++ (size ++ (codes "\r\nConnection: close\r\n\r\n" ++ body))))))))
 
--- the field Content-Length of a body
-abbrev pub length_line : List ℕ → List ℕ
-length_line body = field_line (codes "Content-Length") (decimal (length body))
+-- the same, and it names the methods that are allowed
+abbrev pub allowing_response : List ℕ → List ℕ → List ℕ → List ℕ → List ℕ → List ℕ → List ℕ
+allowing_response digits phrase content_type size methods body =
+    codes "HTTP/1.1 " ++ (digits ++ (codes " " ++ (phrase ++ (codes "\r\nContent-Type: " ++ (content_type ++ (codes "\r\nContent-Length: " ++ (size ++ (codes "\r\nAllow: " ++ (methods ++ (codes "\r\nConnection: close\r\n\r\n" ++ body))))))))))
 
--- no more requests follow
-abbrev pub close_line : List ℕ
-close_line = field_line (codes "Connection") (codes "close")
+-- the phrase of a status, which is empty where it has none
+abbrev pub phrase : ℕ → List ℕ
+phrase status = unwrap_or (reason_phrase status) []
 
--- HTTP/1.1, the three digits of the status, and its phrase, which is empty where it has none
-abbrev pub status_line : ℕ → List ℕ
-status_line status = codes "HTTP/1.1 " ++ code_digits status ++ codes " " ++ unwrap_or (reason_phrase status) [] ++ codes "\r\n"
-
-abbrev pub allow_line : Option (List ℕ) → List ℕ
-allow_line None = []
-allow_line (Some methods) = field_line (codes "Allow") methods
-
+-- the response with that status and body
 abbrev pub response_text : ℕ → List ℕ → Option (List ℕ) → List ℕ → List ℕ
-response_text status content_type allow body =
-    status_line status ++ field_line (codes "Content-Type") content_type ++ length_line body ++ allow_line allow ++ close_line ++ codes "\r\n" ++ body
+response_text status content_type None body = plain_response (code_digits status) (phrase status) content_type (decimal (length body)) body
+response_text status content_type (Some methods) body = allowing_response (code_digits status) (phrase status) content_type (decimal (length body)) methods body
 
+-- a request to that host, of that length
+abbrev pub post_request : List ℕ → List ℕ → List ℕ → List ℕ
+post_request host size body =
+    codes "POST /v1/metrics HTTP/1.1\r\nHost: " ++ (host ++ (codes "\r\nContent-Type: application/json\r\nContent-Length: " ++ (size ++ (codes "\r\nConnection: close\r\n\r\n" ++ body))))
+
+-- the request that posts that body to that host
 abbrev pub post_text : List ℕ → List ℕ → List ℕ
-post_text host body =
-    codes "POST /v1/metrics HTTP/1.1\r\n" ++ field_line (codes "Host") host ++ field_line (codes "Content-Type") (codes "application/json") ++ length_line body ++ close_line ++ codes "\r\n" ++ body
+post_text host body = post_request host (decimal (length body)) body

@@ -3,7 +3,7 @@ ghost use Rattle.std.specs.Prelude.{◌≡◌, ◌<◌, ◌≤◌, length, take,
 ghost use Rattle.http_edge.specs.Body.{stand_of, is_whole, IsOpen, Reaches, Refuses};
 
 use crate::fault::HttpFault;
-use crate::limits::{MAX_BODY, MAX_LINE, MAX_FIELDS, MAX_TRAILER};
+use crate::limits::{MAX_BODY, MAX_FIELDS, MAX_LINE, MAX_TRAILER};
 use crate::phase::Phase;
 use httparse::spans::{EMPTY_HEADER_SPAN, parse_headers};
 use httparse::{Status, parse_chunk_size};

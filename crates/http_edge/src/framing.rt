@@ -19,7 +19,7 @@ pub enum Framing {
     Chunked,
 }
 
-fn is_named(buf: &[u8], header: HeaderSpan, name: &[u8]) -> bool
+pub fn is_named(buf: &[u8], header: HeaderSpan, name: &[u8]) -> bool
     requires { IsHeaderWithin (length buf.now) header }
     ensures { result ≡ is_named name.now (header_bytes buf.now header) }
 {

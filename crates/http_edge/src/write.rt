@@ -1,10 +1,10 @@
 //! Writes messages (RFC 9112, sections 3 to 6).
-ghost use Rattle.std.specs.Prelude.{◌≡◌, ◌≤◌, ◌<◌, ◌+◌, ◌^◌, length, take, true, IfSome, option_map};
+ghost use Rattle.std.specs.Prelude.{◌≡◌, ◌≤◌, ◌<◌, ◌+◌, ◌^◌, length, take, true, [], IfSome, option_map, unwrap_or};
 ghost use Rattle.std.specs.List.{flat_map};
+ghost use Rattle.http.specs.StatusCode.{reason_phrase};
 ghost use Rattle.std.specs.Io.KnownBytes.{Appends};
 ghost use Rattle.http_edge.specs.Sent.{Sent};
-ghost use Rattle.http_edge.specs.Texts.{response_text, post_text};
-ghost use Rattle.http_edge.specs.Parts.{closing, allowing};
+ghost use Rattle.http_edge.specs.Texts.{plain_response, allowing_response, response_text, post_text};
 
 use crate::written::Written;
 use byte_ends::Sink;
@@ -47,6 +47,14 @@ fn write_parts<K: Sink>(sink: &mut K, parts: &[&[u8]]) -> Written
     Written::All
 }
 
+/// The phrase that `http` gives to a status, which is empty where it gives none.
+fn phrase_of(status: StatusCode) -> &'static str
+    ensures value { result.now ≡ unwrap_or (reason_phrase status) [] }
+    ensures short { length result.now < 64 }
+{
+    status.canonical_reason().unwrap_or("")
+}
+
 /// Writes a response of these parts.
 fn write_head<'a, K: Sink>(
     writer: &mut K,
@@ -59,7 +67,7 @@ fn write_head<'a, K: Sink>(
     requires head { length status.now + length phrase.now + length content_type.now + length size.now < 2 ^ 40 }
     requires body { length body.now < 2 ^ 63 }
     ensures { Sent (K.contents writer.old) (K.contents writer.new) (K.has_failed writer.new)
-        (closing status.now phrase.now content_type.now size.now body.now) result }
+        (plain_response status.now phrase.now content_type.now size.now body.now) result }
 {
     write_parts(
         writer,
@@ -91,7 +99,7 @@ fn write_allowing<'a, K: Sink>(
     requires head { length status.now + length phrase.now + length content_type.now + length size.now + length methods.now < 2 ^ 40 }
     requires body { length body.now < 2 ^ 63 }
     ensures { Sent (K.contents writer.old) (K.contents writer.new) (K.has_failed writer.new)
-        (allowing status.now phrase.now content_type.now size.now methods.now body.now) result }
+        (allowing_response status.now phrase.now content_type.now size.now methods.now body.now) result }
 {
     write_parts(
         writer,
@@ -129,12 +137,20 @@ pub fn write_response<K: Sink>(
         (response_text status content_type.now (option_map (λ m. m.now) allow.entry) body.now) result }
 {
     let mut digits = Buffer::new();
-    let phrase = status.canonical_reason().unwrap_or("").as_bytes();
+    let phrase = phrase_of(status).as_bytes();
     let size = digits.format(body.len()).as_bytes();
     let kind = content_type.as_bytes();
     match allow {
         None => write_head(writer, status.as_str().as_bytes(), phrase, kind, size, body),
-        Some(methods) => write_allowing(writer, status.as_str().as_bytes(), phrase, kind, size, methods.as_bytes(), body),
+        Some(methods) => write_allowing(
+            writer,
+            status.as_str().as_bytes(),
+            phrase,
+            kind,
+            size,
+            methods.as_bytes(),
+            body,
+        ),
     }
 }
 

@@ -1,4 +1,4 @@
-use Rattle.std.proofs.Common.{◌≡◌, ◌<◌, ◌++◌, ℕ, List, length, take, arith, true, false, Ok, subst, sym}
+use Rattle.std.proofs.Common.{◌<◌, ◌++◌, length, take, arith, true, Ok}
 use Rattle.std.specs.Io.KnownBytes.{Consumes}
 use Rattle.std.proofs.lemmas.List.{length-take-le}
 use Rattle.std.proofs.lemmas.Result.{err_from_is_err_and}
@@ -78,4 +78,3 @@ pieces-preserved g c =
     let some : 0 < length piece = omega (arith, length-take-le c.in-Ok.n c.read.new.buf c.in-Ok.ensures.bound, c.if-n-eq0.false) in
     let holds = c.feed.ensures.holds fed so.holds in
     record { so_far = (fed ++ piece, goes_on r0 r1 r2 c.pieces.decoder c.feed.new.self fed piece so took some holds); failed = λ e. let x = c.pieces.invariant.failed e in rw x at c.in-Ok.ensures.failed }
-

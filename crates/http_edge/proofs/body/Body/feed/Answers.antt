@@ -1,4 +1,4 @@
-use Rattle.std.proofs.Common.{◌≡◌, ◌++◌, ◌+◌, List, ℕ, take, drop, length, ◌≤◌, arith, sym, subst}
+use Rattle.std.proofs.Common.{List, ℕ, take, drop, length, ◌≤◌, arith, sym, subst}
 use Rattle.std.proofs.Math.Seq.{take-add}
 use Rattle.std.proofs.lemmas.List.{take_rest, take-append-drop, length-drop}
 use Rattle.std.proofs.lemmas.Result.{err_from_is_err_and}

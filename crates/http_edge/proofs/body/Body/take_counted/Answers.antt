@@ -1,7 +1,6 @@
-use Rattle.std.proofs.Common.{◌≡◌, ◌<◌, ◌++◌, ◌-◌, List, ℕ, length, take, arith, sym, ap, subst, ◌∙◌}
+use Rattle.std.proofs.Common.{◌≡◌, ◌-◌, ℕ, length, take, arith, sym, subst, ◌∙◌}
 use Rattle.std.proofs.lemmas.List.{length-take-le}
-use Rattle.http_edge.specs.Body.{IsOpen, Stand, Reaches}
-use Rattle.http_edge.specs.declared.phase.Phase.{Phase}
+use Rattle.http_edge.specs.Body.{Reaches}
 use Rattle.http_edge.specs.declared.phase.Phase.TheVariants.{Counted}
 use Rattle.http_edge.proofs.BodyLemmas.{at, counted_more, counted_last}
 use Rattle.http_edge.proofs.ListLemmas.{grown}

@@ -1,7 +1,7 @@
-use Rattle.std.proofs.Common.{◌≡◌, ◌≢◌, ◌<◌, ◌≤◌, ◌++◌, ◌-◌, List, ℕ, [], length, take, drop, Option, arith, sym, ap, subst, ◌∙◌}
+use Rattle.std.proofs.Common.{◌≡◌, ◌++◌, ◌-◌, List, ℕ, take, drop, Option, arith, sym, subst, ◌∙◌}
 use Rattle.std.proofs.lemmas.List.{take-append-drop}
 use Rattle.http_edge.specs.Body.{IsOpen, Refuses}
-use Rattle.http_edge.specs.Chunks.{room, HasChunks}
+use Rattle.http_edge.specs.Chunks.{HasChunks}
 use Rattle.http_edge.specs.declared.fault.HttpFault.TheVariants.{BadChunk, BodyTooLong}
 use Rattle.http_edge.specs.declared.phase.Phase.TheVariants.{Line}
 use Rattle.http_edge.proofs.BodyLemmas.{at, at_line, line_zero, line_fits, line_over, line_refused}
@@ -104,4 +104,3 @@ returns-in-Err-clause-fault c =
     let P : List ℕ → Type 0 = λ s. Refuses BadChunk (at Line b.content.items b.part.items) s in
     let Q : List ℕ → Type 0 = λ s. (more : List ℕ) (body : Option (List ℕ)) → ¬ (HasChunks b.content.items (s ++ more) body) in
     rw c.requires.phase (subst P whole (line_refused b.content.items b.part.items u (drop c.line_len-n.result piece) (subst Q is (never_line b.content.items c.extend_from_slice.new.self.items never))))
-

@@ -1,8 +1,6 @@
-use Rattle.std.proofs.Common.{◌≡◌, [], ◌∷◌, List, ℕ, take, sym, subst, arith, ap, ◌∙◌, refl}
+use Rattle.std.proofs.Common.{◌≡◌, [], ◌∷◌, ℕ, take, arith, ap, ◌∙◌}
 use Rattle.std.proofs.lemmas.List.{take_more}
-use Rattle.http_edge.specs.Body.{IsOpen, Reaches}
-use Rattle.http_edge.specs.declared.phase.Phase.TheVariants.{Line, LineFeed}
-use Rattle.http_edge.proofs.BodyLemmas.{at, fed}
+use Rattle.http_edge.proofs.BodyLemmas.{fed}
 use Rattle.http_edge.proofs.body.Body.take_line_feed.Goals as goal
 
 pub returns-clause-reaches : goal.returns-clause-reaches

@@ -1,4 +1,4 @@
-use Rattle.std.proofs.Common.{◌≡◌, ◌≢◌, ◌<◌, ◌≤◌, ◌++◌, ◌-◌, List, ℕ, [], length, take, drop, Option, arith, sym, ap, subst, ◌∙◌}
+use Rattle.std.proofs.Common.{◌≡◌, ◌≤◌, ◌++◌, List, ℕ, [], length, take, drop, arith, sym, ap, subst, ◌∙◌}
 use Rattle.std.proofs.lemmas.List.{take_all, take-append-drop, length-append, length-take-le}
 use Rattle.httparse.specs.Grammar.{HasNoSection}
 use Rattle.httparse.specs.Spans.{SectionOverflows, IsSectionAt, IsSectionWithin}

@@ -1,4 +1,4 @@
-use Rattle.std.proofs.Common.{List, ℕ, sym, subst}
+use Rattle.std.proofs.Common.{sym, subst}
 use Rattle.http_edge.specs.Holds.{Progress, progress_of, Holds}
 use Rattle.http_edge.proofs.MachineLemmas.{tells_of}
 use Rattle.http_edge.proofs.decoder.Decoder.feed.Goals as goal

@@ -1,11 +1,11 @@
-use Rattle.std.proofs.Common.{◌≡◌, ◌<◌, ◌≤◌, ◌++◌, ◌-◌, List, ℕ, [], map, length, take, drop, Err, Ok, arith, sym, ap, subst, ◌∙◌, append_assoc}
+use Rattle.std.proofs.Common.{◌≡◌, ◌++◌, List, ℕ, map, length, take, drop, Err, Ok, arith, sym, ap, subst, ◌∙◌, append_assoc}
 use Rattle.std.proofs.lemmas.Result.{err_from_is_err_and}
 use Rattle.std.proofs.lemmas.List.{take-append-drop}
 use Rattle.httparse.specs.Spans.{header_bytes}
 use Rattle.http_edge.specs.Framing.{framing_by}
 use Rattle.http_edge.specs.Framed.{Frames}
 use Rattle.http_edge.specs.Head.{LooksForHead}
-use Rattle.http_edge.specs.Holds.{SoundAt, TakesHead}
+use Rattle.http_edge.specs.Holds.{SoundAt}
 use Rattle.http_edge.specs.Body.{stand_of}
 use Rattle.http_edge.specs.Answer.{Fails}
 use Rattle.http_edge.specs.declared.stage.Stage.TheVariants.{InHead}
