@@ -1,0 +1,17 @@
+//! Reads the JSON body of an OTLP metrics request.
+//!
+//! `read_request` gives the delta sums and histograms that this gateway adds
+//! up, in the order of the document, and counts the points that it does not.
+//! A container of another type refuses the whole request.
+#![tactic(auto)]
+
+mod fault;
+mod fields;
+mod place;
+mod whole;
+
+pub use fault::ReadFault;
+pub use place::Place;
+
+/// The most bytes of a key, value, name, version or unit.
+pub const TEXT_BYTES: usize = 4096;
