@@ -1,1 +1,3 @@
 pub mod WholeLemmas
+pub mod ContainerLemmas
+pub mod ListLemmas

@@ -1,6 +1,5 @@
 -- Whole numbers, as JSON numbers or as decimal texts.
-use Rattle.std.specs.Prelude.{ℕ, ◌^◌, ◌&&◌, ℤ, pos, negsuc, neg_ℤ, List, [], ◌∷◌, length, Option, Some, None, option_map, nat_lt, nat_le, if◌then◌else◌, ◌==◌}
-use Rattle.std.specs.Int.Signed.{le_z}
+use Rattle.std.specs.Prelude.{ℕ, suc, ◌^◌, ◌&&◌, ℤ, pos, negsuc, neg_ℤ, List, [], ◌∷◌, length, Option, Some, None, option_map, nat_lt, nat_le, if◌then◌else◌, ◌==◌}
 use Rattle.std.specs.Str.{all_ascii_digits}
 use Rattle.std.specs.Str.Parse.{digits_value}
 use Rattle.serde_json.specs.Data.{Data, null, boolean, number, string, array, object}
@@ -33,10 +32,11 @@ up_to most (Some (negsuc n)) = None
 unfoldable pub unsigned_in : ℕ → Data → Option ℕ
 unsigned_in most d = up_to most (whole d)
 
-abbrev pub between : ℤ → ℤ → Option ℤ → Option ℤ
-between low high None = None
-between low high (Some z) = if le_z low z && le_z z high then Some z else None
+abbrev pub between : ℕ → ℕ → Option ℤ → Option ℤ
+between below above None = None
+between below above (Some (pos n)) = if nat_le n above then Some (pos n) else None
+between below above (Some (negsuc n)) = if nat_le (suc n) below then Some (negsuc n) else None
 
--- the whole number from low to high that a value is
-unfoldable pub signed_in : ℤ → ℤ → Data → Option ℤ
-signed_in low high d = between low high (whole d)
+-- the whole number from -below to above that a value is
+unfoldable pub signed_in : ℕ → ℕ → Data → Option ℤ
+signed_in below above d = between below above (whole d)

@@ -5,8 +5,10 @@
 //! A container of another type refuses the whole request.
 #![tactic(auto)]
 
+mod containers;
 mod fault;
 mod fields;
+mod lists;
 mod place;
 mod whole;
 

@@ -1,6 +1,6 @@
 //! Whole numbers, as JSON numbers or as decimal texts.
 
-ghost use Rattle.std.specs.Prelude.{◌≡◌};
+ghost use Rattle.std.specs.Prelude.{◌≡◌, ◌<◌, ◌≤◌, ◌^◌};
 ghost use Rattle.serde_json.specs.View.{view};
 ghost use Rattle.otlp_read.specs.Whole.{magnitude, text_whole, whole, unsigned_in, signed_in};
 
@@ -55,13 +55,15 @@ pub fn unsigned(value: &Value, most: u64) -> Option<u64>
     Some(found as u64)
 }
 
-/// The whole number from `low` to `high` that a value is.
+/// The whole number from `-below` to `above` that a value is.
 #[tactic(auto, unfolding(crate::specs::Whole::signed_in))]
-pub fn signed(value: &Value, low: i64, high: i64) -> Option<i64>
-    ensures { result ≡ signed_in low high (view value.now) }
+pub fn signed(value: &Value, below: u64, above: u64) -> Option<i64>
+    requires low { below ≤ 2 ^ 63 }
+    requires high { above < 2 ^ 63 }
+    ensures { result ≡ signed_in below above (view value.now) }
 {
     let found = whole(value)?;
-    if found < i128::from(low) || found > i128::from(high) {
+    if found < -i128::from(below) || found > i128::from(above) {
         return None;
     }
     Some(found as i64)
