@@ -10,6 +10,7 @@ mod fault;
 mod fields;
 mod lists;
 mod place;
+mod values;
 mod whole;
 
 pub use fault::ReadFault;
