@@ -1,0 +1,3 @@
+pub mod Ends
+pub mod Parts
+pub mod Steps

@@ -1,0 +1,77 @@
+ghost use Rattle.std.specs.Prelude.{◌≡◌, false, Some};
+
+use crate::{Failed, Source, Step};
+
+/// A source of these bytes for tests, whose calls follow the steps. After the last step each call
+/// gives all that there is room for.
+#[derive(Drop)]
+pub struct Script<'a> {
+    bytes: &'a [u8],
+    steps: &'a [Step],
+    failed: bool,
+}
+
+impl<'a> Script<'a> {
+    ghost use Rattle.byte_ends.specs.Parts.{script_bytes, script_steps};
+
+    /// A source of all the bytes, of which no call has failed. Its first call follows the first step.
+    pub fn new(bytes: &'a [u8], steps: &'a [Step]) -> Self
+        ensures bytes { script_bytes result ≡ bytes.now }
+        ensures steps { script_steps result ≡ steps.now }
+        ensures failed { ⟦<Script<'a> as Source>⟧.has_failed result ≡ false }
+    {
+        Script {
+            bytes,
+            steps,
+            failed: false,
+        }
+    }
+
+    /// The bytes that are still to come.
+    pub fn left(&self) -> &'a [u8]
+        ensures { result.now ≡ script_bytes self.now }
+    {
+        self.bytes
+    }
+}
+
+impl Source for Script<'_> {
+    ghost use Rattle.std.specs.Prelude.{◌≤◌, ◌||◌, min, drop, length, IfOk, is_err};
+    ghost use Rattle.std.specs.Option.{option_map};
+    ghost use Rattle.std.specs.Result.{result_ok};
+    ghost use Rattle.byte_ends.specs.Ends.{Gave};
+    ghost use Rattle.byte_ends.specs.Parts.{script_bytes, script_steps};
+    ghost use Rattle.byte_ends.specs.Steps.{read_limit};
+
+    ghost remaining = { λ s. Some (script_bytes s) };
+
+    ghost has_failed = { λ s. s.failed };
+
+    fn read(&mut self, buf: &mut [u8]) -> Result<usize, Failed>
+        ensures bound { IfOk result (λ n. n ≤ length buf.new) }
+        ensures bytes { Gave (⟦<Self as Source>⟧.remaining self.old) (⟦<Self as Source>⟧.remaining self.new) result buf.new }
+        ensures failed { ⟦<Self as Source>⟧.has_failed self.new ≡ (⟦<Self as Source>⟧.has_failed self.old || is_err result) }
+        ensures step { result_ok result ≡ option_map (λ most. min most (length (script_bytes self.old))) (read_limit (script_steps self.old) (length buf.old)) }
+        ensures steps { script_steps self.new ≡ drop 1 (script_steps self.old) }
+    {
+        let mut most = buf.len();
+        if let Some((step, later)) = self.steps.split_first() {
+            self.steps = later;
+            match step {
+                Step::AtMost(n) => {
+                    // A read of no byte would say that the end is there.
+                    most = most.min((*n).max(1));
+                }
+                Step::Fail => {
+                    self.failed = true;
+                    return Err(Failed);
+                }
+            }
+        }
+        let n = most.min(self.bytes.len());
+        let (front, rest) = self.bytes.split_at(n);
+        buf[..n].copy_from_slice(front);
+        self.bytes = rest;
+        Ok(n)
+    }
+}

@@ -1,0 +1,21 @@
+ghost use Rattle.std.specs.Prelude.{◌≡◌, ◌≤◌, ◌<◌, ◌||◌, Option, List, ℕ, Bool, None, length, IfOk, is_err};
+ghost use Rattle.byte_ends.specs.Ends.{Took};
+
+use crate::Failed;
+
+/// Where bytes go.
+pub trait Sink {
+    /// The bytes that were taken so far, where they are known: not of a socket.
+    ghost contents: { Self → Option (List ℕ) } = { λ _. None };
+
+    /// Whether some call so far has failed.
+    ghost has_failed: { Self → Bool };
+
+    /// Takes some of the bytes, from the front, and tells how many: at least one, where there is one.
+    /// To take none of some is a failure. A call that fails takes no byte.
+    fn write(&mut self, bytes: &[u8]) -> Result<usize, Failed>
+        ensures bound { IfOk result (λ n. n ≤ length bytes.now) }
+        ensures some { 0 < length bytes.now → IfOk result (λ n. 0 < n) }
+        ensures bytes { Took (contents self.old) (contents self.new) result bytes.now }
+        ensures failed { has_failed self.new ≡ (has_failed self.old || is_err result) };
+}

@@ -1,0 +1,76 @@
+ghost use Rattle.std.specs.Prelude.{◌≡◌, [], false, Some};
+
+use crate::{Failed, Sink, Step};
+use std::alloc::Global;
+
+/// A sink for tests that keeps what it takes, whose calls follow the steps. After the last step each
+/// call takes all. It also fails where there is no memory for the bytes.
+#[derive(Drop)]
+pub struct Tape<'a> {
+    taken: Vec<u8>,
+    steps: &'a [Step],
+    failed: bool,
+}
+
+impl<'a> Tape<'a> {
+    ghost use Rattle.byte_ends.specs.Parts.{tape_steps};
+
+    /// A sink that has taken nothing, and of which no call has failed. Its first call follows the first step.
+    pub fn new(alloc: Global, steps: &'a [Step]) -> Self
+        ensures bytes { ⟦<Tape<'a> as Sink>⟧.contents result ≡ Some [] }
+        ensures steps { tape_steps result ≡ steps.now }
+        ensures failed { ⟦<Tape<'a> as Sink>⟧.has_failed result ≡ false }
+    {
+        Tape {
+            taken: Vec::new(alloc),
+            steps,
+            failed: false,
+        }
+    }
+
+    /// The bytes that were taken, in their order.
+    pub fn taken(&self) -> &[u8]
+        ensures { ⟦<Tape<'a> as Sink>⟧.contents self.now ≡ Some result.now }
+    {
+        self.taken.as_slice()
+    }
+}
+
+impl Sink for Tape<'_> {
+    ghost use Rattle.std.specs.Prelude.{◌≤◌, ◌<◌, ◌||◌, drop, length, IfOk, is_err};
+    ghost use Rattle.byte_ends.specs.Ends.{Took};
+    ghost use Rattle.byte_ends.specs.Parts.{tape_steps};
+    ghost use Rattle.byte_ends.specs.Steps.{write_limit};
+
+    ghost contents = { λ s. Some s.taken.items };
+
+    ghost has_failed = { λ s. s.failed };
+
+    fn write(&mut self, bytes: &[u8]) -> Result<usize, Failed>
+        ensures bound { IfOk result (λ n. n ≤ length bytes.now) }
+        ensures some { 0 < length bytes.now → IfOk result (λ n. 0 < n) }
+        ensures bytes { Took (⟦<Self as Sink>⟧.contents self.old) (⟦<Self as Sink>⟧.contents self.new) result bytes.now }
+        ensures failed { ⟦<Self as Sink>⟧.has_failed self.new ≡ (⟦<Self as Sink>⟧.has_failed self.old || is_err result) }
+        ensures step { IfOk result (λ n. write_limit (tape_steps self.old) (length bytes.now) ≡ Some n) }
+        ensures steps { tape_steps self.new ≡ drop 1 (tape_steps self.old) }
+    {
+        let mut most = bytes.len();
+        if let Some((step, later)) = self.steps.split_first() {
+            self.steps = later;
+            match step {
+                Step::AtMost(n) if *n > 0 => most = most.min(*n),
+                _ => {
+                    self.failed = true;
+                    return Err(Failed);
+                }
+            }
+        }
+        match self.taken.extend_from_slice(&bytes[..most]) {
+            Ok(()) => Ok(most),
+            Err(_) => {
+                self.failed = true;
+                Err(Failed)
+            }
+        }
+    }
+}

@@ -1,0 +1,9 @@
+pub mod Texts
+pub mod Values
+pub mod Attributes
+pub mod Bounds
+pub mod Kinds
+pub mod Identity
+pub mod Order
+pub mod Views
+pub mod Checks

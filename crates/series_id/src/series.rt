@@ -1,0 +1,247 @@
+//! Identities of series.
+
+ghost use Rattle.std.specs.Prelude.{◌≡◌, IfOk};
+ghost use Rattle.series_id.specs.Checks.{checked_identity};
+ghost use Rattle.series_id.specs.Identity.{IsIdentity, row_length};
+ghost use Rattle.series_id.specs.Order.{metric_cmp, same_series, scope_cmp, series_before, series_cmp};
+
+use crate::attributes::AttrSet;
+use crate::kinds::Kind;
+use crate::texts::Text;
+use std::alloc::{AllocError, Global};
+use std::cmp::Ordering;
+use std::marker::Model;
+
+/// Why no identity is made.
+#[derive(Clone, Copy, Debug, PartialEq, Eq)]
+pub enum IdFault {
+    /// A name, version or unit has more than `MAX_TEXT` bytes.
+    TextTooLong,
+}
+
+/// What identifies a series. Contracts see it as an `Identity`.
+#[derive(Drop)]
+pub struct SeriesId {
+    resource: AttrSet,
+    scope_name: Text,
+    scope_version: Text,
+    scope_attrs: AttrSet,
+    name: Text,
+    unit: Text,
+    kind: Kind,
+    attrs: AttrSet,
+}
+
+impl Model for SeriesId {
+    ghost use Rattle.series_id.specs.Identity.{Identity};
+
+    ghost Value = { Identity };
+
+    ghost use Rattle.series_id.specs.Identity.{IsIdentity};
+    ghost use Rattle.series_id.specs.Views.{identity_of};
+
+    ghost view = { identity_of };
+
+    ghost invariant = { λ s. IsIdentity (identity_of s) };
+}
+
+impl SeriesId {
+    /// The identity of these parts.
+    ///
+    /// Fails with `TextTooLong` exactly where the scope's name or version, the metric's name or
+    /// the unit has more than `MAX_TEXT` bytes. Takes no memory.
+    pub fn new(
+        resource: AttrSet,
+        scope_name: Text,
+        scope_version: Text,
+        scope_attrs: AttrSet,
+        name: Text,
+        unit: Text,
+        kind: Kind,
+        attrs: AttrSet,
+    ) -> Result<SeriesId, IdFault>
+        ensures { result ≡ checked_identity (record { resource = resource; scope_name = scope_name; scope_version = scope_version; scope_attrs = scope_attrs; name = name; unit = unit; kind = kind; attrs = attrs }) }
+    {
+        if scope_name.is_long() || scope_version.is_long() || name.is_long() || unit.is_long() {
+            return Err(IdFault::TextTooLong);
+        }
+        resource.keeps_limits();
+        scope_attrs.keeps_limits();
+        kind.keeps_limits();
+        attrs.keeps_limits();
+        Ok(SeriesId {
+            resource,
+            scope_name,
+            scope_version,
+            scope_attrs,
+            name,
+            unit,
+            kind,
+            attrs,
+        })
+    }
+
+    /// The resource's attributes.
+    pub fn resource(&self) -> &AttrSet
+        ensures { result.now ≡ self.now.resource }
+    {
+        &self.resource
+    }
+
+    /// The name of the instrumentation scope.
+    pub fn scope_name(&self) -> &Text
+        ensures { result.now ≡ self.now.scope_name }
+    {
+        &self.scope_name
+    }
+
+    /// The version of the instrumentation scope.
+    pub fn scope_version(&self) -> &Text
+        ensures { result.now ≡ self.now.scope_version }
+    {
+        &self.scope_version
+    }
+
+    /// The attributes of the instrumentation scope.
+    pub fn scope_attrs(&self) -> &AttrSet
+        ensures { result.now ≡ self.now.scope_attrs }
+    {
+        &self.scope_attrs
+    }
+
+    /// The metric's name.
+    pub fn name(&self) -> &Text
+        ensures { result.now ≡ self.now.name }
+    {
+        &self.name
+    }
+
+    /// The metric's unit.
+    pub fn unit(&self) -> &Text
+        ensures { result.now ≡ self.now.unit }
+    {
+        &self.unit
+    }
+
+    /// The metric's kind.
+    pub fn kind(&self) -> &Kind
+        ensures { result.now ≡ self.now.kind }
+    {
+        &self.kind
+    }
+
+    /// The point's attributes.
+    pub fn attrs(&self) -> &AttrSet
+        ensures { result.now ≡ self.now.attrs }
+    {
+        &self.attrs
+    }
+
+    /// Does nothing: its contract tells a caller that the identity is within its limits, with its
+    /// sets and bounds in order.
+    pub fn keeps_limits(&self)
+        ensures { IsIdentity self.now }
+    {
+        let _ = &self.name;
+    }
+
+    /// How many words a row of the series has: 3 for a sum, the number of bounds and 4 more for a
+    /// histogram.
+    pub fn row_len(&self) -> usize
+        ensures { result ≡ row_length self.now.kind }
+    {
+        self.kind.row_len()
+    }
+
+    /// An equal identity.
+    pub fn copy(&self, alloc: Global) -> Result<SeriesId, AllocError>
+        ensures { IfOk result (λ copy. copy ≡ self.now) }
+    {
+        let resource = self.resource.copy(alloc)?;
+        let scope_name = self.scope_name.copy(alloc)?;
+        let scope_version = self.scope_version.copy(alloc)?;
+        let scope_attrs = self.scope_attrs.copy(alloc)?;
+        let name = self.name.copy(alloc)?;
+        let unit = self.unit.copy(alloc)?;
+        let kind = self.kind.copy(alloc)?;
+        let attrs = self.attrs.copy(alloc)?;
+        Ok(SeriesId {
+            resource,
+            scope_name,
+            scope_version,
+            scope_attrs,
+            name,
+            unit,
+            kind,
+            attrs,
+        })
+    }
+
+    /// Whether both are of one series: whether all fields are equal.
+    #[tactic(auto, unfolding(crate::specs::Order::same_series))]
+    pub fn is_same(&self, other: &SeriesId) -> bool
+        ensures { result ≡ same_series self.now other.now }
+    {
+        self.compare(other).is_eq()
+    }
+
+    /// Whether the first comes before the second in the order of series.
+    #[tactic(auto, unfolding(crate::specs::Order::series_before))]
+    pub fn is_before(&self, other: &SeriesId) -> bool
+        ensures { result ≡ series_before self.now other.now }
+    {
+        self.compare(other).is_lt()
+    }
+
+    /// Which of two series comes first: the first field that differs decides.
+    #[tactic(auto, unfolding(crate::specs::Order::series_cmp))]
+    fn compare(&self, other: &SeriesId) -> Ordering
+        ensures { result ≡ series_cmp self.now other.now }
+    {
+        let resource = self.resource.compare(&other.resource);
+        if resource.is_ne() {
+            return resource;
+        }
+        let scope = self.compare_scope(other);
+        if scope.is_ne() {
+            return scope;
+        }
+        self.compare_metric(other)
+    }
+
+    /// Which of two series comes first by its scope: name, version and attributes.
+    #[tactic(auto, unfolding(crate::specs::Order::scope_cmp))]
+    fn compare_scope(&self, other: &SeriesId) -> Ordering
+        ensures { result ≡ scope_cmp self.now other.now }
+    {
+        let name = self.scope_name.compare(&other.scope_name);
+        if name.is_ne() {
+            return name;
+        }
+        let version = self.scope_version.compare(&other.scope_version);
+        if version.is_ne() {
+            return version;
+        }
+        self.scope_attrs.compare(&other.scope_attrs)
+    }
+
+    /// Which of two series comes first by its metric: name, unit, kind and point attributes.
+    #[tactic(auto, unfolding(crate::specs::Order::metric_cmp))]
+    fn compare_metric(&self, other: &SeriesId) -> Ordering
+        ensures { result ≡ metric_cmp self.now other.now }
+    {
+        let name = self.name.compare(&other.name);
+        if name.is_ne() {
+            return name;
+        }
+        let unit = self.unit.compare(&other.unit);
+        if unit.is_ne() {
+            return unit;
+        }
+        let kind = self.kind.compare(&other.kind);
+        if kind.is_ne() {
+            return kind;
+        }
+        self.attrs.compare(&other.attrs)
+    }
+}
