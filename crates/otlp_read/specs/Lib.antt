@@ -4,3 +4,6 @@ pub mod Containers
 pub mod Lists
 pub mod Values
 pub mod ValueViews
+pub mod Attributes
+pub mod Streams
+pub mod StreamViews

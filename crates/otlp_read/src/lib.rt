@@ -5,11 +5,13 @@
 //! A container of another type refuses the whole request.
 #![tactic(auto)]
 
+mod attributes;
 mod containers;
 mod fault;
 mod fields;
 mod lists;
 mod place;
+mod streams;
 mod values;
 mod whole;
 
