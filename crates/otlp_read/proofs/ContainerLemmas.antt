@@ -1,7 +1,5 @@
--- The elements of an array, as the code has them; a loop over objects.
-use Rattle.std.proofs.Common.{◌≡◌, ℕ, ◌+◌, ◌<◌, ◌≤◌, List, [], ◌∷◌, map, drop, length, get_or, Result, Ok, Err, refl, ap, sym, ◌∙◌}
-use Rattle.std.proofs.lemmas.List.{drop_more, at_drop_all}
-use Rattle.serde_json.specs.Data.{Data}
+-- The elements of an array, as the code has them, and a step that failed.
+use Rattle.std.proofs.Common.{◌≡◌, List, [], ◌∷◌, map, Result, Ok, Err, refl, ap}
 use Rattle.serde_json.specs.declared.value.Value.{Value}
 use Rattle.serde_json.specs.View.{view, items_view}
 use Rattle.otlp_read.specs.declared.place.Place.{Place}

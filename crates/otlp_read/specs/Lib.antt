@@ -7,3 +7,9 @@ pub mod ValueViews
 pub mod Attributes
 pub mod Streams
 pub mod StreamViews
+pub mod Points
+pub mod PointViews
+pub mod Tallies
+pub mod Metrics
+pub mod PartViews
+pub mod Reading

@@ -10,13 +10,20 @@ mod containers;
 mod fault;
 mod fields;
 mod lists;
+mod made;
+mod metrics;
 mod place;
+mod reading;
 mod streams;
+mod sums;
 mod values;
+mod walk;
 mod whole;
 
 pub use fault::ReadFault;
 pub use place::Place;
+pub use reading::Reading;
+pub use walk::read_request;
 
 /// The most bytes of a key, value, name, version or unit.
 pub const TEXT_BYTES: usize = 4096;
