@@ -1,15 +1,23 @@
 -- What the constructors of series and points leave of what they are given.
-use Rattle.std.proofs.Common.{◌≡◌, ◌≢◌, Option, Some, None, Result, Ok, Err, IfOk, IfErr, OnOk, unwrap_or, List, true, false, refl, sym, ap, ◌∙◌, cond}
+use Rattle.std.proofs.Common.{◌≡◌, ◌≢◌, Option, Some, None, ℤ, subst, Result, Ok, Err, IfOk, IfErr, OnOk, unwrap_or, List, true, false, refl, sym, ap, ◌∙◌, cond}
 use Rattle.std.specs.Result.{result_ok}
 use Rattle.series_id.specs.Identity.{Identity}
 use Rattle.series_id.specs.Checks.{checked_identity, has_long_text}
 use Rattle.series_id.specs.declared.attributes.Attribute.{Attribute}
 use Rattle.series_id.specs.declared.kinds.Kind.{Kind}
 use Rattle.series_id.specs.declared.series.IdFault.TheVariants.{TextTooLong}
-use Rattle.metric_events.specs.DataPoint.{DataPoint}
-use Rattle.metric_events.specs.declared.point.PointFault.{PointFault}
-use Rattle.metric_events.specs.declared.point.PointFault.TheVariants.{NoMemory}
-use Rattle.otlp_read.specs.Points.{allowed}
+use Rattle.series_id.specs.declared.kinds.Kind.TheVariants.{Histogram}
+use Rattle.series_id.specs.declared.faults.KindFault.{KindFault}
+use Rattle.series_id.specs.Ascending.{kind_refusal, kind_unless, histogram_of}
+use Rattle.metric_events.specs.PointFaults.{IsHistogram}
+use Rattle.otlp_read.specs.Rules.{unless}
+use Rattle.std.specs.Prelude.{codes}
+use Rattle.serde_json.specs.Data.{Data}
+use Rattle.series_id.specs.declared.limits.TheConstants.{MAX_BOUND}
+use Rattle.otlp_read.specs.Whole.{signed_in}
+use Rattle.otlp_read.specs.Fields.{field}
+use Rattle.otlp_read.specs.Lists.{list_in}
+use Rattle.otlp_read.specs.Histograms.{◌>>=◌, kind_in}
 use Rattle.otlp_read.specs.Streams.{Stream, identity_in, series_in}
 
 checked_is : (x s : Identity) → result_ok (checked_identity x) ≡ Some s → x ≡ s
@@ -24,9 +32,27 @@ pub kind_of_series : (stream : Stream) (kind : Kind) (attributes : List Attribut
 unfolding series_in
 kind_of_series stream kind attributes s h = ap (λ (x : Identity). x.kind) (checked_is (identity_in stream kind attributes) s h)
 
--- what a constructor of points answers, where memory did not run out
-pub allowed_point : (r : Result DataPoint PointFault) (fault : Option PointFault) (p : DataPoint)
-    → IfOk r (λ q. q ≡ p) → OnOk r (fault ≡ None) → IfErr r (λ e. e ≡ unwrap_or fault NoMemory) → r ≢ Err NoMemory → result_ok r ≡ allowed fault p
-allowed_point (Ok q) fault p value none refused there = ap (λ x. Some x) value ∙ ap (λ f. allowed f p) (sym none)
-allowed_point (Err e) None p value none refused there = absurd (there (ap (λ x. Err x) refused))
-allowed_point (Err e) (Some f) p value none refused there = refl
+made_kind : (fault : Option KindFault) (bounds : List ℤ) (kind : Kind) → result_ok (kind_unless fault (Histogram bounds)) ≡ Some kind → IsHistogram kind
+made_kind None bounds kind h = let e : Histogram bounds ≡ kind = cc in subst IsHistogram e tt
+made_kind (Some fault) bounds kind h = absurd cc
+
+-- a histogram's kind is one
+pub kind_of_histogram : (bounds : List ℤ) (kind : Kind) → result_ok (histogram_of bounds) ≡ Some kind → IsHistogram kind
+unfolding kind_refusal
+kind_of_histogram bounds kind h = made_kind (kind_refusal bounds) bounds kind h
+
+-- what a constructor answers, where memory did not run out
+pub allowed : {A F : Type 0} (r : Result A F) (fault : Option F) (memory : F) (p : A)
+    → IfOk r (λ q. q ≡ p) → OnOk r (fault ≡ None) → IfErr r (λ e. e ≡ unwrap_or fault memory) → r ≢ Err memory → result_ok r ≡ unless fault p
+allowed (Ok q) fault memory p value none refused there = ap (λ x. Some x) value ∙ ap (λ f. unless f p) (sym none)
+allowed (Err e) None memory p value none refused there = absurd (there (ap (λ x. Err x) refused))
+allowed (Err e) (Some f) memory p value none refused there = refl
+
+-- the kind that a point's bounds make
+pub kind_is_histogram : (d : Data) (kind : Kind) → kind_in d ≡ Some kind → IsHistogram kind
+unfolding kind_in
+kind_is_histogram d kind h = from_bounds (list_in (signed_in MAX_BOUND MAX_BOUND) (field (codes "explicitBounds") d)) kind h
+  where
+    from_bounds : (bounds : Option (List ℤ)) (kind : Kind) → (bounds >>= λ bs. result_ok (histogram_of bs)) ≡ Some kind → IsHistogram kind
+    from_bounds None kind h = absurd cc
+    from_bounds (Some bs) kind h = kind_of_histogram bs kind h

@@ -1,8 +1,11 @@
 -- Attribute lists (`KeyValue` of the standard): arrays of objects with a key and a value.
-use Rattle.std.specs.Prelude.{ℕ, List, [], ◌∷◌, if◌then◌else◌, Option, Some, None, option_and_then, codes}
+use Rattle.std.specs.Prelude.{ℕ, List, if◌then◌else◌, Option, Some, None, option_and_then, codes}
 use Rattle.serde_json.specs.Data.{Data}
 use Rattle.series_id.specs.declared.attributes.Attribute.{Attribute}
 use Rattle.series_id.specs.declared.values.AttrValue.{AttrValue}
+use Rattle.series_id.specs.Pairs.{attr_refusal}
+use Rattle.series_id.specs.Sorting.{sorted_by_key}
+use Rattle.otlp_read.specs.Rules.{unless}
 use Rattle.otlp_read.specs.Fields.{field, text_in}
 use Rattle.otlp_read.specs.Containers.{is_object}
 use Rattle.otlp_read.specs.Lists.{list_in}
@@ -23,10 +26,9 @@ key_and_value d = do
 unfoldable pub pair_of : Data → Option (List ℕ × AttrValue)
 pair_of d = if is_object d then key_and_value d else None
 
--- the set that pairs are: few, with short texts, no key twice
+-- the set that pairs are: few, with short texts and lists, no key twice
 unfoldable pub set_of : List (List ℕ × AttrValue) → Option (List Attribute)
-set_of [] = Some []
-set_of (p ∷ ps) = None
+set_of pairs = unless (attr_refusal pairs) (sorted_by_key pairs)
 
 -- an attribute list; absent is the empty set
 unfoldable pub attributes_in : Option Data → Option (List Attribute)

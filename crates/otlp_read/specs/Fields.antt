@@ -2,7 +2,7 @@
 use Rattle.std.specs.Prelude.{ℕ, ◌-◌, ◌^◌, ◌%◌, List, [], length, Bool, true, false, ◌==◌, nat_le, if◌then◌else◌, Option, Some, None, option_and_then}
 use Rattle.serde_json.specs.Data.{Data, null, boolean, number, string, array, object}
 use Rattle.serde_json.specs.Find.{get, as_str, as_bool, as_number, as_u64}
-use Rattle.otlp_read.specs.declared.TheConstants.{TEXT_BYTES}
+use Rattle.series_id.specs.declared.limits.TheConstants.{MAX_TEXT}
 use Rattle.otlp_read.specs.Whole.{unsigned_in}
 
 -- null counts as absent
@@ -21,7 +21,7 @@ field name d = present (get name d)
 
 abbrev pub if_short : Option (List ℕ) → Option (List ℕ)
 if_short None = None
-if_short (Some s) = if nat_le (length s) TEXT_BYTES then Some s else None
+if_short (Some s) = if nat_le (length s) MAX_TEXT then Some s else None
 
 -- a name, version or unit: a text within the limit; absent is the empty one
 unfoldable pub text_in : Option Data → Option (List ℕ)
@@ -50,3 +50,7 @@ is_one (Some n) = n == 1
 unfoldable pub is_delta : Option Data → Bool
 is_delta None = false
 is_delta (Some d) = is_one (option_and_then as_u64 (as_number d))
+
+-- startTimeUnixNano and timeUnixNano: nanoseconds since the epoch, of 64 bits; absent is none
+unfoldable pub nanos_in : Option Data → Option ℕ
+nanos_in found = option_and_then (unsigned_in (2 ^ 64 - 1)) found

@@ -7,7 +7,9 @@ pub mod ValueViews
 pub mod Attributes
 pub mod Streams
 pub mod StreamViews
-pub mod Points
+pub mod Rules
+pub mod Sums
+pub mod Histograms
 pub mod PointViews
 pub mod Tallies
 pub mod Metrics

@@ -5,8 +5,9 @@ use Rattle.otlp_read.specs.declared.place.Place.{Place}
 use Rattle.otlp_read.specs.declared.place.Place.TheVariants.{DataField, DataPoints}
 use Rattle.otlp_read.specs.Fields.{field}
 use Rattle.otlp_read.specs.Containers.{◌>>=◌, objects, object_in}
-use Rattle.otlp_read.specs.Streams.{Scope, sum_stream_in}
-use Rattle.otlp_read.specs.Points.{sum_point_in}
+use Rattle.otlp_read.specs.Streams.{Scope, stream_in, sum_stream_in}
+use Rattle.otlp_read.specs.Sums.{sum_point_in}
+use Rattle.otlp_read.specs.Histograms.{histogram_point_in}
 use Rattle.otlp_read.specs.Tallies.{Tally, add_foreign, add_metric, each_point}
 
 -- a data field that is there, and its points
@@ -62,14 +63,14 @@ add_sum scope metric None t = t
 add_sum scope metric (Some p) t = each_point (sum_point_in (sum_stream_in scope metric p.whole)) p.points t
 
 -- the points of a histogram
-abbrev pub add_histogram : Option Part → Tally → Tally
-add_histogram None t = t
-add_histogram (Some p) t = add_foreign (length p.points) t
+abbrev pub add_histogram : Option Scope → Data → Option Part → Tally → Tally
+add_histogram scope metric None t = t
+add_histogram scope metric (Some p) t = each_point (histogram_point_in (stream_in scope metric p.whole)) p.points t
 
 -- of a metric with one data field, sums and histograms are read; with more than one nothing is
 unfoldable pub add_profile : Option Scope → Data → Parts → Tally → Tally
 add_profile scope metric ps t =
-    if is_single ps then add_histogram ps.histogram (add_sum scope metric ps.sum t)
+    if is_single ps then add_histogram scope metric ps.histogram (add_sum scope metric ps.sum t)
     else add_all ps.histogram (add_all ps.sum t)
 
 -- gauges, exponential histograms and summaries are foreign

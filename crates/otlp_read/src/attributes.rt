@@ -9,7 +9,7 @@ use crate::fields::{field, text_in};
 use crate::lists::elements_in;
 use crate::values::value_in;
 use serde_json::Value;
-use series_id::{AttrSet, AttrValue, Text};
+use series_id::{AttrFault, AttrSet, AttrValue, Text};
 use std::alloc::{AllocError, Global};
 
 /// The set of attributes that a field is, empty where it is absent, and
@@ -62,8 +62,9 @@ fn pair_of(alloc: Global, value: &Value) -> Result<Option<(Text, AttrValue)>, Al
 fn set_of(alloc: Global, pairs: Vec<(Text, AttrValue)>) -> Result<Option<AttrSet>, AllocError>
     ensures { IfOk result (λ o. o ≡ set_of pairs.items) }
 {
-    if pairs.is_empty() {
-        return Ok(Some(AttrSet::empty(alloc)));
+    match AttrSet::from_pairs(alloc, pairs) {
+        Ok(set) => Ok(Some(set)),
+        Err(AttrFault::NoMemory) => Err(AllocError),
+        Err(_) => Ok(None),
     }
-    Ok(None)
 }

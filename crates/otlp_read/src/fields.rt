@@ -2,11 +2,11 @@
 
 ghost use Rattle.std.specs.Prelude.{◌≡◌, option_map};
 ghost use Rattle.serde_json.specs.View.{view};
-ghost use Rattle.otlp_read.specs.Fields.{field, flags_fit, text_in, truth_in, is_delta};
+ghost use Rattle.otlp_read.specs.Fields.{field, flags_fit, text_in, truth_in, is_delta, nanos_in};
 
-use crate::TEXT_BYTES;
 use crate::whole::unsigned;
 use serde_json::Value;
+use series_id::limits::MAX_TEXT;
 
 /// The member of that name, where it is there and not null.
 #[tactic(auto, unfolding(crate::specs::Fields::field))]
@@ -31,7 +31,7 @@ pub fn flags_fit(found: Option<&Value>) -> bool
     }
 }
 
-/// A text of at most `TEXT_BYTES` bytes, empty where it is absent.
+/// A text of at most `MAX_TEXT` bytes, empty where it is absent.
 #[tactic(auto, unfolding(crate::specs::Fields::text_in))]
 pub fn text_in<'v>(found: Option<&'v Value>) -> Option<&'v str>
     ensures { option_map (λ s. s.now) result ≡ text_in (option_map (λ v. view v.now) found.entry) }
@@ -40,7 +40,7 @@ pub fn text_in<'v>(found: Option<&'v Value>) -> Option<&'v str>
         return Some("");
     };
     let text = value.as_str()?;
-    if text.len() <= TEXT_BYTES {
+    if text.len() <= MAX_TEXT {
         Some(text)
     } else {
         None
@@ -70,4 +70,12 @@ pub fn is_delta(found: Option<&Value>) -> bool
             None => false,
         },
     }
+}
+
+/// Nanoseconds since the epoch, where they are given.
+#[tactic(auto, unfolding(crate::specs::Fields::nanos_in))]
+pub fn nanos_in(found: Option<&Value>) -> Option<u64>
+    ensures { result ≡ nanos_in (option_map (λ v. view v.now) found.entry) }
+{
+    unsigned(found?, u64::MAX)
 }

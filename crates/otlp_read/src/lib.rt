@@ -9,6 +9,7 @@ mod attributes;
 mod containers;
 mod fault;
 mod fields;
+mod histograms;
 mod lists;
 mod made;
 mod metrics;
@@ -24,6 +25,3 @@ pub use fault::ReadFault;
 pub use place::Place;
 pub use reading::Reading;
 pub use walk::read_request;
-
-/// The most bytes of a key, value, name, version or unit.
-pub const TEXT_BYTES: usize = 4096;

@@ -3,8 +3,9 @@
 ghost use Rattle.std.specs.Prelude.{◌≡◌, ◌≤◌, map, option_map, IfOk, OnOk};
 ghost use Rattle.serde_json.specs.View.{view};
 ghost use Rattle.otlp_read.specs.Containers.{Gives};
-ghost use Rattle.otlp_read.specs.StreamViews.{scope_data, sum_stream_data};
-ghost use Rattle.otlp_read.specs.Points.{sum_point_in};
+ghost use Rattle.otlp_read.specs.StreamViews.{scope_data, stream_data, sum_stream_data};
+ghost use Rattle.otlp_read.specs.Sums.{sum_point_in};
+ghost use Rattle.otlp_read.specs.Histograms.{histogram_point_in};
 ghost use Rattle.otlp_read.specs.Tallies.{tally, add_metric, add_point, each_point};
 ghost use Rattle.otlp_read.specs.Metrics.{part, parts, one_if, is_single, add_all, add_sum, add_histogram, add_profile, add_parts, metric};
 ghost use Rattle.otlp_read.specs.PartViews.{part_data, parts_data};
@@ -12,9 +13,10 @@ ghost use Rattle.otlp_read.specs.PartViews.{part_data, parts_data};
 use crate::containers::{object_in, objects};
 use crate::fault::ReadFault;
 use crate::fields::field;
+use crate::histograms::histogram_point_in;
 use crate::place::Place;
 use crate::reading::Reading;
-use crate::streams::{Scope, SumStream, sum_stream_in};
+use crate::streams::{Scope, Stream, SumStream, stream_in, sum_stream_in};
 use crate::sums::sum_point_in;
 use metric_events::point::Point;
 use serde_json::Value;
@@ -111,7 +113,7 @@ fn add_profile(
 {
     if is_single(parts) {
         add_sum(alloc, out, scope, metric, parts.sum)?;
-        add_histogram(out, parts.histogram);
+        add_histogram(alloc, out, scope, metric, parts.histogram)?;
     } else {
         add_all(out, parts.sum);
         add_all(out, parts.histogram);
@@ -166,10 +168,20 @@ fn add_sum(
     sum_points(alloc, out, sum, part.points)
 }
 
-fn add_histogram(out: &mut Reading, part: Option<Part<'_>>)
-    ensures { tally out.new ≡ add_histogram (option_map part_data part.entry) (tally out.old) }
+fn add_histogram(
+    alloc: Global,
+    out: &mut Reading,
+    scope: Option<Scope<'_>>,
+    metric: &Value,
+    part: Option<Part<'_>>,
+) -> Result<(), AllocError>
+    ensures { OnOk result (tally out.new ≡ add_histogram (option_map scope_data scope.entry) (view metric.now) (option_map part_data part.entry) (tally out.old)) }
 {
-    add_all(out, part);
+    let Some(part) = part else {
+        return Ok(());
+    };
+    let stream = stream_in(scope, metric, part.whole);
+    histogram_points(alloc, out, stream, part.points)
 }
 
 /// Reads the points of a sum in order.
@@ -183,6 +195,22 @@ fn sum_points(
 {
     for value in points {
         let point = sum_point_in(alloc, sum, value)?;
+        add_point(out, point)?;
+    }
+    Ok(())
+}
+
+/// Reads the points of a histogram in order.
+fn histogram_points(
+    alloc: Global,
+    out: &mut Reading,
+    stream: Option<Stream<'_>>,
+    points: &[Value],
+) -> Result<(), AllocError>
+    ensures { OnOk result (tally out.new ≡ each_point (histogram_point_in (option_map stream_data stream.entry)) (map view points.now) (tally out.old)) }
+{
+    for value in points {
+        let point = histogram_point_in(alloc, stream, value)?;
         add_point(out, point)?;
     }
     Ok(())

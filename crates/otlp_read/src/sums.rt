@@ -2,15 +2,15 @@
 
 ghost use Rattle.std.specs.Prelude.{◌≡◌, option_map, IfOk, OnOk, map};
 ghost use Rattle.serde_json.specs.View.{view};
-ghost use Rattle.otlp_read.specs.Points.{nanos_in, number_in, is_whole_value, sum_fields, sum_point, sum_point_in};
+ghost use Rattle.otlp_read.specs.Sums.{number_in, is_whole_value, sum_fields, sum_point, sum_point_in};
 ghost use Rattle.otlp_read.specs.PointViews.{sum_fields_data};
 ghost use Rattle.otlp_read.specs.StreamViews.{sum_stream_data};
 
 use crate::attributes::attributes_in;
-use crate::fields::{field, flags_fit};
+use crate::fields::{field, flags_fit, nanos_in};
 use crate::made::made;
 use crate::streams::{SumStream, series_in};
-use crate::whole::{signed, unsigned};
+use crate::whole::signed;
 use metric_events::point::Point;
 use serde_json::Value;
 use series_id::Kind;
@@ -24,29 +24,21 @@ struct SumFields {
     value: i64,
 }
 
-/// Nanoseconds since the epoch.
-#[tactic(auto, unfolding(crate::specs::Points::nanos_in))]
-pub fn nanos_in(found: Option<&Value>) -> Option<u64>
-    ensures { result ≡ nanos_in (option_map (λ v. view v.now) found.entry) }
-{
-    unsigned(found?, u64::MAX)
-}
-
-#[tactic(auto, unfolding(crate::specs::Points::number_in))]
+#[tactic(auto, unfolding(crate::specs::Sums::number_in))]
 fn number_in(found: Option<&Value>) -> Option<i64>
     ensures { result ≡ number_in (option_map (λ v. view v.now) found.entry) }
 {
     signed(found?, i64::MAX as u64, i64::MAX as u64)
 }
 
-#[tactic(auto, unfolding(crate::specs::Points::is_whole_value))]
+#[tactic(auto, unfolding(crate::specs::Sums::is_whole_value))]
 fn is_whole_value(value: &Value) -> bool
     ensures { result ≡ is_whole_value (view value.now) }
 {
     flags_fit(field(value, "flags")) && field(value, "asDouble").is_none()
 }
 
-#[tactic(auto, unfolding(crate::specs::Points::sum_fields))]
+#[tactic(auto, unfolding(crate::specs::Sums::sum_fields))]
 fn sum_fields(value: &Value) -> Option<SumFields>
     ensures { option_map sum_fields_data result ≡ sum_fields (view value.now) }
 {
@@ -78,7 +70,7 @@ pub fn sum_point_in(
     }
 }
 
-#[tactic(auto, unfolding(crate::specs::Points::sum_point))]
+#[tactic(auto, unfolding(crate::specs::Sums::sum_point))]
 fn sum_point(
     alloc: Global,
     sum: SumStream<'_>,

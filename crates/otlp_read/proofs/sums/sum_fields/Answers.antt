@@ -1,7 +1,7 @@
 use Rattle.std.proofs.Common.{refl, rules, w64}
 use Rattle.std.proofs.lemmas.Int.{to_z-of_z}
 use Rattle.std.specs.Prelude.{FitsSigned}
-use Rattle.otlp_read.specs.Points.{sum_fields}
+use Rattle.otlp_read.specs.Sums.{sum_fields}
 use Rattle.otlp_read.proofs.sums.sum_fields.Goals as goal
 
 pub returns-then-is_whole_value : goal.returns-then-is_whole_value

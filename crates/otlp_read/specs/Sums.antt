@@ -1,23 +1,19 @@
--- What a point of a sum or a histogram says.
+-- Points of sums.
 use Rattle.std.specs.Prelude.{ℕ, ℤ, ◌-◌, ◌^◌, Bool, not, ◌&&◌, if◌then◌else◌, Option, Some, None, option_and_then, is_some, codes}
 use Rattle.serde_json.specs.Data.{Data}
 use Rattle.series_id.specs.declared.kinds.Kind.TheVariants.{Sum}
 use Rattle.metric_events.specs.DataPoint.{DataPoint}
 use Rattle.metric_events.specs.Rows.{sum_row}
 use Rattle.metric_events.specs.PointFaults.{sum_fault}
-use Rattle.metric_events.specs.declared.point.PointFault.{PointFault}
 use Rattle.otlp_read.specs.Whole.{unsigned_in, signed_in}
-use Rattle.otlp_read.specs.Fields.{field, flags_fit}
+use Rattle.otlp_read.specs.Fields.{field, flags_fit, nanos_in}
+use Rattle.otlp_read.specs.Rules.{unless}
 use Rattle.otlp_read.specs.Attributes.{attributes_in}
 use Rattle.otlp_read.specs.Streams.{Stream, SumStream, series_in}
 
 infixl 10 ◌>>=◌
 abbrev pub ◌>>=◌ : {A B : Type 0} → Option A → (A → Option B) → Option B
 o >>= f = option_and_then f o
-
--- nanoseconds since the epoch, of 64 bits
-unfoldable pub nanos_in : Option Data → Option ℕ
-nanos_in found = found >>= unsigned_in (2 ^ 64 - 1)
 
 -- asInt: a whole number whose size is below 2^63
 unfoldable pub number_in : Option Data → Option ℤ
@@ -40,18 +36,13 @@ sum_fields d = do
   value ← number_in (field (codes "asInt") d)
   if is_whole_value d then Some (record { start = start; end = end; value = value }) else None
 
--- the point, unless it breaks a rule of points: its span, its sign, its words
-abbrev pub allowed : Option PointFault → DataPoint → Option DataPoint
-allowed None p = Some p
-allowed (Some fault) p = None
-
 -- a point of a sum
 unfoldable pub sum_point : SumStream → Data → Option DataPoint
 sum_point sum d = do
   fields ← sum_fields d
   attributes ← attributes_in (field (codes "attributes") d)
   series ← series_in sum.stream (Sum sum.monotonic) attributes
-  allowed (sum_fault series.kind fields.start fields.end fields.value) (record { series = series; span = record { start = fields.start; end = fields.end }; row = sum_row fields.value })
+  unless (sum_fault series.kind fields.start fields.end fields.value) (record { series = series; span = record { start = fields.start; end = fields.end }; row = sum_row fields.value })
 
 -- below a stream that is none, nothing is a point
 abbrev pub sum_point_in : Option SumStream → Data → Option DataPoint
