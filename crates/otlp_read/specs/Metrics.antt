@@ -1,5 +1,5 @@
 -- Metrics: their five data fields, and what becomes of the points in them.
-use Rattle.std.specs.Prelude.{ℕ, ◌+◌, List, length, Bool, nat_le, if◌then◌else◌, Option, Some, None, Result, Ok, Err, codes}
+use Rattle.std.specs.Prelude.{ℕ, ◌+◌, List, length, Bool, nat_le, if◌then◌else◌, Option, Some, None, Result, Ok, codes}
 use Rattle.serde_json.specs.Data.{Data}
 use Rattle.otlp_read.specs.declared.place.Place.{Place}
 use Rattle.otlp_read.specs.declared.place.Place.TheVariants.{DataField, DataPoints}

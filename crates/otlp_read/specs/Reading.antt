@@ -1,5 +1,5 @@
 -- What a request says: its points of the profile in order, how many others it has, and how many metrics; or its first wrong container.
-use Rattle.std.specs.Prelude.{◌≡◌, ℕ, List, [], ◌∷◌, if◌then◌else◌, Option, Some, None, Result, Ok, Err, ⊤, codes, IsUtf8}
+use Rattle.std.specs.Prelude.{◌≡◌, ℕ, List, [], ◌∷◌, if◌then◌else◌, Option, Some, Result, Ok, Err, ⊤, codes, IsUtf8}
 use Rattle.serde_json.specs.Data.{Data}
 use Rattle.serde_json.specs.Read.{read}
 use Rattle.series_id.specs.declared.attributes.Attribute.{Attribute}

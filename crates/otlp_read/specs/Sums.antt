@@ -5,11 +5,11 @@ use Rattle.series_id.specs.declared.kinds.Kind.TheVariants.{Sum}
 use Rattle.metric_events.specs.DataPoint.{DataPoint}
 use Rattle.metric_events.specs.Rows.{sum_row}
 use Rattle.metric_events.specs.PointFaults.{sum_fault}
-use Rattle.otlp_read.specs.Whole.{unsigned_in, signed_in}
+use Rattle.otlp_read.specs.Whole.{signed_in}
 use Rattle.otlp_read.specs.Fields.{field, flags_fit, nanos_in}
 use Rattle.otlp_read.specs.Rules.{unless}
 use Rattle.otlp_read.specs.Attributes.{attributes_in}
-use Rattle.otlp_read.specs.Streams.{Stream, SumStream, series_in}
+use Rattle.otlp_read.specs.Streams.{SumStream, series_in}
 
 infixl 10 ◌>>=◌
 abbrev pub ◌>>=◌ : {A B : Type 0} → Option A → (A → Option B) → Option B

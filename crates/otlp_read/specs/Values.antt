@@ -1,5 +1,5 @@
 -- Values of attributes (`AnyValue` of the standard): one scalar, or a list of scalars.
-use Rattle.std.specs.Prelude.{◌-◌, ◌^◌, List, [], Bool, ◌||◌, if◌then◌else◌, Option, Some, None, option_map, is_some, codes}
+use Rattle.std.specs.Prelude.{◌-◌, ◌^◌, List, Bool, ◌||◌, if◌then◌else◌, Option, Some, None, option_map, is_some, codes}
 use Rattle.serde_json.specs.Data.{Data}
 use Rattle.serde_json.specs.Find.{as_str, as_bool}
 use Rattle.series_id.specs.declared.scalars.Scalar.{Scalar}

@@ -7,7 +7,7 @@ use crate::place::Place;
 use std::alloc::{AllocError, AllocFailed};
 
 /// Why a body gives no reading.
-#[derive(Debug, Drop)]
+#[derive(Clone, Copy, Debug, PartialEq, Eq)]
 pub enum ReadFault {
     /// `serde_json` reads no value from the bytes.
     NotJson,

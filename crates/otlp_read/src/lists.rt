@@ -52,7 +52,11 @@ pub fn signed_list(
 }
 
 // The numbers of a list, if each is a whole number of at most `most`.
-fn unsigned_numbers(alloc: Global, values: &[Value], most: u64) -> Result<Option<Vec<u64>>, AllocError>
+fn unsigned_numbers(
+    alloc: Global,
+    values: &[Value],
+    most: u64,
+) -> Result<Option<Vec<u64>>, AllocError>
     ensures { IfOk result (λ o. option_map (λ v. v.items) o ≡ all_of (unsigned_in most) (map view values.now)) }
 {
     let mut found = Vec::new(alloc);

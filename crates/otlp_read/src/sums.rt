@@ -71,11 +71,7 @@ pub fn sum_point_in(
 }
 
 #[tactic(auto, unfolding(crate::specs::Sums::sum_point))]
-fn sum_point(
-    alloc: Global,
-    sum: SumStream<'_>,
-    value: &Value,
-) -> Result<Option<Point>, AllocError>
+fn sum_point(alloc: Global, sum: SumStream<'_>, value: &Value) -> Result<Option<Point>, AllocError>
     ensures { IfOk result (λ o. o ≡ sum_point (sum_stream_data sum.entry) (view value.now)) }
 {
     let Some(fields) = sum_fields(value) else {

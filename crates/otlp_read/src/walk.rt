@@ -114,7 +114,12 @@ fn scope_metrics(
     let scope = object_in(field(value, "scope"), Place::Scope)?;
     let values = objects(field(value, "metrics"), Place::Metrics)?;
     let attributes = attributes_in(alloc, inner(scope, "attributes"))?;
-    metrics(alloc, out, scope_in(resource, scope, attributes.as_ref()), values)
+    metrics(
+        alloc,
+        out,
+        scope_in(resource, scope, attributes.as_ref()),
+        values,
+    )
 }
 
 fn metrics(

@@ -1,4 +1,4 @@
-use Rattle.std.proofs.Common.{refl, rules}
+use Rattle.std.proofs.Common.{refl}
 use Rattle.std.proofs.lemmas.Result.{err_from_is_err_and}
 use Rattle.otlp_read.proofs.ContainerLemmas.{fails_then}
 use Rattle.otlp_read.specs.Metrics.{parts}
