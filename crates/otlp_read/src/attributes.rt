@@ -1,6 +1,7 @@
 //! Attribute lists.
 
-ghost use Rattle.std.specs.Prelude.{◌≡◌, map, option_map, IfOk};
+ghost use Rattle.std.specs.Prelude.{◌≡◌, ◌≢◌, map, option_map, IfOk, OnErr, OnOk};
+ghost use Rattle.std.specs.Result.{result_ok};
 ghost use Rattle.serde_json.specs.View.{view};
 ghost use Rattle.otlp_read.specs.Lists.{all_of};
 ghost use Rattle.otlp_read.specs.Attributes.{key_and_value, pair_of, set_of, attributes_in};
@@ -58,11 +59,22 @@ fn pair_of(alloc: Global, value: &Value) -> Result<Option<(Text, AttrValue)>, Al
 }
 
 /// The set that the pairs are, where they are one.
-#[tactic(auto, unfolding(crate::specs::Attributes::set_of))]
+
 fn set_of(alloc: Global, pairs: Vec<(Text, AttrValue)>) -> Result<Option<AttrSet>, AllocError>
     ensures { IfOk result (λ o. o ≡ set_of pairs.items) }
 {
-    match AttrSet::from_pairs(alloc, pairs) {
+    let set = made_set(AttrSet::from_pairs(alloc, pairs))?;
+    Ok(set)
+}
+
+/// The set that was made, or nothing where the pairs are none; an error only
+/// where memory ran out.
+fn made_set(set: Result<AttrSet, AttrFault>) -> Result<Option<AttrSet>, AllocError>
+    ensures set { IfOk result (λ o. o ≡ result_ok set) }
+    ensures ok { OnOk result (set ≢ Err AttrFault.NoMemory) }
+    ensures memory { OnErr result (set ≡ Err AttrFault.NoMemory) }
+{
+    match set {
         Ok(set) => Ok(Some(set)),
         Err(AttrFault::NoMemory) => Err(AllocError),
         Err(_) => Ok(None),
