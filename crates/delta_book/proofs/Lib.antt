@@ -1,0 +1,3 @@
+pub mod PointFaults
+pub mod Limits
+pub mod Adding
