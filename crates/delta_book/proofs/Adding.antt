@@ -4,6 +4,7 @@ use Rattle.std.proofs.Math.ListN.{replicate}
 use Rattle.std.specs.Prelude.{nat_le, slice_index}
 use Rattle.std.specs.List.{list_all, list_any, filter}
 use Rattle.std.proofs.lemmas.Bool.{and_parts, leb-true}
+use Rattle.std.proofs.lemmas.List.{drop_all, take_all, append-nil}
 use Rattle.series_id.specs.Identity.{Identity, row_length}
 use Rattle.series_id.specs.declared.kinds.Kind.{Kind}
 use Rattle.series_id.specs.declared.kinds.Kind.TheVariants.{Sum, Histogram}
@@ -131,3 +132,15 @@ may_add part x i qs a total h l e one t = record {
     let s : part_sum part x (drop i qs) ≡ add_rows a.point.row total = ap (row_sum (row_length x.kind)) (part_here part x i qs a l e one) ∙ ap (add_rows a.point.row) (sym t) in
     omega (arith, w, ap (λ row. slice_index row k) s, added_at a.point.row total k));
 }
+
+-- a slice written back whole
+pub written_back : {X : Type 0} (xs ys : List X) (n : ℕ) → length ys ≡ length xs → n ≡ length xs → take n (ys ++ drop (length ys) xs) ≡ ys
+written_back xs ys n e f =
+    rw (drop_all (length ys) xs (omega arith)) (rw (append-nil ys) (take_all n ys (omega arith)))
+
+-- the sum, with point i
+pub sum_here : (part : Part) (x : Identity) (i : ℕ) (qs : List Accepted) (a : Accepted) (total : List ℕ) → i < length qs → a ≡ get_or qs i a → is_one_of part x a ≡ true → total ≡ part_sum part x (drop (i + 1) qs) → add_rows a.point.row total ≡ part_sum part x (drop i qs)
+sum_here part x i qs a total l e one t = ap (add_rows a.point.row) t ∙ sym (ap (row_sum (row_length x.kind)) (part_here part x i qs a l e one))
+
+pub sum_later : (part : Part) (x : Identity) (i : ℕ) (qs : List Accepted) (a : Accepted) (total : List ℕ) → i < length qs → a ≡ get_or qs i a → is_one_of part x a ≡ false → total ≡ part_sum part x (drop (i + 1) qs) → total ≡ part_sum part x (drop i qs)
+sum_later part x i qs a total l e one t = t ∙ sym (ap (row_sum (row_length x.kind)) (part_later part x i qs a l e one))

@@ -114,8 +114,9 @@ fn home_span(points: &[Accepted], series: &SeriesId) -> Option<Span>
     let mut i = points.len();
     while i > 0 {
         i -= 1;
-        if is_of_part(&points[i], series, Part::Home) {
-            span = Some(joined_to(points[i].point.span(), span));
+        let a = &points[i];
+        if is_of_part(a, series, Part::Home) {
+            span = Some(joined_to(a.point.span(), span));
         }
     }
     span

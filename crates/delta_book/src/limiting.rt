@@ -53,7 +53,7 @@ fn batch_word(batch: &[Point], series: &SeriesId, k: usize) -> u128
 /// A word of the sum of a series with the batch's points.
 fn word_total(points: &[Accepted], batch: &[Point], series: &SeriesId, k: usize) -> u128
     ensures value { result ≡ word_with series.now points.now batch.now k }
-    ensures few { result < 2 ^ 127 }
+    ensures few { result ≤ (length points.now + length batch.now) * 2 ^ 64 }
 {
     accepted_word(points, series, k) + batch_word(batch, series, k)
 }
