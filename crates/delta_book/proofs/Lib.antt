@@ -2,3 +2,6 @@ pub mod PointFaults
 pub mod Limits
 pub mod Adding
 pub mod Words
+pub mod Sending
+pub mod Sent
+pub mod Picking

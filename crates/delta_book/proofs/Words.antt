@@ -1,5 +1,5 @@
 -- The words of a sum, each added up by itself, decide whether the sum is within its limits.
-use Rattle.std.proofs.Common.{◌≡◌, ℕ, ◌+◌, ◌-◌, ◌<◌, ◌≤◌, Bool, true, false, cond, not, ◌&&◌, ◌||◌, List, [], ◌∷◌, ◌++◌, map, drop, get_or, length, refl, ap, sym, ◌∙◌, subst, arith, zero, suc, sum}
+use Rattle.std.proofs.Common.{◌≡◌, ℕ, ◌+◌, ◌-◌, ◌<◌, ◌≤◌, Bool, true, false, cond, not, ◌&&◌, ◌||◌, List, [], ◌∷◌, ◌++◌, map, drop, get_or, length, refl, ap, sym, ◌∙◌, subst, arith, zero, suc, sum, add-one}
 use Rattle.std.specs.Prelude.{nat_lt, nat_le, slice_index}
 use Rattle.std.specs.List.{list_all, list_any, All}
 use Rattle.std.proofs.lemmas.Bool.{leb-true, le-leb, ltb-true, ltb-false, lt-ltb, le-ltb, or_left, or_right}
@@ -16,7 +16,7 @@ use Rattle.metric_events.specs.Legal.{is_over, is_too_large}
 use Rattle.metric_events.specs.declared.limits.TheConstants.{MAX_WORD, MAX_COUNT, MAX_SUM}
 use Rattle.metric_events.specs.declared.accepted.Accepted.{Accepted}
 use Rattle.metric_events.proofs.Fits.{Made, MadeOf, made_of, length-row_sum}
-use Rattle.delta_book.specs.Batches.{is_point_of, word_of, word_in, word_with, has_large, counts, counts_over}
+use Rattle.delta_book.specs.Batches.{is_point_of, word_of, word_in, word_with, has_large, counts, counts_over, is_over_by}
 use Rattle.delta_book.specs.Parts.{AreAccepted}
 use Rattle.delta_book.proofs.Limits.{rest_at}
 use Rattle.delta_book.proofs.Adding.{added_at, accepted_made}
@@ -155,3 +155,34 @@ not_fits_histogram bounds row w h =
     none false true t = refl
     none false false true = refl
     none false false false = refl
+
+-- one count more
+pub counts_on : (w : ℕ → ℕ) (k : ℕ) → 3 ≤ k → counts w (k - 3 + 1) ≡ counts w (k - 3) + w k
+counts_on w k h = ap (counts w) (add-one (k - 3)) ∙ ap (λ n. counts w (k - 3) + w n) (omega arith)
+
+-- whether a point's sums are over a limit
+
+length-with : (x : Identity) (b : ℕ) (s : List ℕ) (qs : List Accepted) (ps : List DataPoint) → AreAccepted qs → All IsPoint ps → length (sum_of x (qs ++ map (admitted b s) ps)) ≡ row_length x.kind
+length-with x b s qs ps h k = length-row_sum x (of_series x (qs ++ map (admitted b s) ps)) (made_of x (qs ++ map (admitted b s) ps) (made_both qs (accepted_made qs h)))
+  where
+    made_new : (ps : List DataPoint) → All IsPoint ps → Made (map (admitted b s) ps)
+    made_new [] m = tt
+    made_new (p ∷ ps) m = (m 0 p (omega arith), made_new ps (λ i d l. m (suc i) d (omega arith)))
+
+    made_both : (qs : List Accepted) → Made qs → Made (qs ++ map (admitted b s) ps)
+    made_both [] m = made_new ps k
+    made_both (a ∷ qs) m = (m.0, made_both qs m.1)
+
+over_by : (kind : Kind) (row : List ℕ) (w : ℕ → ℕ) (n : ℕ) → ((k : ℕ) → slice_index row k ≡ w k) → length row ≡ n → not (fits kind row) ≡ is_over_by kind w n
+over_by (Sum monotonic) row w n h l = not_fits_sum monotonic row w h ∙ ap (has_large w) l
+over_by (Histogram bounds) row w n h l = not_fits_histogram bounds row w h ∙ ap (λ m. (has_large w m || counts_over w (m - 3)) || nat_lt MAX_SUM (w 2)) l
+
+pub over_with : (p : DataPoint) (b : ℕ) (s : List ℕ) (qs : List Accepted) (ps : List DataPoint) → AreAccepted qs → All IsPoint ps → is_over (qs ++ map (admitted b s) ps) p ≡ is_over_by p.series.kind (word_with p.series qs ps) (row_length p.series.kind)
+over_with p b s qs ps h k = over_by p.series.kind (sum_of p.series (qs ++ map (admitted b s) ps)) (word_with p.series qs ps) (row_length p.series.kind) (λ i. word-with p.series i b s qs ps) (length-with p.series b s qs ps h k)
+
+-- point i of the batch is over, or not
+pub large_here : (qs : List Accepted) (ps : List DataPoint) (i : ℕ) (p : DataPoint) → i < length ps → p ≡ get_or ps i p → is_over qs p ≡ true → is_too_large qs (drop i ps) ≡ true
+large_here qs ps i p h e o = ap (is_too_large qs) (rest_at ps i p h e) ∙ or_left (is_over qs p) (is_too_large qs (drop (i + 1) ps)) o
+
+pub large_later : (qs : List Accepted) (ps : List DataPoint) (i : ℕ) (p : DataPoint) → i < length ps → p ≡ get_or ps i p → is_over qs p ≡ false → is_too_large qs (drop (i + 1) ps) ≡ is_too_large qs (drop i ps)
+large_later qs ps i p h e o = sym (ap (is_too_large qs) (rest_at ps i p h e) ∙ ap (λ v. v || is_too_large qs (drop (i + 1) ps)) o)
