@@ -4,5 +4,8 @@ pub mod Adding
 pub mod Words
 pub mod Sending
 pub mod Totalling
+pub mod Journaled
+pub mod Admitting
 pub mod Sent
 pub mod Picking
+pub mod Taking
