@@ -6,6 +6,7 @@ use Rattle.metric_events.specs.History.{History, Start, ◌▸◌, entries}
 use Rattle.metric_events.specs.Points.{points, points_after}
 use Rattle.metric_events.specs.Running.{open_batches, live_flushes, held_senders, open_after, live_after, held_after, owed}
 use Rattle.metric_events.specs.Legal.{IsLegal, Allowed}
+use Rattle.metric_events.specs.Strike.{EndsByReversal}
 use Rattle.metric_events.specs.declared.limits.TheConstants.{MAX_ENTRIES}
 use Rattle.metric_events.specs.declared.accepted.Accepted.{Accepted}
 use Rattle.metric_events.specs.declared.flight.Flight.{Flight}
@@ -89,3 +90,13 @@ booked qs qs' bs bs' ls ls' hs hs' xs ys cap cap' a a' t t' x h allowed numbered
       taken_are = et ∙ ap takes (sym e);
       room = room;
     }
+
+-- the history after one more entry
+pub after_push : (xs ys : List Entry) (x : Entry) → ys ≡ xs ++ x ∷ [] → history ys ≡ history xs ▸ x.event
+after_push xs ys x e = ap history e ∙ history-push xs x
+
+pub legal_push : (xs ys : List Entry) (x : Entry) → ys ≡ xs ++ x ∷ [] → IsLegal (history xs) → Allowed (history xs) x.event → IsLegal (history ys)
+legal_push xs ys x e l a = subst IsLegal (sym (after_push xs ys x e)) (l, a)
+
+pub reversal_push : (xs ys : List Entry) (x : Entry) → ys ≡ xs ++ x ∷ [] → EndsByReversal (history xs ▸ x.event) → EndsByReversal (history ys)
+reversal_push xs ys x e r = subst EndsByReversal (sym (after_push xs ys x e)) r

@@ -2,6 +2,7 @@ ghost use Rattle.std.specs.Prelude.{◌≡◌, [], IfOk};
 ghost use Rattle.std.specs.List.{All};
 
 mod admitting;
+mod ending;
 mod taking;
 
 use crate::totals::{SeriesTotals, all_totals};
