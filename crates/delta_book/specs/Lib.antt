@@ -1,0 +1,16 @@
+pub use Rattle.metric_events.specs.History
+pub use Rattle.metric_events.specs.Points
+pub use Rattle.metric_events.specs.Running
+pub use Rattle.metric_events.specs.Series
+pub use Rattle.metric_events.specs.Legal
+pub use Rattle.metric_events.specs.Choice
+pub use Rattle.metric_events.specs.Standing
+pub use Rattle.metric_events.specs.Strike
+pub use Rattle.metric_events.specs.Settled
+pub mod Journal
+pub mod Stored
+pub mod Refusals
+pub mod Flushes
+pub mod Totals
+pub mod Batches
+pub mod Parts
