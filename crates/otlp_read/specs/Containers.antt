@@ -24,13 +24,16 @@ abbrev pub Gives : {X Y : Type 0} → (X → Y) → Result X ReadFault → Resul
 Gives view (Ok x) read = read ≡ Ok (view x)
 Gives view (Err e) read = Fails e read
 
+-- the elements of an array in order
 abbrev pub elements : Items → List Data
 elements no_items = []
 elements (item d ds) = d ∷ elements ds
 
+-- whether a value is an object
 abbrev pub is_object : Data → Bool
 is_object d = is_some (as_object d)
 
+-- the elements, if there is an array and all of them are objects
 abbrev pub each_object : Place → Option Items → Result (List Data) Place
 each_object place None = Err place
 each_object place (Some ds) = if list_all is_object (elements ds) then Ok (elements ds) else Err place

@@ -19,6 +19,7 @@ present (Some (object ms)) = Some (object ms)
 unfoldable pub field : List ℕ → Data → Option Data
 field name d = present (get name d)
 
+-- a text within the limit
 abbrev pub if_short : Option (List ℕ) → Option (List ℕ)
 if_short None = None
 if_short (Some s) = if nat_le (length s) MAX_TEXT then Some s else None
@@ -33,6 +34,7 @@ unfoldable pub truth_in : Option Data → Option Bool
 truth_in None = Some false
 truth_in (Some d) = as_bool d
 
+-- an even number
 abbrev pub is_even : Option ℕ → Bool
 is_even None = false
 is_even (Some n) = n % 2 == 0
@@ -42,6 +44,7 @@ unfoldable pub flags_fit : Option Data → Bool
 flags_fit None = true
 flags_fit (Some d) = is_even (unsigned_in (2 ^ 32 - 1) d)
 
+-- the number 1
 abbrev pub is_one : Option ℕ → Bool
 is_one None = false
 is_one (Some n) = n == 1

@@ -15,6 +15,7 @@ pub record Part : Type 0 where
   pub whole : Data
   pub points : List Data
 
+-- a data field that may be absent
 abbrev pub part_in : Option Data → Result (Option Part) Place
 part_in None = Ok None
 part_in (Some d) = do
@@ -44,6 +45,7 @@ parts metric = do
   summary ← part (codes "summary") metric
   Ok (record { gauge = gauge; sum = sum; histogram = histogram; exponential = exponential; summary = summary })
 
+-- whether a data field is there, as a number
 abbrev pub one_if : Option Part → ℕ
 one_if None = 0
 one_if (Some p) = 1

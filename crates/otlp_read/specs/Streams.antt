@@ -51,6 +51,7 @@ pub record SumStream : Type 0 where
   pub stream : Stream
   pub monotonic : Bool
 
+-- the same for a sum
 unfoldable pub sum_stream_in : Option Scope → Data → Data → Option SumStream
 sum_stream_in scope metric sum = do
   stream ← stream_in scope metric sum

@@ -15,9 +15,9 @@ infixl 10 ◌>>=◌
 abbrev pub ◌>>=◌ : {A B : Type 0} → Option A → (A → Option B) → Option B
 o >>= f = option_and_then f o
 
--- asInt: a whole number whose size is below 2^63
+-- asInt: a whole number of 64 bits; how large it may be, and that it is not negative in a monotonic sum, is a rule of points
 unfoldable pub number_in : Option Data → Option ℤ
-number_in found = found >>= signed_in (2 ^ 63 - 1) (2 ^ 63 - 1)
+number_in found = found >>= signed_in (2 ^ 63) (2 ^ 63 - 1)
 
 -- a recorded value, and not a double
 unfoldable pub is_whole_value : Data → Bool
@@ -29,6 +29,7 @@ pub record SumFields : Type 0 where
   pub end : ℕ
   pub value : ℤ
 
+-- nothing where one of them is none
 unfoldable pub sum_fields : Data → Option SumFields
 sum_fields d = do
   start ← nanos_in (field (codes "startTimeUnixNano") d)

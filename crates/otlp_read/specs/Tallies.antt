@@ -10,19 +10,23 @@ pub record Tally : Type 0 where
   pub foreign : ℕ
   pub metrics : ℕ
 
+-- a reading as the program holds it
 abbrev pub tally : Reading → Tally
 tally r = record { points = r.points; foreign = r.foreign; metrics = r.metrics }
 
+-- nothing has been read
 abbrev pub nothing : Tally
 nothing = record { points = []; foreign = 0; metrics = 0 }
 
--- a count goes as far as its word
+-- a count of 64 bits stops at its greatest value, which no request that fits a memory reaches
 abbrev pub plus : ℕ → ℕ → ℕ
 plus a b = min (a + b) (2 ^ 64 - 1)
 
+-- so many points are foreign
 abbrev pub add_foreign : ℕ → Tally → Tally
 add_foreign n t = record { points = t.points; foreign = plus t.foreign n; metrics = t.metrics }
 
+-- one more metric
 abbrev pub add_metric : Tally → Tally
 add_metric t = record { points = t.points; foreign = t.foreign; metrics = plus t.metrics 1 }
 

@@ -23,6 +23,7 @@ pub record ValueFields : Type 0 where
 unfoldable pub has_other : Data → Bool
 has_other d = is_some (field (codes "doubleValue") d) || is_some (field (codes "kvlistValue") d) || is_some (field (codes "bytesValue") d)
 
+-- the fields of a value object
 unfoldable pub fields_of : Data → ValueFields
 fields_of d = record {
   text = field (codes "stringValue") d;
@@ -58,6 +59,7 @@ scalars_of d = if is_object d then list_in scalar_in (field (codes "values") d) 
 unfoldable pub many_of : ValueFields → Data → Option AttrValue
 many_of fields list = if fields.other || is_some fields.text || is_some fields.truth || is_some fields.int then None else option_map Many (scalars_of list)
 
+-- a list where its field is there, else a scalar
 abbrev pub value_of_fields : ValueFields → Option Data → Option AttrValue
 value_of_fields fields None = option_map One (scalar_of fields)
 value_of_fields fields (Some list) = many_of fields list

@@ -23,6 +23,7 @@ whole (string s) = text_whole s
 whole (array ds) = None
 whole (object ms) = None
 
+-- a number from 0 to most
 abbrev pub up_to : ℕ → Option ℤ → Option ℕ
 up_to most None = None
 up_to most (Some (pos n)) = if nat_le n most then Some n else None
@@ -32,6 +33,7 @@ up_to most (Some (negsuc n)) = None
 unfoldable pub unsigned_in : ℕ → Data → Option ℕ
 unsigned_in most d = up_to most (whole d)
 
+-- a number from -below to above
 abbrev pub between : ℕ → ℕ → Option ℤ → Option ℤ
 between below above None = None
 between below above (Some (pos n)) = if nat_le n above then Some (pos n) else None

@@ -12,7 +12,6 @@ use crate::lists::{signed_list, unsigned_list};
 use crate::made::made;
 use crate::streams::{Stream, series_in};
 use crate::whole::unsigned;
-use metric_events::limits::{MAX_SUM, MAX_WORD};
 use metric_events::point::Point;
 use serde_json::Value;
 use series_id::Kind;
@@ -35,7 +34,7 @@ fn count_in(found: Option<&Value>) -> Option<u64>
 {
     match found {
         None => Some(0),
-        Some(value) => unsigned(value, MAX_WORD),
+        Some(value) => unsigned(value, u64::MAX),
     }
 }
 
@@ -46,7 +45,7 @@ fn total_in(found: Option<&Value>) -> Option<Option<u64>>
 {
     match found {
         None => Some(None),
-        Some(value) => unsigned(value, MAX_SUM).map(Some),
+        Some(value) => unsigned(value, u64::MAX).map(Some),
     }
 }
 
@@ -109,7 +108,7 @@ fn histogram_point(
     let Some(kind) = kind_in(alloc, value)? else {
         return Ok(None);
     };
-    let Some(buckets) = unsigned_list(alloc, field(value, "bucketCounts"), MAX_WORD)? else {
+    let Some(buckets) = unsigned_list(alloc, field(value, "bucketCounts"), u64::MAX)? else {
         return Ok(None);
     };
     let Some(attributes) = attributes_in(alloc, field(value, "attributes"))? else {

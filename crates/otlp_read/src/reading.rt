@@ -8,7 +8,8 @@ use metric_events::points::Points;
 pub struct Reading {
     /// The delta sums and histograms that are added up.
     pub points: Points,
-    /// How many points are not, for the sender's `rejectedDataPoints`.
+    /// How many points are not, for the sender's `rejectedDataPoints`
+    /// (OTLP, "Partial Success").
     pub foreign: u64,
     /// How many metric objects there are.
     pub metrics: u64,

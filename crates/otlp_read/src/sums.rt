@@ -28,7 +28,7 @@ struct SumFields {
 fn number_in(found: Option<&Value>) -> Option<i64>
     ensures { result ≡ number_in (option_map (λ v. view v.now) found.entry) }
 {
-    signed(found?, i64::MAX as u64, i64::MAX as u64)
+    signed(found?, 1 << 63, (1 << 63) - 1)
 }
 
 #[tactic(auto, unfolding(crate::specs::Sums::is_whole_value))]
