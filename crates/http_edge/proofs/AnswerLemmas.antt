@@ -1,5 +1,5 @@
 -- What an answer rules out.
-use Rattle.std.proofs.Common.{◌≡◌, ℕ, List, [], ◌++◌, Option, Some, None, Ok, Err, sym, ap, subst, ◌∙◌}
+use Rattle.std.proofs.Common.{◌≡◌, ℕ, List, [], ◌++◌, Option, Some, None, Ok, Err, refl, sym, ap, subst, ◌∙◌}
 use Rattle.std.specs.Prelude.{Result, ⊤}
 use Rattle.std.proofs.lemmas.List.{append-nil}
 use Rattle.httparse.specs.Grammar.{RequestHead}
@@ -11,9 +11,9 @@ use Rattle.http_edge.specs.declared.request.Request.{Request}
 use Rattle.http_edge.specs.Message.{Message, IsHeadAt, NeverHead}
 use Rattle.http_edge.specs.Reading.{HasBody, framing_in, BeginsWith, IsTooLong, NotYet}
 use Rattle.http_edge.specs.Request.{message_in}
-use Rattle.http_edge.specs.Answer.{Explains, Answers, Gives, TellsTooLong}
+use Rattle.http_edge.specs.Answer.{Explains, Answers, Fails, Gives, TellsTooLong}
 use Rattle.http_edge.proofs.HeadLemmas.{never_bad, never_few, never_short}
-use Rattle.http_edge.proofs.FaultLemmas.{begins-append}
+use Rattle.http_edge.proofs.FaultLemmas.{begins-append, fails_more}
 use Rattle.http_edge.proofs.MachineLemmas.{some_bytes}
 use Rattle.http_edge.proofs.Unique.{one_message, not_both}
 
@@ -96,3 +96,19 @@ answers_later (Err BadLength) bytes more m b x = absurd (gives (Err BadLength) b
 answers_later (Err BadChunk) bytes more m b x = absurd (gives (Err BadChunk) bytes m x b)
 answers_later (Err Truncated) bytes more m b x = absurd (gives (Err Truncated) bytes m x b)
 answers_later (Err Io) bytes more m b x = absurd x
+
+only_memory : (e : HttpFault) (m : Message) → Gives m (Err e) → e ≡ NoMemory
+only_memory NoMemory m g = refl
+only_memory Closed m g = absurd g
+only_memory BadHead m g = absurd g
+only_memory TooManyHeaders m g = absurd g
+only_memory HeadTooLong m g = absurd g
+only_memory BadLength m g = absurd g
+only_memory BodyTooLong m g = absurd g
+only_memory BadChunk m g = absurd g
+only_memory Truncated m g = absurd g
+only_memory Io m g = absurd g
+
+-- a fault that lasts leaves no message, whatever follows
+pub fault_lasts : (e : HttpFault) (bytes more : List ℕ) (m : Message) → Fails e bytes → BeginsWith (bytes ++ more) m → e ≡ NoMemory
+fault_lasts e bytes more m f b = let later = fails_more e bytes more f in only_memory e m (gives (Err e) (bytes ++ more) m later.1 b)

@@ -1,10 +1,10 @@
 //! Laws of messages and of what is answered of them.
-ghost use Rattle.std.specs.Prelude.{◌≡◌, List, ℕ, Result};
+ghost use Rattle.std.specs.Prelude.{◌≡◌, ◌++◌, List, ℕ, Result};
 ghost use Rattle.http_edge.specs.declared.fault.HttpFault.{HttpFault};
 ghost use Rattle.http_edge.specs.declared.request.Request.{Request};
 ghost use Rattle.http_edge.specs.Message.{Message};
 ghost use Rattle.http_edge.specs.Reading.{BeginsWith, IsTooLong};
-ghost use Rattle.http_edge.specs.Answer.{Answers, Gives, TellsTooLong};
+ghost use Rattle.http_edge.specs.Answer.{Answers, Fails, Gives, TellsTooLong};
 ghost use Rattle.http_edge.specs.Reply.{Told, BeginsSaying};
 
 /// Bytes begin with at most one message, and not also with one that is too long.
@@ -18,6 +18,12 @@ pub fn one_message()
 pub fn one_answer()
     ensures message { (bytes : List ℕ) (m : Message) (r : Result Request HttpFault) → Answers bytes r → BeginsWith bytes m → Gives m r }
     ensures too_long { (bytes : List ℕ) (r : Result Request HttpFault) → Answers bytes r → IsTooLong bytes → TellsTooLong r }
+{}
+
+/// Where a feed has told a fault, no bytes that begin with those that were fed have a message, unless
+/// memory ran out.
+pub fn fault_lasts()
+    ensures { (e : HttpFault) (bytes more : List ℕ) (m : Message) → Fails e bytes → BeginsWith (bytes ++ more) m → e ≡ HttpFault.NoMemory }
 {}
 
 /// Bytes begin with at most one head of a response.

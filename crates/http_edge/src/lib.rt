@@ -24,7 +24,7 @@ mod written;
 
 pub use decoder::Decoder;
 pub use fault::HttpFault;
-pub use laws::{one_answer, one_message, one_reply};
+pub use laws::{fault_lasts, one_answer, one_message, one_reply};
 pub use limits::{MAX_BODY, MAX_FIELDS, MAX_HEAD, MAX_LINE, MAX_TRAILER};
 pub use read::read_message;
 pub use reply::Reply;
