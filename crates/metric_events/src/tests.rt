@@ -97,6 +97,20 @@ fn histogram(
     Point::histogram(alloc, series, start, 20, count, sum, buckets)
 }
 
+/// The row of a histogram's point of these bounds, sum, buckets and count is this.
+fn expect_buckets(
+    rt: &impl Abort,
+    alloc: Global,
+    bounds: &[i64],
+    sum: Option<u64>,
+    buckets: &[u64],
+    count: u64,
+    row: &[u64],
+) {
+    let point = histogram(rt, alloc, bounds, 10, count, sum, buckets).expect(rt, "a point");
+    assert_eq!(rt; point.row(), row, "of {count}");
+}
+
 /// The bytes are refused as a sender's name like this, or not at all.
 fn expect_name(rt: &impl Abort, alloc: Global, bytes: &[u8], want: Option<NameFault>) {
     let fault = SenderName::new(alloc, bytes).err();
@@ -219,23 +233,27 @@ fn faults_of_sums(rt: HostRuntime) {
 #[test]
 fn rows_of_histograms(rt: HostRuntime) {
     let alloc = rt.alloc();
-    let whole = u64::MAX / 2;
-    let point = histogram(&rt, alloc, &[1, 2, 3], 10, 7, Some(20), &[1, 2, 0, 4]);
-    assert_eq!(rt;
-        point.expect(&rt, "a point").row(),
-        [1, 0, 20, 1, 2, 0, 4].as_slice()
+    let most = u64::MAX / 2;
+    let sum = 9007199254740992;
+    expect_buckets(
+        &rt,
+        alloc,
+        &[1, 2, 3],
+        Some(20),
+        &[1, 2, 0, 4],
+        7,
+        &[1, 0, 20, 1, 2, 0, 4],
     );
-    let point = histogram(&rt, alloc, &[-5], 10, 3, None, &[3, 0]);
-    assert_eq!(rt;
-        point.expect(&rt, "a point").row(),
-        [1, 1, 0, 3, 0].as_slice()
-    );
-    let point = histogram(&rt, alloc, &[], 10, 5, None, &[]);
-    assert_eq!(rt; point.expect(&rt, "a point").row(), [1, 1, 0, 5].as_slice());
-    let point = histogram(&rt, alloc, &[], 10, whole, Some(9007199254740992), &[whole]);
-    assert_eq!(rt;
-        point.expect(&rt, "a point").row(),
-        [1, 0, 9007199254740992, whole].as_slice()
+    expect_buckets(&rt, alloc, &[-5], None, &[3, 0], 3, &[1, 1, 0, 3, 0]);
+    expect_buckets(&rt, alloc, &[], None, &[], 5, &[1, 1, 0, 5]);
+    expect_buckets(
+        &rt,
+        alloc,
+        &[],
+        Some(sum),
+        &[most],
+        most,
+        &[1, 0, sum, most],
     );
 }
 
@@ -293,16 +311,26 @@ fn copies_of_lists(rt: HostRuntime) {
     let mut list = Vec::new(alloc);
     list.push(series(&rt, alloc, Kind::Sum { monotonic: true }))
         .expect(&rt, "memory");
-    let list = SeriesList::new(list).copy(alloc).expect(&rt, "memory");
-    assert_eq!(rt; list.as_slice().len(), 1);
-    let row = Row::new([1, 2, 3].to_vec(alloc).expect(&rt, "memory"));
+    let list = SeriesList::new(list);
+    let copy = list.copy(alloc).expect(&rt, "memory");
+    assert_eq!(rt; copy.as_slice().len(), 1);
+}
+
+#[test]
+fn copies_of_rows(rt: HostRuntime) {
+    let alloc = rt.alloc();
+    let words = [1, 2, 3].to_vec(alloc).expect(&rt, "memory");
+    let row = Row::new(words);
     let copy = row.copy(alloc).expect(&rt, "memory");
     assert_eq!(rt; copy.as_slice(), [1, 2, 3].as_slice());
-    let span = Span::new(10, 20).expect(&rt, "a span");
+}
+
+#[test]
+fn copies_of_points(rt: HostRuntime) {
+    let alloc = rt.alloc();
     let point = sum(&rt, alloc, 10, 20, 7);
-    let of_parts = point.copy(alloc).expect(&rt, "memory");
-    assert!(rt; point.is_same(&of_parts));
-    assert!(rt; !point.is_same(&sum(&rt, alloc, 10, 20, -7)));
-    assert_eq!(rt; of_parts.span().hull(&span).end(), 20);
-    expect_same(&rt, &point, &of_parts);
+    let copy = point.copy(alloc).expect(&rt, "memory");
+    assert!(rt; point.is_same(&copy));
+    let other = sum(&rt, alloc, 10, 20, -7);
+    assert!(rt; !point.is_same(&other));
 }
