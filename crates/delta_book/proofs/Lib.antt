@@ -9,3 +9,4 @@ pub mod Admitting
 pub mod Sent
 pub mod Picking
 pub mod Taking
+pub mod Holding

@@ -3,6 +3,7 @@ ghost use Rattle.std.specs.List.{All};
 
 mod admitting;
 mod ending;
+mod holding;
 mod taking;
 
 use crate::totals::{SeriesTotals, all_totals};
