@@ -9,4 +9,5 @@ pub mod Admitting
 pub mod Sent
 pub mod Picking
 pub mod Taking
+pub mod Ended
 pub mod Holding

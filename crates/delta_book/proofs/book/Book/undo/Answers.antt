@@ -1,33 +1,27 @@
-use Rattle.std.proofs.Common.{◌≡◌, true, refl, arith, sym, ap, ◌∙◌}
+use Rattle.std.proofs.Common.{refl, arith}
 use Rattle.metric_events.proofs.Room.{room_to_close}
-use Rattle.metric_events.specs.Legal.{IsLegal, is_open, is_batch_home, MayUndo}
-use Rattle.metric_events.specs.Running.{open_batches}
+use Rattle.metric_events.specs.Legal.{MayUndo}
 use Rattle.metric_events.specs.declared.event.Event.TheVariants.{Undo}
 use Rattle.delta_book.specs.Journal.{history}
-use Rattle.delta_book.proofs.Journaled.{entries-history, keeps_room, legal_push, reversal_push}
+use Rattle.delta_book.proofs.Journaled.{entries-history}
+use Rattle.delta_book.proofs.Ended.{open_in, home_in, room_after, struck_after}
 use Rattle.delta_book.proofs.book.Book.undo.Goals as goal
 
 pub push_reserved-requires : goal.push_reserved-requires
 push_reserved-requires c =
     let b = c.self.inside in
-    let is : is_open c.args.batch (open_batches (history b.entries.items)) ≡ true = ap (is_open c.args.batch) (sym c.self.invariant.open_are) ∙ (ap (is_open c.args.batch) (sym c.deref.ensures.value) ∙ (sym c.has_batch.ensures ∙ c.if-not-has_batch.false)) in
-    omega (arith, room_to_close (history b.entries.items) c.args.batch c.self.invariant.legal is, entries-history b.entries.items, b.entries.ok.0, c.self.invariant.room)
+    let i = c.self.invariant in
+    let E = history b.entries.items in
+    omega (arith, room_to_close E c.args.batch i.legal (open_in E c.args.batch _ _ _ i.open_are c.deref.ensures.value c.has_batch.ensures c.if-not-has_batch.false), entries-history b.entries.items, b.entries.ok.0, i.room)
 
-legal : (c : goal.After-close_batch) → IsLegal (history c.push_reserved.new.self.items)
-legal c =
-    let b = c.self.inside in
-    let is : is_open c.args.batch (open_batches (history b.entries.items)) ≡ true = ap (is_open c.args.batch) (sym c.self.invariant.open_are) ∙ (ap (is_open c.args.batch) (sym c.deref.ensures.value) ∙ (sym c.has_batch.ensures ∙ c.if-not-has_batch.false)) in
-    let may : MayUndo (history b.entries.items) c.args.batch = record {
-      opened = is;
-      home = ap (is_batch_home c.args.batch) (sym c.self.invariant.points_are) ∙ (ap (is_batch_home c.args.batch) (sym c.deref-2.ensures.value) ∙ (sym c.is_all_home.ensures ∙ c.if-not-is_all_home.false));
-    } in
-    legal_push b.entries.items c.push_reserved.new.self.items (record { seat = c.args.seat; event = Undo c.args.batch }) c.push_reserved.ensures.items c.self.invariant.legal may
+may : (c : goal.After-close_batch) → MayUndo (history c.self.inside.entries.items) c.args.batch
+may c = record {
+  opened = open_in (history c.self.inside.entries.items) c.args.batch _ _ _ c.self.invariant.open_are c.deref.ensures.value c.has_batch.ensures c.if-not-has_batch.false;
+  home = home_in (history c.self.inside.entries.items) c.args.batch _ _ _ c.self.invariant.points_are c.deref-2.ensures.value c.is_all_home.ensures c.if-not-is_all_home.false;
+}
 
 pub returns-clause-room : goal.returns-clause-room
-returns-clause-room c = keeps_room c.push_reserved.new.self.items (legal c)
+returns-clause-room c = room_after c.self.inside.entries.items _ (record { seat = c.args.seat; event = Undo c.args.batch }) c.push_reserved.ensures.items c.self.invariant.legal (may c)
 
 pub returns-clause-struck : goal.returns-clause-struck
-returns-clause-struck c =
-    c.striking.ensures.struck (history c.push_reserved.new.self.items)
-    (reversal_push c.self.inside.entries.items c.push_reserved.new.self.items (record { seat = c.args.seat; event = Undo c.args.batch }) c.push_reserved.ensures.items refl)
-    (legal c)
+returns-clause-struck c = struck_after c.self.inside.entries.items _ (record { seat = c.args.seat; event = Undo c.args.batch }) c.push_reserved.ensures.items c.self.invariant.legal (may c) refl
