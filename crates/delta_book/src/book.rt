@@ -3,7 +3,6 @@ ghost use Rattle.std.specs.List.{All};
 
 mod admitting;
 mod ending;
-mod holding;
 mod taking;
 
 use crate::totals::{SeriesTotals, all_totals};
