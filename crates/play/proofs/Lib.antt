@@ -1,2 +1,4 @@
 pub mod Digits
+pub mod Putting
 pub mod Splitting
+pub mod Wording

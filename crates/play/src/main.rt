@@ -5,7 +5,16 @@
 //! can fail.
 #![tactic(auto)]
 
+mod command;
+mod flush_text;
+mod names;
 mod numbers;
 mod pieces;
+mod point_line;
+mod refusal;
+mod report;
+mod series_name;
+mod texts;
+mod verb;
 
 fn main() {}

@@ -8,6 +8,9 @@ ghost use Rattle.play.specs.Numbers as spec;
 /// The greatest number.
 pub const MAX_NUMBER: u64 = u64::MAX;
 
+/// The most series that a flush may be asked to take.
+pub const MAX_TAKEN: u64 = 1000;
+
 /// The greatest value above zero, and the greatest size of one below.
 pub const MAX_ABOVE: u64 = 9_223_372_036_854_775_807;
 pub const MAX_BELOW: u64 = 9_223_372_036_854_775_808;

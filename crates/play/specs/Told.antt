@@ -1,0 +1,36 @@
+-- What the values of the program tell.
+use Rattle.std.specs.Prelude.{ℕ, List, [], Some, None}
+use Rattle.std.specs.declared.option.Option.{Option}
+use denote.Ref.{Bor}
+use Rattle.play.specs.Pieces.{words}
+use Rattle.play.specs.PointLines.{PointWords, point_words}
+use Rattle.play.specs.Commands.{Asked, AdmitLine, TakeLine, OkLine, BackLine, ReportLine, UndoLine, ConfirmLine, DropLine, HoldLine, LiftLine, BadLine, admit_line}
+use Rattle.play.specs.declared.point_line.PointLine.{PointLine}
+use Rattle.play.specs.declared.command.Command.{Command}
+use Rattle.play.specs.declared.command.Command.TheVariants.{Admit, Take, Settle, GiveBack, Report, Undo, Confirm, Discard, Hold, Lift}
+
+abbrev pub told_point : PointLine → PointWords
+told_point p = record { name = p.name.now; start = p.start; end = p.end; value = p.value }
+
+-- the words of the rest of a line, where there is one
+abbrev pub rest_words : Option (Bor (List ℕ)) → List (List ℕ)
+rest_words None = []
+rest_words (Some rest) = words rest.now
+
+-- the points of the rest, where there is one
+abbrev pub points_after : Option (Bor (List ℕ)) → Option (List PointWords)
+points_after rest = point_words (rest_words rest)
+
+-- what a command asks for
+abbrev pub told : Option Command → Asked
+told None = BadLine
+told (Some (Admit sender points)) = admit_line (Some sender.now) (point_words (words points.now))
+told (Some (Take max)) = TakeLine max
+told (Some (Settle flush)) = OkLine flush
+told (Some (GiveBack flush)) = BackLine flush
+told (Some Report) = ReportLine
+told (Some (Undo batch)) = UndoLine batch
+told (Some (Confirm batch)) = ConfirmLine batch
+told (Some (Discard flush)) = DropLine flush
+told (Some (Hold sender)) = HoldLine sender.now
+told (Some (Lift sender)) = LiftLine sender.now
