@@ -1,4 +1,5 @@
 pub mod Digits
+pub mod Ended
 pub mod Putting
 pub mod Splitting
 pub mod Wording

@@ -8,3 +8,4 @@ pub mod Rows
 pub mod SeriesNames
 pub mod Refused
 pub mod Replies
+pub mod Ends

@@ -8,6 +8,10 @@ use Rattle.metric_events.specs.declared.point.PointFault as point
 use Rattle.play.specs.declared.refusal.Refusal.{Refusal}
 use Rattle.play.specs.declared.refusal.Refusal.TheVariants.{BadSpan, PointTooLarge, Quarantined, Full, OtherWriter, OutOfOrder, TooManySeries, TooLarge, NotOpen, Taken, NotLive, Already, NotHeld, NoMemory}
 
+-- a point's place, and the frontier of its series
+abbrev pub place_text : ℕ → ℕ → List ℕ
+place_text i frontier = decimal i ++ codes " " ++ decimal frontier
+
 -- a point is named by its place in its batch, from 0
 unfoldable pub refusal_text : Refusal → List ℕ
 refusal_text BadSpan = codes "bad-span"
@@ -15,7 +19,7 @@ refusal_text PointTooLarge = codes "point-too-large"
 refusal_text Quarantined = codes "quarantined"
 refusal_text Full = codes "full"
 refusal_text (OtherWriter i) = codes "other-writer " ++ decimal i
-refusal_text (OutOfOrder i frontier) = codes "out-of-order " ++ decimal i ++ codes " " ++ decimal frontier
+refusal_text (OutOfOrder i frontier) = codes "out-of-order " ++ place_text i frontier
 refusal_text TooManySeries = codes "too-many-series"
 refusal_text TooLarge = codes "too-large"
 refusal_text NotOpen = codes "not-open"

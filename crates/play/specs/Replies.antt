@@ -27,13 +27,17 @@ flush_text number points = codes "flush " ++ decimal number ++ codes " points " 
 unfoldable pub series_head : SeriesTotals → List ℕ
 series_head t = codes "series " ++ series_name t.series ++ codes " " ++ kind_text t.series.kind ++ codes " owner " ++ t.owner ++ codes " frontier " ++ decimal t.frontier
 
+-- a place and the row that stands there
+unfoldable pub place_row : List ℕ → List ℕ → List ℕ
+place_row place row = place ++ row_text row
+
 -- what was accepted, and what of it has ended
 unfoldable pub ended_rows : SeriesTotals → List ℕ
-ended_rows t = codes " accepted " ++ row_text t.accepted ++ codes " acknowledged " ++ row_text t.acknowledged ++ codes " dropped " ++ row_text t.dropped
+ended_rows t = place_row (codes " accepted ") t.accepted ++ place_row (codes " acknowledged ") t.acknowledged ++ place_row (codes " dropped ") t.dropped
 
 -- what is under way
 unfoldable pub kept_rows : SeriesTotals → List ℕ
-kept_rows t = codes " in-flight " ++ row_text t.in_flight ++ codes " stored " ++ row_text t.stored ++ codes " quarantined " ++ row_text t.quarantined
+kept_rows t = place_row (codes " in-flight ") t.in_flight ++ place_row (codes " stored ") t.stored ++ place_row (codes " quarantined ") t.quarantined
 
 unfoldable pub series_line : SeriesTotals → List ℕ
 series_line t = series_head t ++ ended_rows t ++ kept_rows t ++ codes "\n"

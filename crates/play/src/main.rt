@@ -6,9 +6,12 @@
 #![tactic(auto)]
 
 mod command;
+mod fault;
 mod flush_text;
+mod input;
 mod names;
 mod numbers;
+mod output;
 mod pieces;
 mod point_line;
 mod refusal;

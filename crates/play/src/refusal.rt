@@ -1,6 +1,6 @@
 //! Why a command is refused.
 
-ghost use Rattle.std.specs.Prelude.{◌≡◌, ◌++◌, OnOk, codes, decimal};
+ghost use Rattle.std.specs.Prelude.{◌≡◌, ◌++◌, OnOk};
 ghost use Rattle.play.specs.Refused as spec;
 
 use crate::texts::put_number;
@@ -39,7 +39,7 @@ pub enum Refusal {
 
 /// Puts a point's place and its series' frontier.
 fn put_place(out: &mut Vec<u8>, point: u64, frontier: u64) -> Result<(), AllocError>
-    ensures { OnOk result (out.new.items ≡ out.old.items ++ decimal point ++ codes " " ++ decimal frontier) }
+    ensures { OnOk result (out.new.items ≡ out.old.items ++ spec.place_text point frontier) }
 {
     put_number(out, point)?;
     out.extend_from_slice(b" ")?;

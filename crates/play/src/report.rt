@@ -2,7 +2,6 @@
 
 ghost use Rattle.std.specs.Prelude.{◌≡◌, ◌++◌, OnOk};
 ghost use Rattle.play.specs.Replies as spec;
-ghost use Rattle.play.specs.Rows.{row_text};
 
 use crate::series_name::{put_kind, put_series_name};
 use crate::texts::{put_number, put_row};
@@ -24,9 +23,10 @@ fn put_head(out: &mut Vec<u8>, totals: &SeriesTotals) -> Result<(), AllocError>
     put_number(out, totals.frontier)
 }
 
-/// Puts a word and a row.
+/// Puts a place and its row.
+#[tactic(auto, unfolding(crate::specs::Replies::place_row))]
 fn put_place(out: &mut Vec<u8>, place: &[u8], row: &Row) -> Result<(), AllocError>
-    ensures { OnOk result (out.new.items ≡ out.old.items ++ place.now ++ row_text row.now) }
+    ensures { OnOk result (out.new.items ≡ out.old.items ++ spec.place_row place.now row.now) }
 {
     out.extend_from_slice(place)?;
     put_row(out, row.as_slice())
