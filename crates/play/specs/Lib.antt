@@ -9,3 +9,5 @@ pub mod SeriesNames
 pub mod Refused
 pub mod Replies
 pub mod Ends
+pub mod Run
+pub mod Answered

@@ -15,6 +15,7 @@ mod output;
 mod pieces;
 mod point_line;
 mod refusal;
+mod reply;
 mod report;
 mod series_name;
 mod texts;

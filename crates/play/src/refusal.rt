@@ -4,6 +4,8 @@ ghost use Rattle.std.specs.Prelude.{◌≡◌, ◌++◌, OnOk};
 ghost use Rattle.play.specs.Refused as spec;
 
 use crate::texts::put_number;
+use delta_book::faults::{AdmitFault, QuarantineFault, TakeFault, UndoFault};
+use metric_events::point::PointFault;
 use std::alloc::AllocError;
 
 /// Why a command is refused. A point is named by its place in its batch, from 0.
@@ -72,5 +74,60 @@ pub fn put_refusal(out: &mut Vec<u8>, refusal: Refusal) -> Result<(), AllocError
         Refusal::Already => out.extend_from_slice(b"already"),
         Refusal::NotHeld => out.extend_from_slice(b"not-held"),
         Refusal::NoMemory => out.extend_from_slice(b"no-memory"),
+    }
+}
+
+/// The refusal of a point. A plain sum has no other faults.
+pub fn of_point(fault: PointFault) -> Refusal
+    ensures { result ≡ spec.of_point fault }
+{
+    match fault {
+        PointFault::BadSpan => Refusal::BadSpan,
+        PointFault::NegativeMonotonic => Refusal::PointTooLarge,
+        PointFault::BucketMismatch => Refusal::PointTooLarge,
+        PointFault::TooLarge => Refusal::PointTooLarge,
+        PointFault::NoMemory => Refusal::NoMemory,
+    }
+}
+
+pub fn of_admit(fault: AdmitFault) -> Refusal
+    ensures { result ≡ spec.of_admit fault }
+{
+    match fault {
+        AdmitFault::Quarantined => Refusal::Quarantined,
+        AdmitFault::Full => Refusal::Full,
+        AdmitFault::OtherWriter(point) => Refusal::OtherWriter(point),
+        AdmitFault::OutOfOrder(point, frontier) => Refusal::OutOfOrder(point, frontier),
+        AdmitFault::TooManySeries => Refusal::TooManySeries,
+        AdmitFault::TooLarge => Refusal::TooLarge,
+        AdmitFault::NoMemory => Refusal::NoMemory,
+    }
+}
+
+pub fn of_take(fault: TakeFault) -> Refusal
+    ensures { result ≡ spec.of_take fault }
+{
+    match fault {
+        TakeFault::Full => Refusal::Full,
+        TakeFault::NoMemory => Refusal::NoMemory,
+    }
+}
+
+pub fn of_undo(fault: UndoFault) -> Refusal
+    ensures { result ≡ spec.of_undo fault }
+{
+    match fault {
+        UndoFault::NotOpen => Refusal::NotOpen,
+        UndoFault::Taken => Refusal::Taken,
+    }
+}
+
+pub fn of_hold(fault: QuarantineFault) -> Refusal
+    ensures { result ≡ spec.of_hold fault }
+{
+    match fault {
+        QuarantineFault::Already => Refusal::Already,
+        QuarantineFault::Full => Refusal::Full,
+        QuarantineFault::NoMemory => Refusal::NoMemory,
     }
 }
