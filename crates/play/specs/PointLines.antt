@@ -8,6 +8,7 @@ use Rattle.metric_events.specs.DataPoint.{DataPoint}
 use Rattle.metric_events.specs.Rows.{sum_row}
 use Rattle.metric_events.specs.PointFaults.{sum_fault}
 use Rattle.metric_events.specs.declared.point.PointFault.{PointFault}
+use Rattle.play.specs.Pieces.{words}
 use Rattle.play.specs.Numbers.{number, value}
 
 -- a point as a script writes it
@@ -51,11 +52,19 @@ point_of p = record { series = series_named p.name; span = record { start = p.st
 abbrev pub fault_of : PointWords → Option PointFault
 fault_of p = sum_fault (Sum false) p.start p.end p.value
 
+abbrev pub or_else : Option PointFault → Option PointFault → Option PointFault
+or_else (Some fault) other = Some fault
+or_else None other = other
+
 -- the fault of the first point that can't be made
 abbrev pub first_fault : List PointWords → Option PointFault
 first_fault [] = None
 first_fault (p ∷ ps) = or_else (fault_of p) (first_fault ps)
-  where
-    or_else : Option PointFault → Option PointFault → Option PointFault
-    or_else (Some fault) other = Some fault
-    or_else None other = other
+
+abbrev pub or_nothing : Option (List PointWords) → List PointWords
+or_nothing None = []
+or_nothing (Some points) = points
+
+-- the points of a text's words, where they are points
+abbrev pub points_in : List ℕ → List PointWords
+points_in text = or_nothing (point_words (words text))

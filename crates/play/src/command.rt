@@ -1,10 +1,9 @@
 //! What a line of a script asks for.
 
-ghost use Rattle.std.specs.Prelude.{◌≡◌, option_copied, option_map};
-ghost use Rattle.std.specs.Prelude.{None, Some, MatchOption, IfSome, ◌<◌};
+ghost use Rattle.std.specs.Prelude.{◌≡◌, true, option_copied, IfSome};
 ghost use Rattle.play.specs.Commands as spec;
-ghost use Rattle.play.specs.PointLines.{name_of};
-ghost use Rattle.play.specs.Told.{told, rest_words};
+ghost use Rattle.play.specs.Told.{told, rest_words, IsReady};
+ghost use Rattle.metric_events.specs.Senders.{is_sender_name};
 
 use crate::names::is_name;
 use crate::numbers::{MAX_TAKEN, number};
@@ -42,7 +41,8 @@ fn only_number(rest: Option<&[u8]>) -> Option<u64>
 
 /// The name that is the one word of the rest.
 fn only_name<'a>(rest: Option<&'a [u8]>) -> Option<&'a [u8]>
-    ensures { option_copied result ≡ spec.only_name (rest_words rest.entry) }
+    ensures name { option_copied result ≡ spec.only_name (rest_words rest.entry) }
+    ensures ready { IfSome result (λ name. is_sender_name name.now ≡ true) }
 {
     let word = cut_word(rest?);
     match word.rest {
@@ -54,7 +54,8 @@ fn only_name<'a>(rest: Option<&'a [u8]>) -> Option<&'a [u8]>
 
 /// The command of a sender and its points.
 fn admit(rest: Option<&[u8]>) -> Option<Command<'_>>
-    ensures { told result ≡ spec.admit_words (rest_words rest.entry) }
+    ensures told { told result ≡ spec.admit_words (rest_words rest.entry) }
+    ensures ready { IsReady result }
 {
     let sender = cut_word(rest?);
     let points = sender.rest?;
@@ -72,7 +73,8 @@ fn admit(rest: Option<&[u8]>) -> Option<Command<'_>>
 
 /// The command to take at most so many series.
 fn take(rest: Option<&[u8]>) -> Option<Command<'_>>
-    ensures { told result ≡ spec.numbered spec.take_line (spec.only_number (rest_words rest.entry)) }
+    ensures told { told result ≡ spec.numbered spec.take_line (spec.only_number (rest_words rest.entry)) }
+    ensures ready { IsReady result }
 {
     let max = only_number(rest)?;
     if max == 0 || max > MAX_TAKEN {
@@ -83,7 +85,8 @@ fn take(rest: Option<&[u8]>) -> Option<Command<'_>>
 
 /// The command to report, of which nothing more is said.
 fn report(rest: Option<&[u8]>) -> Option<Command<'_>>
-    ensures { told result ≡ spec.nothing_more spec.ReportLine (rest_words rest.entry) }
+    ensures told { told result ≡ spec.nothing_more spec.ReportLine (rest_words rest.entry) }
+    ensures ready { IsReady result }
 {
     match rest {
         None => Some(Command::Report),
@@ -93,7 +96,8 @@ fn report(rest: Option<&[u8]>) -> Option<Command<'_>>
 
 /// The command of a verb and the rest of its line.
 fn command_by(verb: Verb, rest: Option<&[u8]>) -> Option<Command<'_>>
-    ensures { told result ≡ spec.command_by (Some verb) (rest_words rest.entry) }
+    ensures told { told result ≡ spec.command_by (Some verb) (rest_words rest.entry) }
+    ensures ready { IsReady result }
 {
     match verb {
         Verb::Admit => admit(rest),
@@ -112,7 +116,8 @@ fn command_by(verb: Verb, rest: Option<&[u8]>) -> Option<Command<'_>>
 /// The command of a line, where it is one: the words stand apart by one space each, numbers are
 /// decimal digits of a number in its range, names are those that a sender may have.
 pub fn command_of(line: &[u8]) -> Option<Command<'_>>
-    ensures { told result ≡ spec.command line.now }
+    ensures told { told result ≡ spec.command line.now }
+    ensures ready { IsReady result }
 {
     let word = cut_word(line);
     command_by(verb_of(word.first)?, word.rest)

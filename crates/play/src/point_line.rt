@@ -1,9 +1,10 @@
 //! The points of an `admit` line: four words each.
 
-ghost use Rattle.std.specs.Prelude.{◌≡◌, ◌<◌, [], Some, None, MatchOption, is_some, length, true};
+ghost use Rattle.std.specs.Prelude.{◌≡◌, ◌<◌, [], Some, None, MatchOption, IfSome, is_some, length, true};
+ghost use Rattle.metric_events.specs.Senders.{is_sender_name};
 ghost use Rattle.play.specs.Pieces.{words};
 ghost use Rattle.play.specs.PointLines.{point_words, with_point};
-ghost use Rattle.play.specs.Told.{told_point, points_after};
+ghost use Rattle.play.specs.Told.{told_point, points_after, ArePoints};
 
 use crate::names::is_name;
 use crate::numbers::{number, value};
@@ -28,6 +29,7 @@ pub struct NextPoint<'a> {
 /// The point of the first four words, where they are one.
 pub fn next_point(text: &[u8]) -> Option<NextPoint<'_>>
     ensures point { MatchOption result (point_words (words text.now) ≡ None) (λ next. point_words (words text.now) ≡ with_point (Some (told_point next.point)) (points_after next.rest)) }
+    ensures named { IfSome result (λ next. is_sender_name next.point.name.now ≡ true) }
     ensures short { MatchOption result (Unit {0}) (λ next. MatchOption next.rest (Unit {0}) (λ rest. length rest.now < length text.now)) }
 {
     let name = cut_word(text);
@@ -49,8 +51,7 @@ pub fn next_point(text: &[u8]) -> Option<NextPoint<'_>>
     })
 }
 
-/// Whether the words are points.
-pub fn are_points(text: &[u8]) -> bool
+fn reads_points(text: &[u8]) -> bool
     ensures { result ≡ is_some (point_words (words text.now)) }
 {
     let mut left = text;
@@ -63,4 +64,12 @@ pub fn are_points(text: &[u8]) -> bool
             },
         }
     }
+}
+
+/// Whether the words are points.
+pub fn are_points(text: &[u8]) -> bool
+    ensures read { result ≡ is_some (point_words (words text.now)) }
+    ensures some { result ≡ true → ArePoints text.now }
+{
+    reads_points(text)
 }
