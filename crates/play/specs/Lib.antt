@@ -11,3 +11,4 @@ pub mod Replies
 pub mod Ends
 pub mod Run
 pub mod Answered
+pub mod Played

@@ -7,6 +7,7 @@ use denote.Ref.{Bor}
 use Rattle.play.specs.Pieces.{words}
 use Rattle.play.specs.PointLines.{PointWords, point_words, points_in}
 use Rattle.play.specs.Commands.{Asked, AdmitLine, TakeLine, OkLine, BackLine, ReportLine, UndoLine, ConfirmLine, DropLine, HoldLine, LiftLine, BadLine}
+use Rattle.play.specs.declared.numbers.TheConstants.{MAX_TAKEN}
 use Rattle.play.specs.declared.point_line.PointLine.{PointLine}
 use Rattle.play.specs.declared.command.Command.{Command}
 use Rattle.play.specs.declared.command.Command.TheVariants.{Admit, Take, Settle, GiveBack, Report, Undo, Confirm, Discard, Hold, Lift}
@@ -46,7 +47,7 @@ pub record ArePoints (text : List ℕ) : Type 0 where
 abbrev pub IsReady : Option Command → Type 0
 IsReady None = ⊤
 IsReady (Some (Admit sender points)) = (is_sender_name sender.now ≡ true) × ArePoints points.now
-IsReady (Some (Take max)) = 1 ≤ max
+IsReady (Some (Take max)) = (1 ≤ max) × (max ≤ MAX_TAKEN)
 IsReady (Some (Settle flush)) = ⊤
 IsReady (Some (GiveBack flush)) = ⊤
 IsReady (Some Report) = ⊤

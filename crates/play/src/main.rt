@@ -5,10 +5,12 @@
 //! can fail.
 #![tactic(auto)]
 
+mod calls;
 mod command;
 mod fault;
 mod flush_text;
 mod input;
+mod making;
 mod names;
 mod numbers;
 mod output;
@@ -17,6 +19,7 @@ mod point_line;
 mod refusal;
 mod reply;
 mod report;
+mod script;
 mod series_name;
 mod texts;
 mod verb;
