@@ -1,0 +1,2 @@
+pub mod PointFaults
+pub mod Limits

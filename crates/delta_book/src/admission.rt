@@ -58,10 +58,11 @@ pub fn find_fault(
 {
     let _number = number;
     for (i, p) in batch.iter().enumerate() {
-        if is_taken(points, p.series(), sender) {
+        let series = p.series();
+        if is_taken(points, series, sender) {
             return Some(AdmitFault::OtherWriter(i));
         }
-        let end = end_of(points, p.series()).max(end_in(&batch[..i], p.series()));
+        let end = end_of(points, series).max(end_in(&batch[..i], series));
         if p.span().start() < end {
             return Some(AdmitFault::OutOfOrder(i, end));
         }

@@ -1,17 +1,15 @@
 -- What became of the points of a series adds up to what was accepted.
-use Rattle.std.proofs.Common.{◌≡◌, ℕ, ◌≤◌, Bool, true, false, cond, List, [], ◌∷◌, length, refl, ap, sym, ◌∙◌, subst, arith}
+use Rattle.std.proofs.Common.{◌≡◌, ℕ, Bool, true, false, List, [], ◌∷◌, refl, ap, ◌∙◌, arith}
 use Rattle.std.specs.List.{filter}
 use Rattle.series_id.specs.Identity.{Identity, row_length}
 use Rattle.metric_events.specs.Rows.{add_rows, zeros}
-use Rattle.metric_events.specs.Series.{of_series, owner, row_sum, sum_of}
+use Rattle.metric_events.specs.Series.{of_series, owner, row_sum}
 use Rattle.metric_events.specs.Points.{is_home, is_flying, is_acknowledged, is_dropped}
 use Rattle.metric_events.specs.Legal.{is_held}
 use Rattle.metric_events.specs.Standing.{stands, sum_where, nothing_of, series_standing, AddsUp}
-use Rattle.metric_events.specs.DataPoint.{DataPoint}
 use Rattle.metric_events.specs.declared.accepted.Accepted.{Accepted}
 use Rattle.metric_events.specs.declared.place.Place.{Place}
 use Rattle.metric_events.specs.declared.place.Place.TheVariants.{Home, InFlight, Acknowledged, Dropped}
-use Rattle.metric_events.proofs.Moves.{made}
 use Rattle.metric_events.proofs.Sums.{add_rows-assoc, add_rows-comm, add_rows_swap, add_rows-zeros, length-zeros, row_sum_long}
 
 -- the four places together

@@ -1,9 +1,9 @@
 -- The points of a legal history are points, and their sums are within the limits of their series.
-use Rattle.std.proofs.Common.{◌≡◌, ℕ, ◌+◌, ◌≤◌, ◌<◌, Bool, true, false, cond, not, ◌&&◌, ◌||◌, List, [], ◌∷◌, ◌++◌, map, length, min, max, refl, ap, sym, ◌∙◌, subst, arith, zero, suc, drop, sum, Some, None}
+use Rattle.std.proofs.Common.{◌≡◌, ℕ, ◌+◌, ◌≤◌, Bool, true, false, cond, ◌&&◌, List, [], ◌∷◌, ◌++◌, map, length, refl, ap, sym, ◌∙◌, subst, arith, zero, suc, drop, sum, Some, None}
 use Rattle.std.specs.Prelude.{nat_le, slice_index}
 use Rattle.std.specs.declared.option.Option.{Option}
 use Rattle.std.specs.List.{list_all, list_any, filter, All}
-use Rattle.std.proofs.lemmas.Bool.{and_parts, and_from, or_parts, leb-true, le-leb, not-true, not-false}
+use Rattle.std.proofs.lemmas.Bool.{and_parts, and_from, or_parts, leb-true, le-leb, not-false}
 use Rattle.std.proofs.lemmas.List.{append-nil}
 use Rattle.series_id.specs.Identity.{Identity, IsIdentity, row_length}
 use Rattle.series_id.specs.Order.{same_series}
@@ -23,8 +23,7 @@ use Rattle.metric_events.specs.declared.place.Place.{Place}
 use Rattle.metric_events.specs.declared.place.Place.TheVariants.{Home, InFlight, Acknowledged, Dropped}
 use Rattle.metric_events.specs.declared.event.Event.TheVariants.{Admit, Undo, Confirm, Take, Settle, Drop, GiveBack, Quarantine, Lift}
 use Rattle.metric_events.proofs.Lists.{filter-map, filter-filter}
-use Rattle.metric_events.proofs.Moves.{taken_blind, landed_blind}
-use Rattle.metric_events.proofs.Sums.{RowLe, row_le_same, row_le_trans, row_le_zeros, row_le_drop, row_le_sum, row_le_at, row_sum_filter_le, length-zeros, length-add_rows, add_rows-nil}
+use Rattle.metric_events.proofs.Sums.{RowLe, row_le_zeros, row_le_drop, row_le_sum, row_le_at, row_sum_filter_le, length-zeros, length-add_rows, add_rows-nil}
 
 -- each of them is a point
 
@@ -143,8 +142,8 @@ sums_fit (E ▸ Admit b body) l x = both (list_any (λ p. same_series p.series x
     both true e r = small_at x (points E ++ map (admitted b body.sender) body.points) body.points e l.1.small
     both false e r =
         let same : of_series x (points E ++ map (admitted b body.sender) body.points) ≡ of_series x (points E) =
-          filter-append (is_of x) (points E) (map (admitted b body.sender) body.points)
-          ∙ (ap (λ zs. of_series x (points E) ++ zs) (none_admitted b body.sender x body.points e) ∙ append-nil (of_series x (points E))) in
+        filter-append (is_of x) (points E) (map (admitted b body.sender) body.points)
+        ∙ (ap (λ zs. of_series x (points E) ++ zs) (none_admitted b body.sender x body.points e) ∙ append-nil (of_series x (points E))) in
         subst (λ (zs : List Accepted). fits x.kind (row_sum (row_length x.kind) zs) ≡ true) (sym same) r
 sums_fit (E ▸ Undo b) l x =
     fits_le x.kind (sum_of x (filter (is_of_other_batch b) (points E))) (sum_of x (points E))
