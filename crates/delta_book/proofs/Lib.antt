@@ -1,2 +1,3 @@
 pub mod PointFaults
 pub mod Limits
+pub mod Ended
