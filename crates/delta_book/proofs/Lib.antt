@@ -1,3 +1,4 @@
 pub mod PointFaults
 pub mod Limits
 pub mod Ended
+pub mod Holding
