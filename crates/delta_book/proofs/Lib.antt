@@ -1,4 +1,9 @@
 pub mod PointFaults
 pub mod Limits
+pub mod Adding
+pub mod Words
+pub mod Sent
+pub mod Picking
+pub mod Sending
 pub mod Ended
 pub mod Holding

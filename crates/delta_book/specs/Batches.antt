@@ -1,10 +1,12 @@
 -- The points of a batch, before they are accepted, and what they make of the sums.
-use Rattle.std.specs.Prelude.{ℕ, ◌+◌, zero, suc, Bool, true, false, ◌||◌, List, [], ◌∷◌, max, if◌then◌else◌, slice_index, nat_lt}
+use Rattle.std.specs.Prelude.{ℕ, ◌+◌, ◌-◌, zero, suc, Bool, true, false, ◌||◌, List, [], ◌∷◌, max, if◌then◌else◌, slice_index, nat_lt}
 use Rattle.series_id.specs.Identity.{Identity}
 use Rattle.series_id.specs.Order.{same_series}
+use Rattle.series_id.specs.declared.kinds.Kind.{Kind}
+use Rattle.series_id.specs.declared.kinds.Kind.TheVariants.{Sum, Histogram}
 use Rattle.metric_events.specs.DataPoint.{DataPoint}
 use Rattle.metric_events.specs.Series.{is_of}
-use Rattle.metric_events.specs.declared.limits.TheConstants.{MAX_WORD, MAX_COUNT}
+use Rattle.metric_events.specs.declared.limits.TheConstants.{MAX_WORD, MAX_COUNT, MAX_SUM}
 use Rattle.metric_events.specs.declared.accepted.Accepted.{Accepted}
 
 abbrev pub is_point_of : Identity → DataPoint → Bool
@@ -41,3 +43,8 @@ counts word (suc n) = counts word n + word (n + 3)
 
 abbrev pub counts_over : (ℕ → ℕ) → ℕ → Bool
 counts_over word n = nat_lt MAX_COUNT (counts word n)
+
+-- words of a row of n that are past the limits of its kind
+abbrev pub is_over_by : Kind → (ℕ → ℕ) → ℕ → Bool
+is_over_by (Sum monotonic) word n = has_large word n
+is_over_by (Histogram bounds) word n = (has_large word n || counts_over word (n - 3)) || nat_lt MAX_SUM (word 2)

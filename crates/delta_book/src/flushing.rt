@@ -1,6 +1,7 @@
 //! What a flush takes, and what it sends.
-ghost use Rattle.std.specs.Prelude.{◌≡◌, ◌&&◌, not, [], map, IfOk, OnOk};
+ghost use Rattle.std.specs.Prelude.{◌≡◌, ◌&&◌, ◌++◌, not, map, IfOk, OnOk};
 ghost use Rattle.std.specs.List.{list_any};
+ghost use Rattle.std.specs.Option.{option_to_list};
 ghost use Rattle.series_id.specs.Order.{same_series, series_before};
 ghost use Rattle.metric_events.specs.Choice.{is_eligible, first_eligible, present};
 ghost use Rattle.metric_events.specs.Series.{placed, hull, series_in_order};
@@ -114,8 +115,9 @@ fn home_span(points: &[Accepted], series: &SeriesId) -> Option<Span>
     let mut i = points.len();
     while i > 0 {
         i -= 1;
-        if is_of_part(&points[i], series, Part::Home) {
-            span = Some(joined_to(points[i].point.span(), span));
+        let a = &points[i];
+        if is_of_part(a, series, Part::Home) {
+            span = Some(joined_to(a.point.span(), span));
         }
     }
     span
@@ -138,6 +140,18 @@ fn home_sum(
     Ok(Some(Point::from_parts(series, span, row)))
 }
 
+fn push_some(all: &mut Points, point: Option<Point>) -> Result<(), AllocError>
+    ensures { OnOk result (all.new ≡ all.old ++ option_to_list point) }
+{
+    match point {
+        None => Ok(()),
+        Some(point) => {
+            all.push(point)?;
+            Ok(())
+        }
+    }
+}
+
 /// What is sent of each series.
 pub fn home_sums(
     alloc: Global,
@@ -149,9 +163,7 @@ pub fn home_sums(
 {
     let mut all = Points::new(alloc);
     for x in series {
-        if let Some(point) = home_sum(alloc, points, x)? {
-            all.push(point)?;
-        }
+        push_some(&mut all, home_sum(alloc, points, x)?)?;
     }
     Ok(all)
 }
