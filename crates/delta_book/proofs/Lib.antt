@@ -7,3 +7,4 @@ pub mod Picking
 pub mod Sending
 pub mod Ended
 pub mod Holding
+pub mod Admitting
