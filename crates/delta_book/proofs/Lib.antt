@@ -5,6 +5,7 @@ pub mod Words
 pub mod Sent
 pub mod Picking
 pub mod Sending
+pub mod Totalling
 pub mod Ended
 pub mod Holding
 pub mod Admitting

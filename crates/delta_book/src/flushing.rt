@@ -1,8 +1,7 @@
 //! What a flush takes, and what it sends.
-ghost use Rattle.std.specs.Prelude.{◌≡◌, ◌&&◌, ◌++◌, not, map, IfOk, OnOk};
-ghost use Rattle.std.specs.List.{list_any};
-ghost use Rattle.std.specs.Option.{option_to_list};
-ghost use Rattle.series_id.specs.Order.{same_series, series_before};
+ghost use Rattle.std.specs.Prelude.{◌≡◌, ◌≤◌, ◌++◌, length, map, IfOk, OnOk};
+ghost use Rattle.std.specs.List.{list_any, insert};
+ghost use Rattle.std.specs.Option.{MatchOption, option_to_list};
 ghost use Rattle.metric_events.specs.Choice.{is_eligible, first_eligible, present};
 ghost use Rattle.metric_events.specs.Series.{placed, hull, series_in_order};
 ghost use Rattle.metric_events.specs.Legal.{is_in_live};
@@ -42,10 +41,19 @@ pub fn has_ready(points: &[Accepted], live: &[Flight], held: &[SenderName]) -> b
     points.iter().any(|a| is_ready(a, live, held))
 }
 
-fn comes_after(series: &SeriesId, other: &SeriesId) -> bool
-    ensures { result ≡ (not (same_series series.now other.now) && not (series_before series.now other.now)) }
+/// Where a series goes among series in order, if it isn't there.
+fn find_place(found: &[SeriesId], series: &SeriesId) -> Option<usize>
+    ensures { MatchOption result (placed series.now found.now ≡ found.now) (λ i. (i ≤ length found.now) × (placed series.now found.now ≡ insert found.now i series.now)) }
 {
-    !series.is_same(other) && !series.is_before(other)
+    for i in 0..found.len() {
+        if series.is_same(&found[i]) {
+            return None;
+        }
+        if series.is_before(&found[i]) {
+            return Some(i);
+        }
+    }
+    Some(found.len())
 }
 
 /// Puts a series in its place, if it isn't there.
@@ -56,15 +64,13 @@ fn place_series(
 ) -> Result<(), AllocError>
     ensures { OnOk result (found.new.items ≡ placed series.now found.old.items) }
 {
-    let mut i = 0;
-    while i < found.len() && comes_after(series, &found[i]) {
-        i += 1;
+    match find_place(found.as_slice(), series) {
+        None => Ok(()),
+        Some(i) => {
+            found.insert(i, series.copy(alloc)?)?;
+            Ok(())
+        }
     }
-    if i < found.len() && series.is_same(&found[i]) {
-        return Ok(());
-    }
-    found.insert(i, series.copy(alloc)?)?;
-    Ok(())
 }
 
 /// The series of points, in order.

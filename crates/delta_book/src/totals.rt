@@ -1,8 +1,10 @@
-ghost use Rattle.std.specs.Prelude.{◌≡◌, true, map, IfOk};
+ghost use Rattle.std.specs.Prelude.{◌≡◌, true, if◌then◌else◌, map, IfOk};
 ghost use Rattle.std.specs.List.{list_any};
 ghost use Rattle.metric_events.specs.Series.{is_of, owner};
-ghost use Rattle.metric_events.specs.Standing.{series_standing, all_series};
-ghost use Rattle.delta_book.specs.Parts.{AreAccepted};
+ghost use Rattle.metric_events.specs.Standing.{series_standing, all_series, nothing_of};
+ghost use Rattle.metric_events.specs.Legal.{is_held};
+ghost use Rattle.delta_book.specs.Parts.{AreAccepted, part_sum};
+ghost use Rattle.delta_book.specs.declared.part.Part.TheVariants.{Home};
 ghost use Rattle.delta_book.specs.Totals.{totals_of};
 
 use crate::admission::end_of;
@@ -46,6 +48,27 @@ fn owner_of<'a>(points: &'a [Accepted], series: &SeriesId) -> &'a SenderName
     &points[i].sender
 }
 
+/// What is at home of a series: stored, and quarantined.
+fn sum_home(
+    alloc: Global,
+    points: &[Accepted],
+    held: &[SenderName],
+    series: &SeriesId,
+    owner: &SenderName,
+) -> Result<(Row, Row), AllocError>
+    requires { AreAccepted points.now }
+    ensures stored { IfOk result (λ rows. rows.0 ≡ (if is_held owner.now held.now then nothing_of series.now else part_sum Home series.now points.now)) }
+    ensures quarantined { IfOk result (λ rows. rows.1 ≡ (if is_held owner.now held.now then part_sum Home series.now points.now else nothing_of series.now)) }
+{
+    let home = sum_part(alloc, points, series, Part::Home)?;
+    let nothing = Row::new(zero_row(alloc, series.row_len())?);
+    if has_sender(held, owner) {
+        Ok((nothing, home))
+    } else {
+        Ok((home, nothing))
+    }
+}
+
 /// The totals of one series that has a point.
 fn totals_of_one(
     alloc: Global,
@@ -57,22 +80,21 @@ fn totals_of_one(
     requires some { list_any (is_of series.now) points.now ≡ true }
     ensures { IfOk result (λ t. t ≡ totals_of (series_standing points.now held.now series.now)) }
 {
-    let owner = owner_of(points, series).copy(alloc)?;
-    let home = sum_part(alloc, points, series, Part::Home)?;
-    let nothing = Row::new(zero_row(alloc, series.row_len())?);
-    let (stored, quarantined) = if has_sender(held, &owner) {
-        (nothing, home)
-    } else {
-        (home, nothing)
-    };
+    let owner = owner_of(points, series);
+    let (stored, quarantined) = sum_home(alloc, points, held, series, owner)?;
+    let owner = owner.copy(alloc)?;
+    let accepted = sum_part(alloc, points, series, Part::All)?;
+    let acknowledged = sum_part(alloc, points, series, Part::Acknowledged)?;
+    let dropped = sum_part(alloc, points, series, Part::Dropped)?;
+    let in_flight = sum_part(alloc, points, series, Part::InFlight)?;
     Ok(SeriesTotals {
         series: series.copy(alloc)?,
         owner,
         frontier: end_of(points, series),
-        accepted: sum_part(alloc, points, series, Part::All)?,
-        acknowledged: sum_part(alloc, points, series, Part::Acknowledged)?,
-        dropped: sum_part(alloc, points, series, Part::Dropped)?,
-        in_flight: sum_part(alloc, points, series, Part::InFlight)?,
+        accepted,
+        acknowledged,
+        dropped,
+        in_flight,
         stored,
         quarantined,
     })
