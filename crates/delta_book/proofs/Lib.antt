@@ -1,0 +1,11 @@
+pub mod PointFaults
+pub mod Limits
+pub mod Adding
+pub mod Words
+pub mod Sent
+pub mod Picking
+pub mod Sending
+pub mod Totalling
+pub mod Ended
+pub mod Holding
+pub mod Admitting

@@ -12,3 +12,5 @@ pub mod Stored
 pub mod Refusals
 pub mod Flushes
 pub mod Totals
+pub mod Batches
+pub mod Parts

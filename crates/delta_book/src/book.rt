@@ -2,6 +2,9 @@ ghost use Rattle.std.specs.Prelude.{◌≡◌, ◌↔◌, ◌++◌, ◌∷◌, [
 ghost use Rattle.metric_events.specs.Legal.{IsLegal, is_live, is_open, is_held};
 ghost use Rattle.metric_events.specs.Running.{live_flushes, open_batches, held_senders};
 
+mod admitting;
+mod ending;
+
 use metric_events::accepted::Accepted;
 use metric_events::entry::Entry;
 use metric_events::flight::Flight;

@@ -4,7 +4,13 @@
 //! that the journal tells, and each refusal is the first that applies.
 #![tactic(auto)]
 
+mod admission;
 pub mod book;
 pub mod faults;
 pub mod flush;
+mod flushing;
+mod limiting;
+mod lists;
+mod part;
+mod sums;
 pub mod totals;

@@ -1,0 +1,24 @@
+use Rattle.std.proofs.Common.{◌≡◌, true, refl, arith}
+use Rattle.metric_events.proofs.Room.{room_to_end}
+use Rattle.metric_events.specs.Legal.{is_live}
+use Rattle.metric_events.specs.Running.{live_flushes}
+use Rattle.metric_events.specs.declared.event.Event.TheVariants.{GiveBack}
+use Rattle.delta_book.specs.Journal.{history}
+use Rattle.delta_book.proofs.Ended.{entries_are, live_in, room_after, struck_after}
+use Rattle.delta_book.proofs.book.Book.give_back.Goals as goal
+
+pub push_reserved-requires : goal.push_reserved-requires
+push_reserved-requires c =
+    let b = c.self.inside in
+    let i = c.self.invariant in
+    let E = history b.entries.items in
+    omega (arith, room_to_end E c.args.flush i.legal (live_in E c.args.flush _ _ _ i.live_are c.deref.ensures.value c.has_flush.ensures c.if-not-has_flush.false), entries_are b.entries.items, b.entries.ok.0, i.room)
+
+live : (c : goal.After-end_flight) → is_live c.args.flush (live_flushes (history c.self.inside.entries.items)) ≡ true
+live c = live_in (history c.self.inside.entries.items) c.args.flush _ _ _ c.self.invariant.live_are c.deref.ensures.value c.has_flush.ensures c.if-not-has_flush.false
+
+pub returns-clause-room : goal.returns-clause-room
+returns-clause-room c = room_after c.self.inside.entries.items _ (record { seat = c.args.seat; event = GiveBack c.args.flush }) c.push_reserved.ensures.items c.self.invariant.legal (live c)
+
+pub returns-clause-struck : goal.returns-clause-struck
+returns-clause-struck c = struck_after c.self.inside.entries.items _ (record { seat = c.args.seat; event = GiveBack c.args.flush }) c.push_reserved.ensures.items c.self.invariant.legal (live c) refl
