@@ -21,7 +21,24 @@ mod reply;
 mod report;
 mod script;
 mod series_name;
+#[cfg(test)]
+mod tests;
 mod texts;
 mod verb;
 
-fn main() {}
+use byte_ends::{FromReader, ToWriter};
+use script::play;
+use std::io;
+use std::process::ExitCode;
+
+fn main(rt: HostRuntime) -> ExitCode {
+    let mut reader = FromReader::new(rt.reader());
+    let mut writer = ToWriter::new(io::writer(&rt));
+    match play(rt.alloc(), &mut reader, &mut writer) {
+        Ok(()) => ExitCode::SUCCESS,
+        Err(fault) => {
+            let _ = eprintln!(rt; "play: {fault}");
+            ExitCode::from(1)
+        }
+    }
+}

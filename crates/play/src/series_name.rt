@@ -61,8 +61,9 @@ fn put_value(out: &mut Vec<u8>, value: &AttrValue) -> Result<(), AllocError>
     }
 }
 
+/// Puts an attribute: its key, escaped, and its value.
 #[tactic(auto, unfolding(crate::specs::SeriesNames::attribute_text))]
-fn put_attribute(out: &mut Vec<u8>, attribute: &Attribute) -> Result<(), AllocError>
+pub fn put_attribute(out: &mut Vec<u8>, attribute: &Attribute) -> Result<(), AllocError>
     ensures { OnOk result (out.new.items ≡ out.old.items ++ spec.attribute_text attribute.now) }
 {
     put_escaped(out, attribute.key.as_bytes())?;
