@@ -4,26 +4,21 @@ use Rattle.std.specs.declared.option.Option.{Option}
 use Rattle.std.specs.Prelude.{nat_lt, nat_le}
 use Rattle.std.specs.List.{list_all, All}
 use Rattle.std.proofs.lemmas.Bool.{and_parts, and_from, or_parts, ltb-false, ltb-true, leb-true, le-leb}
-use Rattle.series_id.specs.Order.{same_series}
 use Rattle.metric_events.specs.DataPoint.{DataPoint, IsPoint}
 use Rattle.metric_events.specs.History.{History, Start, ◌▸◌, entries, IsNewBatch}
-use Rattle.metric_events.specs.Points.{points, points_after, admitted}
-use Rattle.metric_events.specs.Running.{open_batches, live_flushes, held_senders, open_after, live_after, held_after, owed}
+use Rattle.metric_events.specs.Points.{points, admitted}
+use Rattle.metric_events.specs.Running.{open_batches, held_senders, owed}
 use Rattle.metric_events.specs.Senders.{same_sender}
-use Rattle.metric_events.specs.Series.{frontier, series_count}
-use Rattle.metric_events.specs.Legal.{MayAdmit, IsLegal, Allowed, is_held, is_in_order, is_clear, is_too_large}
-use Rattle.metric_events.specs.declared.limits.TheConstants.{MAX_OPEN, MAX_SERIES, MAX_ENTRIES}
+use Rattle.metric_events.specs.Series.{is_of, frontier, series_count}
+use Rattle.metric_events.specs.Legal.{MayAdmit, is_held, is_in_order, is_clear, is_too_large}
+use Rattle.metric_events.specs.declared.limits.TheConstants.{MAX_OPEN, MAX_ENTRIES, MAX_SERIES}
 use Rattle.metric_events.specs.declared.accepted.Accepted.{Accepted}
-use Rattle.metric_events.specs.declared.flight.Flight.{Flight}
 use Rattle.metric_events.specs.declared.batch.Batch.{Batch}
-use Rattle.metric_events.specs.declared.entry.Entry.{Entry}
 use Rattle.metric_events.specs.declared.event.Event.TheVariants.{Admit, Undo, Confirm, Take, Settle, Drop, GiveBack, Quarantine, Lift}
-use Rattle.delta_book.specs.Journal.{history, admits, takes, IsNumbered}
-use Rattle.delta_book.specs.Stored.{IsBook}
+use Rattle.delta_book.specs.Journal.{admits, IsNumbered}
 use Rattle.delta_book.specs.Refusals.{is_of_another, has_other_writer, point_fault, first_of, has_room, admit_refusal}
 use Rattle.delta_book.specs.declared.faults.AdmitFault.{AdmitFault}
 use Rattle.delta_book.specs.declared.faults.AdmitFault.TheVariants.{Quarantined, Full, OtherWriter, OutOfOrder, TooManySeries, TooLarge}
-use Rattle.delta_book.proofs.Ended.{history-entry, entries_are, owed_few}
 
 none_then : (v : Bool) (x : AdmitFault) (o : Option AdmitFault) → cond v (Some x) o ≡ None → (v ≡ false) × (o ≡ None)
 none_then true x o h = cc
@@ -37,18 +32,18 @@ none_first : (o p : Option AdmitFault) → first_of o p ≡ None → (o ≡ None
 none_first (Some x) p h = cc
 none_first None p h = (refl, h)
 
-clear_at : (p : DataPoint) (v w : Bool) (end : ℕ) → (v && not w) ≡ false → (v ≡ true → end ≤ p.span.start) → (not v || (w && nat_le end p.span.start)) ≡ true
-clear_at p true true end h k = le-leb end p.span.start (k refl)
-clear_at p true false end h k = cc
-clear_at p false w end h k = refl
+clear_at : (s : List ℕ) (p : DataPoint) (v w : Bool) (end : ℕ) → (v && not w) ≡ false → (v ≡ true → end ≤ p.span.start) → (not v || (w && nat_le end p.span.start)) ≡ true
+clear_at s p true true end h k = le-leb end p.span.start (k refl)
+clear_at s p true false end h k = cc
+clear_at s p false w end h k = refl
 
 all_clear : (s : List ℕ) (p : DataPoint) (qs : List Accepted) → has_other_writer qs p.series s ≡ false → frontier p.series qs ≤ p.span.start → list_all (λ a. is_clear s p a.point a.sender) qs ≡ true
 all_clear s p [] h k = refl
 all_clear s p (a ∷ qs) h k =
     let l = or_parts (is_of_another p.series s a) (has_other_writer qs p.series s) h in
     and_from (is_clear s p a.point a.sender) (list_all (λ a. is_clear s p a.point a.sender) qs)
-    (clear_at p (same_series a.point.series p.series) (same_sender a.sender s) a.point.span.end l.0 (λ e. (let m : max a.point.span.end (frontier p.series qs) ≤ p.span.start = rw e at k in omega arith)))
-    (all_clear s p qs l.1 (below (same_series a.point.series p.series) a.point.span.end (frontier p.series qs) p.span.start k))
+    (clear_at s p (is_of p.series a) (same_sender a.sender s) a.point.span.end l.0 (λ e. (let m : max a.point.span.end (frontier p.series qs) ≤ p.span.start = rw e at k in omega arith)))
+    (all_clear s p qs l.1 (below (is_of p.series a) a.point.span.end (frontier p.series qs) p.span.start k))
   where
     below : (v : Bool) (end f start : ℕ) → cond v (max end f) f ≤ start → f ≤ start
     below true end f start h = omega arith
@@ -63,7 +58,6 @@ no_fault b s (p ∷ ps) i qs h =
     (all_clear s p qs l.0 (ltb-false p.span.start (frontier p.series qs) m.0))
     (no_fault b s ps (i + 1) (qs ++ admitted b s p ∷ []) m.1)
 
--- a number past all that were given is new
 pub new_batch_number : (n : ℕ) (E : History) → IsNumbered E → admits E < n → IsNewBatch n E
 new_batch_number n Start h k = tt
 new_batch_number n (E ▸ Admit b body) h k = ((λ e. absurd (omega (arith, h.0, e))), new_batch_number n E h.1 (omega arith))
@@ -96,49 +90,3 @@ may_admit_now E body h some made none =
       small = e.0;
     }
 
-admits-le : (E : History) → admits E ≤ entries E
-admits-le Start = omega arith
-admits-le (E ▸ Admit b body) = omega (arith, admits-le E)
-admits-le (E ▸ Undo b) = omega (arith, admits-le E)
-admits-le (E ▸ Confirm b) = omega (arith, admits-le E)
-admits-le (E ▸ Take f series) = omega (arith, admits-le E)
-admits-le (E ▸ Settle f) = omega (arith, admits-le E)
-admits-le (E ▸ Drop f) = omega (arith, admits-le E)
-admits-le (E ▸ GiveBack f) = omega (arith, admits-le E)
-admits-le (E ▸ Quarantine s) = omega (arith, admits-le E)
-admits-le (E ▸ Lift s) = omega (arith, admits-le E)
-
-takes-le : (E : History) → takes E ≤ entries E
-takes-le Start = omega arith
-takes-le (E ▸ Admit b body) = omega (arith, takes-le E)
-takes-le (E ▸ Undo b) = omega (arith, takes-le E)
-takes-le (E ▸ Confirm b) = omega (arith, takes-le E)
-takes-le (E ▸ Take f series) = omega (arith, takes-le E)
-takes-le (E ▸ Settle f) = omega (arith, takes-le E)
-takes-le (E ▸ Drop f) = omega (arith, takes-le E)
-takes-le (E ▸ GiveBack f) = omega (arith, takes-le E)
-takes-le (E ▸ Quarantine s) = omega (arith, takes-le E)
-takes-le (E ▸ Lift s) = omega (arith, takes-le E)
-
--- the numbers given so far are small
-pub admitted_few : (qs : List Accepted) (bs : List ℕ) (ls : List Flight) (hs : List (List ℕ)) (xs : List Entry) (cap a t : ℕ) → IsBook qs bs ls hs xs cap a t → a ≤ MAX_ENTRIES
-admitted_few qs bs ls hs xs cap a t h = omega (arith, admits-le (history xs), entries_are xs, h.admitted_are, owed_few qs bs ls hs xs cap a t h)
-
-pub taken_few : (qs : List Accepted) (bs : List ℕ) (ls : List Flight) (hs : List (List ℕ)) (xs : List Entry) (cap a t : ℕ) → IsBook qs bs ls hs xs cap a t → t ≤ MAX_ENTRIES
-taken_few qs bs ls hs xs cap a t h = omega (arith, takes-le (history xs), entries_are xs, h.taken_are, owed_few qs bs ls hs xs cap a t h)
-
--- what is kept after an entry that gives a number
-pub booked : (qs qs' : List Accepted) (bs bs' : List ℕ) (ls ls' : List Flight) (hs hs' : List (List ℕ)) (xs ys : List Entry) (cap cap' a a' t t' : ℕ) (x : Entry) → IsBook qs bs ls hs xs cap a t → Allowed (history xs) x.event → IsNumbered (history xs ▸ x.event) → qs' ≡ points_after x.event qs → bs' ≡ open_after x.event bs → ls' ≡ live_after x.event ls → hs' ≡ held_after x.event hs → ys ≡ xs ++ x ∷ [] → MAX_ENTRIES ≤ cap' → a' ≡ admits (history xs ▸ x.event) → t' ≡ takes (history xs ▸ x.event) → IsBook qs' bs' ls' hs' ys cap' a' t'
-booked qs qs' bs bs' ls ls' hs hs' xs ys cap cap' a a' t t' x h allowed numbered eq eb el eh ex room ea et =
-    let e : history ys ≡ history xs ▸ x.event = ap history ex ∙ history-entry xs x in
-    record {
-      legal = subst IsLegal (sym e) (h.legal, allowed);
-      numbered = subst IsNumbered (sym e) numbered;
-      points_are = eq ∙ (ap (points_after x.event) h.points_are ∙ ap points (sym e));
-      open_are = eb ∙ (ap (open_after x.event) h.open_are ∙ ap open_batches (sym e));
-      live_are = el ∙ (ap (live_after x.event) h.live_are ∙ ap live_flushes (sym e));
-      held_are = eh ∙ (ap (held_after x.event) h.held_are ∙ ap held_senders (sym e));
-      admitted_are = ea ∙ ap admits (sym e);
-      taken_are = et ∙ ap takes (sym e);
-      room = room;
-    }

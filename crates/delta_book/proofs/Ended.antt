@@ -18,21 +18,12 @@ use Rattle.metric_events.proofs.Striking.{can_be_struck}
 use Rattle.metric_events.proofs.Ordering.{settle_order}
 use Rattle.delta_book.specs.Journal.{history, and_then, admits, takes, IsNumbered, KeepsRoom}
 use Rattle.delta_book.specs.Stored.{IsBook}
-
-pub history-entry : (xs : List Entry) (x : Entry) → history (xs ++ x ∷ []) ≡ history xs ▸ x.event
-history-entry xs x = fold-append and_then Start xs (x ∷ [])
-
-count_from : (E : History) (xs : List Entry) → entries (fold and_then E xs) ≡ entries E + length xs
-count_from E [] = omega arith
-count_from E (x ∷ xs) = omega (arith, count_from (E ▸ x.event) xs)
-
-pub entries_are : (xs : List Entry) → entries (history xs) ≡ length xs
-entries_are xs = omega (arith, count_from Start xs)
+use Rattle.delta_book.proofs.Journaled.{history-push}
 
 -- what is kept after one more entry
 pub one_more : (qs qs' : List Accepted) (bs bs' : List ℕ) (ls ls' : List Flight) (hs hs' : List (List ℕ)) (xs ys : List Entry) (cap cap' a t : ℕ) (x : Entry) → IsBook qs bs ls hs xs cap a t → Allowed (history xs) x.event → IsNumbered (history xs ▸ x.event) → admits (history xs ▸ x.event) ≡ admits (history xs) → takes (history xs ▸ x.event) ≡ takes (history xs) → qs' ≡ points_after x.event qs → bs' ≡ open_after x.event bs → ls' ≡ live_after x.event ls → hs' ≡ held_after x.event hs → ys ≡ xs ++ x ∷ [] → cap ≤ cap' → IsBook qs' bs' ls' hs' ys cap' a t
 one_more qs qs' bs bs' ls ls' hs hs' xs ys cap cap' a t x h allowed numbered ka kt eq eb el eh ex room =
-    let e : history ys ≡ history xs ▸ x.event = ap history ex ∙ history-entry xs x in
+    let e : history ys ≡ history xs ▸ x.event = ap history ex ∙ history-push xs x in
     record {
       legal = subst IsLegal (sym e) (h.legal, allowed);
       numbered = subst IsNumbered (sym e) numbered;
@@ -47,7 +38,7 @@ one_more qs qs' bs bs' ls ls' hs hs' xs ys cap cap' a t x h allowed numbered ka 
 
 -- after one more entry the history is legal
 legal_after : (xs ys : List Entry) (x : Entry) → ys ≡ xs ++ x ∷ [] → IsLegal (history xs) → Allowed (history xs) x.event → IsLegal (history ys)
-legal_after xs ys x ex l a = subst IsLegal (sym (ap history ex ∙ history-entry xs x)) (l, a)
+legal_after xs ys x ex l a = subst IsLegal (sym (ap history ex ∙ history-push xs x)) (l, a)
 
 -- and what is owed can still be ended
 pub room_after : (xs ys : List Entry) (x : Entry) → ys ≡ xs ++ x ∷ [] → IsLegal (history xs) → Allowed (history xs) x.event → KeepsRoom (history ys)
@@ -59,7 +50,7 @@ order_after xs ys x ex l a f g y = settle_order (history ys) f g y (legal_after 
 
 -- and where the entry is a reversal, it can be struck
 pub struck_after : (xs ys : List Entry) (x : Entry) → ys ≡ xs ++ x ∷ [] → IsLegal (history xs) → Allowed (history xs) x.event → EndsByReversal (history xs ▸ x.event) → CanBeStruck (history ys)
-struck_after xs ys x ex l a h = subst CanBeStruck (sym (ap history ex ∙ history-entry xs x)) (can_be_struck (history xs ▸ x.event) h (l, a))
+struck_after xs ys x ex l a h = subst CanBeStruck (sym (ap history ex ∙ history-push xs x)) (can_be_struck (history xs ▸ x.event) h (l, a))
 
 -- what a test of what is kept says of the history
 pub live_in : (E : History) (f : ℕ) (ls ds : List Flight) (found : Bool) → ls ≡ live_flushes E → ds ≡ ls → found ≡ is_live f ds → found ≡ true → is_live f (live_flushes E) ≡ true
@@ -70,10 +61,3 @@ open_in E b bs ds found e d t h = ap (is_open b) (sym (d ∙ e)) ∙ (sym t ∙ 
 
 pub home_in : (E : History) (b : ℕ) (qs ds : List Accepted) (found : Bool) → qs ≡ points E → ds ≡ qs → found ≡ is_batch_home b ds → found ≡ true → is_batch_home b (points E) ≡ true
 home_in E b qs ds found e d t h = ap (is_batch_home b) (sym (d ∙ e)) ∙ (sym t ∙ h)
-
--- what is kept and the entries are together what is in the journal and what is owed
-pub owed_is : (qs : List Accepted) (bs : List ℕ) (ls : List Flight) (hs : List (List ℕ)) (xs : List Entry) (cap a t : ℕ) → IsBook qs bs ls hs xs cap a t → entries (history xs) + owed (history xs) ≡ length xs + (length bs + length ls + length hs)
-owed_is qs bs ls hs xs cap a t h = omega (arith, entries_are xs, ap length h.open_are, ap length h.live_are, ap length h.held_are)
-
-pub owed_few : (qs : List Accepted) (bs : List ℕ) (ls : List Flight) (hs : List (List ℕ)) (xs : List Entry) (cap a t : ℕ) → IsBook qs bs ls hs xs cap a t → length xs + (length bs + length ls + length hs) ≤ MAX_ENTRIES
-owed_few qs bs ls hs xs cap a t h = omega (arith, owed_is qs bs ls hs xs cap a t h, kept_room (history xs) h.legal)

@@ -2,10 +2,12 @@ pub mod PointFaults
 pub mod Limits
 pub mod Adding
 pub mod Words
-pub mod Sent
-pub mod Picking
 pub mod Sending
 pub mod Totalling
+pub mod Journaled
+pub mod Admitting
+pub mod Sent
+pub mod Picking
+pub mod Taking
 pub mod Ended
 pub mod Holding
-pub mod Admitting

@@ -1,6 +1,12 @@
 -- The totals of a series are those of its standing.
-use Rattle.std.proofs.Common.{◌≡◌, ℕ, ◌+◌, ◌<◌, Bool, true, cond, ◌&&◌, List, [], ◌∷◌, ◌++◌, map, take, get_or, length, refl, ap, sym, ◌∙◌, subst, arith, zero, suc}
-use Rattle.std.specs.List.{list_any, list_all, filter}
+use Rattle.std.proofs.Common.{◌≡◌, ℕ, ◌+◌, ◌<◌, Bool, true, cond, ◌&&◌, List, [], ◌∷◌, ◌++◌, map, take, get_or, length, refl, ap, sym, ◌∙◌, subst, arith, zero, suc, Ok, Err, Vec, Global}
+use Rattle.std.specs.declared.result.Result.{Result}
+use Rattle.std.specs.declared.alloc.AllocError.{AllocError}
+use Rattle.std.specs.Result.{IfOk}
+use Rattle.std.specs.List.{list_any, list_all, filter, All}
+use Rattle.metric_events.specs.Points.{points}
+use Rattle.metric_events.specs.declared.flight.Flight.{Flight}
+use Rattle.metric_events.specs.declared.entry.Entry.{Entry}
 use Rattle.std.proofs.lemmas.List.{map_more}
 use Rattle.std.proofs.lemmas.Bool.{and_parts, and_from, or_left, or_right}
 use Rattle.series_id.specs.Identity.{Identity, row_length}
@@ -13,15 +19,17 @@ use Rattle.metric_events.specs.declared.accepted.Accepted.{Accepted}
 use Rattle.metric_events.proofs.Lists.{filter_keeps, all_always}
 use Rattle.metric_events.proofs.SeriesOnce.{among_in_order}
 use Rattle.metric_events.proofs.Balance.{adds_up}
-use Rattle.delta_book.specs.declared.part.Part.TheVariants.{All}
+use Rattle.delta_book.specs.declared.part.Part.TheVariants.{All as Every}
 use Rattle.delta_book.specs.declared.totals.SeriesTotals.{SeriesTotals}
 use Rattle.delta_book.specs.Parts.{is_part, part_of, part_sum}
-use Rattle.delta_book.specs.Totals.{totals_of, IsBalanced}
+use Rattle.delta_book.specs.Totals.{totals_of, totals_rows, IsBalanced}
+use Rattle.delta_book.specs.Journal.{history}
+use Rattle.delta_book.specs.Stored.{IsBook}
 use Rattle.delta_book.proofs.Adding.{part_is}
 
 -- the sum of all points is the sum of the series
-pub all-sum : (x : Identity) (qs : List Accepted) → part_sum All x qs ≡ sum_of x qs
-all-sum x qs = ap (row_sum (row_length x.kind)) (part_is All x qs ∙ filter_keeps (stands (is_part All)) (of_series x qs) (all_always (stands (is_part All)) (λ a. refl) (of_series x qs)))
+pub all-sum : (x : Identity) (qs : List Accepted) → part_sum Every x qs ≡ sum_of x qs
+all-sum x qs = ap (row_sum (row_length x.kind)) (part_is Every x qs ∙ filter_keeps (stands (is_part Every)) (of_series x qs) (all_always (stands (is_part Every)) (λ a. refl) (of_series x qs)))
 
 among_at : (xs : List Identity) (i : ℕ) (x : Identity) → i < length xs → x ≡ get_or xs i x → is_among x xs ≡ true
 among_at [] i x l e = absurd (omega arith)
@@ -53,3 +61,27 @@ one_more qs held xs i x all all' t l e a s p =
     ∙ (ap (λ u. map (λ y. totals_of (series_standing qs held y)) (take i xs) ++ u ∷ []) s
     ∙ (ap (λ (y : Identity). map (λ y. totals_of (series_standing qs held y)) (take i xs) ++ totals_of (series_standing qs held y) ∷ []) e
     ∙ sym (map_more (λ y. totals_of (series_standing qs held y)) xs i x l))))
+
+-- as a book answers them
+
+pub if_rows : (r : Result (Vec SeriesTotals Global) AllocError) (ts us : List SeriesTotals) → IfOk r (λ v. v.items ≡ ts) → ts ≡ us → IfOk r (λ v. v.items ≡ us)
+if_rows (Ok v) ts us h e = h ∙ e
+if_rows (Err x) ts us h e = tt
+
+balanced_first : (t : SeriesTotals) (ts : List SeriesTotals) → IsBalanced t → All IsBalanced ts → All IsBalanced (t ∷ ts)
+balanced_first t ts h all zero d l = h
+balanced_first t ts h all (suc k) d l = all k d (omega arith)
+
+balanced_each : (qs : List Accepted) (held : List (List ℕ)) (xs : List Identity) → All IsBalanced (map totals_of (map (series_standing qs held) xs))
+balanced_each qs held [] = λ k d l. absurd (omega arith)
+balanced_each qs held (x ∷ xs) = balanced_first (totals_of (series_standing qs held x)) (map totals_of (map (series_standing qs held) xs)) (record { sum = adds_up qs held x }) (balanced_each qs held xs)
+
+pub if_balanced : (r : Result (Vec SeriesTotals Global) AllocError) (qs : List Accepted) (held : List (List ℕ)) → IfOk r (λ v. v.items ≡ map totals_of (all_series qs held)) → IfOk r (λ v. All IsBalanced v.items)
+if_balanced (Ok v) qs held h = subst (All IsBalanced) (sym h) (balanced_each qs held (series_in_order qs))
+if_balanced (Err x) qs held h = tt
+
+pub rows_in : (qs qs' : List Accepted) (bs : List ℕ) (ls : List Flight) (hs hs' : List (List ℕ)) (xs old : List Entry) (cap a t : ℕ) → IsBook qs bs ls hs xs cap a t → xs ≡ old → qs' ≡ qs → hs' ≡ hs → map totals_of (all_series qs' hs') ≡ totals_rows (history old)
+rows_in qs qs' bs ls hs hs' xs old cap a t h o q e =
+    ap (λ rs. map totals_of (all_series rs hs')) (q ∙ h.points_are)
+    ∙ (ap (λ ks. map totals_of (all_series (points (history xs)) ks)) (e ∙ h.held_are)
+    ∙ ap (λ ys. totals_rows (history ys)) o)

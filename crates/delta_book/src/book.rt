@@ -1,10 +1,11 @@
-ghost use Rattle.std.specs.Prelude.{◌≡◌, ◌↔◌, ◌++◌, ◌∷◌, [], ◌+◌, ◌<◌, ◌≤◌, ◌≢◌, length, IfNone, IfSome, IfOk, IfErr, OnOk, OnErr, IsOk, IsTrue, unwrap_or};
-ghost use Rattle.metric_events.specs.Legal.{IsLegal, is_live, is_open, is_held};
-ghost use Rattle.metric_events.specs.Running.{live_flushes, open_batches, held_senders};
+ghost use Rattle.std.specs.Prelude.{◌≡◌, [], IfOk};
+ghost use Rattle.std.specs.List.{All};
 
 mod admitting;
 mod ending;
+mod taking;
 
+use crate::totals::{SeriesTotals, all_totals};
 use metric_events::accepted::Accepted;
 use metric_events::entry::Entry;
 use metric_events::flight::Flight;
@@ -41,6 +42,10 @@ impl Model for Book {
 }
 
 impl Book {
+    ghost use Rattle.delta_book.specs.Journal.{history};
+    ghost use Rattle.delta_book.specs.Refusals.{has_room};
+    ghost use Rattle.delta_book.specs.Totals.{totals_rows, IsBalanced};
+
     /// A book in which nothing has happened. The room for all entries of its journal is
     /// taken here, once.
     pub fn new(alloc: Global) -> Result<Book, AllocError>
@@ -64,5 +69,22 @@ impl Book {
         ensures { result.now ≡ self.now }
     {
         self.entries.as_slice()
+    }
+
+    /// There is room for one more event that has to be ended, and for its end.
+    fn has_room(&self) -> bool
+        ensures { result ≡ has_room (history self.now) }
+    {
+        let owed = self.opened.len() + self.live.len() + self.held.len();
+        self.entries.len() + owed + 2 <= MAX_ENTRIES
+    }
+
+    /// The totals of each series that has an accepted point, in series order. In each place of
+    /// a row, what became of the points adds up to what was accepted.
+    pub fn totals(&self) -> Result<Vec<SeriesTotals>, AllocError>
+        ensures rows { IfOk result (λ v. v.items ≡ totals_rows (history self.now)) }
+        ensures balanced { IfOk result (λ v. All IsBalanced v.items) }
+    {
+        all_totals(self.alloc, &self.points, &self.held)
     }
 }

@@ -1,4 +1,4 @@
-ghost use Rattle.std.specs.Prelude.{◌≡◌, IfOk};
+ghost use Rattle.std.specs.Prelude.{◌≡◌, ◌↔◌, IsTrue, IfOk};
 
 use crate::points::Points;
 use crate::sender_name::SenderName;
@@ -18,5 +18,15 @@ impl Batch {
         let sender = self.sender.copy(alloc)?;
         let points = self.points.copy(alloc)?;
         Ok(Batch { sender, points })
+    }
+
+    /// Whether both have the same sender and the same points.
+    pub fn is_same(&self, other: &Batch) -> bool
+        ensures { IsTrue result ↔ (self.now ≡ other.now) }
+    {
+        if !self.sender.is_same(&other.sender) {
+            return false;
+        }
+        self.points.is_same(&other.points)
     }
 }

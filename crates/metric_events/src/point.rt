@@ -1,4 +1,4 @@
-ghost use Rattle.std.specs.Prelude.{◌≡◌, ◌∷◌, [], ◌≤◌, ◌<◌, ◌&&◌, length, sum, nat_le, Bool, List, ℕ, ℤ, IfOk, IfErr, OnOk, unwrap_or, None, true};
+ghost use Rattle.std.specs.Prelude.{◌≡◌, ◌↔◌, ◌∷◌, [], ◌≤◌, ◌<◌, ◌&&◌, length, sum, nat_le, Bool, List, ℕ, ℤ, IsTrue, IfOk, IfErr, OnOk, unwrap_or, None, true};
 ghost use Rattle.std.specs.List.{list_all};
 ghost use Rattle.metric_events.specs.Rows.{fits, positive, negative, sum_row, histogram_row};
 ghost use Rattle.metric_events.specs.PointFaults as fault;
@@ -46,6 +46,7 @@ pub enum PointFault {
 
 impl Point {
     ghost use Rattle.metric_events.specs.DataPoint.{IsPoint};
+    ghost use Rattle.metric_events.specs.Equal.{same_point};
 
     /// A point of a sum. Its row is one point, what is above zero and what is below it.
     /// Faults in this order: `BadSpan`, `NegativeMonotonic`, `TooLarge`, `NoMemory`.
@@ -145,6 +146,22 @@ impl Point {
         ensures made { IsPoint self.now }
     {
         self.row.as_slice()
+    }
+
+    /// Whether both have the same series, span and row.
+    pub fn is_same(&self, other: &Point) -> bool
+        ensures { IsTrue result ↔ (self.now ≡ other.now) }
+    {
+        self.has_parts_of(other)
+    }
+
+    fn has_parts_of(&self, other: &Point) -> bool
+        ensures { result ≡ same_point self.now other.now }
+    {
+        self.series.is_same(&other.series)
+            && self.span.start() == other.span.start()
+            && self.span.end() == other.span.end()
+            && self.row.as_slice() == other.row.as_slice()
     }
 
     pub fn copy(&self, alloc: Global) -> Result<Point, AllocError>

@@ -1,4 +1,4 @@
-ghost use Rattle.std.specs.Prelude.{◌≡◌, ◌++◌, ◌∷◌, [], IfOk, OnOk, IfErr, OnErr};
+ghost use Rattle.std.specs.Prelude.{◌≡◌, ◌↔◌, ◌++◌, ◌∷◌, [], IsTrue, IfOk, OnOk, IfErr, OnErr};
 ghost use Rattle.std.specs.List.{All};
 
 use crate::point::Point;
@@ -51,6 +51,13 @@ impl Points {
         self.points.as_slice()
     }
 
+    /// Whether both have the same points in the same order.
+    pub fn is_same(&self, other: &Points) -> bool
+        ensures { IsTrue result ↔ (self.now ≡ other.now) }
+    {
+        are_same(self.points.as_slice(), other.points.as_slice())
+    }
+
     pub fn copy(&self, alloc: Global) -> Result<Points, AllocError>
         ensures { IfOk result (λ copy. copy ≡ self.now) }
     {
@@ -60,4 +67,18 @@ impl Points {
         }
         Ok(points)
     }
+}
+
+fn are_same(mine: &[Point], its: &[Point]) -> bool
+    ensures { IsTrue result ↔ (mine.now ≡ its.now) }
+{
+    if mine.len() != its.len() {
+        return false;
+    }
+    for i in 0..mine.len() {
+        if !mine[i].is_same(&its[i]) {
+            return false;
+        }
+    }
+    true
 }

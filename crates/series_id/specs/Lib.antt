@@ -1,9 +1,14 @@
 pub mod Texts
 pub mod Values
 pub mod Attributes
+pub mod Pairs
+pub mod Sorting
 pub mod Bounds
 pub mod Kinds
+pub mod Ascending
 pub mod Identity
-pub mod Order
 pub mod Views
 pub mod Checks
+pub mod Order
+pub mod Totals
+pub mod SeriesLaws

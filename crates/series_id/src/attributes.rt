@@ -1,8 +1,14 @@
 //! Attributes, and sets of them.
 
-ghost use Rattle.std.specs.Prelude.{◌≡◌, IfOk, []};
+ghost use Rattle.std.specs.Prelude.{◌≡◌, IfErr, IfOk, None, OnOk, []};
+ghost use Rattle.std.specs.Option.{unwrap_or};
 ghost use Rattle.series_id.specs.Attributes.{IsAttrSet, attribute_cmp, attrs_cmp};
+ghost use Rattle.series_id.specs.Pairs.{attr_refusal};
+ghost use Rattle.series_id.specs.Sorting.{sorted_by_key};
 
+use crate::checks::attr_fault;
+use crate::faults::AttrFault;
+use crate::sorting::sort_by_key;
 use crate::texts::Text;
 use crate::values::AttrValue;
 use std::alloc::{AllocError, Global};
@@ -68,6 +74,26 @@ impl AttrSet {
         }
     }
 
+    /// The set of the pairs, in whatever order they come.
+    ///
+    /// Fails, in this order, with `TooMany` where there are more than `MAX_ATTRIBUTES` pairs or a
+    /// list has more than `MAX_VALUES` values, `TextTooLong` where a key or a text among the
+    /// values has more than `MAX_TEXT` bytes, `DuplicateKey` where a key stands twice, and
+    /// `NoMemory`.
+    pub fn from_pairs(alloc: Global, pairs: Vec<(Text, AttrValue)>) -> Result<AttrSet, AttrFault>
+        ensures fault { IfErr result (λ e. e ≡ unwrap_or (attr_refusal pairs.items) AttrFault.NoMemory) }
+        ensures none { OnOk result (attr_refusal pairs.items ≡ None) }
+        ensures set { IfOk result (λ set. set ≡ sorted_by_key pairs.items) }
+    {
+        if let Some(fault) = attr_fault(pairs.as_slice()) {
+            return Err(fault);
+        }
+        match sort_by_key(alloc, pairs) {
+            Ok(pairs) => Ok(AttrSet { pairs }),
+            Err(_) => Err(AttrFault::NoMemory),
+        }
+    }
+
     /// The pairs, ascending by key.
     pub fn pairs(&self) -> &[Attribute]
         ensures { result.now ≡ self.now }
@@ -79,7 +105,7 @@ impl AttrSet {
     pub fn copy(&self, alloc: Global) -> Result<AttrSet, AllocError>
         ensures { IfOk result (λ copy. copy ≡ self.now) }
     {
-        let pairs = copy_pairs(alloc, self.pairs.as_slice())?;
+        let pairs = copy_pairs(alloc, &self.pairs)?;
         Ok(AttrSet { pairs })
     }
 
@@ -95,7 +121,7 @@ impl AttrSet {
     pub(crate) fn compare(&self, other: &AttrSet) -> Ordering
         ensures { result ≡ attrs_cmp self.now other.now }
     {
-        compare_pairs(self.pairs.as_slice(), other.pairs.as_slice())
+        compare_pairs(self.pairs(), other.pairs())
     }
 }
 

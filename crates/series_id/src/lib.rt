@@ -6,16 +6,24 @@
 #![tactic(auto)]
 
 mod attributes;
+mod checks;
+mod faults;
 mod kinds;
+pub mod laws;
 pub mod limits;
 mod scalars;
 mod series;
+mod sorting;
 mod texts;
 mod values;
 
 pub use attributes::{AttrSet, Attribute};
+pub use faults::{AttrFault, KindFault};
 pub use kinds::{Bounds, Kind};
 pub use scalars::{Scalar, Scalars};
 pub use series::{IdFault, SeriesId};
 pub use texts::Text;
 pub use values::AttrValue;
+
+#[cfg(test)]
+mod tests;

@@ -1,8 +1,10 @@
 //! Identities of series.
 
-ghost use Rattle.std.specs.Prelude.{◌≡◌, IfOk};
+ghost use Rattle.std.specs.Prelude.{◌≡◌, ◌↔◌, IfOk, IsTrue, Some, refl};
 ghost use Rattle.series_id.specs.Checks.{checked_identity};
 ghost use Rattle.series_id.specs.Identity.{IsIdentity, row_length};
+ghost use Rattle.series_id.specs.SeriesLaws.{same_series_equiv, same_series_per, same_series_ties, series_po};
+ghost use Rattle.series_id.specs.Totals.{series_total};
 ghost use Rattle.series_id.specs.Order.{metric_cmp, same_series, scope_cmp, series_before, series_cmp};
 
 use crate::attributes::AttrSet;
@@ -180,7 +182,8 @@ impl SeriesId {
     /// Whether both are of one series: whether all fields are equal.
     #[tactic(auto, unfolding(crate::specs::Order::same_series))]
     pub fn is_same(&self, other: &SeriesId) -> bool
-        ensures { result ≡ same_series self.now other.now }
+        ensures value { result ≡ same_series self.now other.now }
+        ensures exact { IsTrue result ↔ (self.now ≡ other.now) }
     {
         self.compare(other).is_eq()
     }
@@ -243,5 +246,43 @@ impl SeriesId {
             return kind;
         }
         self.attrs.compare(&other.attrs)
+    }
+}
+
+impl PartialEq for SeriesId {
+    ghost eq = { same_series };
+
+    ghost laws = { same_series_per };
+
+    fn eq(&self, other: &SeriesId) -> bool {
+        self.is_same(other)
+    }
+}
+
+impl Eq for SeriesId {
+    ghost laws = { same_series_equiv };
+}
+
+impl PartialOrd for SeriesId {
+    ghost partial_cmp = { λ x y. Some (series_cmp x y) };
+
+    ghost laws = { series_po };
+
+    fn partial_cmp(&self, other: &SeriesId) -> Option<Ordering> {
+        Some(self.compare(other))
+    }
+}
+
+impl Ord for SeriesId {
+    ghost cmp = { series_cmp };
+
+    ghost total = { series_total };
+
+    ghost matches_partial_cmp = { λ x y. refl };
+
+    ghost matches_eq = { same_series_ties };
+
+    fn cmp(&self, other: &SeriesId) -> Ordering {
+        SeriesId::compare(self, other)
     }
 }

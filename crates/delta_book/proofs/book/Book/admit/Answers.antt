@@ -1,18 +1,19 @@
 use Rattle.std.proofs.Common.{true, not, arith, ap, sym, ◌∙◌, ◌≡◌, ◌+◌, subst, None, refl, ◌++◌, ◌∷◌, [], map}
 use Rattle.std.specs.Prelude.{is_ok, if◌then◌else◌}
-use Rattle.delta_book.proofs.Admitting.{admitted_few, may_admit_now, booked}
-use Rattle.delta_book.specs.Journal.{history, admits}
-use Rattle.delta_book.specs.Refusals.{admit_refusal}
 use Rattle.metric_events.specs.Points.{admitted}
 use Rattle.metric_events.specs.Legal.{MayAdmit}
 use Rattle.metric_events.specs.declared.event.Event.TheVariants.{Admit}
-use Rattle.delta_book.proofs.Ended.{entries_are}
+use Rattle.delta_book.specs.Journal.{history, admits}
+use Rattle.delta_book.specs.Refusals.{admit_refusal}
+use Rattle.delta_book.proofs.Journaled.{book_sizes, booked, entries-history, keeps_room}
+use Rattle.delta_book.proofs.Admitting.{may_admit_now}
 use Rattle.delta_book.proofs.book.Book.admit.Goals as goal
 
 pub overflow_add-number : goal.overflow_add-number
 overflow_add-number c =
     let b = c.self.inside in
-    omega (arith, admitted_few b.points.items b.opened.items b.live.items b.held.items b.entries.items _ _ _ c.self.invariant)
+    let s = book_sizes b.points.items b.opened.items b.live.items b.held.items b.entries.items _ _ _ c.self.invariant in
+    omega (arith, s.all, s.admitted_few)
 
 -- no refusal applied
 allowed : (c : goal.After-drop-fresh-2) → MayAdmit (history c.self.inside.entries.items) (admits (history c.self.inside.entries.items) + 1) c.args.body
@@ -25,11 +26,13 @@ push_reserved-requires-2 c =
     let b = c.self.inside in
     let none : admit_refusal (history b.entries.items) (admits (history b.entries.items) + 1) c.args.body ≡ None = ap (λ xs. admit_refusal (history xs) (admits (history xs) + 1) c.args.body) c.self.view_is ∙ (sym c.admit_fault.ensures ∙ c.in_default.is) in
     let may = may_admit_now (history b.entries.items) c.args.body c.self.invariant.numbered c.requires c.as_slice.ensures.made none in
-    omega (arith, may.room, entries_are b.entries.items, b.entries.ok.0, c.self.invariant.room)
+    omega (arith, may.room, entries-history b.entries.items, b.entries.ok.0, c.self.invariant.room)
 
 fresh_points : (c : goal.After-drop-fresh-2) → c.append.new.self.items ≡ c.self.inside.points.items ++ map (admitted (c.self.inside.batches + 1) c.args.body.sender) c.args.body.points
 fresh_points c =
-    let fine : is_ok c.append.result ≡ true = c.is_err-2.ensures.negation ∙ ap not c.if-is_err-2.false in
+    let v = c.is_err-else-is_err.ensures.negation in
+    let w = c.if-is_err-2.false in
+    let fine : is_ok c.append.result ≡ true = v ∙ ap not w in
     c.append.ensures.items
     ∙ (ap (λ t. if t then c.self.inside.points.items ++ c.in-Ok.fresh.items else c.self.inside.points.items) fine
     ∙ ap (λ rs. c.self.inside.points.items ++ rs) (c.in-Ok.ensures ∙ ap (map (admitted (c.self.inside.batches + 1) c.args.body.sender)) c.as_slice.ensures.value))
@@ -52,3 +55,6 @@ invariant_of-self-2 c =
 
 pub returns-clause-legal : goal.returns-clause-legal
 returns-clause-legal c = (invariant_of-self-2 c).legal
+
+pub returns-clause-room : goal.returns-clause-room
+returns-clause-room c = keeps_room c.push_reserved-2.new.self.items (invariant_of-self-2 c).legal

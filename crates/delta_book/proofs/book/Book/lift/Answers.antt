@@ -2,7 +2,8 @@ use Rattle.std.proofs.Common.{refl, arith}
 use Rattle.metric_events.proofs.Room.{room_to_lift}
 use Rattle.metric_events.specs.declared.event.Event.TheVariants.{Lift}
 use Rattle.delta_book.specs.Journal.{history}
-use Rattle.delta_book.proofs.Ended.{entries_are, one_more, room_after, struck_after}
+use Rattle.delta_book.proofs.Journaled.{entries-history}
+use Rattle.delta_book.proofs.Ended.{one_more, room_after, struck_after}
 use Rattle.delta_book.proofs.Holding.{IsLifted, lifted}
 use Rattle.delta_book.proofs.book.Book.lift.Goals as goal
 
@@ -12,7 +13,7 @@ push_reserved-requires c =
     let i = c.self.invariant in
     let E = history b.entries.items in
     let l = lifted E c.args.sender.now c.remove-name.result b.held.items c.deref.result.now c.remove-name.new.self.items c.in-Some.i i.legal i.held_are c.deref.ensures.value c.in-Some.ensures.inside c.in-Some.ensures.same c.remove-name.ensures.value c.remove-name.ensures.items in
-    omega (arith, room_to_lift E c.remove-name.result i.legal l.held, entries_are b.entries.items, b.entries.ok.0, i.room)
+    omega (arith, room_to_lift E c.remove-name.result i.legal l.held, entries-history b.entries.items, b.entries.ok.0, i.room)
 
 is_lifted : (c : goal.After-push_reserved) → IsLifted (history c.self.inside.entries.items) c.args.sender.now c.remove-name.result c.self.inside.held.items c.remove-name.new.self.items
 is_lifted c = lifted (history c.self.inside.entries.items) c.args.sender.now c.remove-name.result c.self.inside.held.items c.deref.result.now c.remove-name.new.self.items c.in-Some.i c.self.invariant.legal c.self.invariant.held_are c.deref.ensures.value c.in-Some.ensures.inside c.in-Some.ensures.same c.remove-name.ensures.value c.remove-name.ensures.items

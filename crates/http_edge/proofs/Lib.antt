@@ -1,0 +1,14 @@
+pub mod FieldLemmas
+pub mod ListLemmas
+pub mod HeadLemmas
+pub mod ChunkLemmas
+pub mod BodyLemmas
+pub mod FaultLemmas
+pub mod MachineLemmas
+pub mod Unique
+pub mod FinishLemmas
+pub mod AnswerLemmas
+pub mod ReadLemmas
+pub mod WriteLemmas
+pub mod TextLemmas
+pub mod ReplyLemmas

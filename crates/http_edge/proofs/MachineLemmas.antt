@@ -1,0 +1,250 @@
+-- What a machine holds, step by step.
+use Rattle.std.proofs.Common.{◌≡◌, ◌≢◌, ℕ, ◌-◌, ◌<◌, ◌≤◌, Bool, true, false, List, [], ◌∷◌, ◌++◌, length, map, drop, take, min, Option, Some, None, Ok, Err, refl, sym, ap, subst, ◌∙◌, arith, append_assoc}
+use Rattle.std.specs.Prelude.{Result, IfOk, IfErr}
+use Rattle.std.proofs.lemmas.List.{length-append, length-take, append-nil, take_at, nil_from_length}
+use Rattle.httparse.specs.Grammar.{RequestHead, print_request, ReadsRequest, HasNoRequest}
+use Rattle.httparse.specs.declared.spans.HeaderSpan.{HeaderSpan}
+use Rattle.httparse.specs.declared.spans.RequestSpans.{RequestSpans}
+use Rattle.httparse.specs.Spans.{IsRequestAt, header_bytes}
+use Rattle.httparse.proofs.GrammarLemmas.{request_prefix_free}
+use Rattle.http_edge.specs.declared.fault.HttpFault.{HttpFault}
+use Rattle.http_edge.specs.declared.fault.HttpFault.TheVariants.{Closed, BadHead, TooManyHeaders, HeadTooLong, BadLength, BodyTooLong, BadChunk, Truncated, Io, NoMemory}
+use Rattle.http_edge.specs.declared.framing.Framing.{Framing}
+use Rattle.http_edge.specs.declared.framing.Framing.TheVariants.{Sized, Chunked}
+use Rattle.http_edge.specs.declared.phase.Phase.{Phase}
+use Rattle.http_edge.specs.declared.phase.Phase.TheVariants.{Counted, Line, Content, Return, LineFeed, Trailer, Whole}
+use Rattle.http_edge.specs.declared.stage.Stage.{Stage}
+use Rattle.http_edge.specs.declared.stage.Stage.TheVariants.{InHead, InBody, Failed}
+use Rattle.http_edge.specs.Message.{IsHeadAt}
+use Rattle.http_edge.specs.Framing.{framing_by}
+use Rattle.http_edge.specs.Framed.{Frames}
+use Rattle.http_edge.specs.Chunks.{HasTrailer, HasChunks}
+use Rattle.http_edge.specs.Head.{FindsHead}
+use Rattle.http_edge.specs.Reading.{HasBody, framing_in, message_of, Reads, BeginsWith, NotYet}
+use Rattle.http_edge.specs.Body.{Stand, Becomes, IsOpen, is_whole, Reaches, Refuses}
+use Rattle.http_edge.specs.Answer.{Tells}
+use Rattle.http_edge.specs.Holds.{Progress, unread, start, IsBehind, HoldsAt, Holds, SoundAt, IsSound, IsFramed, Starts, TakesHead, Advances, Stops, is_failed_at, is_failed, is_done_at, is_done}
+use Rattle.http_edge.proofs.ListLemmas.{text_taken, EndsIn}
+use Rattle.http_edge.proofs.ChunkLemmas.{no_chunks}
+use Rattle.http_edge.proofs.BodyLemmas.{at, no_line_yet}
+use Rattle.http_edge.proofs.FaultLemmas.{IsHeadAt-append}
+
+abbrev pub on : Stand → List ℕ → Progress
+on body head = record { stage = InBody; head = head; body = body }
+
+-- ---- how a body begins
+
+pub starts_chunked : Starts Chunked (at Line [] [])
+starts_chunked = record { opened = (omega arith, omega arith, no_line_yet); forward = λ more o h. h; backward = λ more o h. h; less = omega arith }
+
+empty_forward : (more : List ℕ) (o : Option (List ℕ)) → HasBody (Some (Sized 0)) more o → Becomes (at Whole [] []) more o
+empty_forward more (Some body) h = nil_from_length body h.1
+empty_forward more None h = absurd (omega (arith, h))
+
+empty_backward : (more : List ℕ) (o : Option (List ℕ)) → Becomes (at Whole [] []) more o → HasBody (Some (Sized 0)) more o
+empty_backward more (Some body) h = (omega arith, ap length h, (more, ap (λ s. s ++ more) (sym h)))
+empty_backward more None h = absurd h
+
+pub starts_empty : Starts (Sized 0) (at Whole [] [])
+starts_empty = record { opened = (omega arith, refl); forward = empty_forward; backward = empty_backward; less = omega arith }
+
+-- ---- a head that is whole
+
+pub framing_found : (buf : List ℕ) (spans : List HeaderSpan) (r : RequestSpans) (k : RequestHead) → IsRequestAt buf spans r k → framing_by r.version (map (header_bytes buf) (take r.headers spans)) ≡ framing_in k
+framing_found buf spans r k is = ap (λ (n : ℕ). framing_by n (map (header_bytes buf) (take r.headers spans))) is.version ∙ ap (framing_by k.minor) is.fields
+
+pub framed_ok : (f : Option Framing) (w : Framing) → Frames f (Ok w) → (f ≡ Some w) × IsFramed w
+framed_ok f (Sized n) h = h
+framed_ok f Chunked h = (h, tt)
+
+-- the head is the part so far and the front of the piece
+pub head_ends : (part piece buf : List ℕ) (had n : ℕ) (spans : List HeaderSpan) (r : RequestSpans) (k : RequestHead) → had ≡ length part → n ≤ length piece → HasNoRequest part → buf ≡ part ++ take n piece → FindsHead buf spans r k
+    → EndsIn part piece (print_request k) had n r.len
+head_ends part piece buf had n spans r k had_is within none is found =
+    text_taken part piece (print_request k) (drop r.len buf) had n r.len had_is found.at.len within (sym is ∙ found.at.reads.1) (λ after e. none k after (found.at.reads.0, e))
+
+pub starts_at : (w : Framing) (phase : Phase) (b : Stand) → b ≡ unread → Starts w (at phase [] []) → Starts w (at phase b.content b.part)
+starts_at w phase b is starts = let P : Stand → Type 0 = λ s. Starts w (at phase s.content s.part) in subst P (sym is) starts
+
+pub head_whole : (part piece buf text : List ℕ) (had n : ℕ) (spans : List HeaderSpan) (r : RequestSpans) (k : RequestHead) (w : Framing) (old body : Stand) → had ≡ length part → n ≤ length piece → length part < 16384 → HasNoRequest part
+    → buf ≡ part ++ take n piece → FindsHead buf spans r k → text ≡ take r.len buf → framing_in k ≡ Some w → Starts w body
+    → TakesHead (record { stage = InHead; head = part; body = old }) (on body text) piece (r.len - had)
+head_whole part piece buf text had n spans r k w old body had_is within short none is found text_is framed starts =
+    let ends = head_ends part piece buf had n spans r k had_is within none is found in
+    let whole : text ≡ print_request k = text_is ∙ ap (take r.len) found.at.reads.1 ∙ take_at (print_request k) (drop r.len buf) r.len (sym found.at.len) in
+    let P : List ℕ → Type 0 = λ s. IsHeadAt s k [] in
+    let head : IsHeadAt (print_request k) k [] = record { reads = (found.at.reads.0, sym (append-nil (print_request k))); few = found.few; short = found.short } in
+    let Q : Option Framing → List ℕ → Option (List ℕ) → Type 0 = HasBody in
+    record {
+      within = omega (arith, ends.within, within);
+      sound = (omega (arith, ap length whole, found.short), starts.opened);
+      fine = refl;
+      rest = λ e. absurd cc;
+      holds = (
+        k,
+        [],
+        record {
+          at = subst P (sym whole) head;
+          bytes_are = ends.front ∙ sym whole ∙ sym (append-nil text);
+          framed = λ e. let x : Some w ≡ None = sym framed ∙ e in cc;
+          forward = λ more o h. starts.forward more o (subst (λ (f : Option Framing). HasBody f more o) framed h);
+          backward = λ more o h. subst (λ (f : Option Framing). HasBody f more o) (sym framed) (starts.backward more o h);
+        },
+      );
+      less = omega (arith, starts.less, ends.some, had_is, found.at.len, found.short, short);
+    }
+
+take_len : (n : ℕ) (piece : List ℕ) → length (take n piece) ≡ min n (length piece)
+take_len n piece = length-take n piece
+
+pub head_more : (part piece buf : List ℕ) (n : ℕ) → n ≡ min (length piece) (16384 - length part) → buf ≡ part ++ take n piece → HasNoRequest buf → length buf < 16384
+    → TakesHead (record { stage = InHead; head = part; body = unread }) (record { stage = InHead; head = buf; body = unread }) piece n
+head_more part piece buf n n_is is none short =
+    let all : n ≡ length piece = omega (arith, ap length is, length-append part (take n piece), n_is, short, take_len n piece) in record {
+      within = omega (arith, all);
+      sound = (short, none, refl);
+      fine = refl;
+      rest = λ e. all;
+      holds = sym is;
+      less = omega (arith, ap length is, length-append part (take n piece), all, take_len n piece, short);
+    }
+
+-- ---- behind a head
+
+pub reads_behind : (head bytes fed more : List ℕ) (body : Stand) (k j : RequestHead) (o : Option (List ℕ)) → IsBehind head body bytes k fed → Reads (bytes ++ more) j o → HasBody (framing_in k) (fed ++ more) o
+reads_behind head bytes fed more body k j o is reads =
+    let e : bytes ++ more ≡ head ++ (fed ++ more) = ap (λ s. s ++ more) is.bytes_are ∙ append_assoc head fed more in
+    let P : List ℕ → Type 0 = λ s. ReadsRequest s j reads.0 in
+    let same = request_prefix_free head (fed ++ more) k j [] reads.0 is.at.reads (subst P e reads.1.at.reads) in
+    let Q : RequestHead → Type 0 = λ z. HasBody (framing_in z) reads.0 o in
+    let R : List ℕ → Type 0 = λ s. HasBody (framing_in k) s o in
+    subst R (sym same.1) (subst Q (sym same.0) reads.1.has)
+
+pub reads_ahead : (head bytes fed more : List ℕ) (body : Stand) (k : RequestHead) (o : Option (List ℕ)) → IsBehind head body bytes k fed → HasBody (framing_in k) (fed ++ more) o → Reads (bytes ++ more) k o
+reads_ahead head bytes fed more body k o is has =
+    let e : head ++ (fed ++ more) ≡ bytes ++ more = sym (ap (λ s. s ++ more) is.bytes_are ∙ append_assoc head fed more) in
+    let P : List ℕ → Type 0 = λ s. IsHeadAt s k (fed ++ more) in
+    (fed ++ more, record { at = subst P e (IsHeadAt-append head (fed ++ more) k [] is.at); has = has })
+
+pub head_behind : (head bytes fed : List ℕ) (body : Stand) (k : RequestHead) → IsBehind head body bytes k fed → IsHeadAt bytes k fed
+head_behind head bytes fed body k is = let P : List ℕ → Type 0 = λ s. IsHeadAt s k fed in subst P (sym is.bytes_are) (IsHeadAt-append head fed k [] is.at)
+
+pub stops_body : (e : HttpFault) (head : List ℕ) (old : Stand) (piece : List ℕ) → Refuses e old piece → Stops (on old head) piece e
+stops_body BadChunk head old piece refuses bytes h =
+    let k = h.0 in
+    let fed = h.1 in
+    let is = h.2 in (
+      tt,
+      (
+        k,
+        fed ++ piece,
+        IsHeadAt-append bytes piece k fed (head_behind head bytes fed old k is),
+        is.framed,
+        λ more j o reads.
+            let later : Reads (bytes ++ (piece ++ more)) j o = subst (λ (s : List ℕ). Reads s j o) (append_assoc bytes piece more) reads in
+            refuses more o (is.forward (piece ++ more) o (reads_behind head bytes fed (piece ++ more) old k j o is later)),
+      ),
+    )
+stops_body BodyTooLong head old piece refuses bytes h =
+    let k = h.0 in
+    let fed = h.1 in
+    let is = h.2 in
+    let P : List ℕ → Type 0 = λ s. Reads (bytes ++ s) k None in
+    (tt, (k, subst P (append-nil piece) (reads_ahead head bytes fed (piece ++ []) old k None is (is.backward (piece ++ []) None (refuses [])))))
+stops_body NoMemory head old piece refuses bytes h = (tt, tt)
+stops_body Closed head old piece refuses bytes h = absurd refuses
+stops_body BadHead head old piece refuses bytes h = absurd refuses
+stops_body TooManyHeaders head old piece refuses bytes h = absurd refuses
+stops_body HeadTooLong head old piece refuses bytes h = absurd refuses
+stops_body BadLength head old piece refuses bytes h = absurd refuses
+stops_body Truncated head old piece refuses bytes h = absurd refuses
+stops_body Io head old piece refuses bytes h = absurd refuses
+
+pub goes_on_behind : (head : List ℕ) (old new : Stand) (piece : List ℕ) → length head ≤ 16384 → Reaches old new piece → Advances (on old head) (on new head) piece (is_whole new.phase)
+goes_on_behind head old new piece short reaches = record {
+  sound = (short, reaches.opened);
+  fine = refl;
+  done_is = refl;
+  holds = λ bytes h. (
+    h.0,
+    h.1 ++ piece,
+    record {
+      at = h.2.at;
+      bytes_are = ap (λ s. s ++ piece) h.2.bytes_are ∙ append_assoc head h.1 piece;
+      framed = h.2.framed;
+      forward = λ more o x. reaches.steps.forward more o (h.2.forward (piece ++ more) o (subst (λ (s : List ℕ). HasBody (framing_in h.0) s o) (append_assoc h.1 piece more) x));
+      backward = λ more o x. subst (λ (s : List ℕ). HasBody (framing_in h.0) s o) (sym (append_assoc h.1 piece more)) (h.2.backward (piece ++ more) o (reaches.steps.backward more o x));
+    },
+  );
+  less = reaches.less;
+}
+
+-- ---- what the bytes so far tell
+
+no_bytes : (k : RequestHead) → 0 < length (print_request k)
+unfolding print_request
+no_bytes k = simp length-append (omega arith)
+
+pub some_bytes : (bytes after : List ℕ) (k : RequestHead) → IsHeadAt bytes k after → bytes ≢ []
+some_bytes bytes after k is e = omega (arith, ap length e, ap length is.reads.1, length-append (print_request k) after, no_bytes k)
+
+pub not_yet_in_head : (head bytes : List ℕ) → HasNoRequest head → bytes ≡ head → NotYet bytes
+not_yet_in_head head bytes none is k o r = let P : List ℕ → Type 0 = λ s. ReadsRequest s k r.0 in none k r.0 (subst P is r.1.at.reads)
+
+pub whole_is : (p : Phase) → is_whole p ≡ true → p ≡ Whole
+whole_is Whole e = refl
+whole_is (Counted n) e = absurd cc
+whole_is Line e = absurd cc
+whole_is (Content n) e = absurd cc
+whole_is Return e = absurd cc
+whole_is LineFeed e = absurd cc
+whole_is Trailer e = absurd cc
+
+nowhere : (p : Phase) (content part : List ℕ) → IsOpen (at p content part) → is_whole p ≡ false → (o : Option (List ℕ)) → ¬ (Becomes (at p content part) [] o)
+nowhere Whole content part opened open_ o h = absurd cc
+nowhere (Counted n) content part opened open_ None h = h
+nowhere (Counted n) content part opened open_ (Some body) h = omega (arith, opened.0, h.2, ap length h.3, length-append h.0 h.1)
+nowhere Line content part opened open_ o h = let P : List ℕ → Type 0 = λ s. HasChunks content s o in no_chunks content part opened.2 o (subst P (append-nil part) h)
+nowhere (Content n) content part opened open_ o h = omega (arith, ap length h.3, length-append h.0 (13 ∷ 10 ∷ h.1))
+nowhere Return content part opened open_ o h = let e : [] ≡ 13 ∷ 10 ∷ h.0 = h.1 in cc
+nowhere LineFeed content part opened open_ o h = let e : [] ≡ 10 ∷ h.0 = h.1 in cc
+nowhere Trailer content part opened open_ None h = h
+nowhere Trailer content part opened open_ (Some body) h = let t = subst HasTrailer (append-nil part) h.0 in opened.2 t.0 t.1 t.2 t.3.reads
+
+ends_nowhere : (s : Stand) → IsOpen s → is_whole s.phase ≡ false → (o : Option (List ℕ)) → ¬ (Becomes s [] o)
+ends_nowhere s opened open_ o h = nowhere s.phase s.content s.part opened open_ o h
+
+pub not_yet_in_body : (head bytes fed : List ℕ) (body : Stand) (k : RequestHead) → IsOpen body → is_whole body.phase ≡ false → IsBehind head body bytes k fed → NotYet bytes
+not_yet_in_body head bytes fed body k opened open_ is j o reads =
+    let P : List ℕ → Type 0 = λ s. Reads s j o in
+    ends_nowhere body opened open_ o (is.forward [] o (reads_behind head bytes fed [] body k j o is (subst P (sym (append-nil bytes)) reads)))
+
+pub whole_in_body : (head bytes fed content part : List ℕ) (k : RequestHead) → IsBehind head (at Whole content part) bytes k fed → BeginsWith bytes (message_of k content)
+whole_in_body head bytes fed content part k is =
+    let P : List ℕ → Type 0 = λ s. Reads s k (Some content) in
+    (k, content, subst P (append-nil bytes) (reads_ahead head bytes fed [] (at Whole content part) k (Some content) is (is.backward [] (Some content) refl)), refl)
+
+told_in_body : (head bytes fed : List ℕ) (body : Stand) (k : RequestHead) (done : Bool) → done ≡ is_whole body.phase → IsOpen body → IsBehind head body bytes k fed → Tells bytes (Ok done)
+told_in_body head bytes fed body k true e opened is =
+    let whole : body.phase ≡ Whole = whole_is body.phase (sym e) in
+    let P : Phase → Type 0 = λ p. IsBehind head (at p body.content body.part) bytes k fed in
+    (message_of k body.content, whole_in_body head bytes fed body.content body.part k (subst P whole is))
+told_in_body head bytes fed body k false e opened is = not_yet_in_body head bytes fed body k opened (sym e) is
+
+told_at : (stage : Stage) (head : List ℕ) (body : Stand) (bytes : List ℕ) → SoundAt stage head body → is_failed_at stage ≡ false → HoldsAt stage head body bytes → Tells bytes (Ok (is_done_at stage body.phase))
+told_at InHead head body bytes sound fine h = not_yet_in_head head bytes sound.1 h
+told_at InBody head body bytes sound fine h = told_in_body head bytes h.1 body h.0 (is_whole body.phase) refl sound.1 h.2
+told_at (Failed e) head body bytes sound fine h = absurd cc
+
+pub told : (p : Progress) (bytes : List ℕ) → IsSound p → is_failed p ≡ false → Holds p bytes → Tells bytes (Ok (is_done p))
+told p bytes sound fine h = told_at p.stage p.head p.body bytes sound fine h
+
+-- ---- at first, and at an answer
+
+pub start_is_sound : IsSound start
+start_is_sound = (omega arith, λ k rest r. omega (arith, ap length r.1, length-append (print_request k) rest, no_bytes k), refl)
+
+pub tells_of : (r : Result Bool HttpFault) (old new : Progress) (piece bytes : List ℕ) → IfOk r (Advances old new piece) → IfErr r (Stops old piece) → Holds old bytes → Tells (bytes ++ piece) r
+tells_of (Err e) old new piece bytes ok err h = err bytes h
+tells_of (Ok done) old new piece bytes ok err h =
+    let P : Bool → Type 0 = λ b. Tells (bytes ++ piece) (Ok b) in subst P (sym ok.done_is) (told new (bytes ++ piece) ok.sound ok.fine (ok.holds bytes h))

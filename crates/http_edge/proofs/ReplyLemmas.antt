@@ -1,0 +1,194 @@
+-- What was kept of a response, and what it tells.
+use Rattle.std.proofs.Common.{◌≡◌, ℕ, ◌+◌, ◌<◌, ◌≤◌, true, false, List, [], ◌∷◌, ◌++◌, length, map, take, drop, get_or, Option, Some, None, Ok, Err, refl, sym, ap, subst, ◌∙◌, arith, append_assoc, inl, inr}
+use Rattle.std.specs.Prelude.{Result, IfSome, IsSomeAnd, ◌⊎◌, codes}
+use Rattle.std.proofs.lemmas.List.{length-append, length-take, length-map, append-nil, take-append-drop, map-append}
+use Rattle.std.specs.Io.KnownBytes.{Consumes, IsAtEnd}
+use Rattle.httparse.specs.Grammar.{ResponseHead, print_response, ReadsResponse, HasNoResponse, status_code}
+use Rattle.httparse.specs.declared.spans.HeaderSpan.{HeaderSpan}
+use Rattle.httparse.specs.declared.spans.ResponseSpans.{ResponseSpans}
+use Rattle.httparse.specs.Spans.{name_and_value, header_bytes, IsResponseWithin}
+use Rattle.httparse.proofs.GrammarLemmas.{ReadsResponse-append, response_unique}
+use Rattle.http_edge.specs.declared.fault.HttpFault.{HttpFault}
+use Rattle.http_edge.specs.declared.fault.HttpFault.TheVariants.{Closed, BadHead, TooManyHeaders, HeadTooLong, BadLength, BodyTooLong, BadChunk, Truncated, Io, NoMemory}
+use Rattle.http_edge.specs.declared.reply.Reply.{Reply}
+use Rattle.http_edge.specs.Message.{Header}
+use Rattle.http_edge.specs.Framing.{is_named, values_of}
+use Rattle.http_edge.specs.Reply.{Told, first, told_by, told_in, BeginsSaying, ExplainsReply, AnswersReply, LastsFor, GivesReply, DeliversReply, IsClosedReply}
+use Rattle.httparse.specs.Spans as parsed
+use Rattle.http_edge.proofs.FieldLemmas.{values_of-append, values_of_more}
+use Rattle.http_edge.proofs.ListLemmas.{front_of}
+use Rattle.http_edge.proofs.HeadLemmas.{long_or_front}
+
+nothing : (k : ResponseHead) → 0 < length (print_response k)
+unfolding print_response
+nothing k = simp length-append (omega arith)
+
+some_bytes : (bytes after : List ℕ) (k : ResponseHead) → ReadsResponse bytes k after → 0 < length bytes
+some_bytes bytes after k r = omega (arith, ap length r.1, length-append (print_response k) after, nothing k)
+
+pub none_at_first : HasNoResponse []
+none_at_first k after r = omega (arith, some_bytes [] after k r)
+
+-- ---- a head that was found
+
+same_told : (a b : ℕ) (x y : Option (List ℕ)) → a ≡ b → x ≡ y → ◌≡◌ {A = Told} (record { status = a; retry_after = x }) (record { status = b; retry_after = y })
+same_told a b x y p q = cc
+
+pub begins_saying : (buf : List ℕ) (spans : List HeaderSpan) (r : ResponseSpans) (k : ResponseHead) (value : Option (List ℕ)) → length spans ≡ 64 → length buf ≤ 16384 → parsed.IsResponseAt buf spans r k → IsResponseWithin buf spans r
+    → value ≡ first (values_of (codes "retry-after") (map (header_bytes buf) (take r.headers spans))) → BeginsSaying buf (record { status = r.code; retry_after = value })
+begins_saying buf spans r k value room short is within value_is =
+    let few : length k.fields ≤ 64 = omega (arith, ap length is.fields, length-map (take r.headers spans) (header_bytes buf), length-map k.fields name_and_value, length-take r.headers spans) in
+    let value_of : value ≡ first (values_of (codes "retry-after") (map name_and_value k.fields)) = value_is ∙ ap (λ hs. first (values_of (codes "retry-after") hs)) is.fields in
+    (k, drop r.len buf, record { reads = is.reads; few = few; short = omega (arith, is.len, within.section.len_fits, short) }, same_told r.code (status_code k) value (first (values_of (codes "retry-after") (map name_and_value k.fields))) is.code value_of)
+
+pub long_head : (buf : List ℕ) → HasNoResponse buf → 16384 ≤ length buf → ExplainsReply HeadTooLong buf
+long_head buf none long = (
+  long,
+  λ more k after reads.
+      long_or_front (print_response k) buf long (λ short. none k (drop (length (print_response k)) buf) (reads.0, front_of buf more (print_response k) after reads.1 short)),
+)
+
+-- ---- the first value
+
+abbrev value_in : List ℕ → List ℕ → List HeaderSpan → List (List ℕ)
+value_in name buf hs = values_of name (map (header_bytes buf) hs)
+
+pub values_here : (name : List ℕ) (h : Header) → is_named name h ≡ true → values_of name (h ∷ []) ≡ h.1 ∷ []
+unfolding values_of
+values_here name h is = rw is refl
+
+pub values_not_here : (name : List ℕ) (h : Header) → is_named name h ≡ false → values_of name (h ∷ []) ≡ []
+unfolding values_of
+values_not_here name h is = rw is refl
+
+pub none_more : (name buf : List ℕ) (hs : List HeaderSpan) (i : ℕ) (d : HeaderSpan) → i < length hs → value_in name buf (take i hs) ≡ [] → is_named name (header_bytes buf (get_or hs i d)) ≡ false → value_in name buf (take (i + 1) hs) ≡ []
+none_more name buf hs i d within none not =
+    values_of_more name buf hs i d within ∙ ap (λ vs. vs ++ values_of name (header_bytes buf (get_or hs i d) ∷ [])) none ∙ values_not_here name (header_bytes buf (get_or hs i d)) not
+
+pub first_here : (name buf : List ℕ) (hs : List HeaderSpan) (i : ℕ) (d : HeaderSpan) (v : List ℕ) → i < length hs → value_in name buf (take i hs) ≡ [] → values_of name (header_bytes buf (get_or hs i d) ∷ []) ≡ v ∷ []
+    → first (value_in name buf hs) ≡ Some v
+first_here name buf hs i d v within none here =
+    let f = header_bytes buf in
+    let front : value_in name buf (take (i + 1) hs) ≡ v ∷ [] = values_of_more name buf hs i d within ∙ ap (λ vs. vs ++ values_of name (f (get_or hs i d) ∷ [])) none ∙ here in
+    let whole : value_in name buf hs ≡ value_in name buf (take (i + 1) hs) ++ value_in name buf (drop (i + 1) hs) =
+    ap (value_in name buf) (sym (take-append-drop (i + 1) hs)) ∙ ap (values_of name) (map-append f (take (i + 1) hs) (drop (i + 1) hs)) ∙ values_of-append name (map f (take (i + 1) hs)) (map f (drop (i + 1) hs)) in
+    ap first (whole ∙ ap (λ vs. vs ++ value_in name buf (drop (i + 1) hs)) front)
+
+-- ---- more bytes
+
+pub begins-append : (buf more : List ℕ) (t : Told) → BeginsSaying buf t → BeginsSaying (buf ++ more) t
+begins-append buf more t b = (b.0, b.1 ++ more, record { reads = ReadsResponse-append buf b.0 b.1 more b.2.reads; few = b.2.few; short = b.2.short }, b.3)
+
+later : (bytes more m : List ℕ) (k : ResponseHead) (rest : List ℕ) → ReadsResponse ((bytes ++ more) ++ m) k rest → ReadsResponse (bytes ++ (more ++ m)) k rest
+later bytes more m k rest r = subst (λ (s : List ℕ). ReadsResponse s k rest) (append_assoc bytes more m) r
+
+explains_more : (e : HttpFault) (bytes more : List ℕ) → LastsFor e → ExplainsReply e bytes → ExplainsReply e (bytes ++ more)
+explains_more BadHead bytes more lasts is = λ m k rest r. is (more ++ m) k rest (later bytes more m k rest r)
+explains_more TooManyHeaders bytes more lasts is =
+    let x = is.1 in (λ m k rest r. is.0 (more ++ m) k rest (later bytes more m k rest r), (x.0, x.1 ++ more, ap (λ s. s ++ more) x.2 ∙ append_assoc x.0 x.1 more, x.3, x.4, x.5))
+explains_more HeadTooLong bytes more lasts is = (omega (arith, is.0, length-append bytes more), λ m k rest r. is.1 (more ++ m) k rest (later bytes more m k rest r))
+explains_more NoMemory bytes more lasts is = is
+explains_more Closed bytes more lasts is = absurd lasts
+explains_more BadLength bytes more lasts is = absurd lasts
+explains_more BodyTooLong bytes more lasts is = absurd lasts
+explains_more BadChunk bytes more lasts is = absurd lasts
+explains_more Truncated bytes more lasts is = absurd lasts
+explains_more Io bytes more lasts is = absurd lasts
+
+-- ---- what is answered
+
+pub one_reply : (buf : List ℕ) (t u : Told) → BeginsSaying buf t → BeginsSaying buf u → t ≡ u
+one_reply buf t u x y = let same = response_unique buf x.0 y.0 x.1 y.1 x.2.reads y.2.reads in x.3 ∙ ap told_by same.0 ∙ sym y.3
+
+never : (bytes : List ℕ) (t : Told) → ((k : ResponseHead) (after : List ℕ) → ReadsResponse (bytes ++ []) k after → length k.fields ≤ 64 → length (print_response k) ≤ 16384 → ⊥) → BeginsSaying bytes t → ⊥
+never bytes t none b = let P : List ℕ → Type 0 = λ s. ReadsResponse s b.0 b.1 in none b.0 b.1 (subst P (sym (append-nil bytes)) b.2.reads) b.2.few b.2.short
+
+pub gives : (r : Result Reply HttpFault) (bytes : List ℕ) (t : Told) → AnswersReply bytes r → BeginsSaying bytes t → GivesReply t r
+gives (Ok r) bytes t x b = one_reply bytes (told_in r) t x b
+gives (Err NoMemory) bytes t x b = tt
+gives (Err Closed) bytes t x b = omega (arith, some_bytes bytes b.1 b.0 b.2.reads, ap length x)
+gives (Err BadHead) bytes t x b = never bytes t (λ k after r few short. x [] k after r) b
+gives (Err TooManyHeaders) bytes t x b = never bytes t (λ k after r few short. omega (arith, x.0 [] k after r, few)) b
+gives (Err HeadTooLong) bytes t x b = never bytes t (λ k after r few short. omega (arith, x.1 [] k after r, short)) b
+gives (Err Truncated) bytes t x b = x.1 b.0 b.1 b.2
+gives (Err BadLength) bytes t x b = x
+gives (Err BodyTooLong) bytes t x b = x
+gives (Err BadChunk) bytes t x b = x
+gives (Err Io) bytes t x b = x
+
+abbrev Said : Option (List ℕ) → Result Reply HttpFault → Type 0
+Said old r = IfSome old (λ bytes. (r ≡ Err Io) ⊎ AnswersReply bytes r)
+
+delivers_of : (bytes : List ℕ) (r : Result Reply HttpFault) → (r ≡ Err Io) ⊎ AnswersReply bytes r → DeliversReply bytes r
+delivers_of bytes r (inl io) t b = inl io
+delivers_of bytes r (inr x) t b = inr (gives r bytes t x b)
+
+pub delivers : (old : Option (List ℕ)) (r : Result Reply HttpFault) → Said old r → IfSome old (λ bytes. DeliversReply bytes r)
+delivers None r x = tt
+delivers (Some bytes) r x = delivers_of bytes r x
+
+-- ---- what was kept
+
+pub record Kept (old now : Option (List ℕ)) (kept : List ℕ) : Type 0 where
+  pub known : IfSome old (λ bytes. IsSomeAnd now (λ left. bytes ≡ kept ++ left))
+  pub none : HasNoResponse kept
+  pub short : length kept < 16384
+
+pub begins : (old : Option (List ℕ)) → Kept old old []
+begins None = record { known = tt; none = none_at_first; short = omega arith }
+begins (Some bytes) = record { known = refl; none = none_at_first; short = omega arith }
+
+known_more : (old now next : Option (List ℕ)) (kept piece : List ℕ) → IfSome old (λ bytes. IsSomeAnd now (λ left. bytes ≡ kept ++ left)) → Consumes now next piece
+    → IfSome old (λ bytes. IsSomeAnd next (λ left. bytes ≡ (kept ++ piece) ++ left))
+known_more None now next kept piece known took = tt
+known_more (Some bytes) None next kept piece known took = absurd known
+known_more (Some bytes) (Some left) None kept piece known took = absurd took
+known_more (Some bytes) (Some left) (Some more) kept piece known took = known ∙ ap (λ x. kept ++ x) took ∙ sym (append_assoc kept piece more)
+
+-- the front of a piece was kept
+pub record Grows (old : Option (List ℕ)) (new : List ℕ) : Type 0 where
+  pub all : IfSome old (λ bytes. (left : List ℕ) × (bytes ≡ new ++ left))
+  pub some : 0 < length new
+
+pub grows : (old now next : Option (List ℕ)) (kept piece front back new : List ℕ) → Kept old now kept → Consumes now next piece → piece ≡ front ++ back → 0 < length front → new ≡ kept ++ front → Grows old new
+grows None now next kept piece front back new so took cut some is = record { all = tt; some = omega (arith, ap length is, length-append kept front, some) }
+grows (Some bytes) None next kept piece front back new so took cut some is = absurd so.known
+grows (Some bytes) (Some left) None kept piece front back new so took cut some is = absurd took
+grows (Some bytes) (Some left) (Some more) kept piece front back new so took cut some is =
+    let e : bytes ≡ (kept ++ (front ++ back)) ++ more = known_more (Some bytes) (Some left) (Some more) kept piece so.known took ∙ ap (λ x. (kept ++ x) ++ more) cut in
+    let f : (kept ++ (front ++ back)) ++ more ≡ new ++ (back ++ more) = ap (λ x. x ++ more) (sym (append_assoc kept front back)) ∙ append_assoc (kept ++ front) back more ∙ ap (λ x. x ++ (back ++ more)) (sym is) in
+    record { all = (back ++ more, e ∙ f); some = omega (arith, ap length is, length-append kept front, some) }
+
+pub keeps : (old now next : Option (List ℕ)) (kept piece new : List ℕ) → Kept old now kept → Consumes now next piece → new ≡ kept ++ piece → HasNoResponse new → length new < 16384 → Kept old next new
+keeps old now next kept piece new so took is none short =
+    let P : List ℕ → Type 0 = λ s. IfSome old (λ bytes. IsSomeAnd next (λ left. bytes ≡ s ++ left)) in
+    record { known = subst P (sym is) (known_more old now next kept piece so.known took); none = none; short = short }
+
+pub said : (old : Option (List ℕ)) (new : List ℕ) (r : Reply) → Grows old new → BeginsSaying new (told_in r) → Said old (Ok r)
+said None new r g b = tt
+said (Some bytes) new r g b = let P : List ℕ → Type 0 = λ s. BeginsSaying s (told_in r) in inr (subst P (sym g.all.1) (begins-append new g.all.0 (told_in r) b))
+
+pub refused : (old : Option (List ℕ)) (new : List ℕ) (e : HttpFault) → Grows old new → LastsFor e → ExplainsReply e new → Said old (Err e)
+refused None new e g lasts x = tt
+refused (Some bytes) new e g lasts x = inr (subst (ExplainsReply e) (sym g.all.1) (explains_more e new g.all.0 lasts x))
+
+pub not_closed : (old : Option (List ℕ)) (new : List ℕ) (r : Result Reply HttpFault) → Grows old new → IfSome old (λ bytes. bytes ≡ [] → IsClosedReply r)
+not_closed None new r g = tt
+not_closed (Some bytes) new r g = λ e. absurd (omega (arith, ap length e, ap length g.all.1, length-append new g.all.0, g.some))
+
+pub closed : (old now : Option (List ℕ)) (kept : List ℕ) → Kept old now kept → IsAtEnd now → kept ≡ [] → Said old (Err Closed)
+closed None now kept so ended is = tt
+closed (Some bytes) None kept so ended is = absurd so.known
+closed (Some bytes) (Some left) kept so ended is = inr (so.known ∙ ap (λ x. kept ++ x) ended ∙ append-nil kept ∙ is)
+
+pub truncated : (old now : Option (List ℕ)) (kept : List ℕ) → Kept old now kept → IsAtEnd now → 0 < length kept → Said old (Err Truncated)
+truncated None now kept so ended some = tt
+truncated (Some bytes) None kept so ended some = absurd so.known
+truncated (Some bytes) (Some left) kept so ended some =
+    let e : bytes ≡ kept = so.known ∙ ap (λ x. kept ++ x) ended ∙ append-nil kept in
+    inr (λ is. omega (arith, ap length is, ap length e, some), λ k after b. let P : List ℕ → Type 0 = λ s. ReadsResponse s k after in so.none k after (subst P e b.reads))
+
+pub not_closed_at_end : (old now : Option (List ℕ)) (kept : List ℕ) (r : Result Reply HttpFault) → Kept old now kept → 0 < length kept → IfSome old (λ bytes. bytes ≡ [] → IsClosedReply r)
+not_closed_at_end None now kept r so some = tt
+not_closed_at_end (Some bytes) None kept r so some = absurd so.known
+not_closed_at_end (Some bytes) (Some left) kept r so some = λ e. absurd (omega (arith, ap length e, ap length so.known, length-append kept left, some))

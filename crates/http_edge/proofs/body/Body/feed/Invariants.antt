@@ -1,0 +1,12 @@
+use Rattle.std.proofs.Common.{◌≤◌, ◌-◌, length, take}
+use Rattle.http_edge.specs.Body.{stand_of, Reaches}
+use Rattle.http_edge.proofs.body.Body.feed.Given as goal
+
+abbrev pub invariant-steps : goal.invariant-steps
+invariant-steps l = record {
+  within : l.at ≤ length l.piece;
+  reaches : Reaches (stand_of l.fn.self) (stand_of l.self) (take l.at l.piece);
+}
+
+abbrev pub decreases-steps : goal.decreases-steps
+decreases-steps l = length l.piece - l.at

@@ -1,0 +1,106 @@
+use Rattle.std.proofs.Common.{◌≡◌, ◌++◌, ◌-◌, List, ℕ, take, drop, Option, arith, sym, subst, ◌∙◌}
+use Rattle.std.proofs.lemmas.List.{take-append-drop}
+use Rattle.http_edge.specs.Body.{IsOpen, Refuses}
+use Rattle.http_edge.specs.Chunks.{HasChunks}
+use Rattle.http_edge.specs.declared.fault.HttpFault.TheVariants.{BadChunk, BodyTooLong}
+use Rattle.http_edge.specs.declared.phase.Phase.TheVariants.{Line}
+use Rattle.http_edge.proofs.BodyLemmas.{at, at_line, line_zero, line_fits, line_over, line_refused}
+use Rattle.http_edge.proofs.ChunkLemmas.{never_line, never_long_line}
+use Rattle.http_edge.proofs.ListLemmas.{grown}
+use Rattle.http_edge.proofs.body.Body.take_line.Goals as goal
+
+pub overflow_sub-taken : goal.overflow_sub-taken
+overflow_sub-taken c =
+    let b = c.args.self.now in
+    let piece = c.args.piece.now in
+    let u = take c.line_len-n.result piece in
+    let is = grown c.extend_from_slice.result c.extend_from_slice.new.self.items b.part.items u (sym c.if-is_err.false ∙ c.is_err.ensures.value) c.extend_from_slice.ensures.items in
+    let opened : IsOpen (at Line b.content.items b.part.items) = rw c.requires.phase at c.requires.open_ in
+    let found = rw (c.in-Ok-Complete.field-0-is, c.deref.ensures.value) at c.in-Ok-Complete.ensures.complete in
+    let t = at_line b.content.items b.part.items piece c.extend_from_slice.new.self.items c.len-had.result c.line_len-n.result c.in-Ok-Complete.len c.in-Ok-Complete.size found.0 opened (omega (arith, b.part.ok.0, c.len-had.ensures)) c.line_len-n.ensures.within c.line_len-n.ensures.fits is found.1 in
+    omega (arith, t.some)
+
+pub returns-then-size-eq0-clause-within : goal.returns-then-size-eq0-clause-within
+returns-then-size-eq0-clause-within c =
+    let b = c.args.self.now in
+    let piece = c.args.piece.now in
+    let u = take c.line_len-n.result piece in
+    let is = grown c.extend_from_slice.result c.extend_from_slice.new.self.items b.part.items u (sym c.if-is_err.false ∙ c.is_err.ensures.value) c.extend_from_slice.ensures.items in
+    let opened : IsOpen (at Line b.content.items b.part.items) = rw c.requires.phase at c.requires.open_ in
+    let found = rw (c.in-Ok-Complete.field-0-is, c.deref.ensures.value) at c.in-Ok-Complete.ensures.complete in
+    let t = at_line b.content.items b.part.items piece c.extend_from_slice.new.self.items c.len-had.result c.line_len-n.result c.in-Ok-Complete.len c.in-Ok-Complete.size found.0 opened (omega (arith, b.part.ok.0, c.len-had.ensures)) c.line_len-n.ensures.within c.line_len-n.ensures.fits is found.1 in
+    (omega (arith, t.some), omega (arith, t.within, c.line_len-n.ensures.within))
+
+pub returns-else-size-len-clause-within : goal.returns-else-size-len-clause-within
+returns-else-size-len-clause-within c =
+    let b = c.args.self.now in
+    let piece = c.args.piece.now in
+    let u = take c.line_len-n.result piece in
+    let is = grown c.extend_from_slice.result c.extend_from_slice.new.self.items b.part.items u (sym c.if-is_err.false ∙ c.is_err.ensures.value) c.extend_from_slice.ensures.items in
+    let opened : IsOpen (at Line b.content.items b.part.items) = rw c.requires.phase at c.requires.open_ in
+    let found = rw (c.in-Ok-Complete.field-0-is, c.deref.ensures.value) at c.in-Ok-Complete.ensures.complete in
+    let t = at_line b.content.items b.part.items piece c.extend_from_slice.new.self.items c.len-had.result c.line_len-n.result c.in-Ok-Complete.len c.in-Ok-Complete.size found.0 opened (omega (arith, b.part.ok.0, c.len-had.ensures)) c.line_len-n.ensures.within c.line_len-n.ensures.fits is found.1 in
+    (omega (arith, t.some), omega (arith, t.within, c.line_len-n.ensures.within))
+
+pub returns-then-size-eq0-clause-reaches : goal.returns-then-size-eq0-clause-reaches
+returns-then-size-eq0-clause-reaches c =
+    let b = c.args.self.now in
+    let piece = c.args.piece.now in
+    let u = take c.line_len-n.result piece in
+    let is = grown c.extend_from_slice.result c.extend_from_slice.new.self.items b.part.items u (sym c.if-is_err.false ∙ c.is_err.ensures.value) c.extend_from_slice.ensures.items in
+    let opened : IsOpen (at Line b.content.items b.part.items) = rw c.requires.phase at c.requires.open_ in
+    let found = rw (c.in-Ok-Complete.field-0-is, c.deref.ensures.value) at c.in-Ok-Complete.ensures.complete in
+    let t = at_line b.content.items b.part.items piece c.extend_from_slice.new.self.items c.len-had.result c.line_len-n.result c.in-Ok-Complete.len c.in-Ok-Complete.size found.0 opened (omega (arith, b.part.ok.0, c.len-had.ensures)) c.line_len-n.ensures.within c.line_len-n.ensures.fits is found.1 in
+    let v = take (c.in-Ok-Complete.len - c.len-had.result) piece in
+    rw (c.requires.phase, c.clear.ensures.items) (line_zero b.content.items b.part.items v found.0 opened t.text t.line (sym t.size_is ∙ c.if-size-eq0.true))
+
+pub returns-else-size-len-clause-reaches : goal.returns-else-size-len-clause-reaches
+returns-else-size-len-clause-reaches c =
+    let b = c.args.self.now in
+    let piece = c.args.piece.now in
+    let u = take c.line_len-n.result piece in
+    let is = grown c.extend_from_slice.result c.extend_from_slice.new.self.items b.part.items u (sym c.if-is_err.false ∙ c.is_err.ensures.value) c.extend_from_slice.ensures.items in
+    let opened : IsOpen (at Line b.content.items b.part.items) = rw c.requires.phase at c.requires.open_ in
+    let found = rw (c.in-Ok-Complete.field-0-is, c.deref.ensures.value) at c.in-Ok-Complete.ensures.complete in
+    let t = at_line b.content.items b.part.items piece c.extend_from_slice.new.self.items c.len-had.result c.line_len-n.result c.in-Ok-Complete.len c.in-Ok-Complete.size found.0 opened (omega (arith, b.part.ok.0, c.len-had.ensures)) c.line_len-n.ensures.within c.line_len-n.ensures.fits is found.1 in
+    let v = take (c.in-Ok-Complete.len - c.len-had.result) piece in
+    rw (c.requires.phase, c.clear.ensures.items) (line_fits b.content.items b.part.items v found.0 c.in-Ok-Complete.size opened t.text t.line t.size_is (omega arith) (omega (arith, b.content.ok.0, c.len.ensures)))
+
+pub returns-then-size-len-clause-fault : goal.returns-then-size-len-clause-fault
+returns-then-size-len-clause-fault c =
+    let b = c.args.self.now in
+    let piece = c.args.piece.now in
+    let u = take c.line_len-n.result piece in
+    let is = grown c.extend_from_slice.result c.extend_from_slice.new.self.items b.part.items u (sym c.if-is_err.false ∙ c.is_err.ensures.value) c.extend_from_slice.ensures.items in
+    let opened : IsOpen (at Line b.content.items b.part.items) = rw c.requires.phase at c.requires.open_ in
+    let found = rw (c.in-Ok-Complete.field-0-is, c.deref.ensures.value) at c.in-Ok-Complete.ensures.complete in
+    let t = at_line b.content.items b.part.items piece c.extend_from_slice.new.self.items c.len-had.result c.line_len-n.result c.in-Ok-Complete.len c.in-Ok-Complete.size found.0 opened (omega (arith, b.part.ok.0, c.len-had.ensures)) c.line_len-n.ensures.within c.line_len-n.ensures.fits is found.1 in
+    let v = take (c.in-Ok-Complete.len - c.len-had.result) piece in
+    let whole : v ++ drop (c.in-Ok-Complete.len - c.len-had.result) piece ≡ piece = take-append-drop (c.in-Ok-Complete.len - c.len-had.result) piece in
+    let refused = line_over b.content.items b.part.items v (drop (c.in-Ok-Complete.len - c.len-had.result) piece) found.0 t.text t.line (omega (arith, t.size_is, b.content.ok.0, c.len.ensures)) in
+    let P : List ℕ → Type 0 = λ s. Refuses BodyTooLong (at Line b.content.items b.part.items) s in
+    rw c.requires.phase (subst P whole refused)
+
+pub returns-then-len-ge-MAX_LINE-clause-fault : goal.returns-then-len-ge-MAX_LINE-clause-fault
+returns-then-len-ge-MAX_LINE-clause-fault c =
+    let b = c.args.self.now in
+    let piece = c.args.piece.now in
+    let u = take c.line_len-n.result piece in
+    let is = grown c.extend_from_slice.result c.extend_from_slice.new.self.items b.part.items u (sym c.if-is_err.false ∙ c.is_err.ensures.value) c.extend_from_slice.ensures.items in
+    let none = rw (c.in-Ok-Partial.field-0-is, c.deref.ensures.value) at c.in-Ok-Partial.ensures.partial in
+    let whole : u ++ drop c.line_len-n.result piece ≡ piece = take-append-drop c.line_len-n.result piece in
+    let P : List ℕ → Type 0 = λ s. Refuses BadChunk (at Line b.content.items b.part.items) s in
+    let Q : List ℕ → Type 0 = λ s. (more : List ℕ) (body : Option (List ℕ)) → ¬ (HasChunks b.content.items (s ++ more) body) in
+    rw c.requires.phase (subst P whole (line_refused b.content.items b.part.items u (drop c.line_len-n.result piece) (subst Q is (never_long_line b.content.items c.extend_from_slice.new.self.items none (omega (arith, c.extend_from_slice.new.self.ok.0, c.len-in-Ok-Partial.ensures))))))
+
+pub returns-in-Err-clause-fault : goal.returns-in-Err-clause-fault
+returns-in-Err-clause-fault c =
+    let b = c.args.self.now in
+    let piece = c.args.piece.now in
+    let u = take c.line_len-n.result piece in
+    let is = grown c.extend_from_slice.result c.extend_from_slice.new.self.items b.part.items u (sym c.if-is_err.false ∙ c.is_err.ensures.value) c.extend_from_slice.ensures.items in
+    let never = rw c.deref.ensures.value at c.in-Err.ensures.invalid in
+    let whole : u ++ drop c.line_len-n.result piece ≡ piece = take-append-drop c.line_len-n.result piece in
+    let P : List ℕ → Type 0 = λ s. Refuses BadChunk (at Line b.content.items b.part.items) s in
+    let Q : List ℕ → Type 0 = λ s. (more : List ℕ) (body : Option (List ℕ)) → ¬ (HasChunks b.content.items (s ++ more) body) in
+    rw c.requires.phase (subst P whole (line_refused b.content.items b.part.items u (drop c.line_len-n.result piece) (subst Q is (never_line b.content.items c.extend_from_slice.new.self.items never))))

@@ -1,0 +1,54 @@
+use Rattle.std.proofs.Common.{◌≡◌, ◌≤◌, ◌++◌, List, ℕ, [], length, take, drop, arith, sym, ap, subst, ◌∙◌}
+use Rattle.std.proofs.lemmas.List.{take_all, take-append-drop, length-append, length-take-le}
+use Rattle.httparse.specs.Grammar.{HasNoSection}
+use Rattle.httparse.specs.Spans.{SectionOverflows, IsSectionAt, IsSectionWithin}
+use Rattle.http_edge.specs.Body.{IsOpen, Refuses, Reaches}
+use Rattle.http_edge.specs.declared.fault.HttpFault.TheVariants.{BadChunk}
+use Rattle.http_edge.specs.declared.phase.Phase.TheVariants.{Trailer, Whole}
+use Rattle.http_edge.proofs.BodyLemmas.{at, trailer_whole, trailer_overflows, trailer_long}
+use Rattle.http_edge.proofs.ListLemmas.{grown}
+use Rattle.http_edge.proofs.body.Body.take_trailer.Goals as goal
+
+pub returns-then-len-ge-MAX_TRAILER-clause-fault : goal.returns-then-len-ge-MAX_TRAILER-clause-fault
+returns-then-len-ge-MAX_TRAILER-clause-fault c =
+    let b = c.args.self.now in
+    let piece = c.args.piece.now in
+    let u = take c.min-n.result piece in
+    let is = grown c.extend_from_slice.result c.extend_from_slice.new.self.items b.part.items u (sym c.if-is_err.false ∙ c.is_err.ensures.value) c.extend_from_slice.ensures.items in
+    let none = rw (c.in-Ok-Partial.field-0-is, c.deref.ensures.value) at c.in-Ok-Partial.ensures.partial in
+    let Q : List ℕ → Type 0 = λ s. HasNoSection s in
+    let whole : u ++ drop c.min-n.result piece ≡ piece = take-append-drop c.min-n.result piece in
+    let P : List ℕ → Type 0 = λ s. Refuses BadChunk (at Trailer b.content.items b.part.items) s in
+    rw c.requires.phase (subst P whole (trailer_long b.content.items b.part.items u (drop c.min-n.result piece) (subst Q is none) (omega (arith, ap length is, c.extend_from_slice.new.self.ok.0, c.len-in-Ok-Partial.ensures))))
+
+pub returns-in-Err-clause-fault : goal.returns-in-Err-clause-fault
+returns-in-Err-clause-fault c =
+    let b = c.args.self.now in
+    let piece = c.args.piece.now in
+    let u = take c.min-n.result piece in
+    let is = grown c.extend_from_slice.result c.extend_from_slice.new.self.items b.part.items u (sym c.if-is_err.false ∙ c.is_err.ensures.value) c.extend_from_slice.ensures.items in
+    let many = rw c.deref.ensures.value at c.in-Err.ensures.no_room in
+    let Q : List ℕ → Type 0 = λ s. SectionOverflows 64 s in
+    let whole : u ++ drop c.min-n.result piece ≡ piece = take-append-drop c.min-n.result piece in
+    let P : List ℕ → Type 0 = λ s. Refuses BadChunk (at Trailer b.content.items b.part.items) s in
+    rw c.requires.phase (subst P whole (trailer_overflows b.content.items b.part.items u (drop c.min-n.result piece) (subst Q is many)))
+
+pub returns-in-Ok-Complete-clause-reaches : goal.returns-in-Ok-Complete-clause-reaches
+returns-in-Ok-Complete-clause-reaches c =
+    let b = c.args.self.now in
+    let piece = c.args.piece.now in
+    let u = take c.min-n.result piece in
+    let is = grown c.extend_from_slice.result c.extend_from_slice.new.self.items b.part.items u (sym c.if-is_err.false ∙ c.is_err.ensures.value) c.extend_from_slice.ensures.items in
+    let found = rw (c.in-Ok-Complete.field-0-is, c.deref.ensures.value) at c.in-Ok-Complete.ensures.complete in
+    let within = rw (c.in-Ok-Complete.field-0-is, c.deref.ensures.value) at c.in-Ok-Complete.ensures.within in
+    let r = c.in-Ok-Complete.field-0-0 in
+    let spans = c.parse_headers.new.headers in
+    let opened : IsOpen (at Trailer b.content.items b.part.items) = rw c.requires.phase at c.requires.open_ in
+    let P : List ℕ → Type 0 = λ s. IsSectionAt s 0 spans r.0 r.1 found.0 found.1 in
+    let Q : List ℕ → Type 0 = λ s. IsSectionWithin s spans r.0 r.1 in
+    let u_len : length u ≡ c.min-n.result = length-take-le c.min-n.result piece (omega arith) in
+    let short : length (b.part.items ++ u) ≤ 16384 = omega (arith, length-append b.part.items u, u_len, b.part.ok.0) in
+    let reaches = trailer_whole b.content.items b.part.items u (drop c.min-n.result piece) spans r.0 r.1 found.0 found.1 opened short (omega (arith, c.parse_headers.auto.headers)) (subst P is found.2) (subst Q is within) in
+    let whole : u ++ drop c.min-n.result piece ≡ take (length piece) piece = take-append-drop c.min-n.result piece ∙ sym (take_all (length piece) piece (omega arith)) in
+    let R : List ℕ → Type 0 = λ s. Reaches (at Trailer b.content.items b.part.items) (at Whole b.content.items []) s in
+    rw (c.requires.phase, c.clear.ensures.items) (subst R whole reaches)

@@ -1,0 +1,5 @@
+use Rattle.http_edge.proofs.Unique.{one_message, not_both}
+use Rattle.http_edge.proofs.laws.one_message.Goals as goal
+
+pub returns : goal.returns
+returns c = record { unique = one_message; exclusive = not_both }

@@ -1,0 +1,28 @@
+use Rattle.std.proofs.Common.{ℕ, List, [], sym, subst, ◌∙◌}
+use Rattle.http_edge.specs.declared.phase.Phase.{Phase}
+use Rattle.http_edge.specs.Message.{IsHeadAt}
+use Rattle.http_edge.specs.Body.{stand_of}
+use Rattle.http_edge.specs.Holds.{IsBehind}
+use Rattle.http_edge.proofs.BodyLemmas.{at}
+use Rattle.http_edge.proofs.FinishLemmas.{answers_of}
+use Rattle.http_edge.proofs.MachineLemmas.{some_bytes, head_behind, not_yet_in_body, whole_in_body, whole_is}
+use Rattle.http_edge.proofs.machine.Machine.finish.Goals as goal
+
+pub returns-then-not-is_whole-clause-answers : goal.returns-then-not-is_whole-clause-answers
+returns-then-not-is_whole-clause-answers c = λ bytes h.
+    let m = c.args.self in
+    let body = stand_of m.body in
+    let x = rw c.in-InBody.is at h in
+    let sound = rw c.in-InBody.is at c.requires in
+    (some_bytes bytes x.1 x.0 (head_behind m.head.items bytes x.1 body x.0 x.2), not_yet_in_body m.head.items bytes x.1 body x.0 sound.1 (sym c.is_whole.ensures ∙ c.if-not-is_whole.true) x.2)
+
+pub returns-clause-answers : goal.returns-clause-answers
+returns-clause-answers c = λ bytes h.
+    let m = c.args.self in
+    let content = m.body.content.items in
+    let part = m.body.part.items in
+    let x = rw c.in-InBody.is at h in
+    let whole = whole_is m.body.phase (sym c.is_whole.ensures ∙ c.if-not-is_whole.false) in
+    let P : Phase → Type 0 = λ p. IsBehind m.head.items (at p content part) bytes x.0 x.1 in
+    let Q : List ℕ → Type 0 = λ s. IsHeadAt s x.0 [] in
+    answers_of c.whole_request.result bytes content x.0 (c.whole_request.ensures x.0 (subst Q (sym c.deref.ensures.value) x.2.at)) (whole_in_body m.head.items bytes x.1 content part x.0 (subst P whole x.2))

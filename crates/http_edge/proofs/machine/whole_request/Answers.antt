@@ -1,0 +1,8 @@
+use Rattle.std.proofs.Common.{◌∙◌}
+use Rattle.http_edge.proofs.FinishLemmas.{shown_is}
+use Rattle.http_edge.proofs.machine.whole_request.Goals as goal
+
+pub returns-in-Ok : goal.returns-in-Ok
+returns-in-Ok c = λ k is.
+    let found = rw c.in-Ok-Some.field-0-is at c.in-Ok-Some.ensures in
+    c.in-Ok.ensures ∙ shown_is c.args.head.now c.look_for_head.new.spans c.in-Ok-Some.found k found.0 c.args.content.items is found.1

@@ -1,0 +1,80 @@
+use Rattle.std.proofs.Common.{◌<◌, ◌++◌, length, take, arith, true, Ok}
+use Rattle.std.specs.Io.KnownBytes.{Consumes}
+use Rattle.std.proofs.lemmas.List.{length-take-le}
+use Rattle.std.proofs.lemmas.Result.{err_from_is_err_and}
+use Rattle.http_edge.specs.Answer.{Tells}
+use Rattle.http_edge.proofs.ReadLemmas.{goes_on, at_message, at_fault, closed_at_end, not_closed}
+use Rattle.http_edge.proofs.read.read_pieces.Goals as goal
+
+pub returns-then-n-eq0-clause-closed : goal.returns-then-n-eq0-clause-closed
+returns-then-n-eq0-clause-closed g c =
+    let r0 = g.S.Source.remaining c.args.source.now in
+    let r1 = g.S.Source.remaining c.pieces.source in
+    let r2 = g.S.Source.remaining c.read.new.self in
+    let fed = c.pieces.invariant.so_far.0 in
+    let so = c.pieces.invariant.so_far.1 in
+    closed_at_end r0 r1 c.pieces.decoder fed c.finish.result so c.finish.ensures.closed
+
+pub returns-in_err-feed-clause-answer : goal.returns-in_err-feed-clause-answer
+returns-in_err-feed-clause-answer g c =
+    let r0 = g.S.Source.remaining c.args.source.now in
+    let r1 = g.S.Source.remaining c.pieces.source in
+    let r2 = g.S.Source.remaining c.read.new.self in
+    let fed = c.pieces.invariant.so_far.0 in
+    let so = c.pieces.invariant.so_far.1 in
+    let piece = take c.in-Ok.n c.read.new.buf in
+    let took : Consumes r1 r2 piece = c.in-Ok.ensures.bytes.0 in
+    let some : 0 < length piece = omega (arith, length-take-le c.in-Ok.n c.read.new.buf c.in-Ok.ensures.bound, c.if-n-eq0.false) in
+    let p = err_from_is_err_and c.from_residual.result c.from_residual.ensures.1 in
+    rw (p.1, p.2) (at_fault r0 r1 r2 c.pieces.decoder fed piece c.in_err-feed.field-0.0 so took (c.in_err-feed.ensures.tells fed so.holds))
+
+pub returns-in_err-feed-clause-closed : goal.returns-in_err-feed-clause-closed
+returns-in_err-feed-clause-closed g c =
+    let r0 = g.S.Source.remaining c.args.source.now in
+    let r1 = g.S.Source.remaining c.pieces.source in
+    let r2 = g.S.Source.remaining c.read.new.self in
+    let fed = c.pieces.invariant.so_far.0 in
+    let so = c.pieces.invariant.so_far.1 in
+    let piece = take c.in-Ok.n c.read.new.buf in
+    let took : Consumes r1 r2 piece = c.in-Ok.ensures.bytes.0 in
+    let some : 0 < length piece = omega (arith, length-take-le c.in-Ok.n c.read.new.buf c.in-Ok.ensures.bound, c.if-n-eq0.false) in
+    not_closed r0 r1 r2 c.pieces.decoder fed piece c.from_residual.result so took some
+
+pub returns-then-branch-clause-closed : goal.returns-then-branch-clause-closed
+returns-then-branch-clause-closed g c =
+    let r0 = g.S.Source.remaining c.args.source.now in
+    let r1 = g.S.Source.remaining c.pieces.source in
+    let r2 = g.S.Source.remaining c.read.new.self in
+    let fed = c.pieces.invariant.so_far.0 in
+    let so = c.pieces.invariant.so_far.1 in
+    let piece = take c.in-Ok.n c.read.new.buf in
+    let took : Consumes r1 r2 piece = c.in-Ok.ensures.bytes.0 in
+    let some : 0 < length piece = omega (arith, length-take-le c.in-Ok.n c.read.new.buf c.in-Ok.ensures.bound, c.if-n-eq0.false) in
+    not_closed r0 r1 r2 c.pieces.decoder fed piece c.finish-then-branch.result so took some
+
+pub returns-then-branch-clause-answer : goal.returns-then-branch-clause-answer
+returns-then-branch-clause-answer g c =
+    let r0 = g.S.Source.remaining c.args.source.now in
+    let r1 = g.S.Source.remaining c.pieces.source in
+    let r2 = g.S.Source.remaining c.read.new.self in
+    let fed = c.pieces.invariant.so_far.0 in
+    let so = c.pieces.invariant.so_far.1 in
+    let piece = take c.in-Ok.n c.read.new.buf in
+    let took : Consumes r1 r2 piece = c.in-Ok.ensures.bytes.0 in
+    let some : 0 < length piece = omega (arith, length-take-le c.in-Ok.n c.read.new.buf c.in-Ok.ensures.bound, c.if-n-eq0.false) in
+    let holds = c.feed.ensures.holds fed so.holds in
+    let told : Tells (fed ++ piece) (Ok true) = rw c.if-branch.true at (c.in_ok-feed.ensures.tells fed so.holds) in
+    at_message r0 r2 c.feed.new.self (fed ++ piece) c.finish-then-branch.result told.0 (goes_on r0 r1 r2 c.pieces.decoder c.feed.new.self fed piece so took some holds) told.1 (c.finish-then-branch.ensures.answers (fed ++ piece) holds)
+
+pub pieces-preserved : goal.pieces-preserved
+pieces-preserved g c =
+    let r0 = g.S.Source.remaining c.args.source.now in
+    let r1 = g.S.Source.remaining c.pieces.source in
+    let r2 = g.S.Source.remaining c.read.new.self in
+    let fed = c.pieces.invariant.so_far.0 in
+    let so = c.pieces.invariant.so_far.1 in
+    let piece = take c.in-Ok.n c.read.new.buf in
+    let took : Consumes r1 r2 piece = c.in-Ok.ensures.bytes.0 in
+    let some : 0 < length piece = omega (arith, length-take-le c.in-Ok.n c.read.new.buf c.in-Ok.ensures.bound, c.if-n-eq0.false) in
+    let holds = c.feed.ensures.holds fed so.holds in
+    record { so_far = (fed ++ piece, goes_on r0 r1 r2 c.pieces.decoder c.feed.new.self fed piece so took some holds); failed = λ e. let x = c.pieces.invariant.failed e in rw x at c.in-Ok.ensures.failed }

@@ -1,0 +1,51 @@
+use Rattle.std.proofs.Common.{◌≡◌, ◌<◌, ◌≤◌, ◌++◌, ℕ, List, length, take, drop, ap, arith, subst, sym, ◌∙◌}
+use Rattle.std.proofs.lemmas.List.{length-take-le, take-append-drop, take-take}
+use Rattle.std.proofs.lemmas.Result.{err_from_is_err_and}
+use Rattle.http_edge.specs.Reply.{LastsFor, ExplainsReply}
+use Rattle.http_edge.proofs.ListLemmas.{grown}
+use Rattle.http_edge.proofs.ReplyLemmas.{begins, grows, refused, said}
+use Rattle.http_edge.proofs.response.read_head.Goals as goal
+
+pub pieces-init : goal.pieces-init
+pieces-init g c = record { so_far = rw c.new-kept.ensures.items (begins (g.S.Source.remaining c.args.source.now)); failed = λ e. e }
+
+pub returns-in_err-reply-clause-answer : goal.returns-in_err-reply-clause-answer
+returns-in_err-reply-clause-answer g c =
+    let r0 = g.S.Source.remaining c.args.source.now in
+    let r1 = g.S.Source.remaining c.pieces.source in
+    let r2 = g.S.Source.remaining c.read.new.self in
+    let so = c.pieces.invariant.so_far in
+    let kept = c.pieces.kept.items in
+    let new = c.extend_from_slice.new.self.items in
+    let piece = take c.in-Ok.n c.read.new.buf in
+    let n = c.min-taken.result in
+    let front = take n c.read.new.buf in
+    let is : new ≡ kept ++ front = grown c.extend_from_slice.result new kept front (sym c.if-is_err.false ∙ c.is_err.ensures.value) c.extend_from_slice.ensures.items in
+    let le : n ≤ c.in-Ok.n = omega arith in
+    let cut : piece ≡ front ++ drop n piece = sym (take-append-drop n piece) ∙ ap (λ s. s ++ drop n piece) (take-take n c.in-Ok.n c.read.new.buf le) in
+    let some : 0 < length front = omega (arith, length-take-le n c.read.new.buf (omega (arith, le, c.in-Ok.ensures.bound)), c.if-n-eq0.false, so.short, c.pieces.kept.ok.0) in
+    let all = grows r0 r1 r2 kept piece front (drop n piece) new so c.in-Ok.ensures.bytes.0 cut some is in
+    let p = err_from_is_err_and c.from_residual.result c.from_residual.ensures.1 in
+    let e = c.in_err-reply.field-0.0 in
+    let P : List ℕ → Type 0 = λ s. LastsFor e × ExplainsReply e s in
+    let looks = subst P c.deref.ensures.value c.in_err-reply.ensures in
+    rw (p.1, p.2) (refused r0 new e all looks.0 looks.1)
+
+pub returns-in-Some-clause-answer : goal.returns-in-Some-clause-answer
+returns-in-Some-clause-answer g c =
+    let r0 = g.S.Source.remaining c.args.source.now in
+    let r1 = g.S.Source.remaining c.pieces.source in
+    let r2 = g.S.Source.remaining c.read.new.self in
+    let so = c.pieces.invariant.so_far in
+    let kept = c.pieces.kept.items in
+    let new = c.extend_from_slice.new.self.items in
+    let piece = take c.in-Ok.n c.read.new.buf in
+    let n = c.min-taken.result in
+    let front = take n c.read.new.buf in
+    let is : new ≡ kept ++ front = grown c.extend_from_slice.result new kept front (sym c.if-is_err.false ∙ c.is_err.ensures.value) c.extend_from_slice.ensures.items in
+    let le : n ≤ c.in-Ok.n = omega arith in
+    let cut : piece ≡ front ++ drop n piece = sym (take-append-drop n piece) ∙ ap (λ s. s ++ drop n piece) (take-take n c.in-Ok.n c.read.new.buf le) in
+    let some : 0 < length front = omega (arith, length-take-le n c.read.new.buf (omega (arith, le, c.in-Ok.ensures.bound)), c.if-n-eq0.false, so.short, c.pieces.kept.ok.0) in
+    let all = grows r0 r1 r2 kept piece front (drop n piece) new so c.in-Ok.ensures.bytes.0 cut some is in
+    let looks = rw (c.in-Some.is, c.deref.ensures.value) at c.in_ok-reply.ensures in
+    said r0 new c.in-Some.reply all looks

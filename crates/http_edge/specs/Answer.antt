@@ -1,0 +1,86 @@
+-- What is answered of the bytes of a message.
+use Rattle.std.specs.Prelude.{◌≡◌, ◌≢◌, ℕ, List, [], Bool, true, false, None, Result, Ok, Err, ⊤}
+use Rattle.httparse.specs.Grammar.{RequestHead, NeverHasRequest}
+use Rattle.http_edge.specs.declared.fault.HttpFault.{HttpFault}
+use Rattle.http_edge.specs.declared.fault.HttpFault.TheVariants.{Closed, BadHead, TooManyHeaders, HeadTooLong, BadLength, BodyTooLong, BadChunk, Truncated, Io, NoMemory}
+use Rattle.http_edge.specs.declared.request.Request.{Request}
+use Rattle.http_edge.specs.Message.{Message, IsHeadAt}
+use Rattle.http_edge.specs.Head.{HasTooManyFields, HasLongHead}
+use Rattle.http_edge.specs.Reading.{framing_in, BeginsWith, IsTooLong, NotYet, Never}
+use Rattle.http_edge.specs.Request.{message_in}
+
+-- the head is whole, and its fields frame no body
+abbrev pub HasBadLength : List ℕ → Type 0
+HasBadLength bytes = (head : RequestHead) × (after : List ℕ) × IsHeadAt bytes head after × (framing_in head ≡ None)
+
+-- the head is whole and frames a body, and whatever follows, no message begins so
+abbrev pub HasBadBody : List ℕ → Type 0
+HasBadBody bytes = (head : RequestHead) × (after : List ℕ) × IsHeadAt bytes head after × (framing_in head ≢ None) × Never bytes
+
+-- what each fault says of the bytes; NoMemory says nothing of them, and Io is none of theirs
+abbrev pub Explains : HttpFault → List ℕ → Type 0
+Explains Closed bytes = bytes ≡ []
+Explains BadHead bytes = NeverHasRequest bytes
+Explains TooManyHeaders bytes = HasTooManyFields bytes
+Explains HeadTooLong bytes = HasLongHead bytes
+Explains BadLength bytes = HasBadLength bytes
+Explains BodyTooLong bytes = IsTooLong bytes
+Explains BadChunk bytes = HasBadBody bytes
+Explains Truncated bytes = (bytes ≢ []) × NotYet bytes
+Explains Io bytes = ⊥
+Explains NoMemory bytes = ⊤
+
+-- of bytes that end here
+abbrev pub Answers : List ℕ → Result Request HttpFault → Type 0
+Answers bytes (Ok r) = BeginsWith bytes (message_in r)
+Answers bytes (Err e) = Explains e bytes
+
+-- a fault that more bytes do not mend
+abbrev pub IsLasting : HttpFault → Type 0
+IsLasting BadHead = ⊤
+IsLasting TooManyHeaders = ⊤
+IsLasting HeadTooLong = ⊤
+IsLasting BadLength = ⊤
+IsLasting BodyTooLong = ⊤
+IsLasting BadChunk = ⊤
+IsLasting NoMemory = ⊤
+IsLasting Closed = ⊥
+IsLasting Truncated = ⊥
+IsLasting Io = ⊥
+
+abbrev pub Fails : HttpFault → List ℕ → Type 0
+Fails e bytes = IsLasting e × Explains e bytes
+
+-- of bytes that others may follow: true where a message stands at their front
+abbrev pub Tells : List ℕ → Result Bool HttpFault → Type 0
+Tells bytes (Ok true) = (m : Message) × BeginsWith bytes m
+Tells bytes (Ok false) = NotYet bytes
+Tells bytes (Err e) = Fails e bytes
+
+-- where a message stands at the front, it is answered, unless memory ran out
+abbrev pub Gives : Message → Result Request HttpFault → Type 0
+Gives m (Ok r) = message_in r ≡ m
+Gives m (Err NoMemory) = ⊤
+Gives m (Err Closed) = ⊥
+Gives m (Err BadHead) = ⊥
+Gives m (Err TooManyHeaders) = ⊥
+Gives m (Err HeadTooLong) = ⊥
+Gives m (Err BadLength) = ⊥
+Gives m (Err BodyTooLong) = ⊥
+Gives m (Err BadChunk) = ⊥
+Gives m (Err Truncated) = ⊥
+Gives m (Err Io) = ⊥
+
+-- where the size is the first thing that is wrong, BodyTooLong is answered, unless memory ran out
+abbrev pub TellsTooLong : Result Request HttpFault → Type 0
+TellsTooLong (Ok r) = ⊥
+TellsTooLong (Err BodyTooLong) = ⊤
+TellsTooLong (Err NoMemory) = ⊤
+TellsTooLong (Err Closed) = ⊥
+TellsTooLong (Err BadHead) = ⊥
+TellsTooLong (Err TooManyHeaders) = ⊥
+TellsTooLong (Err HeadTooLong) = ⊥
+TellsTooLong (Err BadLength) = ⊥
+TellsTooLong (Err BadChunk) = ⊥
+TellsTooLong (Err Truncated) = ⊥
+TellsTooLong (Err Io) = ⊥

@@ -1,0 +1,99 @@
+-- What a body that is being read may still become.
+use Rattle.std.specs.Prelude.{◌≡◌, ℕ, ◌+◌, ◌-◌, ◌*◌, ◌<◌, ◌≤◌, Bool, true, false, List, [], ◌∷◌, ◌++◌, length, Option, Some, None, ⊤}
+use Rattle.httparse.specs.Grammar.{HasNoChunkLine, HasNoSection}
+use Rattle.http_edge.specs.declared.fault.HttpFault.{HttpFault}
+use Rattle.http_edge.specs.declared.fault.HttpFault.TheVariants.{Closed, BadHead, TooManyHeaders, HeadTooLong, BadLength, BodyTooLong, BadChunk, Truncated, Io, NoMemory}
+use Rattle.http_edge.specs.declared.phase.Phase.{Phase}
+use Rattle.http_edge.specs.declared.phase.Phase.TheVariants.{Counted, Line, Content, Return, LineFeed, Trailer, Whole}
+use Rattle.http_edge.specs.declared.body.Body.{Body}
+use Rattle.http_edge.specs.declared.limits.TheConstants.{MAX_BODY, MAX_LINE, MAX_TRAILER}
+use Rattle.http_edge.specs.Chunks.{room, HasTrailer, HasChunks}
+
+-- where the reading of a body stands: the phase, the content so far, and the part of a line or a trailer section so far
+pub record Stand : Type 0 where
+  pub phase : Phase
+  pub content : List ℕ
+  pub part : List ℕ
+
+abbrev pub stand_of : Body → Stand
+stand_of b = record { phase = b.phase; content = b.content.items; part = b.part.items }
+
+-- with more behind it, the content so far becomes that body, or None where a size is the first thing that is wrong
+abbrev pub Grows : Phase → List ℕ → List ℕ → List ℕ → Option (List ℕ) → Type 0
+Grows (Counted n) content part more (Some body) = (y : List ℕ) × (rest : List ℕ) × (length y ≡ n) × (more ≡ y ++ rest) × (body ≡ content ++ y)
+Grows (Counted n) content part more None = ⊥
+Grows Line content part more body = HasChunks content (part ++ more) body
+Grows (Content n) content part more body = (y : List ℕ) × (after : List ℕ) × (length y ≡ n) × (more ≡ y ++ 13 ∷ 10 ∷ after) × HasChunks (content ++ y) after body
+Grows Return content part more body = (after : List ℕ) × (more ≡ 13 ∷ 10 ∷ after) × HasChunks content after body
+Grows LineFeed content part more body = (after : List ℕ) × (more ≡ 10 ∷ after) × HasChunks content after body
+Grows Trailer content part more (Some body) = HasTrailer (part ++ more) × (body ≡ content)
+Grows Trailer content part more None = ⊥
+Grows Whole content part more (Some body) = body ≡ content
+Grows Whole content part more None = ⊥
+
+abbrev pub Becomes : Stand → List ℕ → Option (List ℕ) → Type 0
+Becomes s more body = Grows s.phase s.content s.part more body
+
+-- what is kept in each phase
+abbrev pub Fits : Phase → List ℕ → List ℕ → Type 0
+Fits (Counted n) content part = (0 < n) × (length content + n ≤ MAX_BODY) × (part ≡ [])
+Fits Line content part = (length part < MAX_LINE) × (length content ≤ MAX_BODY) × HasNoChunkLine part
+Fits (Content n) content part = (0 < n) × (length content + n ≤ MAX_BODY) × (part ≡ [])
+Fits Return content part = (length content ≤ MAX_BODY) × (part ≡ [])
+Fits LineFeed content part = (length content ≤ MAX_BODY) × (part ≡ [])
+Fits Trailer content part = (length part < MAX_TRAILER) × (length content ≤ MAX_BODY) × HasNoSection part
+Fits Whole content part = (length content ≤ MAX_BODY) × (part ≡ [])
+
+abbrev pub IsOpen : Stand → Type 0
+IsOpen s = Fits s.phase s.content s.part
+
+abbrev pub is_whole : Phase → Bool
+is_whole Whole = true
+is_whole (Counted n) = false
+is_whole Line = false
+is_whole (Content n) = false
+is_whole Return = false
+is_whole LineFeed = false
+is_whole Trailer = false
+
+-- the most bytes of chunks that have so much room, up to the end: a chunk has a byte, a line and two line ends
+abbrev pub most_of_chunks : ℕ → ℕ
+most_of_chunks n = MAX_TRAILER + (MAX_LINE + 3) * n + MAX_LINE
+
+-- the most bytes that may still come
+abbrev pub most_at : Phase → List ℕ → List ℕ → ℕ
+most_at (Counted n) content part = n
+most_at Line content part = most_of_chunks (room content) - length part
+most_at (Content n) content part = n + 2 + most_of_chunks (room content - n)
+most_at Return content part = 2 + most_of_chunks (room content)
+most_at LineFeed content part = 1 + most_of_chunks (room content)
+most_at Trailer content part = MAX_TRAILER - length part
+most_at Whole content part = 0
+
+abbrev pub most_left : Stand → ℕ
+most_left s = most_at s.phase s.content s.part
+
+-- from new, any bytes come to what these and then they come to from old
+pub record Steps (old new : Stand) (bytes : List ℕ) : Type 0 where
+  pub forward : (more : List ℕ) (body : Option (List ℕ)) → Becomes old (bytes ++ more) body → Becomes new more body
+  pub backward : (more : List ℕ) (body : Option (List ℕ)) → Becomes new more body → Becomes old (bytes ++ more) body
+
+-- new is open, is where the bytes lead from old, and has so many bytes less to come
+pub record Reaches (old new : Stand) (bytes : List ℕ) : Type 0 where
+  pub opened : IsOpen new
+  pub steps : Steps old new bytes
+  pub kept : is_whole new.phase ≡ false → is_whole old.phase ≡ false
+  pub less : is_whole new.phase ≡ false → most_left new + length bytes ≤ most_left old
+
+-- why the bytes lead nowhere from there: no body, whatever follows; or a size over the room, whatever follows
+abbrev pub Refuses : HttpFault → Stand → List ℕ → Type 0
+Refuses BadChunk old bytes = (more : List ℕ) (body : Option (List ℕ)) → ¬ (Becomes old (bytes ++ more) body)
+Refuses BodyTooLong old bytes = (more : List ℕ) → Becomes old (bytes ++ more) None
+Refuses NoMemory old bytes = ⊤
+Refuses Closed old bytes = ⊥
+Refuses BadHead old bytes = ⊥
+Refuses TooManyHeaders old bytes = ⊥
+Refuses HeadTooLong old bytes = ⊥
+Refuses BadLength old bytes = ⊥
+Refuses Truncated old bytes = ⊥
+Refuses Io old bytes = ⊥

@@ -1,0 +1,15 @@
+pub mod Message
+pub mod Framing
+pub mod Chunks
+pub mod Reading
+pub mod Framed
+pub mod Body
+pub mod Head
+pub mod Answer
+pub mod Holds
+pub mod Request
+pub mod Finish
+pub mod Delivery
+pub mod Sent
+pub mod Texts
+pub mod Reply

@@ -1,0 +1,76 @@
+//! A decoder of messages that come in pieces.
+ghost use Rattle.std.specs.Prelude.{◌≡◌, ◌+◌, ◌≤◌, ◌++◌, List, ℕ, length, true, false, Ok, Err, IfOk, IfErr};
+ghost use Rattle.http_edge.specs.Answer.{Answers, Tells};
+ghost use Rattle.http_edge.specs.Holds.{start, failed, is_done, kept, most_to_come, Holds};
+
+use crate::fault::HttpFault;
+use crate::machine::Machine;
+use crate::request::Request;
+use std::alloc::Global;
+use std::marker::Model;
+
+/// A decoder of one message. It is fed the message's bytes in pieces of any lengths, reads each byte
+/// of a body once, and keeps the bytes of the head, the content of the body so far, and of a chunked
+/// body the part so far of a size line or of the trailer section. Behind a fault it keeps nothing.
+#[derive(Drop)]
+pub struct Decoder {
+    alloc: Global,
+    machine: Machine,
+}
+
+impl Model for Decoder {
+    ghost use Rattle.http_edge.specs.Holds.{Progress, progress_of, IsSound};
+
+    ghost Value = { Progress };
+
+    ghost view = { λ d. progress_of d.machine };
+
+    ghost invariant = { λ d. IsSound (progress_of d.machine) };
+}
+
+impl Decoder {
+    /// A decoder that was fed nothing. It takes no memory.
+    pub fn new(alloc: Global) -> Self
+        ensures { result ≡ start }
+    {
+        Decoder {
+            alloc,
+            machine: Machine::new(alloc),
+        }
+    }
+
+    /// Feeds the next piece, and tells whether the message is whole; bytes behind it are thrown away.
+    /// An error other than NoMemory comes where no bytes that begin with those that were fed have a
+    /// message. After an error each later call answers it again.
+    pub fn feed(&mut self, piece: &[u8]) -> Result<bool, HttpFault>
+        ensures holds { (bytes : List ℕ) → Holds self.old bytes → Holds self.new (bytes ++ piece.now) }
+        ensures tells { (bytes : List ℕ) → Holds self.old bytes → Tells (bytes ++ piece.now) result }
+        ensures done { IfOk result (λ whole. whole ≡ is_done self.new) }
+        ensures failed { IfErr result (λ e. self.new ≡ failed e) }
+        ensures again { (e : HttpFault) → self.old ≡ failed e → result ≡ Err e }
+        // However long the pieces go on, they come to an end.
+        ensures less { result ≡ Ok false → most_to_come self.new + length piece.now ≤ most_to_come self.old }
+    {
+        self.machine.feed(piece)
+    }
+
+    /// How many bytes it keeps, at most 32,768 more than the content of the body. It takes no memory.
+    pub fn held(&self) -> usize
+        ensures all { result ≡ kept self.now }
+        ensures small { result ≤ length self.now.body.content + 32768 }
+    {
+        self.machine.held()
+    }
+
+    /// The request, where the bytes end here: Closed where there were none, Truncated where a message
+    /// could still come, and the fault of an earlier call again. NoMemory comes where the request's
+    /// memory is refused.
+    pub fn finish(self) -> Result<Request, HttpFault>
+        ensures answers { (bytes : List ℕ) → Holds self bytes → Answers bytes result }
+        ensures closed { self ≡ start → result ≡ Err HttpFault.Closed }
+        ensures again { (e : HttpFault) → self ≡ failed e → result ≡ Err e }
+    {
+        let Decoder { alloc, machine } = self;
+        machine.finish(alloc)
+    }
+}

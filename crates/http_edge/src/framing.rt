@@ -1,0 +1,130 @@
+//! How the fields of a head frame its body (RFC 9112, section 6).
+ghost use Rattle.std.specs.Prelude.{◌≡◌, ◌∷◌, ◌++◌, [], ◌≤◌, ◌<◌, ◌+◌, length, map, min, All, MatchResult, option_to_list, option_copied, IsTrue};
+ghost use Rattle.std.specs.Str.{all_ascii_digits};
+ghost use Rattle.std.specs.Str.Parse.{digits_value};
+ghost use Rattle.httparse.specs.Spans.{header_bytes, IsHeaderWithin};
+ghost use Rattle.http_edge.specs.Framing.{is_named, values_of, sized_by, coded_by, framing_by};
+ghost use Rattle.http_edge.specs.Framed.{Frames};
+
+use crate::fault::HttpFault;
+use crate::limits::MAX_BODY;
+use httparse::spans::HeaderSpan;
+
+/// Where a body ends.
+#[derive(Clone, Copy, Debug, PartialEq, Eq)]
+pub enum Framing {
+    /// After so many bytes.
+    Sized(usize),
+    /// With its last chunk and the trailers.
+    Chunked,
+}
+
+pub fn is_named(buf: &[u8], header: HeaderSpan, name: &[u8]) -> bool
+    requires { IsHeaderWithin (length buf.now) header }
+    ensures { result ≡ is_named name.now (header_bytes buf.now header) }
+{
+    header.name.of(buf).eq_ignore_ascii_case(name)
+}
+
+/// The value so far, and that of one more header. An `Err` says that there are two.
+#[tactic(auto, unfolding(crate::specs::Framing::values_of))]
+fn with_header<'b>(
+    buf: &'b [u8],
+    name: &[u8],
+    found: Option<&'b [u8]>,
+    header: HeaderSpan,
+) -> Result<Option<&'b [u8]>, HttpFault>
+    requires { IsHeaderWithin (length buf.now) header }
+    ensures { MatchResult result
+        (λ o. option_to_list (option_copied o) ≡ option_to_list (option_copied found.entry) ++ values_of name.now (header_bytes buf.now header ∷ []))
+        (λ e. (e ≡ HttpFault.BadLength) × (1 < length (option_to_list (option_copied found.entry) ++ values_of name.now (header_bytes buf.now header ∷ [])))) }
+{
+    if !is_named(buf, header, name) {
+        return Ok(found);
+    }
+    if found.is_some() {
+        return Err(HttpFault::BadLength);
+    }
+    Ok(Some(header.value.of(buf)))
+}
+
+/// The value of the one field of that name, if there is one. An `Err` says that there are more.
+fn value_of<'b>(
+    buf: &'b [u8],
+    headers: &[HeaderSpan],
+    name: &[u8],
+) -> Result<Option<&'b [u8]>, HttpFault>
+    requires { All (IsHeaderWithin (length buf.now)) headers.now }
+    ensures { MatchResult result
+        (λ o. option_to_list (option_copied o) ≡ values_of name.now (map (header_bytes buf.now) headers.now))
+        (λ e. (e ≡ HttpFault.BadLength) × (1 < length (values_of name.now (map (header_bytes buf.now) headers.now)))) }
+{
+    let mut found: Option<&'b [u8]> = None;
+    for header in headers {
+        found = with_header(buf, name, found, *header)?;
+    }
+    Ok(found)
+}
+
+fn are_digits(text: &[u8]) -> bool
+    ensures { result ≡ all_ascii_digits text.now }
+{
+    for b in text {
+        if !b.is_ascii_digit() {
+            return false;
+        }
+    }
+    true
+}
+
+/// The value of decimal digits, or one more than the limit of a body where it is more.
+fn number_up_to(text: &[u8]) -> u64
+    requires { IsTrue (all_ascii_digits text.now) }
+    ensures { result ≡ min (digits_value 10 text.now) (MAX_BODY + 1) }
+{
+    let mut value = 0u64;
+    for b in text {
+        value = (value * 10 + u64::from(*b - b'0')).min(MAX_BODY as u64 + 1);
+    }
+    value
+}
+
+/// The framing by the text of a `Content-Length`.
+#[tactic(auto, unfolding(crate::specs::Framing::number_of))]
+fn sized(text: &[u8]) -> Result<Framing, HttpFault>
+    ensures { Frames (sized_by text.now) result }
+{
+    if text.is_empty() || !are_digits(text) {
+        return Err(HttpFault::BadLength);
+    }
+    let size = number_up_to(text);
+    if size > MAX_BODY as u64 {
+        return Err(HttpFault::BodyTooLong);
+    }
+    Ok(Framing::Sized(size as usize))
+}
+
+/// The framing by the text of a `Transfer-Encoding`, in a message of HTTP/1.minor.
+fn coded(text: &[u8], minor: u8) -> Result<Framing, HttpFault>
+    ensures { Frames (coded_by minor text.now) result }
+{
+    if text.eq_ignore_ascii_case(b"chunked") && minor == 1 {
+        return Ok(Framing::Chunked);
+    }
+    Err(HttpFault::BadLength)
+}
+
+/// How the headers frame the body. With a `Transfer-Encoding` it is the only field that does.
+pub fn frame(buf: &[u8], headers: &[HeaderSpan], minor: u8) -> Result<Framing, HttpFault>
+    requires { All (IsHeaderWithin (length buf.now)) headers.now }
+    ensures { Frames (framing_by minor (map (header_bytes buf.now) headers.now)) result }
+{
+    let coding = value_of(buf, headers, b"transfer-encoding")?;
+    let size = value_of(buf, headers, b"content-length")?;
+    match (coding, size) {
+        (None, None) => Ok(Framing::Sized(0)),
+        (None, Some(text)) => sized(text),
+        (Some(text), None) => coded(text, minor),
+        (Some(_), Some(_)) => Err(HttpFault::BadLength),
+    }
+}

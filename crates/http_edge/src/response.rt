@@ -1,0 +1,110 @@
+//! Reads the head of a response (RFC 9112, section 4).
+ghost use Rattle.std.specs.Prelude.{◌≡◌, ◌↔◌, ◌≤◌, ◌⊎◌, [], length, map, All, Err, false, true, IfOk, IfSome, option_map};
+ghost use Rattle.httparse.specs.Spans.{header_bytes, IsHeaderWithin};
+ghost use Rattle.http_edge.specs.Framing.{values_of};
+ghost use Rattle.http_edge.specs.Reply.{first, AnswersReply, LooksForReply, DeliversReply, IsClosedReply};
+
+use crate::fault::HttpFault;
+use crate::framing::is_named;
+use crate::limits::{MAX_FIELDS, MAX_HEAD};
+use crate::reply::Reply;
+use byte_ends::Source;
+use httparse::spans::{EMPTY_HEADER_SPAN, HeaderSpan, parse_response};
+use httparse::{Error, Status};
+use std::alloc::{AllocError, Global};
+
+/// The value of the first field of that name.
+fn first_value<'b>(buf: &'b [u8], headers: &[HeaderSpan], name: &[u8]) -> Option<&'b [u8]>
+    requires { All (IsHeaderWithin (length buf.now)) headers.now }
+    ensures { option_map (λ v. v.now) result ≡ first (values_of name.now (map (header_bytes buf.now) headers.now)) }
+{
+    for header in headers {
+        if is_named(buf, *header, name) {
+            return Some(header.value.of(buf));
+        }
+    }
+    None
+}
+
+fn copy_value(alloc: Global, value: Option<&[u8]>) -> Result<Option<Vec<u8>>, AllocError>
+    ensures { IfOk result (λ o. option_map (λ v. v.items) o ≡ option_map (λ v. v.now) value.entry) }
+{
+    match value {
+        Some(bytes) => Ok(Some(Vec::from_slice(alloc, bytes)?)),
+        None => Ok(None),
+    }
+}
+
+/// Looks for the head of a response at the front of the bytes.
+fn look_for_reply(alloc: Global, buf: &[u8]) -> Result<Option<Reply>, HttpFault>
+    requires { length buf.now ≤ MAX_HEAD }
+    ensures { LooksForReply buf.now result }
+{
+    let mut spans = [EMPTY_HEADER_SPAN; MAX_FIELDS];
+    match parse_response(buf, &mut spans) {
+        Ok(Status::Complete(head)) => {
+            let value = first_value(buf, &spans[..head.headers], b"retry-after");
+            let Ok(retry_after) = copy_value(alloc, value) else {
+                return Err(HttpFault::NoMemory);
+            };
+            Ok(Some(Reply {
+                status: head.code,
+                retry_after,
+            }))
+        }
+        Ok(Status::Partial) => {
+            if buf.len() < MAX_HEAD {
+                return Ok(None);
+            }
+            Err(HttpFault::HeadTooLong)
+        }
+        Err(Error::TooManyHeaders) => Err(HttpFault::TooManyHeaders),
+        Err(_) => Err(HttpFault::BadHead),
+    }
+}
+
+/// Keeps what the source gives until a head is whole or the source ends.
+fn read_head<S: Source>(alloc: Global, source: &mut S) -> Result<Reply, HttpFault>
+    ensures answer { IfSome (S.remaining source.old) (λ bytes. (result ≡ Err HttpFault.Io) ⊎ AnswersReply bytes result) }
+    ensures closed { IfSome (S.remaining source.old) (λ bytes. bytes ≡ [] → IsClosedReply result) }
+    ensures io { result ≡ Err HttpFault.Io → S.has_failed source.new ≡ true }
+    ensures failed { S.has_failed source.old ≡ false → ((result ≡ Err HttpFault.Io) ↔ (S.has_failed source.new ≡ true)) }
+{
+    let mut kept = Vec::new(alloc);
+    let mut piece = [0u8; 4_096];
+    'pieces: loop {
+        let Ok(n) = source.read(&mut piece) else {
+            return Err(HttpFault::Io);
+        };
+        if n == 0 {
+            if kept.is_empty() {
+                return Err(HttpFault::Closed);
+            }
+            return Err(HttpFault::Truncated);
+        }
+        let taken = n.min(MAX_HEAD - kept.len());
+        if kept.extend_from_slice(&piece[..taken]).is_err() {
+            return Err(HttpFault::NoMemory);
+        }
+        if let Some(reply) = look_for_reply(alloc, &kept)? {
+            return Ok(reply);
+        }
+    }
+}
+
+/// Reads the head of the response that the source's bytes begin with; its body is not read. Bytes behind
+/// the head may have been read, and are thrown away. A source that never ends is cut off by the limits.
+///
+/// Of the bytes of a source that is known it answers what their head says, where they begin with one and no
+/// call failed and no memory was refused; Closed exactly where there is no byte, but for a failed call; and
+/// BadHead, TooManyHeaders, HeadTooLong and Truncated only where they begin with no head. Io comes exactly
+/// where a call failed, NoMemory only where memory was refused, and no other fault comes.
+pub fn read_response<S: Source>(alloc: Global, source: &mut S) -> Result<Reply, HttpFault>
+    ensures answer { IfSome (S.remaining source.old) (λ bytes. (result ≡ Err HttpFault.Io) ⊎ AnswersReply bytes result) }
+    ensures reply { IfSome (S.remaining source.old) (λ bytes. DeliversReply bytes result) }
+    ensures closed { IfSome (S.remaining source.old) (λ bytes. bytes ≡ [] → IsClosedReply result) }
+    ensures io { result ≡ Err HttpFault.Io → S.has_failed source.new ≡ true }
+    ensures failed { S.has_failed source.old ≡ false → ((result ≡ Err HttpFault.Io) ↔ (S.has_failed source.new ≡ true)) }
+{
+    read_head(alloc, source)
+}

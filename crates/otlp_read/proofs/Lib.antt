@@ -1,0 +1,5 @@
+pub mod WholeLemmas
+pub mod ContainerLemmas
+pub mod ListLemmas
+pub mod PointLemmas
+pub mod WalkLemmas

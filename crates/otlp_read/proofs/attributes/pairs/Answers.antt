@@ -1,0 +1,16 @@
+use Rattle.std.proofs.Common.{sym, ◌∙◌}
+use Rattle.otlp_read.specs.Attributes.{pair_of}
+use Rattle.otlp_read.proofs.ListLemmas.{all_more, all_stop, all_done}
+use Rattle.otlp_read.proofs.attributes.pairs.Goals as goal
+
+pub loop-value-preserved : goal.loop-value-preserved
+loop-value-preserved c =
+    rw c.in_ok-push.ensures.items (all_more pair_of c.args.values.now c.loop-value.value-index c.value-item.result c.loop-value.found.items c.in-Some.pair _ c.loop-value-test.true c.value-item.is (sym c.in_ok-pair.ensures ∙ c.in-Some.is) c.loop-value.invariant)
+
+pub returns-in_default : goal.returns-in_default
+returns-in_default c =
+    sym (all_stop pair_of c.args.values.now c.loop-value.value-index c.value-item.result c.loop-value.found.items _ c.loop-value-test.true c.value-item.is (sym c.in_ok-pair.ensures ∙ c.in_default.is) c.loop-value.invariant)
+
+pub returns : goal.returns
+returns c =
+    sym (all_done pair_of c.args.values.now c.loop-value.value-index c.loop-value.found.items _ c.loop-value-test.false c.loop-value.invariant)

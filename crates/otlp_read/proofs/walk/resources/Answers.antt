@@ -1,0 +1,17 @@
+use Rattle.std.proofs.lemmas.Result.{err_from_is_err_and}
+use Rattle.otlp_read.specs.Tallies.{tally}
+use Rattle.otlp_read.specs.Reading.{resource_metrics}
+use Rattle.otlp_read.proofs.WalkLemmas.{each_more, each_fails, each_done}
+use Rattle.otlp_read.proofs.walk.resources.Goals as goal
+
+pub returns-in_err-resource_metrics : goal.returns-in_err-resource_metrics
+returns-in_err-resource_metrics c =
+    let p = err_from_is_err_and c.from_residual.result c.from_residual.ensures.1 in
+    rw (p.1, p.2) (each_fails (resource_metrics) c.args.values.now c.loop-value.value-index c.value-item.result (tally c.loop-value.out) _ _ c.loop-value-test.true c.value-item.is c.in_err-resource_metrics.ensures c.loop-value.invariant)
+
+pub loop-value-preserved : goal.loop-value-preserved
+loop-value-preserved c =
+    each_more (resource_metrics) c.args.values.now c.loop-value.value-index c.value-item.result (tally c.loop-value.out) _ _ c.loop-value-test.true c.value-item.is c.in_ok-resource_metrics.ensures c.loop-value.invariant
+
+pub returns : goal.returns
+returns c = each_done (resource_metrics) c.args.values.now c.loop-value.value-index (tally c.loop-value.out) _ c.loop-value-test.false c.loop-value.invariant

@@ -1,0 +1,56 @@
+-- The fields of an object that hold no other object: texts, truths, flags, the temporality.
+use Rattle.std.specs.Prelude.{ℕ, ◌-◌, ◌^◌, ◌%◌, List, [], length, Bool, true, false, ◌==◌, nat_le, if◌then◌else◌, Option, Some, None, option_and_then}
+use Rattle.serde_json.specs.Data.{Data, null, boolean, number, string, array, object}
+use Rattle.serde_json.specs.Find.{get, as_str, as_bool, as_number, as_u64}
+use Rattle.series_id.specs.declared.limits.TheConstants.{MAX_TEXT}
+use Rattle.otlp_read.specs.Whole.{unsigned_in}
+
+-- null counts as absent
+abbrev pub present : Option Data → Option Data
+present None = None
+present (Some null) = None
+present (Some (boolean b)) = Some (boolean b)
+present (Some (number n)) = Some (number n)
+present (Some (string s)) = Some (string s)
+present (Some (array ds)) = Some (array ds)
+present (Some (object ms)) = Some (object ms)
+
+-- the member of that name, where it is there; nothing in what is no object
+unfoldable pub field : List ℕ → Data → Option Data
+field name d = present (get name d)
+
+abbrev pub if_short : Option (List ℕ) → Option (List ℕ)
+if_short None = None
+if_short (Some s) = if nat_le (length s) MAX_TEXT then Some s else None
+
+-- a name, version or unit: a text within the limit; absent is the empty one
+unfoldable pub text_in : Option Data → Option (List ℕ)
+text_in None = Some []
+text_in (Some d) = if_short (as_str d)
+
+-- isMonotonic: true or false; absent is false
+unfoldable pub truth_in : Option Data → Option Bool
+truth_in None = Some false
+truth_in (Some d) = as_bool d
+
+abbrev pub is_even : Option ℕ → Bool
+is_even None = false
+is_even (Some n) = n % 2 == 0
+
+-- flags: 32 bits of which the lowest, "no recorded value", is not set; absent is 0
+unfoldable pub flags_fit : Option Data → Bool
+flags_fit None = true
+flags_fit (Some d) = is_even (unsigned_in (2 ^ 32 - 1) d)
+
+abbrev pub is_one : Option ℕ → Bool
+is_one None = false
+is_one (Some n) = n == 1
+
+-- aggregationTemporality: the number 1 (delta) alone; enums are numbers in OTLP's JSON
+unfoldable pub is_delta : Option Data → Bool
+is_delta None = false
+is_delta (Some d) = is_one (option_and_then as_u64 (as_number d))
+
+-- startTimeUnixNano and timeUnixNano: nanoseconds since the epoch, of 64 bits; absent is none
+unfoldable pub nanos_in : Option Data → Option ℕ
+nanos_in found = option_and_then (unsigned_in (2 ^ 64 - 1)) found

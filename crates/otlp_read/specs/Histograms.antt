@@ -1,0 +1,67 @@
+-- Points of histograms.
+use Rattle.std.specs.Prelude.{ℕ, if◌then◌else◌, Option, Some, None, option_map, option_and_then, codes}
+use Rattle.std.specs.Result.{result_ok}
+use Rattle.serde_json.specs.Data.{Data}
+use Rattle.series_id.specs.declared.limits.TheConstants.{MAX_BOUND}
+use Rattle.series_id.specs.declared.kinds.Kind.{Kind}
+use Rattle.series_id.specs.Ascending.{histogram_of}
+use Rattle.metric_events.specs.declared.limits.TheConstants.{MAX_WORD, MAX_SUM}
+use Rattle.metric_events.specs.DataPoint.{DataPoint}
+use Rattle.metric_events.specs.Rows.{histogram_row}
+use Rattle.metric_events.specs.PointFaults.{histogram_fault, given_buckets, bounds_of}
+use Rattle.otlp_read.specs.Whole.{unsigned_in, signed_in}
+use Rattle.otlp_read.specs.Fields.{field, flags_fit, nanos_in}
+use Rattle.otlp_read.specs.Lists.{list_in}
+use Rattle.otlp_read.specs.Rules.{unless}
+use Rattle.otlp_read.specs.Attributes.{attributes_in}
+use Rattle.otlp_read.specs.Streams.{Stream, series_in}
+
+infixl 10 ◌>>=◌
+abbrev pub ◌>>=◌ : {A B : Type 0} → Option A → (A → Option B) → Option B
+o >>= f = option_and_then f o
+
+-- count: a whole number that a word holds; absent is 0
+unfoldable pub count_in : Option Data → Option ℕ
+count_in None = Some 0
+count_in (Some d) = unsigned_in MAX_WORD d
+
+-- sum: a whole number that a sum word holds; absent it is absent
+unfoldable pub total_in : Option Data → Option (Option ℕ)
+total_in None = Some None
+total_in (Some d) = option_map (λ n. Some n) (unsigned_in MAX_SUM d)
+
+-- start, end, count and sum of a histogram's point
+pub record HistogramFields : Type 0 where
+  pub start : ℕ
+  pub end : ℕ
+  pub count : ℕ
+  pub total : Option ℕ
+
+unfoldable pub histogram_fields : Data → Option HistogramFields
+histogram_fields d = do
+  start ← nanos_in (field (codes "startTimeUnixNano") d)
+  end ← nanos_in (field (codes "timeUnixNano") d)
+  count ← count_in (field (codes "count") d)
+  total ← total_in (field (codes "sum") d)
+  if flags_fit (field (codes "flags") d) then Some (record { start = start; end = end; count = count; total = total }) else None
+
+-- explicitBounds: whole numbers that are a histogram's bounds
+unfoldable pub kind_in : Data → Option Kind
+kind_in d = do
+  bounds ← list_in (signed_in MAX_BOUND MAX_BOUND) (field (codes "explicitBounds") d)
+  result_ok (histogram_of bounds)
+
+-- a point of a histogram
+unfoldable pub histogram_point : Stream → Data → Option DataPoint
+histogram_point stream d = do
+  fields ← histogram_fields d
+  kind ← kind_in d
+  buckets ← list_in (unsigned_in MAX_WORD) (field (codes "bucketCounts") d)
+  attributes ← attributes_in (field (codes "attributes") d)
+  series ← series_in stream kind attributes
+  unless (histogram_fault series.kind fields.start fields.end fields.count fields.total buckets) (record { series = series; span = record { start = fields.start; end = fields.end }; row = histogram_row fields.total (given_buckets (bounds_of series.kind) fields.count buckets) })
+
+-- below a stream that is none, nothing is a point
+abbrev pub histogram_point_in : Option Stream → Data → Option DataPoint
+histogram_point_in None d = None
+histogram_point_in (Some stream) d = histogram_point stream d

@@ -1,0 +1,17 @@
+pub mod Whole
+pub mod Fields
+pub mod Containers
+pub mod Lists
+pub mod Values
+pub mod ValueViews
+pub mod Attributes
+pub mod Streams
+pub mod StreamViews
+pub mod Rules
+pub mod Sums
+pub mod Histograms
+pub mod PointViews
+pub mod Tallies
+pub mod Metrics
+pub mod PartViews
+pub mod Reading

@@ -1,0 +1,56 @@
+-- What a request says: its points of the profile in order, how many others it has, and how many metrics; or its first wrong container.
+use Rattle.std.specs.Prelude.{◌≡◌, ℕ, List, [], ◌∷◌, if◌then◌else◌, Option, Some, Result, Ok, Err, ⊤, codes, IsUtf8}
+use Rattle.serde_json.specs.Data.{Data}
+use Rattle.serde_json.specs.Read.{read}
+use Rattle.series_id.specs.declared.attributes.Attribute.{Attribute}
+use Rattle.otlp_read.specs.declared.place.Place.{Place}
+use Rattle.otlp_read.specs.declared.place.Place.TheVariants as place
+use Rattle.otlp_read.specs.declared.fault.ReadFault.{ReadFault}
+use Rattle.otlp_read.specs.declared.fault.ReadFault.TheVariants as faults
+use Rattle.otlp_read.specs.declared.reading.Reading.{Reading}
+use Rattle.otlp_read.specs.Fields.{field}
+use Rattle.otlp_read.specs.Containers.{◌>>=◌, is_object, objects, object_in}
+use Rattle.otlp_read.specs.Attributes.{attributes_in}
+use Rattle.otlp_read.specs.Streams.{inner, scope_in}
+use Rattle.otlp_read.specs.Tallies.{Tally, tally, nothing}
+use Rattle.otlp_read.specs.Metrics.{metric}
+
+-- the objects of an array in order, until one has a wrong container
+unfoldable pub each : (Data → Tally → Result Tally Place) → List Data → Tally → Result Tally Place
+each step [] t = Ok t
+each step (d ∷ ds) t = step d t >>= λ after. each step ds after
+
+-- a scope and its metrics, below the resource's attributes
+unfoldable pub scope_metrics : Option (List Attribute) → Data → Tally → Result Tally Place
+scope_metrics resource d t = do
+  scope ← object_in place.Scope (field (codes "scope") d)
+  metrics ← objects place.Metrics (field (codes "metrics") d)
+  each (metric (scope_in resource scope (attributes_in (inner (codes "attributes") scope)))) metrics t
+
+-- a resource and its scopes
+unfoldable pub resource_metrics : Data → Tally → Result Tally Place
+resource_metrics d t = do
+  resource ← object_in place.Resource (field (codes "resource") d)
+  scopes ← objects place.ScopeMetrics (field (codes "scopeMetrics") d)
+  each (scope_metrics (attributes_in (inner (codes "attributes") resource))) scopes t
+
+-- the body's resources
+unfoldable pub body : Data → Tally → Result Tally Place
+body d t = do
+  resources ← objects place.ResourceMetrics (field (codes "resourceMetrics") d)
+  each resource_metrics resources t
+
+-- a request
+unfoldable pub reading : Data → Result Tally Place
+reading d = if is_object d then body d nothing else Err place.Root
+
+-- the bytes are the text of d
+abbrev pub IsJson : List ℕ → Data → Type 0
+IsJson bytes d = IsUtf8 bytes × (read bytes ≡ Some d)
+
+-- what `read_request` answers
+abbrev pub Answers : List ℕ → Result Reading ReadFault → Type 0
+Answers bytes (Ok r) = (d : Data) × IsJson bytes d × (reading d ≡ Ok (tally r))
+Answers bytes (Err (faults.WrongShape p)) = (d : Data) × IsJson bytes d × (reading d ≡ Err p)
+Answers bytes (Err faults.NotJson) = (d : Data) → ¬ (IsJson bytes d)
+Answers bytes (Err faults.NoMemory) = ⊤

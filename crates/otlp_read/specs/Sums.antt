@@ -1,0 +1,50 @@
+-- Points of sums.
+use Rattle.std.specs.Prelude.{ℕ, ℤ, ◌-◌, ◌^◌, Bool, not, ◌&&◌, if◌then◌else◌, Option, Some, None, option_and_then, is_some, codes}
+use Rattle.serde_json.specs.Data.{Data}
+use Rattle.series_id.specs.declared.kinds.Kind.TheVariants.{Sum}
+use Rattle.metric_events.specs.DataPoint.{DataPoint}
+use Rattle.metric_events.specs.Rows.{sum_row}
+use Rattle.metric_events.specs.PointFaults.{sum_fault}
+use Rattle.otlp_read.specs.Whole.{signed_in}
+use Rattle.otlp_read.specs.Fields.{field, flags_fit, nanos_in}
+use Rattle.otlp_read.specs.Rules.{unless}
+use Rattle.otlp_read.specs.Attributes.{attributes_in}
+use Rattle.otlp_read.specs.Streams.{SumStream, series_in}
+
+infixl 10 ◌>>=◌
+abbrev pub ◌>>=◌ : {A B : Type 0} → Option A → (A → Option B) → Option B
+o >>= f = option_and_then f o
+
+-- asInt: a whole number whose size is below 2^63
+unfoldable pub number_in : Option Data → Option ℤ
+number_in found = found >>= signed_in (2 ^ 63 - 1) (2 ^ 63 - 1)
+
+-- a recorded value, and not a double
+unfoldable pub is_whole_value : Data → Bool
+is_whole_value d = flags_fit (field (codes "flags") d) && not (is_some (field (codes "asDouble") d))
+
+-- start, end and value of a sum's point
+pub record SumFields : Type 0 where
+  pub start : ℕ
+  pub end : ℕ
+  pub value : ℤ
+
+unfoldable pub sum_fields : Data → Option SumFields
+sum_fields d = do
+  start ← nanos_in (field (codes "startTimeUnixNano") d)
+  end ← nanos_in (field (codes "timeUnixNano") d)
+  value ← number_in (field (codes "asInt") d)
+  if is_whole_value d then Some (record { start = start; end = end; value = value }) else None
+
+-- a point of a sum
+unfoldable pub sum_point : SumStream → Data → Option DataPoint
+sum_point sum d = do
+  fields ← sum_fields d
+  attributes ← attributes_in (field (codes "attributes") d)
+  series ← series_in sum.stream (Sum sum.monotonic) attributes
+  unless (sum_fault series.kind fields.start fields.end fields.value) (record { series = series; span = record { start = fields.start; end = fields.end }; row = sum_row fields.value })
+
+-- below a stream that is none, nothing is a point
+abbrev pub sum_point_in : Option SumStream → Data → Option DataPoint
+sum_point_in None d = None
+sum_point_in (Some sum) d = sum_point sum d

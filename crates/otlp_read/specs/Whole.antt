@@ -1,0 +1,42 @@
+-- Whole numbers, as JSON numbers or as decimal texts.
+use Rattle.std.specs.Prelude.{ℕ, suc, ◌^◌, ◌&&◌, ℤ, pos, negsuc, neg_ℤ, List, [], ◌∷◌, length, Option, Some, None, option_map, nat_lt, nat_le, if◌then◌else◌, ◌==◌}
+use Rattle.std.specs.Str.{all_ascii_digits}
+use Rattle.std.specs.Str.Parse.{digits_value}
+use Rattle.serde_json.specs.Data.{Data, null, boolean, number, string, array, object}
+use Rattle.serde_json.specs.Find.{as_integer}
+
+-- one or more decimal digits, with leading zeros or without, whose value is below 2^64: no range goes further
+unfoldable pub magnitude : List ℕ → Option ℕ
+magnitude ds = if all_ascii_digits ds && nat_lt 0 (length ds) && nat_lt (digits_value 10 ds) (2 ^ 64) then Some (digits_value 10 ds) else None
+
+-- an optional minus, and digits
+abbrev pub text_whole : List ℕ → Option ℤ
+text_whole [] = None
+text_whole (b ∷ bs) = if b == 45 then option_map (λ n. neg_ℤ (pos n)) (magnitude bs) else option_map pos (magnitude (b ∷ bs))
+
+-- the whole number that a value is: a number without fraction and exponent, or a text of digits
+abbrev pub whole : Data → Option ℤ
+whole null = None
+whole (boolean b) = None
+whole (number n) = as_integer n
+whole (string s) = text_whole s
+whole (array ds) = None
+whole (object ms) = None
+
+abbrev pub up_to : ℕ → Option ℤ → Option ℕ
+up_to most None = None
+up_to most (Some (pos n)) = if nat_le n most then Some n else None
+up_to most (Some (negsuc n)) = None
+
+-- the whole number from 0 to most that a value is
+unfoldable pub unsigned_in : ℕ → Data → Option ℕ
+unsigned_in most d = up_to most (whole d)
+
+abbrev pub between : ℕ → ℕ → Option ℤ → Option ℤ
+between below above None = None
+between below above (Some (pos n)) = if nat_le n above then Some (pos n) else None
+between below above (Some (negsuc n)) = if nat_le (suc n) below then Some (negsuc n) else None
+
+-- the whole number from -below to above that a value is
+unfoldable pub signed_in : ℕ → ℕ → Data → Option ℤ
+signed_in below above d = between below above (whole d)

@@ -1,0 +1,82 @@
+//! Attribute lists.
+
+ghost use Rattle.std.specs.Prelude.{◌≡◌, ◌≢◌, map, option_map, IfOk, OnErr, OnOk};
+ghost use Rattle.std.specs.Result.{result_ok};
+ghost use Rattle.serde_json.specs.View.{view};
+ghost use Rattle.otlp_read.specs.Lists.{all_of};
+ghost use Rattle.otlp_read.specs.Attributes.{key_and_value, pair_of, set_of, attributes_in};
+
+use crate::fields::{field, text_in};
+use crate::lists::elements_in;
+use crate::values::value_in;
+use serde_json::Value;
+use series_id::{AttrFault, AttrSet, AttrValue, Text};
+use std::alloc::{AllocError, Global};
+
+/// The set of attributes that a field is, empty where it is absent, and
+/// nothing where it is no attribute list, or one that no series may have.
+#[tactic(auto, unfolding(crate::specs::Attributes::attributes_in))]
+pub fn attributes_in(alloc: Global, found: Option<&Value>) -> Result<Option<AttrSet>, AllocError>
+    ensures { IfOk result (λ o. o ≡ attributes_in (option_map (λ v. view v.now) found.entry)) }
+{
+    let Some(values) = elements_in(found) else {
+        return Ok(None);
+    };
+    match pairs(alloc, values)? {
+        None => Ok(None),
+        Some(pairs) => set_of(alloc, pairs),
+    }
+}
+
+fn pairs(alloc: Global, values: &[Value]) -> Result<Option<Vec<(Text, AttrValue)>>, AllocError>
+    ensures { IfOk result (λ o. option_map (λ v. v.items) o ≡ all_of pair_of (map view values.now)) }
+{
+    let mut found = Vec::new(alloc);
+    for value in values {
+        let Some(pair) = pair_of(alloc, value)? else {
+            return Ok(None);
+        };
+        found.push(pair)?;
+    }
+    Ok(Some(found))
+}
+
+#[tactic(auto, unfolding(crate::specs::Attributes::pair_of))]
+fn pair_of(alloc: Global, value: &Value) -> Result<Option<(Text, AttrValue)>, AllocError>
+    ensures { IfOk result (λ o. o ≡ pair_of (view value.now)) }
+{
+    if !value.is_object() {
+        return Ok(None);
+    }
+    let Some(key) = text_in(field(value, "key")) else {
+        return Ok(None);
+    };
+    let Some(found) = value_in(alloc, field(value, "value"))? else {
+        return Ok(None);
+    };
+    let key = Text::new(String::from_str(alloc, key)?);
+    Ok(Some((key, found)))
+}
+
+/// The set that the pairs are, where they are one.
+
+fn set_of(alloc: Global, pairs: Vec<(Text, AttrValue)>) -> Result<Option<AttrSet>, AllocError>
+    ensures { IfOk result (λ o. o ≡ set_of pairs.items) }
+{
+    let set = made_set(AttrSet::from_pairs(alloc, pairs))?;
+    Ok(set)
+}
+
+/// The set that was made, or nothing where the pairs are none; an error only
+/// where memory ran out.
+fn made_set(set: Result<AttrSet, AttrFault>) -> Result<Option<AttrSet>, AllocError>
+    ensures set { IfOk result (λ o. o ≡ result_ok set) }
+    ensures ok { OnOk result (set ≢ Err AttrFault.NoMemory) }
+    ensures memory { OnErr result (set ≡ Err AttrFault.NoMemory) }
+{
+    match set {
+        Ok(set) => Ok(Some(set)),
+        Err(AttrFault::NoMemory) => Err(AllocError),
+        Err(_) => Ok(None),
+    }
+}

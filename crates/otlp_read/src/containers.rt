@@ -1,0 +1,51 @@
+//! Containers: objects and arrays of objects.
+
+ghost use Rattle.std.specs.Prelude.{◌≡◌, map, option_map};
+ghost use Rattle.std.specs.List.{list_all};
+ghost use Rattle.serde_json.specs.View.{view};
+ghost use Rattle.otlp_read.specs.Containers.{Gives, is_object, objects, object_in};
+
+use crate::fault::ReadFault;
+use crate::place::Place;
+use serde_json::Value;
+
+/// The array of objects that a field is, without elements where it is absent.
+#[tactic(auto, using(crate::proofs::ContainerLemmas::elements_view), unfolding(crate::specs::Containers::objects))]
+pub fn objects<'v>(found: Option<&'v Value>, place: Place) -> Result<&'v [Value], ReadFault>
+    ensures { Gives (λ vs. map view vs.now) result (objects place (option_map (λ v. view v.now) found.entry)) }
+{
+    let Some(found) = found else {
+        return Ok(&[]);
+    };
+    let Some(list) = found.as_array() else {
+        return Err(ReadFault::WrongShape(place));
+    };
+    let list = list.as_slice();
+    if !are_objects(list) {
+        return Err(ReadFault::WrongShape(place));
+    }
+    Ok(list)
+}
+
+fn are_objects(list: &[Value]) -> bool
+    ensures { result ≡ list_all is_object (map view list.now) }
+{
+    for value in list {
+        if !value.is_object() {
+            return false;
+        }
+    }
+    true
+}
+
+/// The object that a field is, where it is there.
+#[tactic(auto, unfolding(crate::specs::Containers::object_in))]
+pub fn object_in<'v>(found: Option<&'v Value>, place: Place) -> Result<Option<&'v Value>, ReadFault>
+    ensures { Gives (λ o. option_map (λ v. view v.now) o) result (object_in place (option_map (λ v. view v.now) found.entry)) }
+{
+    match found {
+        None => Ok(None),
+        Some(value) if value.is_object() => Ok(Some(value)),
+        Some(_) => Err(ReadFault::WrongShape(place)),
+    }
+}

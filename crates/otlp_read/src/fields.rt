@@ -1,0 +1,81 @@
+//! The fields of an object that hold no other object.
+
+ghost use Rattle.std.specs.Prelude.{◌≡◌, option_map};
+ghost use Rattle.serde_json.specs.View.{view};
+ghost use Rattle.otlp_read.specs.Fields.{field, flags_fit, text_in, truth_in, is_delta, nanos_in};
+
+use crate::whole::unsigned;
+use serde_json::Value;
+use series_id::limits::MAX_TEXT;
+
+/// The member of that name, where it is there and not null.
+#[tactic(auto, unfolding(crate::specs::Fields::field))]
+pub fn field<'v>(value: &'v Value, name: &str) -> Option<&'v Value>
+    ensures { option_map (λ v. view v.now) result ≡ field name.now (view value.now) }
+{
+    let found = value.get(name)?;
+    if found.is_null() { None } else { Some(found) }
+}
+
+/// Whether the flags say that the point holds a recorded value.
+#[tactic(auto, unfolding(crate::specs::Fields::flags_fit))]
+pub fn flags_fit(found: Option<&Value>) -> bool
+    ensures { result ≡ flags_fit (option_map (λ v. view v.now) found.entry) }
+{
+    match found {
+        None => true,
+        Some(value) => match unsigned(value, u32::MAX as u64) {
+            Some(flags) => flags % 2 == 0,
+            None => false,
+        },
+    }
+}
+
+/// A text of at most `MAX_TEXT` bytes, empty where it is absent.
+#[tactic(auto, unfolding(crate::specs::Fields::text_in))]
+pub fn text_in<'v>(found: Option<&'v Value>) -> Option<&'v str>
+    ensures { option_map (λ s. s.now) result ≡ text_in (option_map (λ v. view v.now) found.entry) }
+{
+    let Some(value) = found else {
+        return Some("");
+    };
+    let text = value.as_str()?;
+    if text.len() <= MAX_TEXT {
+        Some(text)
+    } else {
+        None
+    }
+}
+
+/// A truth, false where it is absent.
+#[tactic(auto, unfolding(crate::specs::Fields::truth_in))]
+pub fn truth_in(found: Option<&Value>) -> Option<bool>
+    ensures { result ≡ truth_in (option_map (λ v. view v.now) found.entry) }
+{
+    match found {
+        None => Some(false),
+        Some(value) => value.as_bool(),
+    }
+}
+
+/// Whether the temporality is delta.
+#[tactic(auto, unfolding(crate::specs::Fields::is_delta))]
+pub fn is_delta(found: Option<&Value>) -> bool
+    ensures { result ≡ is_delta (option_map (λ v. view v.now) found.entry) }
+{
+    match found {
+        None => false,
+        Some(value) => match value.as_u64() {
+            Some(number) => number == 1,
+            None => false,
+        },
+    }
+}
+
+/// Nanoseconds since the epoch, where they are given.
+#[tactic(auto, unfolding(crate::specs::Fields::nanos_in))]
+pub fn nanos_in(found: Option<&Value>) -> Option<u64>
+    ensures { result ≡ nanos_in (option_map (λ v. view v.now) found.entry) }
+{
+    unsigned(found?, u64::MAX)
+}

@@ -1,0 +1,228 @@
+//! Metrics: their data fields, and what becomes of the points in them.
+
+ghost use Rattle.std.specs.Prelude.{◌≡◌, ◌≤◌, map, option_map, IfOk, OnOk};
+ghost use Rattle.serde_json.specs.View.{view};
+ghost use Rattle.otlp_read.specs.Containers.{Gives};
+ghost use Rattle.otlp_read.specs.StreamViews.{scope_data, stream_data, sum_stream_data};
+ghost use Rattle.otlp_read.specs.Sums.{sum_point_in};
+ghost use Rattle.otlp_read.specs.Histograms.{histogram_point_in};
+ghost use Rattle.otlp_read.specs.Tallies.{tally, add_metric, add_point, each_point};
+ghost use Rattle.otlp_read.specs.Metrics.{part, parts, one_if, is_single, add_all, add_sum, add_histogram, add_profile, add_parts, metric};
+ghost use Rattle.otlp_read.specs.PartViews.{part_data, parts_data};
+
+use crate::containers::{object_in, objects};
+use crate::fault::ReadFault;
+use crate::fields::field;
+use crate::histograms::histogram_point_in;
+use crate::place::Place;
+use crate::reading::Reading;
+use crate::streams::{Scope, Stream, SumStream, stream_in, sum_stream_in};
+use crate::sums::sum_point_in;
+use metric_events::point::Point;
+use serde_json::Value;
+use std::alloc::{AllocError, Global};
+
+/// A data field that is there, and its points.
+#[derive(Clone, Copy)]
+struct Part<'v> {
+    whole: &'v Value,
+    points: &'v [Value],
+}
+
+/// The five data fields of a metric (`Metric.data`), of which it has one.
+#[derive(Clone, Copy)]
+struct Parts<'v> {
+    gauge: Option<Part<'v>>,
+    sum: Option<Part<'v>>,
+    histogram: Option<Part<'v>>,
+    exponential: Option<Part<'v>>,
+    summary: Option<Part<'v>>,
+}
+
+/// Reads a metric below its scope into what has been read before.
+#[tactic(auto, unfolding(crate::specs::Metrics::metric))]
+pub fn metric(
+    alloc: Global,
+    out: &mut Reading,
+    scope: Option<Scope<'_>>,
+    value: &Value,
+) -> Result<(), ReadFault>
+    ensures { Gives (λ _. tally out.new) result (metric (option_map scope_data scope.entry) (view value.now) (tally out.old)) }
+{
+    let parts = parts_of(value)?;
+    out.metrics = out.metrics.saturating_add(1);
+    add_parts(alloc, out, scope, value, parts)?;
+    Ok(())
+}
+
+#[tactic(auto, unfolding(crate::specs::Metrics::parts))]
+fn parts_of<'v>(metric: &'v Value) -> Result<Parts<'v>, ReadFault>
+    ensures { Gives parts_data result (parts (view metric.now)) }
+{
+    let gauge = part_of(metric, "gauge")?;
+    let sum = part_of(metric, "sum")?;
+    let histogram = part_of(metric, "histogram")?;
+    let exponential = part_of(metric, "exponentialHistogram")?;
+    let summary = part_of(metric, "summary")?;
+    Ok(Parts {
+        gauge,
+        sum,
+        histogram,
+        exponential,
+        summary,
+    })
+}
+
+#[tactic(auto, unfolding(crate::specs::Metrics::part))]
+fn part_of<'v>(metric: &'v Value, name: &str) -> Result<Option<Part<'v>>, ReadFault>
+    ensures { Gives (λ p. option_map part_data p) result (part name.now (view metric.now)) }
+{
+    let Some(whole) = object_in(field(metric, name), Place::DataField)? else {
+        return Ok(None);
+    };
+    let points = objects(field(whole, "dataPoints"), Place::DataPoints)?;
+    Ok(Some(Part { whole, points }))
+}
+
+#[tactic(auto, unfolding(crate::specs::Metrics::add_parts))]
+fn add_parts(
+    alloc: Global,
+    out: &mut Reading,
+    scope: Option<Scope<'_>>,
+    metric: &Value,
+    parts: Parts<'_>,
+) -> Result<(), AllocError>
+    ensures { OnOk result (tally out.new ≡ add_parts (option_map scope_data scope.entry) (view metric.now) (parts_data parts.entry) (tally out.old)) }
+{
+    add_all(out, parts.gauge);
+    add_profile(alloc, out, scope, metric, parts)?;
+    add_all(out, parts.exponential);
+    add_all(out, parts.summary);
+    Ok(())
+}
+
+#[tactic(auto, unfolding(crate::specs::Metrics::add_profile))]
+fn add_profile(
+    alloc: Global,
+    out: &mut Reading,
+    scope: Option<Scope<'_>>,
+    metric: &Value,
+    parts: Parts<'_>,
+) -> Result<(), AllocError>
+    ensures { OnOk result (tally out.new ≡ add_profile (option_map scope_data scope.entry) (view metric.now) (parts_data parts.entry) (tally out.old)) }
+{
+    if is_single(parts) {
+        add_sum(alloc, out, scope, metric, parts.sum)?;
+        add_histogram(alloc, out, scope, metric, parts.histogram)?;
+    } else {
+        add_all(out, parts.sum);
+        add_all(out, parts.histogram);
+    }
+    Ok(())
+}
+
+#[tactic(auto, unfolding(crate::specs::Metrics::is_single))]
+fn is_single(parts: Parts<'_>) -> bool
+    ensures { result ≡ is_single (parts_data parts.entry) }
+{
+    let there = one_if(parts.gauge)
+        + one_if(parts.sum)
+        + one_if(parts.histogram)
+        + one_if(parts.exponential)
+        + one_if(parts.summary);
+    there <= 1
+}
+
+fn one_if(part: Option<Part<'_>>) -> u8
+    ensures value { result ≡ one_if (option_map part_data part.entry) }
+    ensures small { result ≤ 1 }
+{
+    match part {
+        None => 0,
+        Some(_) => 1,
+    }
+}
+
+/// Counts all points of a data field as foreign.
+fn add_all(out: &mut Reading, part: Option<Part<'_>>)
+    ensures { tally out.new ≡ add_all (option_map part_data part.entry) (tally out.old) }
+{
+    if let Some(part) = part {
+        out.foreign = out.foreign.saturating_add(part.points.len() as u64);
+    }
+}
+
+fn add_sum(
+    alloc: Global,
+    out: &mut Reading,
+    scope: Option<Scope<'_>>,
+    metric: &Value,
+    part: Option<Part<'_>>,
+) -> Result<(), AllocError>
+    ensures { OnOk result (tally out.new ≡ add_sum (option_map scope_data scope.entry) (view metric.now) (option_map part_data part.entry) (tally out.old)) }
+{
+    let Some(part) = part else {
+        return Ok(());
+    };
+    let sum = sum_stream_in(scope, metric, part.whole);
+    sum_points(alloc, out, sum, part.points)
+}
+
+fn add_histogram(
+    alloc: Global,
+    out: &mut Reading,
+    scope: Option<Scope<'_>>,
+    metric: &Value,
+    part: Option<Part<'_>>,
+) -> Result<(), AllocError>
+    ensures { OnOk result (tally out.new ≡ add_histogram (option_map scope_data scope.entry) (view metric.now) (option_map part_data part.entry) (tally out.old)) }
+{
+    let Some(part) = part else {
+        return Ok(());
+    };
+    let stream = stream_in(scope, metric, part.whole);
+    histogram_points(alloc, out, stream, part.points)
+}
+
+/// Reads the points of a sum in order.
+fn sum_points(
+    alloc: Global,
+    out: &mut Reading,
+    sum: Option<SumStream<'_>>,
+    points: &[Value],
+) -> Result<(), AllocError>
+    ensures { OnOk result (tally out.new ≡ each_point (sum_point_in (option_map sum_stream_data sum.entry)) (map view points.now) (tally out.old)) }
+{
+    for value in points {
+        let point = sum_point_in(alloc, sum, value)?;
+        add_point(out, point)?;
+    }
+    Ok(())
+}
+
+/// Reads the points of a histogram in order.
+fn histogram_points(
+    alloc: Global,
+    out: &mut Reading,
+    stream: Option<Stream<'_>>,
+    points: &[Value],
+) -> Result<(), AllocError>
+    ensures { OnOk result (tally out.new ≡ each_point (histogram_point_in (option_map stream_data stream.entry)) (map view points.now) (tally out.old)) }
+{
+    for value in points {
+        let point = histogram_point_in(alloc, stream, value)?;
+        add_point(out, point)?;
+    }
+    Ok(())
+}
+
+/// Keeps a point of the profile, or counts one that is foreign.
+fn add_point(out: &mut Reading, point: Option<Point>) -> Result<(), AllocError>
+    ensures { OnOk result (tally out.new ≡ add_point point (tally out.old)) }
+{
+    match point {
+        Some(point) => out.points.push(point)?,
+        None => out.foreign = out.foreign.saturating_add(1),
+    }
+    Ok(())
+}

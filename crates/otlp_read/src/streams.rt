@@ -1,0 +1,135 @@
+//! What stands above a point: the parts of its identity that it shares with
+//! others of its metric, scope and resource.
+
+ghost use Rattle.std.specs.Prelude.{◌≡◌, option_map, IfOk};
+ghost use Rattle.serde_json.specs.View.{view};
+ghost use Rattle.otlp_read.specs.Streams.{inner, scope_in, stream_in, sum_stream_in, series_in};
+ghost use Rattle.otlp_read.specs.StreamViews.{scope_data, stream_data, sum_stream_data};
+
+use crate::fields::{field, is_delta, text_in, truth_in};
+use serde_json::Value;
+use series_id::{AttrSet, Kind, SeriesId, Text};
+use std::alloc::{AllocError, Global};
+
+/// The resource's attributes, and the scope.
+#[derive(Clone, Copy)]
+pub struct Scope<'a> {
+    pub resource: &'a AttrSet,
+    pub name: &'a str,
+    pub version: &'a str,
+    pub attributes: &'a AttrSet,
+}
+
+/// A metric of a scope.
+#[derive(Clone, Copy)]
+pub struct Stream<'a> {
+    pub scope: Scope<'a>,
+    pub name: &'a str,
+    pub unit: &'a str,
+}
+
+/// A stream of sums, and whether they only grow.
+#[derive(Clone, Copy)]
+pub struct SumStream<'a> {
+    pub stream: Stream<'a>,
+    pub monotonic: bool,
+}
+
+/// A field of an object that may be absent.
+#[tactic(auto, unfolding(crate::specs::Streams::inner))]
+pub fn inner<'v>(found: Option<&'v Value>, name: &str) -> Option<&'v Value>
+    ensures { option_map (λ v. view v.now) result ≡ inner name.now (option_map (λ v. view v.now) found.entry) }
+{
+    field(found?, name)
+}
+
+/// The scope below a resource's attributes, with its own; nothing where one of
+/// its parts is no part of an identity.
+#[tactic(auto, unfolding(crate::specs::Streams::scope_in))]
+pub fn scope_in<'a>(
+    resource: Option<&'a AttrSet>,
+    scope: Option<&'a Value>,
+    attributes: Option<&'a AttrSet>,
+) -> Option<Scope<'a>>
+    ensures { option_map scope_data result ≡ scope_in (option_map (λ s. s.now) resource.entry) (option_map (λ v. view v.now) scope.entry) (option_map (λ s. s.now) attributes.entry) }
+{
+    let resource = resource?;
+    let name = text_in(inner(scope, "name"))?;
+    let version = text_in(inner(scope, "version"))?;
+    let attributes = attributes?;
+    Some(Scope {
+        resource,
+        name,
+        version,
+        attributes,
+    })
+}
+
+/// The metric below its scope, where its data are delta.
+#[tactic(auto, unfolding(crate::specs::Streams::stream_in))]
+pub fn stream_in<'a>(
+    scope: Option<Scope<'a>>,
+    metric: &'a Value,
+    part: &Value,
+) -> Option<Stream<'a>>
+    ensures { option_map stream_data result ≡ stream_in (option_map scope_data scope.entry) (view metric.now) (view part.now) }
+{
+    let scope = scope?;
+    let name = text_in(field(metric, "name"))?;
+    let unit = text_in(field(metric, "unit"))?;
+    if is_delta(field(part, "aggregationTemporality")) {
+        Some(Stream { scope, name, unit })
+    } else {
+        None
+    }
+}
+
+/// The metric below its scope, where its sum is delta.
+#[tactic(auto, unfolding(crate::specs::Streams::sum_stream_in))]
+pub fn sum_stream_in<'a>(
+    scope: Option<Scope<'a>>,
+    metric: &'a Value,
+    sum: &Value,
+) -> Option<SumStream<'a>>
+    ensures { option_map sum_stream_data result ≡ sum_stream_in (option_map scope_data scope.entry) (view metric.now) (view sum.now) }
+{
+    let stream = stream_in(scope, metric, sum)?;
+    let monotonic = truth_in(field(sum, "isMonotonic"))?;
+    Some(SumStream { stream, monotonic })
+}
+
+/// The series of a kind and of attributes in a stream.
+#[tactic(auto, unfolding(crate::specs::Streams::series_in))]
+pub fn series_in(
+    alloc: Global,
+    stream: Stream<'_>,
+    kind: Kind,
+    attributes: AttrSet,
+) -> Result<Option<SeriesId>, AllocError>
+    ensures { IfOk result (λ o. o ≡ series_in (stream_data stream.entry) kind attributes) }
+{
+    let resource = stream.scope.resource.copy(alloc)?;
+    let scope_name = text(alloc, stream.scope.name)?;
+    let scope_version = text(alloc, stream.scope.version)?;
+    let scope_attrs = stream.scope.attributes.copy(alloc)?;
+    let name = text(alloc, stream.name)?;
+    let unit = text(alloc, stream.unit)?;
+    let made = SeriesId::new(
+        resource,
+        scope_name,
+        scope_version,
+        scope_attrs,
+        name,
+        unit,
+        kind,
+        attributes,
+    );
+    Ok(made.ok())
+}
+
+fn text(alloc: Global, text: &str) -> Result<Text, AllocError>
+    ensures { IfOk result (λ t. t ≡ text.now) }
+{
+    let copy = String::from_str(alloc, text)?;
+    Ok(Text::new(copy))
+}

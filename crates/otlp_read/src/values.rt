@@ -1,0 +1,164 @@
+//! Values of attributes: one scalar, or a list of scalars.
+
+ghost use Rattle.std.specs.Prelude.{◌≡◌, map, option_map, IfOk};
+ghost use Rattle.serde_json.specs.Find.{as_str};
+ghost use Rattle.serde_json.specs.View.{view};
+ghost use Rattle.series_id.specs.declared.scalars.Scalar.TheVariants.{Text as text_value};
+ghost use Rattle.series_id.specs.declared.values.AttrValue.TheVariants.{One};
+ghost use Rattle.otlp_read.specs.Lists.{all_of};
+ghost use Rattle.otlp_read.specs.Values.{fields_of, has_other, scalar_of, scalar_in, scalars_of, many_of, value_of, value_in};
+ghost use Rattle.otlp_read.specs.ValueViews.{fields_data};
+
+use crate::fields::field;
+use crate::lists::elements_in;
+use crate::whole::signed;
+use serde_json::Value;
+use series_id::{AttrValue, Scalar, Scalars, Text};
+use std::alloc::{AllocError, Global};
+
+/// The fields of a value object that are there (`AnyValue` of
+/// `opentelemetry/proto/common/v1/common.proto`).
+#[derive(Clone, Copy)]
+struct ValueFields<'v> {
+    text: Option<&'v Value>,
+    truth: Option<&'v Value>,
+    int: Option<&'v Value>,
+    list: Option<&'v Value>,
+    /// Whether there is a double, a map or bytes, which no series here may hold.
+    other: bool,
+}
+
+fn fields_of<'v>(value: &'v Value) -> ValueFields<'v>
+    ensures { fields_data result ≡ fields_of (view value.now) }
+{
+    ValueFields {
+        text: field(value, "stringValue"),
+        truth: field(value, "boolValue"),
+        int: field(value, "intValue"),
+        list: field(value, "arrayValue"),
+        other: has_other(value),
+    }
+}
+
+#[tactic(auto, unfolding(crate::specs::Values::has_other))]
+fn has_other(value: &Value) -> bool
+    ensures { result ≡ has_other (view value.now) }
+{
+    field(value, "doubleValue").is_some()
+        || field(value, "kvlistValue").is_some()
+        || field(value, "bytesValue").is_some()
+}
+
+/// The value of an attribute, empty where it is absent, and nothing where it
+/// is one that no series here may hold.
+#[tactic(auto, unfolding(crate::specs::Values::value_in))]
+pub fn value_in(alloc: Global, found: Option<&Value>) -> Result<Option<AttrValue>, AllocError>
+    ensures { IfOk result (λ o. o ≡ value_in (option_map (λ v. view v.now) found.entry)) }
+{
+    match found {
+        None => Ok(Some(AttrValue::One(Scalar::Empty))),
+        Some(value) => value_of(alloc, value),
+    }
+}
+
+#[tactic(auto, unfolding(crate::specs::Values::value_of))]
+fn value_of(alloc: Global, value: &Value) -> Result<Option<AttrValue>, AllocError>
+    ensures { IfOk result (λ o. o ≡ value_of (view value.now)) }
+{
+    if !value.is_object() {
+        return Ok(None);
+    }
+    let fields = fields_of(value);
+    match fields.list {
+        Some(list) => many_of(alloc, fields, list),
+        None => one_of(alloc, fields),
+    }
+}
+
+fn one_of(alloc: Global, fields: ValueFields<'_>) -> Result<Option<AttrValue>, AllocError>
+    ensures { IfOk result (λ o. o ≡ option_map One (scalar_of (fields_data fields.entry))) }
+{
+    match scalar_of(alloc, fields)? {
+        None => Ok(None),
+        Some(scalar) => Ok(Some(AttrValue::One(scalar))),
+    }
+}
+
+#[tactic(auto, unfolding(crate::specs::Values::many_of))]
+fn many_of(
+    alloc: Global,
+    fields: ValueFields<'_>,
+    list: &Value,
+) -> Result<Option<AttrValue>, AllocError>
+    ensures { IfOk result (λ o. o ≡ many_of (fields_data fields.entry) (view list.now)) }
+{
+    if fields.other || fields.text.is_some() || fields.truth.is_some() || fields.int.is_some() {
+        return Ok(None);
+    }
+    match scalars_of(alloc, list)? {
+        None => Ok(None),
+        Some(scalars) => Ok(Some(AttrValue::Many(scalars))),
+    }
+}
+
+#[tactic(auto, unfolding(crate::specs::Values::scalars_of))]
+fn scalars_of(alloc: Global, list: &Value) -> Result<Option<Scalars>, AllocError>
+    ensures { IfOk result (λ o. o ≡ scalars_of (view list.now)) }
+{
+    if !list.is_object() {
+        return Ok(None);
+    }
+    match elements_in(field(list, "values")) {
+        None => Ok(None),
+        Some(values) => scalars(alloc, values),
+    }
+}
+
+fn scalars(alloc: Global, values: &[Value]) -> Result<Option<Scalars>, AllocError>
+    ensures { IfOk result (λ o. o ≡ all_of scalar_in (map view values.now)) }
+{
+    let mut found = Vec::new(alloc);
+    for value in values {
+        let Some(scalar) = scalar_in(alloc, value)? else {
+            return Ok(None);
+        };
+        found.push(scalar)?;
+    }
+    Ok(Some(Scalars::new(found)))
+}
+
+#[tactic(auto, unfolding(crate::specs::Values::scalar_in))]
+fn scalar_in(alloc: Global, value: &Value) -> Result<Option<Scalar>, AllocError>
+    ensures { IfOk result (λ o. o ≡ scalar_in (view value.now)) }
+{
+    if !value.is_object() {
+        return Ok(None);
+    }
+    scalar_of(alloc, fields_of(value))
+}
+
+#[tactic(auto, unfolding(crate::specs::Values::scalar_of))]
+fn scalar_of(alloc: Global, fields: ValueFields<'_>) -> Result<Option<Scalar>, AllocError>
+    ensures { IfOk result (λ o. o ≡ scalar_of (fields_data fields.entry)) }
+{
+    if fields.other || fields.list.is_some() {
+        return Ok(None);
+    }
+    match (fields.text, fields.truth, fields.int) {
+        (None, None, None) => Ok(Some(Scalar::Empty)),
+        (Some(value), None, None) => text_scalar(alloc, value),
+        (None, Some(value), None) => Ok(value.as_bool().map(Scalar::Truth)),
+        (None, None, Some(value)) => Ok(signed(value, 1 << 63, (1 << 63) - 1).map(Scalar::Int)),
+        _ => Ok(None),
+    }
+}
+
+fn text_scalar(alloc: Global, value: &Value) -> Result<Option<Scalar>, AllocError>
+    ensures { IfOk result (λ o. o ≡ option_map text_value (as_str (view value.now))) }
+{
+    let Some(text) = value.as_str() else {
+        return Ok(None);
+    };
+    let text = String::from_str(alloc, text)?;
+    Ok(Some(Scalar::Text(Text::new(text))))
+}

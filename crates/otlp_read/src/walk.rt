@@ -1,0 +1,137 @@
+//! The containers of a request, from the outside in.
+
+ghost use Rattle.std.specs.Prelude.{◌≡◌, map, option_map};
+ghost use Rattle.serde_json.specs.View.{view};
+ghost use Rattle.otlp_read.specs.Containers.{Gives};
+ghost use Rattle.otlp_read.specs.StreamViews.{scope_data};
+ghost use Rattle.otlp_read.specs.Tallies.{tally};
+ghost use Rattle.otlp_read.specs.Metrics.{metric};
+ghost use Rattle.otlp_read.specs.Reading.{each, scope_metrics, resource_metrics, body, reading, Answers};
+
+use crate::attributes::attributes_in;
+use crate::containers::{object_in, objects};
+use crate::fault::ReadFault;
+use crate::fields::field;
+use crate::metrics::metric;
+use crate::place::Place;
+use crate::reading::Reading;
+use crate::streams::{Scope, inner, scope_in};
+use metric_events::points::Points;
+use serde_json::Value;
+use series_id::AttrSet;
+use std::alloc::Global;
+
+/// Reads the body of a metrics request (`ExportMetricsServiceRequest` in
+/// OTLP's JSON encoding).
+///
+/// `NotJson` where `serde_json` reads no value from the bytes, which are then
+/// no UTF-8, no JSON, or nested more than 127 deep. `WrongShape` names the
+/// first container of another type: the walk is depth first, each object's
+/// fields in the standard's order, an array's own type and that of all its
+/// elements before its first element. `NoMemory` where a growth was refused,
+/// which may be found before another fault is.
+///
+/// Unknown names are ignored, `null` counts as absent, and a name that stands
+/// twice counts by its last value. A point outside the profile is counted as
+/// foreign and refuses nothing.
+pub fn read_request(alloc: Global, bytes: &[u8]) -> Result<Reading, ReadFault>
+    ensures { Answers bytes.now result }
+{
+    let value = match Value::from_slice(alloc, bytes) {
+        Ok(value) => value,
+        Err(e) if e.is_memory() => return Err(ReadFault::NoMemory),
+        Err(_) => return Err(ReadFault::NotJson),
+    };
+    read_value(alloc, &value)
+}
+
+#[tactic(auto, unfolding(crate::specs::Reading::reading))]
+fn read_value(alloc: Global, value: &Value) -> Result<Reading, ReadFault>
+    ensures { Gives tally result (reading (view value.now)) }
+{
+    if !value.is_object() {
+        return Err(ReadFault::WrongShape(Place::Root));
+    }
+    let mut out = Reading {
+        points: Points::new(alloc),
+        foreign: 0,
+        metrics: 0,
+    };
+    body(alloc, &mut out, value)?;
+    Ok(out)
+}
+
+#[tactic(auto, unfolding(crate::specs::Reading::body))]
+fn body(alloc: Global, out: &mut Reading, value: &Value) -> Result<(), ReadFault>
+    ensures { Gives (λ _. tally out.new) result (body (view value.now) (tally out.old)) }
+{
+    let values = objects(field(value, "resourceMetrics"), Place::ResourceMetrics)?;
+    resources(alloc, out, values)
+}
+
+fn resources(alloc: Global, out: &mut Reading, values: &[Value]) -> Result<(), ReadFault>
+    ensures { Gives (λ _. tally out.new) result (each resource_metrics (map view values.now) (tally out.old)) }
+{
+    for value in values {
+        resource_metrics(alloc, out, value)?;
+    }
+    Ok(())
+}
+
+#[tactic(auto, unfolding(crate::specs::Reading::resource_metrics))]
+fn resource_metrics(alloc: Global, out: &mut Reading, value: &Value) -> Result<(), ReadFault>
+    ensures { Gives (λ _. tally out.new) result (resource_metrics (view value.now) (tally out.old)) }
+{
+    let resource = object_in(field(value, "resource"), Place::Resource)?;
+    let values = objects(field(value, "scopeMetrics"), Place::ScopeMetrics)?;
+    let attributes = attributes_in(alloc, inner(resource, "attributes"))?;
+    scopes(alloc, out, attributes.as_ref(), values)
+}
+
+fn scopes(
+    alloc: Global,
+    out: &mut Reading,
+    resource: Option<&AttrSet>,
+    values: &[Value],
+) -> Result<(), ReadFault>
+    ensures { Gives (λ _. tally out.new) result (each (scope_metrics (option_map (λ s. s.now) resource.entry)) (map view values.now) (tally out.old)) }
+{
+    for value in values {
+        scope_metrics(alloc, out, resource, value)?;
+    }
+    Ok(())
+}
+
+#[tactic(auto, unfolding(crate::specs::Reading::scope_metrics))]
+fn scope_metrics(
+    alloc: Global,
+    out: &mut Reading,
+    resource: Option<&AttrSet>,
+    value: &Value,
+) -> Result<(), ReadFault>
+    ensures { Gives (λ _. tally out.new) result (scope_metrics (option_map (λ s. s.now) resource.entry) (view value.now) (tally out.old)) }
+{
+    let scope = object_in(field(value, "scope"), Place::Scope)?;
+    let values = objects(field(value, "metrics"), Place::Metrics)?;
+    let attributes = attributes_in(alloc, inner(scope, "attributes"))?;
+    metrics(
+        alloc,
+        out,
+        scope_in(resource, scope, attributes.as_ref()),
+        values,
+    )
+}
+
+fn metrics(
+    alloc: Global,
+    out: &mut Reading,
+    scope: Option<Scope<'_>>,
+    values: &[Value],
+) -> Result<(), ReadFault>
+    ensures { Gives (λ _. tally out.new) result (each (metric (option_map scope_data scope.entry)) (map view values.now) (tally out.old)) }
+{
+    for value in values {
+        metric(alloc, out, scope, value)?;
+    }
+    Ok(())
+}

@@ -1,0 +1,70 @@
+//! Whole numbers, as JSON numbers or as decimal texts.
+
+ghost use Rattle.std.specs.Prelude.{◌≡◌, ◌<◌, ◌≤◌, ◌^◌};
+ghost use Rattle.serde_json.specs.View.{view};
+ghost use Rattle.otlp_read.specs.Whole.{magnitude, text_whole, whole, unsigned_in, signed_in};
+
+use serde_json::Value;
+
+/// The value of the digits, where it is below 2^64.
+fn digits_below(text: &str) -> Option<u64>
+    ensures { result ≡ magnitude text.now }
+{
+    if text.starts_with('+') {
+        return None;
+    }
+    text.parse::<u64>().ok()
+}
+
+/// The value of an optional minus and digits.
+fn whole_text(text: &str) -> Option<i128>
+    ensures { result ≡ text_whole text.now }
+{
+    match text.strip_prefix('-') {
+        Some(digits) => {
+            let size = digits_below(digits)?;
+            Some(-i128::from(size))
+        }
+        None => {
+            let size = digits_below(text)?;
+            Some(i128::from(size))
+        }
+    }
+}
+
+/// The whole number that a value is: 64-bit integers come as numbers or as
+/// strings (proto3 JSON mapping), and nothing with a fraction or exponent is one.
+fn whole(value: &Value) -> Option<i128>
+    ensures { result ≡ whole (view value.now) }
+{
+    match value.as_str() {
+        Some(text) => whole_text(text),
+        None => value.as_number()?.as_i128(),
+    }
+}
+
+/// The whole number from 0 to `most` that a value is.
+#[tactic(auto, unfolding(crate::specs::Whole::unsigned_in))]
+pub fn unsigned(value: &Value, most: u64) -> Option<u64>
+    ensures { result ≡ unsigned_in most (view value.now) }
+{
+    let found = whole(value)?;
+    if found < 0 || found > i128::from(most) {
+        return None;
+    }
+    Some(found as u64)
+}
+
+/// The whole number from `-below` to `above` that a value is.
+#[tactic(auto, unfolding(crate::specs::Whole::signed_in))]
+pub fn signed(value: &Value, below: u64, above: u64) -> Option<i64>
+    requires low { below ≤ 2 ^ 63 }
+    requires high { above < 2 ^ 63 }
+    ensures { result ≡ signed_in below above (view value.now) }
+{
+    let found = whole(value)?;
+    if found < -i128::from(below) || found > i128::from(above) {
+        return None;
+    }
+    Some(found as i64)
+}
