@@ -1,0 +1,8 @@
+pub mod Answering
+pub mod Digits
+pub mod Ended
+pub mod Marked
+pub mod PointSteps
+pub mod Putting
+pub mod Splitting
+pub mod Wording

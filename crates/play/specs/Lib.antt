@@ -1,0 +1,14 @@
+pub mod Pieces
+pub mod Numbers
+pub mod PointLines
+pub mod Commands
+pub mod Told
+pub mod Escaped
+pub mod Rows
+pub mod SeriesNames
+pub mod Refused
+pub mod Replies
+pub mod Ends
+pub mod Run
+pub mod Answered
+pub mod Played
