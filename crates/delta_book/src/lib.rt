@@ -14,3 +14,6 @@ mod lists;
 mod part;
 mod sums;
 pub mod totals;
+
+#[cfg(test)]
+mod tests;
