@@ -1,5 +1,5 @@
 -- Which answer a call of the book gives.
-use Rattle.std.proofs.Common.{◌≡◌, ◌≢◌, ℕ, ◌+◌, Bool, true, false, List, [], ◌∷◌, ◌++◌, Option, Some, None, codes, decimal, refl, sym, ap, ◌∙◌, inl, inr, ◌⊎◌}
+use Rattle.std.proofs.Common.{◌≡◌, ◌≢◌, ℕ, ◌+◌, true, false, List, [], ◌∷◌, Option, Some, None, codes, decimal, refl, sym, ap, ◌∙◌, inl, inr, ◌⊎◌}
 use Rattle.std.specs.Option.{unwrap_or}
 use Rattle.std.proofs.lemmas.List.Sums.{fold_push}
 use Rattle.series_id.specs.Identity.{Identity}
@@ -9,7 +9,7 @@ use Rattle.metric_events.specs.declared.entry.Entry.{Entry}
 use Rattle.metric_events.specs.declared.event.Event.{Event}
 use Rattle.metric_events.specs.declared.event.Event.TheVariants.{Take}
 use Rattle.delta_book.specs.Journal.{history, and_then, Appends, takes}
-use Rattle.delta_book.specs.Flushes.{IsTaken, take_refusal}
+use Rattle.delta_book.specs.Flushes.{IsTaken}
 use Rattle.delta_book.specs.declared.flush.Flush.{Flush}
 use Rattle.delta_book.specs.declared.faults.TakeFault.{TakeFault}
 use Rattle.metric_events.specs.declared.point.PointFault.{PointFault}
@@ -24,7 +24,7 @@ use Rattle.play.specs.Commands.{Asked, TakeLine, AdmitLine}
 use Rattle.play.specs.Refused.{refusal_text, of_take, of_point, of_admit}
 use Rattle.play.specs.Replies.{said, flush_text}
 use Rattle.play.specs.Run.{answer, takes_memory, happens, refused, only_says, taken_or, flushed, body_of}
-use Rattle.play.specs.Answered.{Answers, IsAnswer}
+use Rattle.play.specs.Answered.{Answers}
 use Rattle.play.specs.declared.refusal.Refusal.{Refusal}
 use Rattle.play.specs.declared.refusal.Refusal.TheVariants.{NoMemory}
 
@@ -34,38 +34,50 @@ history_more old new seat event h = ap history h ∙ fold_push and_then Start ol
 -- the event happened
 pub happened : (asked : Asked) (old new : List Entry) (seat : ℕ) (event : Event) (word what : List ℕ) → Appends old new seat event
     → answer (history old) asked ≡ happens (history old) event word what → Answers (history old) asked (said word what) (history new)
-happened asked old new seat event word what h is = (false, record {
-  allowed = refl;
-  text_is = ap (λ a. a.text) (sym is);
-  after_is = history_more old new seat event h ∙ ap (λ a. a.after) (sym is);
-})
+happened asked old new seat event word what h is = (
+  false,
+  record {
+    allowed = refl;
+    text_is = ap (λ a. a.text) (sym is);
+    after_is = history_more old new seat event h ∙ ap (λ a. a.after) (sym is);
+  },
+)
 
 -- nothing happened, and the reply says why
 pub refused_as : (asked : Asked) (old new : List Entry) (why : Refusal) → new ≡ old
     → answer (history old) asked ≡ refused (history old) why → Answers (history old) asked (said (codes "refused ") (refusal_text why)) (history new)
-refused_as asked old new why h is = (false, record {
-  allowed = refl;
-  text_is = ap (λ a. a.text) (sym is);
-  after_is = ap history h ∙ ap (λ a. a.after) (sym is);
-})
+refused_as asked old new why h is = (
+  false,
+  record {
+    allowed = refl;
+    text_is = ap (λ a. a.text) (sym is);
+    after_is = ap history h ∙ ap (λ a. a.after) (sym is);
+  },
+)
 
 -- nothing happened, and the reply says something
 pub says : (asked : Asked) (old new : List Entry) (text : List ℕ) → new ≡ old
     → answer (history old) asked ≡ only_says (history old) text → Answers (history old) asked text (history new)
-says asked old new text h is = (false, record {
-  allowed = refl;
-  text_is = ap (λ a. a.text) (sym is);
-  after_is = ap history h ∙ ap (λ a. a.after) (sym is);
-})
+says asked old new text h is = (
+  false,
+  record {
+    allowed = refl;
+    text_is = ap (λ a. a.text) (sym is);
+    after_is = ap history h ∙ ap (λ a. a.after) (sym is);
+  },
+)
 
 -- there was no memory
 pub without_memory : (asked : Asked) (old new : List Entry) → takes_memory asked ≡ true → new ≡ old
     → Answers (history old) asked (said (codes "refused ") (refusal_text NoMemory)) (history new)
-without_memory asked old new may h = (true, record {
-  allowed = may;
-  text_is = refl;
-  after_is = ap history h;
-})
+without_memory asked old new may h = (
+  true,
+  record {
+    allowed = may;
+    text_is = refl;
+    after_is = ap history h;
+  },
+)
 
 -- the refusal that a fault is, where there is one, else want of memory
 pub refused_or : {F : Type 0} (asked : Asked) (old new : List Entry) (refusal_of : F → Refusal) (none fault : F) (refusal : Option F) → takes_memory asked ≡ true → new ≡ old
@@ -89,12 +101,14 @@ flush_taken old new seat max flush h =
     let E = history old in
     let is : answer E (TakeLine max) ≡ flushed E (takes E + 1) (E ▸ Take (takes E + 1) (pick E max)) = rw h.refused (taken_some E (pick E max) h.some) in
     let grown : history new ≡ E ▸ Take flush.number (pick E max) = history_more old new seat (Take flush.number (pick E max)) h.entry in
-    let after : history new ≡ E ▸ Take (takes E + 1) (pick E max) = grown ∙ ap (λ n. E ▸ Take n (pick E max)) h.number in
-    (false, record {
-      allowed = refl;
-      text_is = ap (λ ps. flush_text flush.number ps) h.points ∙ ap (λ n. flush_text n (flush_points (history new) n)) h.number ∙ ap (λ F. flush_text (takes E + 1) (flush_points F (takes E + 1))) after ∙ ap (λ a. a.text) (sym is);
-      after_is = after ∙ ap (λ a. a.after) (sym is);
-    })
+    let after : history new ≡ E ▸ Take (takes E + 1) (pick E max) = grown ∙ ap (λ n. E ▸ Take n (pick E max)) h.number in (
+      false,
+      record {
+        allowed = refl;
+        text_is = ap (λ ps. flush_text flush.number ps) h.points ∙ ap (λ n. flush_text n (flush_points (history new) n)) h.number ∙ ap (λ F. flush_text (takes E + 1) (flush_points F (takes E + 1))) after ∙ ap (λ a. a.text) (sym is);
+        after_is = after ∙ ap (λ a. a.after) (sym is);
+      },
+    )
 
 -- a point could not be made
 pub point_refused : (sender : List ℕ) (points : List PointWords) (old : List Entry) (fault : PointFault) → (fault ≡ point.NoMemory) ⊎ (first_fault points ≡ Some fault)

@@ -1,5 +1,5 @@
 -- Replies line by line.
-use Rattle.std.proofs.Common.{◌≡◌, ℕ, Bool, true, false, not, ◌||◌, ◌&&◌, List, [], ◌∷◌, ◌++◌, map, Option, Some, None, Err, refl, sym, ap, ◌∙◌, append_assoc, subst}
+use Rattle.std.proofs.Common.{◌≡◌, ℕ, Bool, true, false, not, ◌||◌, List, [], ◌∷◌, ◌++◌, Option, Some, None, Err, refl, sym, ap, ◌∙◌, append_assoc, subst}
 use Rattle.std.specs.Io.KnownBytes.{Keeps, Appends}
 use Rattle.std.proofs.lemmas.Bool.{and_parts, and_from}
 use Rattle.std.proofs.lemmas.List.{append-nil}
@@ -7,7 +7,7 @@ use Rattle.metric_events.specs.History.{History, Start}
 use Rattle.play.specs.Commands.{command}
 use Rattle.play.specs.Ends.{AppendsPart}
 use Rattle.play.specs.Run.{line_answer, replies, history_after, are_marks, takes_memory, run}
-use Rattle.play.specs.Answered.{Answers, IsAnswer}
+use Rattle.play.specs.Answered.{Answers}
 use Rattle.play.specs.Played.{WritesAll, WritesPart, WritesBefore, LineIsAnswered, LinesArePlayed}
 use Rattle.play.specs.declared.fault.PlayFault.{PlayFault}
 use Rattle.play.specs.declared.fault.PlayFault.TheVariants.{CannotRead, TooLong, CannotWrite, NoMemory}
@@ -71,13 +71,16 @@ one_mark line mark h = and_from _ _ h refl
 -- one more line
 pub line_done : (old mid new : Option (List ℕ)) (E F : History) (all rest after : List (List ℕ)) (line text : List ℕ)
     → SoFar old mid E all rest → rest ≡ line ∷ after → Answers E (command line) text F → Appends mid new text → SoFar old new F all after
-line_done old mid new E F all rest after line text (done, marks, h) first (mark, a) wrote =
-    (done ++ line ∷ [], marks ++ mark ∷ [], record {
-      whole = append_assoc done (line ∷ []) after ∙ ap (λ r. done ++ r) (sym first) ∙ h.whole;
-      marked = marks_follow done (line ∷ []) marks (mark ∷ []) h.marked (one_mark line mark a.allowed);
-      written = subst (λ t. Appends old new t) (sym (replies_follow Start done (line ∷ []) marks (mark ∷ []) h.marked ∙ ap (λ t. run done marks ++ t) (one_reply E (history_after Start done marks) line mark h.history ∙ sym a.text_is))) (appended old mid new (run done marks) text h.written wrote);
-      history = a.after_is ∙ ap (λ H. (line_answer H line mark).after) h.history ∙ sym (history_follows Start done (line ∷ []) marks (mark ∷ []) h.marked);
-    })
+line_done old mid new E F all rest after line text (done, marks, h) first (mark, a) wrote = (
+  done ++ line ∷ [],
+  marks ++ mark ∷ [],
+  record {
+    whole = append_assoc done (line ∷ []) after ∙ ap (λ r. done ++ r) (sym first) ∙ h.whole;
+    marked = marks_follow done (line ∷ []) marks (mark ∷ []) h.marked (one_mark line mark a.allowed);
+    written = subst (λ t. Appends old new t) (sym (replies_follow Start done (line ∷ []) marks (mark ∷ []) h.marked ∙ ap (λ t. run done marks ++ t) (one_reply E (history_after Start done marks) line mark h.history ∙ sym a.text_is))) (appended old mid new (run done marks) text h.written wrote);
+    history = a.after_is ∙ ap (λ H. (line_answer H line mark).after) h.history ∙ sym (history_follows Start done (line ∷ []) marks (mark ∷ []) h.marked);
+  },
+)
   where
     one_reply : (E H : History) (line : List ℕ) (mark : Bool) → E ≡ H → replies H (line ∷ []) (mark ∷ []) ≡ (line_answer E line mark).text
     one_reply E H line mark h = append-nil _ ∙ ap (λ K. (line_answer K line mark).text) (sym h)
@@ -115,10 +118,11 @@ broken old mid new E F all rest after line text (done, marks, h) first (mark, a)
     let later_marks : are_marks (line ∷ after) (mark ∷ unmarked after) ≡ true = and_from _ _ a.allowed (unmarked_are after) in
     let marked = marks_follow done (line ∷ after) marks (mark ∷ unmarked after) h.marked later_marks in
     let is : run (done ++ line ∷ after) (marks ++ mark ∷ unmarked after) ≡ run done marks ++ (text ++ more) =
-        replies_follow Start done (line ∷ after) marks (mark ∷ unmarked after) h.marked ∙ ap (λ t. run done marks ++ (t ++ more)) (sym said) in
-    (marks ++ mark ∷ unmarked after,
-    ap (λ ls. are_marks ls (marks ++ mark ∷ unmarked after)) (sym whole) ∙ marked,
-    subst (λ t. AppendsPart old new t) (sym is ∙ ap (λ ls. run ls (marks ++ mark ∷ unmarked after)) whole) (part_appended old mid new (run done marks) text more h.written wrote))
+    replies_follow Start done (line ∷ after) marks (mark ∷ unmarked after) h.marked ∙ ap (λ t. run done marks ++ (t ++ more)) (sym said) in (
+      marks ++ mark ∷ unmarked after,
+      ap (λ ls. are_marks ls (marks ++ mark ∷ unmarked after)) (sym whole) ∙ marked,
+      subst (λ t. AppendsPart old new t) (sym is ∙ ap (λ ls. run ls (marks ++ mark ∷ unmarked after)) whole) (part_appended old mid new (run done marks) text more h.written wrote),
+    )
 
 -- a line was not answered
 pub line_failed : (old mid new : Option (List ℕ)) (E F : History) (all rest after : List (List ℕ)) (line : List ℕ) (fault : PlayFault)

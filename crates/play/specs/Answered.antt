@@ -1,7 +1,7 @@
 -- What the program's replies say, and which reply a line may get.
-use Rattle.std.specs.Prelude.{◌≡◌, ℕ, Bool, true, false, not, ◌||◌, List, codes, decimal}
+use Rattle.std.specs.Prelude.{◌≡◌, ℕ, Bool, true, not, ◌||◌, List, codes, decimal}
 use Rattle.metric_events.specs.History.{History}
-use Rattle.play.specs.Commands.{Asked, command}
+use Rattle.play.specs.Commands.{Asked}
 use Rattle.play.specs.Refused.{refusal_text}
 use Rattle.play.specs.Replies.{said, flush_text, report_text}
 use Rattle.play.specs.Run.{marked_answer, takes_memory}

@@ -1,9 +1,9 @@
 -- What a line of a script asks for.
-use Rattle.std.specs.Prelude.{ℕ, Bool, true, false, List, [], ◌∷◌, ◌==◌, codes, if◌then◌else◌, nat_le, Some, None}
+use Rattle.std.specs.Prelude.{ℕ, List, [], ◌∷◌, ◌==◌, codes, if◌then◌else◌, nat_le, Some, None}
 use Rattle.std.specs.declared.option.Option.{Option}
 use Rattle.std.specs.Str.{bytes_eq}
 use Rattle.play.specs.Pieces.{words}
-use Rattle.play.specs.Numbers.{number_up_to, number}
+use Rattle.play.specs.Numbers.{number}
 use Rattle.play.specs.PointLines.{PointWords, point_words, name_of}
 use Rattle.play.specs.declared.numbers.TheConstants.{MAX_TAKEN}
 use Rattle.play.specs.declared.verb.Verb.{Verb}

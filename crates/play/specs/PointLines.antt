@@ -1,5 +1,5 @@
 -- The points of an `admit` line: four words each.
-use Rattle.std.specs.Prelude.{ℕ, ℤ, Bool, not, List, [], ◌∷◌, map, if◌then◌else◌, Some, None, false}
+use Rattle.std.specs.Prelude.{ℕ, ℤ, List, [], ◌∷◌, if◌then◌else◌, Some, None, false}
 use Rattle.std.specs.declared.option.Option.{Option}
 use Rattle.series_id.specs.Identity.{Identity}
 use Rattle.series_id.specs.declared.kinds.Kind.TheVariants.{Sum}

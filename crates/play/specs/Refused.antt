@@ -1,5 +1,5 @@
 -- Why a command is refused.
-use Rattle.std.specs.Prelude.{ℕ, List, ◌++◌, ◌∷◌, [], codes, decimal}
+use Rattle.std.specs.Prelude.{ℕ, List, ◌++◌, codes, decimal}
 use Rattle.delta_book.specs.declared.faults.AdmitFault.{AdmitFault}
 use Rattle.delta_book.specs.declared.faults.AdmitFault.TheVariants as admit
 use Rattle.delta_book.specs.declared.faults.UndoFault.{UndoFault}

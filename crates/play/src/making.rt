@@ -1,7 +1,6 @@
 //! The points of an `admit` line, made.
 
 ghost use Rattle.std.specs.Prelude.{◌≡◌, ◌⊎◌, true, map, None, Some, IfOk, IfErr, OnOk, is_some};
-
 ghost use Rattle.metric_events.specs.Senders.{is_sender_name};
 ghost use Rattle.play.specs.Pieces.{words};
 ghost use Rattle.play.specs.PointLines as spec;

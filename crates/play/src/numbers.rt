@@ -13,6 +13,7 @@ pub const MAX_TAKEN: u64 = 1000;
 
 /// The greatest value above zero, and the greatest size of one below.
 pub const MAX_ABOVE: u64 = 9_223_372_036_854_775_807;
+
 pub const MAX_BELOW: u64 = 9_223_372_036_854_775_808;
 
 fn are_digits(text: &[u8]) -> bool

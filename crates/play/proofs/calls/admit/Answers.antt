@@ -1,6 +1,5 @@
-use Rattle.std.proofs.Common.{map}
-use Rattle.play.specs.PointLines.{points_in, point_of}
-use Rattle.play.proofs.Answering.{point_refused, batch_refused, batch_admitted}
+use Rattle.play.specs.PointLines.{points_in}
+use Rattle.play.proofs.Answering.{point_refused, batch_refused}
 use Rattle.play.proofs.calls.admit.Goals as goal
 
 pub returns-in-Err : goal.returns-in-Err

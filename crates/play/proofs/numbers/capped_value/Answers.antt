@@ -1,4 +1,4 @@
-use Rattle.std.proofs.Common.{ap, ◌∙◌, ◌+◌, ◌*◌, ◌-◌, get_or, min, arith}
+use Rattle.std.proofs.Common.{ap, ◌∙◌, ◌+◌, ◌*◌, ◌-◌, get_or, min}
 use Rattle.play.proofs.Digits.{digit_here, number_more}
 use Rattle.play.proofs.numbers.capped_value.Goals as goal
 

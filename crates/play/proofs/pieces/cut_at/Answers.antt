@@ -1,4 +1,4 @@
-use Rattle.std.proofs.Common.{◌≡◌, ◌∷◌, take, drop, length, ◌-◌, ◌+◌, ap, ◌∙◌, eqb, sym}
+use Rattle.std.proofs.Common.{◌∷◌, take, ◌+◌, ap, ◌∙◌, eqb, sym}
 use Rattle.std.specs.List.{slice_split}
 use Rattle.std.proofs.lemmas.List.{take_rest}
 use Rattle.play.proofs.Splitting.{split_some, split_none}

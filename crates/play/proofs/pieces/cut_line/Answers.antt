@@ -1,4 +1,4 @@
-use Rattle.std.proofs.Common.{◌≡◌, eqb}
+use Rattle.std.proofs.Common.{eqb}
 use Rattle.play.proofs.Splitting.{first_kept}
 use Rattle.play.proofs.pieces.cut_line.Goals as goal
 

@@ -1,4 +1,4 @@
-use Rattle.std.proofs.Common.{codes, decimal, ◌++◌}
+use Rattle.std.proofs.Common.{codes}
 use Rattle.play.proofs.Putting.{put_after, put_two}
 use Rattle.play.specs.Refused.{refusal_text}
 use Rattle.play.proofs.refusal.put_refusal.Goals as goal

@@ -1,7 +1,6 @@
 use Rattle.std.proofs.Common.{refl, ap}
 use Rattle.std.proofs.lemmas.Result.{err_from_is_err_and}
 use Rattle.delta_book.specs.Journal.{history}
-use Rattle.play.specs.Pieces.{lines}
 use Rattle.play.proofs.Ended.{still_unfailed}
 use Rattle.play.proofs.Marked.{nothing_done, line_done, line_failed}
 use Rattle.play.proofs.script.answer_lines.Goals as goal

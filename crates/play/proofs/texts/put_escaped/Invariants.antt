@@ -1,4 +1,4 @@
-use Rattle.std.proofs.Common.{◌≡◌, ◌++◌, ◌∷◌, take, decimal}
+use Rattle.std.proofs.Common.{◌≡◌, ◌++◌, take}
 use Rattle.play.specs.Escaped.{escaped}
 use Rattle.play.proofs.texts.put_escaped.Given as goal
 
