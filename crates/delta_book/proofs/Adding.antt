@@ -128,9 +128,9 @@ may_add part x i qs a total h l e one t = record {
       ∙ (ap (λ (y : Identity). row_length y.kind) (same_series-exact a.point.series x (and_parts (is_of x a) (is_part part a.place) one).0)
       ∙ sym (ap length t ∙ length-row_sum x (part_of part x (drop (i + 1) qs)) (part_made part x (drop (i + 1) qs) (made_drop (i + 1) qs (accepted_made qs h)))));
   small = λ k. (
-    let w : slice_index (part_sum part x (drop i qs)) k ≤ MAX_WORD = word_fits x.kind (part_sum part x (drop i qs)) k (fits_le x.kind (part_sum part x (drop i qs)) (part_sum part x qs) (rest_le part x i qs) (part_fits part x qs h)) in
-    let s : part_sum part x (drop i qs) ≡ add_rows a.point.row total = ap (row_sum (row_length x.kind)) (part_here part x i qs a l e one) ∙ ap (add_rows a.point.row) (sym t) in
-    omega (arith, w, ap (λ row. slice_index row k) s, added_at a.point.row total k));
+      let w : slice_index (part_sum part x (drop i qs)) k ≤ MAX_WORD = word_fits x.kind (part_sum part x (drop i qs)) k (fits_le x.kind (part_sum part x (drop i qs)) (part_sum part x qs) (rest_le part x i qs) (part_fits part x qs h)) in
+      let s : part_sum part x (drop i qs) ≡ add_rows a.point.row total = ap (row_sum (row_length x.kind)) (part_here part x i qs a l e one) ∙ ap (add_rows a.point.row) (sym t) in
+      omega (arith, w, ap (λ row. slice_index row k) s, added_at a.point.row total k));
 }
 
 -- a slice written back whole

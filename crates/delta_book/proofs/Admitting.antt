@@ -89,4 +89,3 @@ may_admit_now E body h some made none =
       few_series = ltb-false MAX_SERIES (series_count (points E ++ map (admitted (admits E + 1) body.sender) body.points)) d.0;
       small = e.0;
     }
-

@@ -38,4 +38,3 @@ may_take_book qs bs ls hs xs old cap a t n r h o few e f =
     let m = may_take_now (history xs) n h.legal h.numbered (omega (arith, few, ap length h.live_are)) (leb-true (entries (history xs) + owed (history xs) + 2) MAX_ENTRIES room) in
     let k : takes (history xs) + 1 ≡ t + 1 = omega (arith, h.taken_are) in
     subst (λ s. MayTake (history xs) (t + 1) s) (picked_is qs bs ls hs xs cap a t n h) (subst (λ i. MayTake (history xs) i (pick (history xs) n)) k m)
-

@@ -119,6 +119,7 @@ counts-sum (r ∷ row) w h =
   where
     first : r ≡ w 3
     first = h 0
+
     next : (k : ℕ) → slice_index row k ≡ w ((k + 3) + 1)
     next k = h (suc k) ∙ ap w (omega arith)
 
@@ -150,6 +151,7 @@ not_fits_histogram bounds row w h =
   where
     total : sum (drop 3 row) ≡ counts w (length row - 3)
     total = counts-sum (drop 3 row) w (λ k. get_or-drop 3 row k 0 ∙ (h (3 + k) ∙ ap w (omega arith))) ∙ ap (counts w) (length-drop 3 row)
+
     none : (u v t : Bool) → not (not u && (not v && not t)) ≡ ((u || v) || t)
     none true v t = refl
     none false true t = refl

@@ -31,8 +31,7 @@ fn is_flushing(live: &[Flight], series: &SeriesId) -> bool
 fn is_ready(a: &Accepted, live: &[Flight], held: &[SenderName]) -> bool
     ensures { result ≡ is_eligible live.now held.now a.now }
 {
-    is_at_home(a.place)
-        && (!is_flushing(live, a.point.series()) && !has_sender(held, &a.sender))
+    is_at_home(a.place) && (!is_flushing(live, a.point.series()) && !has_sender(held, &a.sender))
 }
 
 pub fn has_ready(points: &[Accepted], live: &[Flight], held: &[SenderName]) -> bool

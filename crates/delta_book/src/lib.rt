@@ -13,7 +13,6 @@ mod limiting;
 mod lists;
 mod part;
 mod sums;
-pub mod totals;
-
 #[cfg(test)]
 mod tests;
+pub mod totals;

@@ -4,8 +4,9 @@ ghost use Rattle.std.specs.Prelude.{◌≡◌, ◌<◌, length, IfOk};
 ghost use Rattle.metric_events.specs.PointFaults.{IsSum};
 
 use crate::book::Book;
-use crate::faults::{AdmitFault, NotLive, NotOpen, NotQuarantined, QuarantineFault};
-use crate::faults::{TakeFault, UndoFault};
+use crate::faults::{
+    AdmitFault, NotLive, NotOpen, NotQuarantined, QuarantineFault, TakeFault, UndoFault,
+};
 use metric_events::batch::Batch;
 use metric_events::point::Point;
 use metric_events::points::Points;
@@ -72,7 +73,10 @@ fn each_call_once(rt: HostRuntime) -> Result<(), Fail> {
     let mut book = Book::new(alloc)?;
     assert_eq!(rt; taken(&mut book), Ok(None));
     assert_eq!(rt; admitted(&rt, &mut book, batch(alloc, 0, 2, 1)?), Ok(1));
-    assert_eq!(rt; admitted(&rt, &mut book, batch(alloc, 0, 1, 1)?), Err(AdmitFault::OutOfOrder(0, 2)));
+    assert_eq!(rt;
+        admitted(&rt, &mut book, batch(alloc, 0, 1, 1)?),
+        Err(AdmitFault::OutOfOrder(0, 2))
+    );
     assert_eq!(rt; admitted(&rt, &mut book, batch(alloc, 2, 3, 1)?), Ok(2));
     assert_eq!(rt; book.undo(7, 2), Ok(()));
     assert_eq!(rt; book.undo(7, 2), Err(UndoFault::NotOpen));
@@ -89,8 +93,14 @@ fn each_call_once(rt: HostRuntime) -> Result<(), Fail> {
     assert_eq!(rt; book.confirm(7, 1), Ok(()));
     assert_eq!(rt; book.confirm(7, 1), Err(NotOpen));
     assert_eq!(rt; book.quarantine(7, sender(alloc, 0)?), Ok(()));
-    assert_eq!(rt; book.quarantine(7, sender(alloc, 0)?), Err(QuarantineFault::Already));
-    assert_eq!(rt; admitted(&rt, &mut book, batch(alloc, 0, 1, 5)?), Err(AdmitFault::Quarantined));
+    assert_eq!(rt;
+        book.quarantine(7, sender(alloc, 0)?),
+        Err(QuarantineFault::Already)
+    );
+    assert_eq!(rt;
+        admitted(&rt, &mut book, batch(alloc, 0, 1, 5)?),
+        Err(AdmitFault::Quarantined)
+    );
     assert_eq!(rt; book.lift(7, &sender(alloc, 0)?), Ok(()));
     assert_eq!(rt; book.lift(7, &sender(alloc, 0)?), Err(NotQuarantined));
     let totals = book.totals()?;
@@ -126,9 +136,15 @@ fn open_batches_have_a_limit(rt: HostRuntime) -> Result<(), Fail> {
     let alloc = rt.alloc();
     let mut book = Book::new(alloc)?;
     for number in 1..1025 {
-        assert_eq!(rt; admitted(&rt, &mut book, batch(alloc, 0, 1, number)?), Ok(number));
+        assert_eq!(rt;
+            admitted(&rt, &mut book, batch(alloc, 0, 1, number)?),
+            Ok(number)
+        );
     }
-    assert_eq!(rt; admitted(&rt, &mut book, batch(alloc, 0, 1, 5000)?), Err(AdmitFault::Full));
+    assert_eq!(rt;
+        admitted(&rt, &mut book, batch(alloc, 0, 1, 5000)?),
+        Err(AdmitFault::Full)
+    );
     Ok(())
 }
 
@@ -137,7 +153,10 @@ fn series_have_a_limit(rt: HostRuntime) -> Result<(), Fail> {
     let alloc = rt.alloc();
     let mut book = Book::new(alloc)?;
     let many = batch(alloc, 0, 10001, 1)?;
-    assert_eq!(rt; admitted(&rt, &mut book, many), Err(AdmitFault::TooManySeries));
+    assert_eq!(rt;
+        admitted(&rt, &mut book, many),
+        Err(AdmitFault::TooManySeries)
+    );
     assert_eq!(rt; admitted(&rt, &mut book, batch(alloc, 0, 1, 1)?), Ok(1));
     Ok(())
 }
@@ -156,8 +175,14 @@ fn the_last_entry_is_owed(rt: HostRuntime) -> Result<(), Fail> {
         assert_eq!(rt; book.lift(7, &held), Ok(()));
     }
     assert_eq!(rt; book.journal().len(), 65535);
-    assert_eq!(rt; admitted(&rt, &mut book, batch(alloc, 1, 2, 1)?), Err(AdmitFault::Full));
-    assert_eq!(rt; book.quarantine(7, sender(alloc, 1)?), Err(QuarantineFault::Full));
+    assert_eq!(rt;
+        admitted(&rt, &mut book, batch(alloc, 1, 2, 1)?),
+        Err(AdmitFault::Full)
+    );
+    assert_eq!(rt;
+        book.quarantine(7, sender(alloc, 1)?),
+        Err(QuarantineFault::Full)
+    );
     assert_eq!(rt; book.give_back(7, 1), Ok(()));
     assert_eq!(rt; book.journal().len(), 65536);
     assert_eq!(rt; taken(&mut book), Err(TakeFault::Full));
@@ -171,6 +196,9 @@ fn held_senders_have_a_limit(rt: HostRuntime) -> Result<(), Fail> {
     for name in 0..1000 {
         assert_eq!(rt; book.quarantine(7, sender(alloc, name)?), Ok(()));
     }
-    assert_eq!(rt; book.quarantine(7, sender(alloc, 1000)?), Err(QuarantineFault::Full));
+    assert_eq!(rt;
+        book.quarantine(7, sender(alloc, 1000)?),
+        Err(QuarantineFault::Full)
+    );
     Ok(())
 }

@@ -11,14 +11,14 @@ pub returns-then-is_series_over : goal.returns-then-is_series_over
 returns-then-is_series_over c b s =
     let qs = c.args.points.now ++ map (admitted b s) c.args.batch.now in
     let over = over_with c.p-item.result b s c.args.points.now c.args.batch.now c.requires.accepted c.requires.made
-        ∙ (ap (λ (x : Identity). is_over_by x.kind (word_with x c.args.points.now c.args.batch.now) (row_length x.kind)) (sym c.series.ensures) ∙ (sym c.is_series_over.ensures ∙ c.if-is_series_over.true)) in
+    ∙ (ap (λ (x : Identity). is_over_by x.kind (word_with x c.args.points.now c.args.batch.now) (row_length x.kind)) (sym c.series.ensures) ∙ (sym c.is_series_over.ensures ∙ c.if-is_series_over.true)) in
     sym (sym (c.loop-p.invariant b s) ∙ large_here qs c.args.batch.now c.loop-p.p-index c.p-item.result c.loop-p-test.true c.p-item.is over)
 
 pub loop-p-preserved : goal.loop-p-preserved
 loop-p-preserved c b s =
     let qs = c.args.points.now ++ map (admitted b s) c.args.batch.now in
     let over = over_with c.p-item.result b s c.args.points.now c.args.batch.now c.requires.accepted c.requires.made
-        ∙ (ap (λ (x : Identity). is_over_by x.kind (word_with x c.args.points.now c.args.batch.now) (row_length x.kind)) (sym c.series.ensures) ∙ (sym c.is_series_over.ensures ∙ c.if-is_series_over.false)) in
+    ∙ (ap (λ (x : Identity). is_over_by x.kind (word_with x c.args.points.now c.args.batch.now) (row_length x.kind)) (sym c.series.ensures) ∙ (sym c.is_series_over.ensures ∙ c.if-is_series_over.false)) in
     large_later qs c.args.batch.now c.loop-p.p-index c.p-item.result c.loop-p-test.true c.p-item.is over ∙ c.loop-p.invariant b s
 
 pub returns : goal.returns
