@@ -1,5 +1,5 @@
 -- Which answer a call of the book gives.
-use Rattle.std.proofs.Common.{◌≡◌, ◌≢◌, ℕ, ◌+◌, true, false, List, [], ◌∷◌, Option, Some, None, codes, decimal, refl, sym, ap, ◌∙◌, inl, inr, ◌⊎◌}
+use Rattle.std.proofs.Common.{◌≡◌, ◌≢◌, ℕ, ◌+◌, true, false, List, [], ◌∷◌, Option, Some, None, Ok, Err, codes, decimal, refl, sym, ap, ◌∙◌, inl, inr, ◌⊎◌}
 use Rattle.std.specs.Option.{unwrap_or}
 use Rattle.std.proofs.lemmas.List.Sums.{fold_push}
 use Rattle.series_id.specs.Identity.{Identity}
@@ -20,13 +20,19 @@ use Rattle.delta_book.specs.declared.faults.AdmitFault.{AdmitFault}
 use Rattle.delta_book.specs.declared.faults.AdmitFault.TheVariants as admit
 use Rattle.metric_events.specs.declared.event.Event.TheVariants.{Admit}
 use Rattle.play.specs.PointLines.{PointWords, first_fault}
-use Rattle.play.specs.Commands.{Asked, TakeLine, AdmitLine}
-use Rattle.play.specs.Refused.{refusal_text, of_take, of_point, of_admit}
-use Rattle.play.specs.Replies.{said, flush_text}
-use Rattle.play.specs.Run.{answer, takes_memory, happens, refused, only_says, taken_or, flushed, body_of}
+use Rattle.metric_events.specs.DataPoint.{DataPoint}
+use Rattle.metric_events.specs.declared.batch.Batch.{Batch}
+use Rattle.otlp_read.specs.Reading.{text_reading, Answers as Reads}
+use Rattle.otlp_read.specs.Tallies.{Tally}
+use Rattle.otlp_read.specs.declared.fault.ReadFault.{ReadFault}
+use Rattle.otlp_read.specs.declared.fault.ReadFault.TheVariants as read
+use Rattle.play.specs.Commands.{Asked, TakeLine, AdmitLine, PostLine}
+use Rattle.play.specs.Refused.{refusal_text, of_take, of_point, of_admit, of_read}
+use Rattle.play.specs.Replies.{said, batch_and_foreign, flush_text}
+use Rattle.play.specs.Run.{answer, takes_memory, happens, refused, only_says, taken_or, flushed, body_of, posted, posted_or}
 use Rattle.play.specs.Answered.{Answers}
 use Rattle.play.specs.declared.refusal.Refusal.{Refusal}
-use Rattle.play.specs.declared.refusal.Refusal.TheVariants.{NoMemory}
+use Rattle.play.specs.declared.refusal.Refusal.TheVariants.{NotJson, WrongShape, NoMemory}
 
 pub history_more : (old new : List Entry) (seat : ℕ) (event : Event) → Appends old new seat event → history new ≡ history old ▸ event
 history_more old new seat event h = ap history h ∙ fold_push and_then Start old (record { seat = seat; event = event })
@@ -131,3 +137,44 @@ pub batch_admitted : (sender : List ℕ) (points : List PointWords) (old new : L
     → Answers (history old) (AdmitLine sender points) (said (codes "batch ") (decimal batch)) (history new)
 batch_admitted sender points old new seat batch made number entry none =
     happened (AdmitLine sender points) old new seat (Admit batch (body_of sender points)) (codes "batch ") (decimal batch) entry (rw (made, none, number) refl)
+
+-- a body could not be read
+pub body_refused : (sender body : List ℕ) (old : List Entry) (fault : ReadFault) → Reads body (Err fault)
+    → Answers (history old) (PostLine sender body) (said (codes "refused ") (refusal_text (of_read fault))) (history old)
+body_refused sender body old read.NoMemory h = without_memory (PostLine sender body) old old refl refl
+body_refused sender body old read.NotJson h = refused_as (PostLine sender body) old old NotJson refl (rw h refl)
+body_refused sender body old (read.WrongShape place) h = refused_as (PostLine sender body) old old WrongShape refl (rw h refl)
+
+-- a body has no point of the profile
+pub only_foreign : (sender body : List ℕ) (old : List Entry) (t : Tally) → text_reading body ≡ Some (Ok t) → t.points ≡ []
+    → Answers (history old) (PostLine sender body) (said (codes "nothing foreign ") (decimal t.foreign)) (history old)
+only_foreign sender body old t h none = says (PostLine sender body) old old (said (codes "nothing foreign ") (decimal t.foreign)) refl (rw (h, none) refl)
+
+abbrev posted_batch : List ℕ → Tally → Batch
+posted_batch sender t = record { sender = sender; points = t.points }
+
+posted_some : (E : History) (sender : List ℕ) (points : List DataPoint) (foreign : ℕ) → points ≢ []
+    → posted E sender points foreign ≡ posted_or E (admits E + 1) (record { sender = sender; points = points }) foreign (admit_refusal E (admits E + 1) (record { sender = sender; points = points }))
+posted_some E sender [] foreign h = absurd (h refl)
+posted_some E sender (p ∷ ps) foreign h = refl
+
+answer_posted : (E : History) (sender body : List ℕ) (t : Tally) → text_reading body ≡ Some (Ok t) → t.points ≢ []
+    → answer E (PostLine sender body) ≡ posted_or E (admits E + 1) (posted_batch sender t) t.foreign (admit_refusal E (admits E + 1) (posted_batch sender t))
+answer_posted E sender body t h some = rw h (posted_some E sender t.points t.foreign some)
+
+-- the book did not admit a body's points
+pub post_refused : (sender body : List ℕ) (old new : List Entry) (t : Tally) (fault : AdmitFault) → text_reading body ≡ Some (Ok t) → t.points ≢ [] → new ≡ old
+    → fault ≡ unwrap_or (admit_refusal (history old) (admits (history old) + 1) (posted_batch sender t)) admit.NoMemory
+    → Answers (history old) (PostLine sender body) (said (codes "refused ") (refusal_text (of_admit fault))) (history new)
+post_refused sender body old new t fault h some same is =
+    refused_or (PostLine sender body) old new of_admit admit.NoMemory fault (admit_refusal (history old) (admits (history old) + 1) (posted_batch sender t)) refl same refl is
+    (λ f e. answer_posted (history old) sender body t h some ∙ rw e refl)
+
+-- the book admitted them
+pub post_admitted : (sender body : List ℕ) (old new : List Entry) (t : Tally) (seat batch : ℕ) → text_reading body ≡ Some (Ok t) → t.points ≢ []
+    → batch ≡ admits (history old) + 1 → Appends old new seat (Admit batch (posted_batch sender t))
+    → admit_refusal (history old) (admits (history old) + 1) (posted_batch sender t) ≡ None
+    → Answers (history old) (PostLine sender body) (said (codes "batch ") (batch_and_foreign batch t.foreign)) (history new)
+post_admitted sender body old new t seat batch h some number entry none =
+    happened (PostLine sender body) old new seat (Admit batch (posted_batch sender t)) (codes "batch ") (batch_and_foreign batch t.foreign) entry
+    (answer_posted (history old) sender body t h some ∙ rw (none, number) refl)

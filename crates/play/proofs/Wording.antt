@@ -1,6 +1,7 @@
 -- A line that has more words than its command.
-use Rattle.std.proofs.Common.{◌≡◌, ℕ, ◌<◌, Bool, true, false, Option, sym, ◌∙◌, List, [], ◌∷◌, length, Some, None, refl, arith}
-use Rattle.std.proofs.lemmas.List.Splits.{length-slice_split}
+use Rattle.std.proofs.Common.{◌≡◌, ℕ, ◌<◌, Bool, true, false, Option, sym, ap, ◌∙◌, List, [], ◌∷◌, length, Some, None, refl, arith}
+use Rattle.std.specs.List.{join_with_byte}
+use Rattle.std.proofs.lemmas.List.Splits.{length-slice_split, join_with_byte-slice_split}
 use Rattle.std.proofs.Common.{eqb}
 use Rattle.std.specs.Option.{is_some}
 use Rattle.play.specs.Pieces.{words}
@@ -64,3 +65,14 @@ good_words sender (Some (p ∷ ps)) h some = rw h refl
 
 pub good_points : (all : List (List ℕ)) (sender : List ℕ) (points : List ℕ) → all ≡ sender ∷ words points → is_sender_name sender ≡ true → 0 < length (points_in points) → spec.AdmitLine sender (points_in points) ≡ spec.admit_words all
 good_points all sender points h named some = rw h (good_words sender (point_words (words points)) named some)
+
+-- the words of a text, with their spaces, are the text
+words_joined : (text : List ℕ) → join_with_byte 32 (words text) ≡ text
+words_joined text = join_with_byte-slice_split 32 text
+
+some_body : (sender : List ℕ) (ws : List (List ℕ)) → 0 < length ws → spec.post_words (sender ∷ ws) ≡ spec.post_line (name_of sender) (join_with_byte 32 ws)
+some_body sender [] h = absurd (omega arith)
+some_body sender (w ∷ ws) h = refl
+
+pub post_more : (all : List (List ℕ)) (sender body : List ℕ) → all ≡ sender ∷ words body → spec.post_words all ≡ spec.post_line (name_of sender) body
+post_more all sender body h = ap spec.post_words h ∙ some_body sender (words body) (some_words body) ∙ ap (spec.post_line (name_of sender)) (words_joined body)

@@ -3,10 +3,10 @@ use Rattle.std.specs.Prelude.{◌≡◌, ℕ, Bool, true, not, ◌||◌, List, c
 use Rattle.metric_events.specs.History.{History}
 use Rattle.play.specs.Commands.{Asked}
 use Rattle.play.specs.Refused.{refusal_text}
-use Rattle.play.specs.Replies.{said, flush_text, report_text}
+use Rattle.play.specs.Replies.{said, batch_and_foreign, flush_text, report_text}
 use Rattle.play.specs.Run.{marked_answer, takes_memory}
 use Rattle.play.specs.declared.reply.Reply.{Reply}
-use Rattle.play.specs.declared.reply.Reply.TheVariants.{BadCommand, Refused, Nothing, Batch, Flushed, Settled, Returned, Undone, Confirmed, Dropped, Held, Lifted, Report}
+use Rattle.play.specs.declared.reply.Reply.TheVariants.{BadCommand, Refused, Nothing, Batch, Posted, OnlyForeign, Flushed, Settled, Returned, Undone, Confirmed, Dropped, Held, Lifted, Report}
 
 -- the text of a reply
 abbrev pub reply_text : Reply → List ℕ
@@ -14,6 +14,8 @@ reply_text BadCommand = codes "bad command\n"
 reply_text (Refused why) = said (codes "refused ") (refusal_text why)
 reply_text Nothing = codes "nothing\n"
 reply_text (Batch b) = said (codes "batch ") (decimal b)
+reply_text (Posted b foreign) = said (codes "batch ") (batch_and_foreign b foreign)
+reply_text (OnlyForeign foreign) = said (codes "nothing foreign ") (decimal foreign)
 reply_text (Flushed flush) = flush_text flush.number flush.points
 reply_text (Settled f) = said (codes "settled ") (decimal f)
 reply_text (Returned f) = said (codes "returned ") (decimal f)

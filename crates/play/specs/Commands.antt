@@ -1,13 +1,15 @@
 -- What a line of a script asks for.
 use Rattle.std.specs.Prelude.{ℕ, List, [], ◌∷◌, ◌==◌, codes, if◌then◌else◌, nat_le, Some, None}
 use Rattle.std.specs.declared.option.Option.{Option}
+use Rattle.std.specs.List.{join_with_byte}
 use Rattle.std.specs.Str.{bytes_eq}
 use Rattle.play.specs.Pieces.{words}
 use Rattle.play.specs.Numbers.{number}
 use Rattle.play.specs.PointLines.{PointWords, point_words, name_of}
+use Rattle.play.specs.declared.pieces.TheConstants.{SPACE}
 use Rattle.play.specs.declared.numbers.TheConstants.{MAX_TAKEN}
 use Rattle.play.specs.declared.verb.Verb.{Verb}
-use Rattle.play.specs.declared.verb.Verb.TheVariants.{Admit, Take, Settle, GiveBack, Report, Undo, Confirm, Discard, Hold, Lift}
+use Rattle.play.specs.declared.verb.Verb.TheVariants.{Admit, Take, Settle, GiveBack, Report, Undo, Confirm, Discard, Hold, Lift, Post}
 
 pub data Asked : Type 0 where
   AdmitLine : (sender : List ℕ) (points : List PointWords) → Asked
@@ -20,6 +22,7 @@ pub data Asked : Type 0 where
   DropLine : (flush : ℕ) → Asked
   HoldLine : (sender : List ℕ) → Asked
   LiftLine : (sender : List ℕ) → Asked
+  PostLine : (sender : List ℕ) (body : List ℕ) → Asked
   BadLine : Asked
 
 -- the first word of a command
@@ -34,7 +37,8 @@ verb word =
     else (if bytes_eq word (codes "confirm") then Some Confirm
     else (if bytes_eq word (codes "drop") then Some Discard
     else (if bytes_eq word (codes "hold") then Some Hold
-    else (if bytes_eq word (codes "lift") then Some Lift else None)))))))))
+    else (if bytes_eq word (codes "lift") then Some Lift
+    else (if bytes_eq word (codes "post") then Some Post else None))))))))))
 
 -- a number that is the one word
 abbrev pub only_number : List (List ℕ) → Option ℕ
@@ -69,6 +73,16 @@ abbrev pub admit_words : List (List ℕ) → Asked
 admit_words [] = BadLine
 admit_words (sender ∷ points) = admit_line (name_of sender) (point_words points)
 
+abbrev pub post_line : Option (List ℕ) → List ℕ → Asked
+post_line None body = BadLine
+post_line (Some sender) body = PostLine sender body
+
+-- a sender, and the rest of the line as it is
+abbrev pub post_words : List (List ℕ) → Asked
+post_words [] = BadLine
+post_words (sender ∷ []) = BadLine
+post_words (sender ∷ word ∷ more) = post_line (name_of sender) (join_with_byte SPACE (word ∷ more))
+
 abbrev pub nothing_more : Asked → List (List ℕ) → Asked
 nothing_more line [] = line
 nothing_more line (word ∷ more) = BadLine
@@ -86,6 +100,7 @@ command_by (Some Confirm) rest = numbered ConfirmLine (only_number rest)
 command_by (Some Discard) rest = numbered DropLine (only_number rest)
 command_by (Some Hold) rest = named HoldLine (only_name rest)
 command_by (Some Lift) rest = named LiftLine (only_name rest)
+command_by (Some Post) rest = post_words rest
 
 abbrev pub command_of : List (List ℕ) → Asked
 command_of [] = BadLine

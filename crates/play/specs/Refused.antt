@@ -8,10 +8,12 @@ use Rattle.delta_book.specs.declared.faults.TakeFault.{TakeFault}
 use Rattle.delta_book.specs.declared.faults.TakeFault.TheVariants as take
 use Rattle.delta_book.specs.declared.faults.QuarantineFault.{QuarantineFault}
 use Rattle.delta_book.specs.declared.faults.QuarantineFault.TheVariants as hold
+use Rattle.otlp_read.specs.declared.fault.ReadFault.{ReadFault}
+use Rattle.otlp_read.specs.declared.fault.ReadFault.TheVariants as read
 use Rattle.metric_events.specs.declared.point.PointFault.{PointFault}
 use Rattle.metric_events.specs.declared.point.PointFault.TheVariants as point
 use Rattle.play.specs.declared.refusal.Refusal.{Refusal}
-use Rattle.play.specs.declared.refusal.Refusal.TheVariants.{BadSpan, PointTooLarge, Quarantined, Full, OtherWriter, OutOfOrder, TooManySeries, TooLarge, NotOpen, Taken, NotLive, Already, NotHeld, NoMemory}
+use Rattle.play.specs.declared.refusal.Refusal.TheVariants.{BadSpan, PointTooLarge, Quarantined, Full, OtherWriter, OutOfOrder, TooManySeries, TooLarge, NotOpen, Taken, NotLive, Already, NotHeld, NotJson, WrongShape, NoMemory}
 
 -- a point's place, and the frontier of its series
 abbrev pub place_text : ℕ → ℕ → List ℕ
@@ -32,6 +34,8 @@ refusal_text Taken = codes "taken"
 refusal_text NotLive = codes "not-live"
 refusal_text Already = codes "already"
 refusal_text NotHeld = codes "not-held"
+refusal_text NotJson = codes "not-json"
+refusal_text WrongShape = codes "wrong-shape"
 refusal_text NoMemory = codes "no-memory"
 
 -- the refusal that a fault is: of a plain sum's point only these three can be
@@ -63,3 +67,8 @@ abbrev pub of_hold : QuarantineFault → Refusal
 of_hold hold.Already = Already
 of_hold hold.Full = Full
 of_hold hold.NoMemory = NoMemory
+
+abbrev pub of_read : ReadFault → Refusal
+of_read read.NotJson = NotJson
+of_read (read.WrongShape place) = WrongShape
+of_read read.NoMemory = NoMemory

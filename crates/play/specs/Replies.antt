@@ -11,6 +11,10 @@ use Rattle.play.specs.SeriesNames.{series_name, kind_text}
 unfoldable pub said : List ℕ → List ℕ → List ℕ
 said word what = word ++ what ++ 10 ∷ []
 
+-- a batch, and how many points were none of its
+unfoldable pub batch_and_foreign : ℕ → ℕ → List ℕ
+batch_and_foreign batch foreign = decimal batch ++ codes " foreign " ++ decimal foreign
+
 -- from the start, excluded, to the end, included
 unfoldable pub span_text : Interval → List ℕ
 span_text span = codes " (" ++ decimal span.start ++ codes "," ++ decimal span.end ++ codes "] "

@@ -1,6 +1,7 @@
 -- The run of a script: a reply for each line, by the rules over the history so far.
-use Rattle.std.specs.Prelude.{ℕ, ◌+◌, Bool, true, false, not, ◌||◌, ◌&&◌, List, [], ◌∷◌, ◌++◌, map, codes, decimal, if◌then◌else◌, Some, None}
+use Rattle.std.specs.Prelude.{ℕ, ◌+◌, Bool, true, false, not, ◌||◌, ◌&&◌, List, [], ◌∷◌, ◌++◌, map, codes, decimal, if◌then◌else◌, Some, None, Ok, Err}
 use Rattle.std.specs.declared.option.Option.{Option}
+use Rattle.std.specs.declared.result.Result.{Result}
 use Rattle.series_id.specs.Identity.{Identity}
 use Rattle.metric_events.specs.History.{History, Start, ◌▸◌}
 use Rattle.metric_events.specs.Running.{open_batches, live_flushes, held_senders}
@@ -10,6 +11,10 @@ use Rattle.metric_events.specs.declared.batch.Batch.{Batch}
 use Rattle.metric_events.specs.declared.event.Event.{Event}
 use Rattle.metric_events.specs.declared.event.Event.TheVariants.{Admit, Undo, Confirm, Take, Settle, Drop, GiveBack, Quarantine, Lift}
 use Rattle.metric_events.specs.declared.point.PointFault.{PointFault}
+use Rattle.metric_events.specs.DataPoint.{DataPoint}
+use Rattle.otlp_read.specs.declared.place.Place.{Place}
+use Rattle.otlp_read.specs.Tallies.{Tally}
+use Rattle.otlp_read.specs.Reading.{text_reading}
 use Rattle.delta_book.specs.declared.faults.AdmitFault.{AdmitFault}
 use Rattle.delta_book.specs.declared.faults.TakeFault.{TakeFault}
 use Rattle.delta_book.specs.declared.faults.UndoFault.{UndoFault}
@@ -19,11 +24,11 @@ use Rattle.delta_book.specs.Refusals.{admit_refusal, undo_refusal, quarantine_re
 use Rattle.delta_book.specs.Flushes.{take_refusal}
 use Rattle.delta_book.specs.Totals.{totals_rows}
 use Rattle.play.specs.PointLines.{PointWords, point_of, first_fault}
-use Rattle.play.specs.Commands.{Asked, AdmitLine, TakeLine, OkLine, BackLine, ReportLine, UndoLine, ConfirmLine, DropLine, HoldLine, LiftLine, BadLine, command}
+use Rattle.play.specs.Commands.{Asked, AdmitLine, TakeLine, OkLine, BackLine, ReportLine, UndoLine, ConfirmLine, DropLine, HoldLine, LiftLine, PostLine, BadLine, command}
 use Rattle.play.specs.Refused.{refusal_text, of_point, of_admit, of_take, of_undo, of_hold}
-use Rattle.play.specs.Replies.{said, flush_text, report_text}
+use Rattle.play.specs.Replies.{said, batch_and_foreign, flush_text, report_text}
 use Rattle.play.specs.declared.refusal.Refusal.{Refusal}
-use Rattle.play.specs.declared.refusal.Refusal.TheVariants.{NotOpen, NotLive, NotHeld, NoMemory}
+use Rattle.play.specs.declared.refusal.Refusal.TheVariants.{NotOpen, NotLive, NotHeld, NotJson, WrongShape, NoMemory}
 
 -- the reply to a line, and the history after it
 pub record Answer : Type 0 where
@@ -52,6 +57,21 @@ admitted_or E b body None = happens E (Admit b body) (codes "batch ") (decimal b
 abbrev pub made_or : History → Batch → Option PointFault → Answer
 made_or E body (Some fault) = refused E (of_point fault)
 made_or E body None = admitted_or E (admits E + 1) body (admit_refusal E (admits E + 1) body)
+
+abbrev pub posted_or : History → ℕ → Batch → ℕ → Option AdmitFault → Answer
+posted_or E b body foreign (Some fault) = refused E (of_admit fault)
+posted_or E b body foreign None = happens E (Admit b body) (codes "batch ") (batch_and_foreign b foreign)
+
+-- the points of the profile are one batch; without any the book is not asked
+abbrev pub posted : History → List ℕ → List DataPoint → ℕ → Answer
+posted E sender [] foreign = only_says E (said (codes "nothing foreign ") (decimal foreign))
+posted E sender (p ∷ ps) foreign = posted_or E (admits E + 1) (record { sender = sender; points = p ∷ ps }) foreign (admit_refusal E (admits E + 1) (record { sender = sender; points = p ∷ ps }))
+
+-- a body that can't be read is refused before the book is asked
+abbrev pub read_or : History → List ℕ → Option (Result Tally Place) → Answer
+read_or E sender None = refused E NotJson
+read_or E sender (Some (Err place)) = refused E WrongShape
+read_or E sender (Some (Ok t)) = posted E sender t.points t.foreign
 
 -- the flush of these series
 abbrev pub flushed : History → ℕ → History → Answer
@@ -86,6 +106,7 @@ answer E (ConfirmLine b) = if is_open b (open_batches E) then happens E (Confirm
 answer E (DropLine f) = ended E (is_live f (live_flushes E)) (Drop f) (codes "dropped ") f
 answer E (HoldLine s) = held_or E s (quarantine_refusal E s)
 answer E (LiftLine s) = if is_held s (held_senders E) then happens E (Lift s) (codes "lifted ") s else refused E NotHeld
+answer E (PostLine sender body) = read_or E sender (text_reading body)
 answer E BadLine = only_says E (codes "bad command\n")
 
 -- a mark says that a line found no memory
@@ -104,6 +125,7 @@ takes_memory (ConfirmLine b) = false
 takes_memory (DropLine f) = false
 takes_memory (HoldLine s) = true
 takes_memory (LiftLine s) = true
+takes_memory (PostLine sender body) = true
 takes_memory BadLine = false
 
 -- a line and its mark

@@ -6,11 +6,11 @@ use Rattle.std.specs.declared.option.Option.{Option}
 use denote.Ref.{Bor}
 use Rattle.play.specs.Pieces.{words}
 use Rattle.play.specs.PointLines.{PointWords, point_words, points_in}
-use Rattle.play.specs.Commands.{Asked, AdmitLine, TakeLine, OkLine, BackLine, ReportLine, UndoLine, ConfirmLine, DropLine, HoldLine, LiftLine, BadLine}
+use Rattle.play.specs.Commands.{Asked, AdmitLine, TakeLine, OkLine, BackLine, ReportLine, UndoLine, ConfirmLine, DropLine, HoldLine, LiftLine, PostLine, BadLine}
 use Rattle.play.specs.declared.numbers.TheConstants.{MAX_TAKEN}
 use Rattle.play.specs.declared.point_line.PointLine.{PointLine}
 use Rattle.play.specs.declared.command.Command.{Command}
-use Rattle.play.specs.declared.command.Command.TheVariants.{Admit, Take, Settle, GiveBack, Report, Undo, Confirm, Discard, Hold, Lift}
+use Rattle.play.specs.declared.command.Command.TheVariants.{Admit, Take, Settle, GiveBack, Report, Undo, Confirm, Discard, Hold, Lift, Post}
 
 abbrev pub told_point : PointLine → PointWords
 told_point p = record { name = p.name.now; start = p.start; end = p.end; value = p.value }
@@ -37,6 +37,7 @@ told (Some (Confirm batch)) = ConfirmLine batch
 told (Some (Discard flush)) = DropLine flush
 told (Some (Hold sender)) = HoldLine sender.now
 told (Some (Lift sender)) = LiftLine sender.now
+told (Some (Post sender body)) = PostLine sender.now body.now
 
 -- these words are points, and there is one
 pub record ArePoints (text : List ℕ) : Type 0 where
@@ -56,3 +57,4 @@ IsReady (Some (Confirm batch)) = ⊤
 IsReady (Some (Discard flush)) = ⊤
 IsReady (Some (Hold sender)) = is_sender_name sender.now ≡ true
 IsReady (Some (Lift sender)) = is_sender_name sender.now ≡ true
+IsReady (Some (Post sender body)) = is_sender_name sender.now ≡ true

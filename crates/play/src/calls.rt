@@ -11,11 +11,12 @@ ghost use Rattle.play.specs.Told.{told, IsReady, ArePoints};
 use crate::command::Command;
 use crate::making::make_points;
 use crate::numbers::MAX_TAKEN;
-use crate::refusal::{Refusal, of_admit, of_hold, of_point, of_take, of_undo};
+use crate::refusal::{Refusal, of_admit, of_hold, of_point, of_read, of_take, of_undo};
 use crate::reply::Reply;
 use delta_book::book::Book;
 use metric_events::batch::Batch;
 use metric_events::sender_name::SenderName;
+use otlp_read::read_request;
 use std::alloc::Global;
 
 /// The seat from which a script's events come.
@@ -35,6 +36,28 @@ fn admit(alloc: Global, book: &mut Book, sender: &[u8], points: &[u8]) -> Reply<
     };
     match book.admit(SEAT, Batch { sender, points }) {
         Ok(batch) => return Reply::Batch(batch),
+        Err((fault, _)) => return Reply::Refused(of_admit(fault)),
+    }
+}
+
+fn post(alloc: Global, book: &mut Book, sender: &[u8], body: &[u8]) -> Reply<'static>
+    requires named { is_sender_name sender.now ≡ true }
+    ensures { Answers (history book.old) (asked.PostLine sender.now body.now) (reply_text result) (history book.new) }
+{
+    let reading = match read_request(alloc, body) {
+        Ok(reading) => reading,
+        Err(fault) => return Reply::Refused(of_read(fault)),
+    };
+    let foreign = reading.foreign;
+    if reading.points.as_slice().is_empty() {
+        return Reply::OnlyForeign(foreign);
+    }
+    let Ok(sender) = SenderName::new(alloc, sender) else {
+        return Reply::Refused(Refusal::NoMemory);
+    };
+    let points = reading.points;
+    match book.admit(SEAT, Batch { sender, points }) {
+        Ok(batch) => return Reply::Posted { batch, foreign },
         Err((fault, _)) => return Reply::Refused(of_admit(fault)),
     }
 }
@@ -147,5 +170,6 @@ pub fn reply_to<'a>(alloc: Global, book: &mut Book, command: Command<'a>) -> Rep
         Command::Discard(flush) => discard(book, flush),
         Command::Hold(sender) => hold(alloc, book, sender),
         Command::Lift(sender) => lift(alloc, book, sender),
+        Command::Post { sender, body } => post(alloc, book, sender, body),
     }
 }

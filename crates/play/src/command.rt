@@ -26,6 +26,8 @@ pub enum Command<'a> {
     Discard(u64),
     Hold(&'a [u8]),
     Lift(&'a [u8]),
+    /// Admit the points of a request's body, which is the rest of the line.
+    Post { sender: &'a [u8], body: &'a [u8] },
 }
 
 /// The number that is the one word of the rest.
@@ -94,6 +96,22 @@ fn report(rest: Option<&[u8]>) -> Option<Command<'_>>
     }
 }
 
+/// The command to read a body, which is the rest of the line after the sender.
+fn post(rest: Option<&[u8]>) -> Option<Command<'_>>
+    ensures told { told result ≡ spec.post_words (rest_words rest.entry) }
+    ensures ready { IsReady result }
+{
+    let sender = cut_word(rest?);
+    let body = sender.rest?;
+    if !is_name(sender.first) {
+        return None;
+    }
+    Some(Command::Post {
+        sender: sender.first,
+        body,
+    })
+}
+
 /// The command of a verb and the rest of its line.
 fn command_by(verb: Verb, rest: Option<&[u8]>) -> Option<Command<'_>>
     ensures told { told result ≡ spec.command_by (Some verb) (rest_words rest.entry) }
@@ -110,6 +128,7 @@ fn command_by(verb: Verb, rest: Option<&[u8]>) -> Option<Command<'_>>
         Verb::Discard => Some(Command::Discard(only_number(rest)?)),
         Verb::Hold => Some(Command::Hold(only_name(rest)?)),
         Verb::Lift => Some(Command::Lift(only_name(rest)?)),
+        Verb::Post => post(rest),
     }
 }
 

@@ -6,6 +6,7 @@ ghost use Rattle.play.specs.Refused as spec;
 use crate::texts::put_number;
 use delta_book::faults::{AdmitFault, QuarantineFault, TakeFault, UndoFault};
 use metric_events::point::PointFault;
+use otlp_read::ReadFault;
 use std::alloc::AllocError;
 
 /// Why a command is refused. A point is named by its place in its batch, from 0.
@@ -36,6 +37,10 @@ pub enum Refusal {
     Already,
     /// The sender is not held.
     NotHeld,
+    /// The body is no JSON text.
+    NotJson,
+    /// A container of the body has another type.
+    WrongShape,
     NoMemory,
 }
 
@@ -73,6 +78,8 @@ pub fn put_refusal(out: &mut Vec<u8>, refusal: Refusal) -> Result<(), AllocError
         Refusal::NotLive => out.extend_from_slice(b"not-live"),
         Refusal::Already => out.extend_from_slice(b"already"),
         Refusal::NotHeld => out.extend_from_slice(b"not-held"),
+        Refusal::NotJson => out.extend_from_slice(b"not-json"),
+        Refusal::WrongShape => out.extend_from_slice(b"wrong-shape"),
         Refusal::NoMemory => out.extend_from_slice(b"no-memory"),
     }
 }
@@ -129,5 +136,15 @@ pub fn of_hold(fault: QuarantineFault) -> Refusal
         QuarantineFault::Already => Refusal::Already,
         QuarantineFault::Full => Refusal::Full,
         QuarantineFault::NoMemory => Refusal::NoMemory,
+    }
+}
+
+pub fn of_read(fault: ReadFault) -> Refusal
+    ensures { result ≡ spec.of_read fault }
+{
+    match fault {
+        ReadFault::NotJson => Refusal::NotJson,
+        ReadFault::WrongShape(_) => Refusal::WrongShape,
+        ReadFault::NoMemory => Refusal::NoMemory,
     }
 }

@@ -3,7 +3,7 @@
 ghost use Rattle.std.specs.Prelude.{◌≡◌, ◌++◌, OnOk, codes, decimal};
 ghost use Rattle.play.specs.Answered.{reply_text};
 ghost use Rattle.play.specs.Refused.{refusal_text};
-ghost use Rattle.play.specs.Replies.{said};
+ghost use Rattle.play.specs.Replies.{said, batch_and_foreign};
 
 use crate::flush_text::put_flush;
 use crate::refusal::{Refusal, put_refusal};
@@ -23,6 +23,10 @@ pub enum Reply<'a> {
     Nothing,
     /// A batch was admitted and has this number.
     Batch(u64),
+    /// A batch of a body was admitted, which has so many foreign points.
+    Posted { batch: u64, foreign: u64 },
+    /// A body has no point of the profile, and so many others.
+    OnlyForeign(u64),
     Flushed(Flush),
     Settled(u64),
     Returned(u64),
@@ -56,6 +60,16 @@ fn put_numbered(out: &mut Vec<u8>, word: &[u8], number: u64) -> Result<(), Alloc
     Ok(())
 }
 
+/// Puts the number of a body's batch, and how many of its points are foreign.
+#[tactic(auto, unfolding(crate::specs::Replies::said, crate::specs::Replies::batch_and_foreign))]
+fn put_posted(out: &mut Vec<u8>, batch: u64, foreign: u64) -> Result<(), AllocError>
+    ensures { OnOk result (out.new.items ≡ out.old.items ++ said (codes "batch ") (batch_and_foreign batch foreign)) }
+{
+    out.extend_from_slice(b"batch ")?;
+    put_number(out, batch)?;
+    put_numbered(out, b" foreign ", foreign)
+}
+
 #[tactic(auto, unfolding(crate::specs::Replies::said))]
 fn put_refused(out: &mut Vec<u8>, why: Refusal) -> Result<(), AllocError>
     ensures { OnOk result (out.new.items ≡ out.old.items ++ said (codes "refused ") (refusal_text why)) }
@@ -75,6 +89,8 @@ pub fn put_reply(out: &mut Vec<u8>, reply: &Reply<'_>) -> Result<(), AllocError>
         Reply::Refused(why) => put_refused(out, *why),
         Reply::Nothing => out.extend_from_slice(b"nothing\n"),
         Reply::Batch(batch) => put_numbered(out, b"batch ", *batch),
+        Reply::Posted { batch, foreign } => put_posted(out, *batch, *foreign),
+        Reply::OnlyForeign(foreign) => put_numbered(out, b"nothing foreign ", *foreign),
         Reply::Flushed(flush) => put_flush(out, flush),
         Reply::Settled(flush) => put_numbered(out, b"settled ", *flush),
         Reply::Returned(flush) => put_numbered(out, b"returned ", *flush),

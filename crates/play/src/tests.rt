@@ -86,6 +86,72 @@ fn reversals(rt: HostRuntime) {
     }
 }
 
+const POSTS: [(&str, &str); 7] = [
+    (
+        "post A {}\npost A [1\npost A []\npost A \npost A\npost\npost A/B {}\npost  A {}\npost A  { \"resourceMetrics\" : [ ] } \npost A {}\r\nreport\n",
+        "nothing foreign 0\nrefused not-json\nrefused wrong-shape\nrefused not-json\nbad command\nbad command\nbad command\nbad command\nnothing foreign 0\nnothing foreign 0\nend\n",
+    ),
+    (
+        r#"post A {"resourceMetrics":[{"scopeMetrics":[{"metrics":[{"name":"a","sum":{"aggregationTemporality":1,"isMonotonic":true,"dataPoints":[{"asInt":"5","startTimeUnixNano":"10","timeUnixNano":"20"}]}}]}]}]}
+post A {"resourceMetrics":[{"scopeMetrics":[{"metrics":[{"name":"a","sum":{"aggregationTemporality":1,"isMonotonic":true,"dataPoints":[{"asInt":"5","startTimeUnixNano":"10","timeUnixNano":"20"}]}}]}]}]}
+take 10
+ok 1
+report
+"#,
+        "batch 1 foreign 0\nrefused out-of-order 0 20\nflush 1 points 1\npoint a (10,20] 1,5,0\nsettled 1\nseries a monotonic owner A frontier 20 accepted 1,5,0 acknowledged 1,5,0 dropped 0,0,0 in-flight 0,0,0 stored 0,0,0 quarantined 0,0,0\nend\n",
+    ),
+    (
+        r#"post A {"resourceMetrics":[{"scopeMetrics":[{"metrics":[{"name":"a","sum":{"aggregationTemporality":1,"isMonotonic":true,"dataPoints":[{"asInt":5,"startTimeUnixNano":"10","timeUnixNano":"20"}]}}]}]}]}
+take 10
+"#,
+        "batch 1 foreign 0\nflush 1 points 1\npoint a (10,20] 1,5,0\n",
+    ),
+    (
+        r#"post A {"resourceMetrics":[{"scopeMetrics":[{"metrics":[{"name":"g","gauge":{"dataPoints":[{"asInt":"1","timeUnixNano":"20"},{}]}}]}]}]}
+post A {"resourceMetrics":[{"scopeMetrics":[{"metrics":[{"name":"g","gauge":{"dataPoints":[{"asInt":"1","timeUnixNano":"20"},{}]}},{"name":"s","sum":{"aggregationTemporality":1,"dataPoints":[{"asDouble":1.5,"startTimeUnixNano":"10","timeUnixNano":"20"},{"asInt":"4","startTimeUnixNano":"10","timeUnixNano":"20"}]}}]}]}]}
+post B {"resourceMetrics":[{"scopeMetrics":[{"metrics":[{"name":"g","gauge":{"dataPoints":[{"asInt":"1","timeUnixNano":"20"},{}]}},{"name":"s","sum":{"aggregationTemporality":1,"dataPoints":[{"asDouble":1.5,"startTimeUnixNano":"10","timeUnixNano":"20"},{"asInt":"4","startTimeUnixNano":"10","timeUnixNano":"20"}]}}]}]}]}
+report
+"#,
+        "nothing foreign 2\nbatch 1 foreign 3\nrefused other-writer 0\nseries s sum owner A frontier 20 accepted 1,4,0 acknowledged 0,0,0 dropped 0,0,0 in-flight 0,0,0 stored 1,4,0 quarantined 0,0,0\nend\n",
+    ),
+    (
+        r#"post A {"resourceMetrics":[{"scopeMetrics":[{"metrics":[{"name":"m","sum":{"aggregationTemporality":1,"dataPoints":[{"attributes":[{"key":"b","value":{"intValue":"1"}},{"key":"a","value":{"stringValue":"x"}}],"asInt":"1","startTimeUnixNano":"10","timeUnixNano":"20"},{"attributes":[{"key":"a","value":{"stringValue":"x"}},{"key":"b","value":{"intValue":"1"}}],"asInt":"2","startTimeUnixNano":"20","timeUnixNano":"30"},{"attributes":[{"key":"a","value":{"stringValue":"x"}},{"key":"a","value":{"stringValue":"x"}}],"asInt":"4","startTimeUnixNano":"30","timeUnixNano":"40"}]}}]}]}]}
+report
+"#,
+        r#"batch 1 foreign 1
+series m{a="x",b=1} sum owner A frontier 30 accepted 2,3,0 acknowledged 0,0,0 dropped 0,0,0 in-flight 0,0,0 stored 2,3,0 quarantined 0,0,0
+end
+"#,
+    ),
+    (
+        r#"post A {"resourceMetrics":[{"scopeMetrics":[{"metrics":[{"name":"h","histogram":{"aggregationTemporality":1,"dataPoints":[{"count":"7","sum":30,"explicitBounds":[0,5,10],"bucketCounts":["1","2","0","4"],"startTimeUnixNano":"10","timeUnixNano":"20"},{"count":"2","explicitBounds":[0,5,10],"bucketCounts":["0","1","1","0"],"startTimeUnixNano":"20","timeUnixNano":"30"},{"count":"8","sum":30,"explicitBounds":[0,5,10],"bucketCounts":["1","2","0","4"],"startTimeUnixNano":"30","timeUnixNano":"40"}]}}]}]}]}
+take 10
+post A {"resourceMetrics":[{"scopeMetrics":[{"metrics":[{"name":"h","histogram":{"aggregationTemporality":1,"dataPoints":[{"count":"1","sum":3,"explicitBounds":[0,5],"bucketCounts":["0","1","0"],"startTimeUnixNano":"10","timeUnixNano":"20"}]}}]}]}]}
+report
+"#,
+        "batch 1 foreign 1\nflush 1 points 1\npoint h (10,30] 2,1,30,1,3,1,4\nbatch 2 foreign 0\nseries h histogram[0;5] owner A frontier 20 accepted 1,0,3,0,1,0 acknowledged 0,0,0,0,0,0 dropped 0,0,0,0,0,0 in-flight 0,0,0,0,0,0 stored 1,0,3,0,1,0 quarantined 0,0,0,0,0,0\nseries h histogram[0;5;10] owner A frontier 30 accepted 2,1,30,1,3,1,4 acknowledged 0,0,0,0,0,0,0 dropped 0,0,0,0,0,0,0 in-flight 2,1,30,1,3,1,4 stored 0,0,0,0,0,0,0 quarantined 0,0,0,0,0,0,0\nend\n",
+    ),
+    (
+        r#"hold A
+post A {}
+post A [
+post A {"resourceMetrics":[{"scopeMetrics":[{"metrics":[{"name":"a","sum":{"aggregationTemporality":1,"isMonotonic":true,"dataPoints":[{"asInt":"5","startTimeUnixNano":"10","timeUnixNano":"20"}]}}]}]}]}
+lift A
+post A {"resourceMetrics":[{"scopeMetrics":[{"metrics":[{"name":"a","sum":{"aggregationTemporality":1,"isMonotonic":true,"dataPoints":[{"asInt":"5","startTimeUnixNano":"10","timeUnixNano":"20"}]}}]}]}]}
+undo 1
+post B {"resourceMetrics":[{"scopeMetrics":[{"metrics":[{"name":"a","sum":{"aggregationTemporality":1,"isMonotonic":true,"dataPoints":[{"asInt":"5","startTimeUnixNano":"10","timeUnixNano":"20"}]}}]}]}]}
+"#,
+        "held A\nnothing foreign 0\nrefused not-json\nrefused quarantined\nlifted A\nbatch 1 foreign 0\nundone 1\nbatch 2 foreign 0\n",
+    ),
+];
+
+#[test]
+fn posts(rt: HostRuntime) {
+    for (script, text) in POSTS {
+        replies(&rt, rt.alloc(), script, text);
+    }
+}
+
 #[test]
 fn longest_names(rt: HostRuntime) -> Result<(), Fail> {
     let mut script = String::from_str(rt.alloc(), "hold ")?;

@@ -17,6 +17,7 @@ pub enum Verb {
     Discard,
     Hold,
     Lift,
+    Post,
 }
 
 fn is(word: &[u8], text: &[u8]) -> bool
@@ -58,6 +59,9 @@ pub fn verb_of(word: &[u8]) -> Option<Verb>
     }
     if is(word, b"lift") {
         return Some(Verb::Lift);
+    }
+    if is(word, b"post") {
+        return Some(Verb::Post);
     }
     None
 }
