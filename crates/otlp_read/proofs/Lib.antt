@@ -3,3 +3,4 @@ pub mod ContainerLemmas
 pub mod ListLemmas
 pub mod PointLemmas
 pub mod WalkLemmas
+pub mod TextLemmas

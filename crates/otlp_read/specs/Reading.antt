@@ -1,5 +1,6 @@
 -- What a request says: its points of the profile in order, how many others it has, and how many metrics; or its first wrong container.
-use Rattle.std.specs.Prelude.{◌≡◌, ℕ, List, [], ◌∷◌, if◌then◌else◌, Option, Some, Result, Ok, Err, ⊤, codes, IsUtf8}
+use Rattle.std.specs.Prelude.{◌≡◌, ℕ, List, [], ◌∷◌, if◌then◌else◌, Option, Some, None, option_map, Result, Ok, Err, ⊤, codes}
+use Rattle.std.specs.Str.{is_utf8}
 use Rattle.serde_json.specs.Data.{Data}
 use Rattle.serde_json.specs.Read.{read}
 use Rattle.series_id.specs.declared.attributes.Attribute.{Attribute}
@@ -44,13 +45,13 @@ body d t = do
 unfoldable pub reading : Data → Result Tally Place
 reading d = if is_object d then body d nothing else Err place.Root
 
--- the bytes are the text of d
-abbrev pub IsJson : List ℕ → Data → Type 0
-IsJson bytes d = IsUtf8 bytes × (read bytes ≡ Some d)
+-- what bytes say: nothing where they are no JSON text
+unfoldable pub text_reading : List ℕ → Option (Result Tally Place)
+text_reading bytes = if is_utf8 bytes then option_map reading (read bytes) else None
 
 -- what `read_request` answers
 abbrev pub Answers : List ℕ → Result Reading ReadFault → Type 0
-Answers bytes (Ok r) = (d : Data) × IsJson bytes d × (reading d ≡ Ok (tally r))
-Answers bytes (Err (faults.WrongShape p)) = (d : Data) × IsJson bytes d × (reading d ≡ Err p)
-Answers bytes (Err faults.NotJson) = (d : Data) → ¬ (IsJson bytes d)
+Answers bytes (Ok r) = text_reading bytes ≡ Some (Ok (tally r))
+Answers bytes (Err (faults.WrongShape p)) = text_reading bytes ≡ Some (Err p)
+Answers bytes (Err faults.NotJson) = text_reading bytes ≡ None
 Answers bytes (Err faults.NoMemory) = ⊤
