@@ -1,5 +1,5 @@
 -- Which answer a call of the book gives.
-use Rattle.std.proofs.Common.{◌≡◌, ◌≢◌, ℕ, ◌+◌, true, false, List, [], ◌∷◌, Option, Some, None, Ok, Err, codes, decimal, refl, sym, ap, ◌∙◌, inl, inr, ◌⊎◌}
+use Rattle.std.proofs.Common.{◌≡◌, ◌≢◌, ℕ, ◌+◌, Bool, true, false, ◌==◌, length, List, [], ◌∷◌, Option, Some, None, Ok, Err, codes, decimal, refl, sym, ap, ◌∙◌, inl, inr, ◌⊎◌}
 use Rattle.std.specs.Option.{unwrap_or}
 use Rattle.std.proofs.lemmas.List.Sums.{fold_push}
 use Rattle.series_id.specs.Identity.{Identity}
@@ -149,6 +149,10 @@ body_refused sender body old (read.WrongShape place) h = refused_as (PostLine se
 pub only_foreign : (sender body : List ℕ) (old : List Entry) (t : Tally) → text_reading body ≡ Some (Ok t) → t.points ≡ []
     → Answers (history old) (PostLine sender body) (said (codes "nothing foreign ") (decimal t.foreign)) (history old)
 only_foreign sender body old t h none = says (PostLine sender body) old old (said (codes "nothing foreign ") (decimal t.foreign)) refl (rw (h, none) refl)
+
+pub not_empty : (points : List DataPoint) (empty : Bool) → empty ≡ (length points == 0) → empty ≡ false → points ≢ []
+not_empty [] empty is false_is = λ _. cc
+not_empty (p ∷ ps) empty is false_is = λ e. cc
 
 abbrev posted_batch : List ℕ → Tally → Batch
 posted_batch sender t = record { sender = sender; points = t.points }

@@ -74,5 +74,8 @@ some_body : (sender : List ℕ) (ws : List (List ℕ)) → 0 < length ws → spe
 some_body sender [] h = absurd (omega arith)
 some_body sender (w ∷ ws) h = refl
 
-pub post_more : (all : List (List ℕ)) (sender body : List ℕ) → all ≡ sender ∷ words body → spec.post_words all ≡ spec.post_line (name_of sender) body
+post_more : (all : List (List ℕ)) (sender body : List ℕ) → all ≡ sender ∷ words body → spec.post_words all ≡ spec.post_line (name_of sender) body
 post_more all sender body h = ap spec.post_words h ∙ some_body sender (words body) (some_words body) ∙ ap (spec.post_line (name_of sender)) (words_joined body)
+
+pub good_post : (all : List (List ℕ)) (sender body : List ℕ) → all ≡ sender ∷ words body → is_sender_name sender ≡ true → spec.PostLine sender body ≡ spec.post_words all
+good_post all sender body h named = sym (post_more all sender body h ∙ rw named refl)
