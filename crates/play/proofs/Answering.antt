@@ -21,7 +21,6 @@ use Rattle.delta_book.specs.declared.faults.AdmitFault.TheVariants as admit
 use Rattle.metric_events.specs.declared.event.Event.TheVariants.{Admit}
 use Rattle.play.specs.PointLines.{PointWords, first_fault}
 use Rattle.metric_events.specs.DataPoint.{DataPoint}
-use Rattle.metric_events.specs.declared.batch.Batch.{Batch}
 use Rattle.otlp_read.specs.Reading.{text_reading, Answers as Reads}
 use Rattle.otlp_read.specs.Tallies.{Tally}
 use Rattle.otlp_read.specs.declared.fault.ReadFault.{ReadFault}
@@ -29,7 +28,7 @@ use Rattle.otlp_read.specs.declared.fault.ReadFault.TheVariants as read
 use Rattle.play.specs.Commands.{Asked, TakeLine, AdmitLine, PostLine}
 use Rattle.play.specs.Refused.{refusal_text, of_take, of_point, of_admit, of_read}
 use Rattle.play.specs.Replies.{said, batch_and_foreign, flush_text}
-use Rattle.play.specs.Run.{answer, takes_memory, happens, refused, only_says, taken_or, flushed, body_of, posted, posted_or}
+use Rattle.play.specs.Run.{answer, takes_memory, happens, refused, only_says, taken_or, flushed, body_of, admitted_or, posted, posted_batch}
 use Rattle.play.specs.Answered.{Answers}
 use Rattle.play.specs.declared.refusal.Refusal.{Refusal}
 use Rattle.play.specs.declared.refusal.Refusal.TheVariants.{NotJson, WrongShape, NoMemory}
@@ -154,31 +153,28 @@ pub not_empty : (points : List DataPoint) (empty : Bool) → empty ≡ (length p
 not_empty [] empty is false_is = λ _. cc
 not_empty (p ∷ ps) empty is false_is = λ e. cc
 
-abbrev posted_batch : List ℕ → Tally → Batch
-posted_batch sender t = record { sender = sender; points = t.points }
-
 posted_some : (E : History) (sender : List ℕ) (points : List DataPoint) (foreign : ℕ) → points ≢ []
-    → posted E sender points foreign ≡ posted_or E (admits E + 1) (record { sender = sender; points = points }) foreign (admit_refusal E (admits E + 1) (record { sender = sender; points = points }))
+    → posted E sender points foreign ≡ admitted_or E (admits E + 1) (posted_batch sender points) (batch_and_foreign (admits E + 1) foreign) (admit_refusal E (admits E + 1) (posted_batch sender points))
 posted_some E sender [] foreign h = absurd (h refl)
 posted_some E sender (p ∷ ps) foreign h = refl
 
 answer_posted : (E : History) (sender body : List ℕ) (t : Tally) → text_reading body ≡ Some (Ok t) → t.points ≢ []
-    → answer E (PostLine sender body) ≡ posted_or E (admits E + 1) (posted_batch sender t) t.foreign (admit_refusal E (admits E + 1) (posted_batch sender t))
+    → answer E (PostLine sender body) ≡ admitted_or E (admits E + 1) (posted_batch sender t.points) (batch_and_foreign (admits E + 1) t.foreign) (admit_refusal E (admits E + 1) (posted_batch sender t.points))
 answer_posted E sender body t h some = rw h (posted_some E sender t.points t.foreign some)
 
 -- the book did not admit a body's points
 pub post_refused : (sender body : List ℕ) (old new : List Entry) (t : Tally) (fault : AdmitFault) → text_reading body ≡ Some (Ok t) → t.points ≢ [] → new ≡ old
-    → fault ≡ unwrap_or (admit_refusal (history old) (admits (history old) + 1) (posted_batch sender t)) admit.NoMemory
+    → fault ≡ unwrap_or (admit_refusal (history old) (admits (history old) + 1) (posted_batch sender t.points)) admit.NoMemory
     → Answers (history old) (PostLine sender body) (said (codes "refused ") (refusal_text (of_admit fault))) (history new)
 post_refused sender body old new t fault h some same is =
-    refused_or (PostLine sender body) old new of_admit admit.NoMemory fault (admit_refusal (history old) (admits (history old) + 1) (posted_batch sender t)) refl same refl is
+    refused_or (PostLine sender body) old new of_admit admit.NoMemory fault (admit_refusal (history old) (admits (history old) + 1) (posted_batch sender t.points)) refl same refl is
     (λ f e. answer_posted (history old) sender body t h some ∙ rw e refl)
 
 -- the book admitted them
 pub post_admitted : (sender body : List ℕ) (old new : List Entry) (t : Tally) (seat batch : ℕ) → text_reading body ≡ Some (Ok t) → t.points ≢ []
-    → batch ≡ admits (history old) + 1 → Appends old new seat (Admit batch (posted_batch sender t))
-    → admit_refusal (history old) (admits (history old) + 1) (posted_batch sender t) ≡ None
+    → batch ≡ admits (history old) + 1 → Appends old new seat (Admit batch (posted_batch sender t.points))
+    → admit_refusal (history old) (admits (history old) + 1) (posted_batch sender t.points) ≡ None
     → Answers (history old) (PostLine sender body) (said (codes "batch ") (batch_and_foreign batch t.foreign)) (history new)
 post_admitted sender body old new t seat batch h some number entry none =
-    happened (PostLine sender body) old new seat (Admit batch (posted_batch sender t)) (codes "batch ") (batch_and_foreign batch t.foreign) entry
+    happened (PostLine sender body) old new seat (Admit batch (posted_batch sender t.points)) (codes "batch ") (batch_and_foreign batch t.foreign) entry
     (answer_posted (history old) sender body t h some ∙ rw (none, number) refl)

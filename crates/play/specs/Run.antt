@@ -49,23 +49,23 @@ happens E event word what = record { text = said word what; after = E ▸ event 
 abbrev pub body_of : List ℕ → List PointWords → Batch
 body_of sender points = record { sender = sender; points = map point_of points }
 
-abbrev pub admitted_or : History → ℕ → Batch → Option AdmitFault → Answer
-admitted_or E b body (Some fault) = refused E (of_admit fault)
-admitted_or E b body None = happens E (Admit b body) (codes "batch ") (decimal b)
+-- a batch that is admitted is named so
+abbrev pub admitted_or : History → ℕ → Batch → List ℕ → Option AdmitFault → Answer
+admitted_or E b body named (Some fault) = refused E (of_admit fault)
+admitted_or E b body named None = happens E (Admit b body) (codes "batch ") named
 
 -- a point that can't be made is refused before the book is asked
 abbrev pub made_or : History → Batch → Option PointFault → Answer
 made_or E body (Some fault) = refused E (of_point fault)
-made_or E body None = admitted_or E (admits E + 1) body (admit_refusal E (admits E + 1) body)
+made_or E body None = admitted_or E (admits E + 1) body (decimal (admits E + 1)) (admit_refusal E (admits E + 1) body)
 
-abbrev pub posted_or : History → ℕ → Batch → ℕ → Option AdmitFault → Answer
-posted_or E b body foreign (Some fault) = refused E (of_admit fault)
-posted_or E b body foreign None = happens E (Admit b body) (codes "batch ") (batch_and_foreign b foreign)
+abbrev pub posted_batch : List ℕ → List DataPoint → Batch
+posted_batch sender points = record { sender = sender; points = points }
 
 -- the points of the profile are one batch; without any the book is not asked
 abbrev pub posted : History → List ℕ → List DataPoint → ℕ → Answer
 posted E sender [] foreign = only_says E (said (codes "nothing foreign ") (decimal foreign))
-posted E sender (p ∷ ps) foreign = posted_or E (admits E + 1) (record { sender = sender; points = p ∷ ps }) foreign (admit_refusal E (admits E + 1) (record { sender = sender; points = p ∷ ps }))
+posted E sender (p ∷ ps) foreign = admitted_or E (admits E + 1) (posted_batch sender (p ∷ ps)) (batch_and_foreign (admits E + 1) foreign) (admit_refusal E (admits E + 1) (posted_batch sender (p ∷ ps)))
 
 -- a body that can't be read is refused before the book is asked
 abbrev pub read_or : History → List ℕ → Option (Result Tally Place) → Answer
