@@ -36,6 +36,35 @@ fn histogram_with(alloc: Global, fields: &str) -> Result<String, AllocError> {
     Ok(body)
 }
 
+/// That many letters.
+fn letters(alloc: Global, count: usize) -> Result<String, AllocError> {
+    let mut text = String::new(alloc);
+    for _ in 0..count {
+        text.push('x')?;
+    }
+    Ok(text)
+}
+
+/// A list of that many elements.
+fn list_of(alloc: Global, count: usize, element: &str) -> Result<String, AllocError> {
+    let mut list = String::new(alloc);
+    for i in 0..count {
+        if i > 0 {
+            list.push(',')?;
+        }
+        list.push_str(element)?;
+    }
+    Ok(list)
+}
+
+/// A request of one sum with one data point of these attributes.
+fn sum_about(alloc: Global, attributes: &str) -> Result<String, AllocError> {
+    let point = format!(in alloc;
+        r#"{{"startTimeUnixNano":10,"timeUnixNano":20,"asInt":1,"attributes":[{attributes}]}}"#
+    )?;
+    sum_of(alloc, point.as_str())
+}
+
 fn first(reading: &Reading) -> Option<&Point> {
     reading.points.as_slice().first()
 }
@@ -380,5 +409,70 @@ fn reads_identities(rt: HostRuntime) -> Result<(), Fail> {
     assert_eq!(rt; series.scope_attrs().pairs().len(), 1);
     let first = series.attrs().pairs().first().ok_or("an attribute")?;
     assert_eq!(rt; first.key.as_str(), "a");
+    Ok(())
+}
+
+#[test]
+fn reads_sets_and_lists_up_to_their_limits(rt: HostRuntime) -> Result<(), Fail> {
+    let alloc = rt.alloc();
+    for (count, foreign) in [(128, 0), (129, 1)] {
+        let mut attributes = String::new(alloc);
+        for i in 0..count {
+            let comma = if i > 0 { "," } else { "" };
+            write!(attributes, r#"{comma}{{"key":"{i}"}}"#)?;
+        }
+        let body = sum_about(alloc, attributes.as_str())?;
+        let reading = read_request(alloc, body.as_bytes())?;
+        assert_eq!(rt; reading.foreign, foreign, "{count} attributes");
+
+        let values = list_of(alloc, count, r#"{"intValue":1}"#)?;
+        let attribute = format!(in alloc;
+            r#"{{"value":{{"arrayValue":{{"values":[{values}]}}}}}}"#
+        )?;
+        let body = sum_about(alloc, attribute.as_str())?;
+        let reading = read_request(alloc, body.as_bytes())?;
+        assert_eq!(rt; reading.foreign, foreign, "{count} values");
+    }
+    Ok(())
+}
+
+#[test]
+fn reads_texts_up_to_their_limit(rt: HostRuntime) -> Result<(), Fail> {
+    let alloc = rt.alloc();
+    for (length, foreign) in [(4096, 0), (4097, 1)] {
+        let text = letters(alloc, length)?;
+        for body in [
+            format!(in alloc;
+                r#"{{"resourceMetrics":[{{"scopeMetrics":[{{"metrics":[{{"name":"{text}","sum":{{"aggregationTemporality":1,"dataPoints":[{{"asInt":1,"startTimeUnixNano":1,"timeUnixNano":2}}]}}}}]}}]}}]}}"#
+            )?,
+            sum_about(alloc, format!(in alloc; r#"{{"key":"{text}"}}"#)?.as_str())?,
+            sum_about(
+                alloc,
+                format!(in alloc; r#"{{"value":{{"stringValue":"{text}"}}}}"#)?.as_str(),
+            )?,
+        ] {
+            let reading = read_request(alloc, body.as_bytes())?;
+            assert_eq!(rt; reading.foreign, foreign, "{length} bytes");
+            assert_eq!(rt; reading.points.as_slice().len() as u64, 1 - foreign);
+        }
+    }
+    Ok(())
+}
+
+#[test]
+fn reads_bounds_up_to_their_limit(rt: HostRuntime) -> Result<(), Fail> {
+    let alloc = rt.alloc();
+    for (count, foreign) in [(255, 0), (256, 1)] {
+        let mut fields = String::from_str(alloc, r#""count":0,"explicitBounds":["#)?;
+        for i in 0..count {
+            let comma = if i > 0 { "," } else { "" };
+            write!(fields, "{comma}{i}")?;
+        }
+        let zeros = list_of(alloc, count + 1, "0")?;
+        write!(fields, r#"],"bucketCounts":[{zeros}]"#)?;
+        let body = histogram_with(alloc, fields.as_str())?;
+        let reading = read_request(alloc, body.as_bytes())?;
+        assert_eq!(rt; reading.foreign, foreign, "{count} bounds");
+    }
     Ok(())
 }
