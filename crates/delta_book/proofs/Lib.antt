@@ -5,6 +5,7 @@ pub mod Words
 pub mod Sending
 pub mod Totalling
 pub mod Journaled
+pub mod Refused
 pub mod Admitting
 pub mod Sent
 pub mod Picking

@@ -3,9 +3,10 @@ use Rattle.std.specs.Prelude.{is_ok, if◌then◌else◌}
 use Rattle.metric_events.specs.Points.{admitted}
 use Rattle.metric_events.specs.Legal.{MayAdmit}
 use Rattle.metric_events.specs.declared.event.Event.TheVariants.{Admit}
+use Rattle.metric_events.proofs.Room.{kept_room}
 use Rattle.delta_book.specs.Journal.{history, admits}
 use Rattle.delta_book.specs.Refusals.{admit_refusal}
-use Rattle.delta_book.proofs.Journaled.{book_sizes, booked, entries-history, keeps_room}
+use Rattle.delta_book.proofs.Journaled.{book_sizes, booked, entries-history}
 use Rattle.delta_book.proofs.Admitting.{may_admit_now}
 use Rattle.delta_book.proofs.book.Book.admit.Goals as goal
 
@@ -57,4 +58,4 @@ pub returns-clause-legal : goal.returns-clause-legal
 returns-clause-legal c = (invariant_of-self-2 c).legal
 
 pub returns-clause-room : goal.returns-clause-room
-returns-clause-room c = keeps_room c.push_reserved-2.new.self.items (invariant_of-self-2 c).legal
+returns-clause-room c = kept_room (history c.push_reserved-2.new.self.items) (invariant_of-self-2 c).legal

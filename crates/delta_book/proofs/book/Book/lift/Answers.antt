@@ -2,8 +2,8 @@ use Rattle.std.proofs.Common.{refl, arith}
 use Rattle.metric_events.proofs.Room.{room_to_lift}
 use Rattle.metric_events.specs.declared.event.Event.TheVariants.{Lift}
 use Rattle.delta_book.specs.Journal.{history}
-use Rattle.delta_book.proofs.Journaled.{entries-history}
-use Rattle.delta_book.proofs.Ended.{one_more, room_after, struck_after}
+use Rattle.delta_book.proofs.Journaled.{booked, entries-history}
+use Rattle.delta_book.proofs.Ended.{room_after, struck_after}
 use Rattle.delta_book.proofs.Holding.{IsLifted, lifted}
 use Rattle.delta_book.proofs.book.Book.lift.Goals as goal
 
@@ -21,7 +21,7 @@ is_lifted c = lifted (history c.self.inside.entries.items) c.args.sender.now c.r
 pub invariant_of-self : goal.invariant_of-self
 invariant_of-self c =
     let b = c.self.inside in
-    one_more b.points.items b.points.items b.opened.items b.opened.items b.live.items b.live.items b.held.items _ b.entries.items _ _ _ _ _ (record { seat = c.args.seat; event = Lift c.remove-name.result }) c.self.invariant (is_lifted c).held c.self.invariant.numbered refl refl refl refl refl (is_lifted c).others c.push_reserved.ensures.items (omega (arith, c.push_reserved.ensures.capacity))
+    booked b.points.items b.points.items b.opened.items b.opened.items b.live.items b.live.items b.held.items _ b.entries.items _ _ _ _ _ _ _ (record { seat = c.args.seat; event = Lift c.remove-name.result }) c.self.invariant (is_lifted c).held c.self.invariant.numbered refl refl refl (is_lifted c).others c.push_reserved.ensures.items (omega (arith, c.push_reserved.ensures.capacity, c.self.invariant.room)) c.self.invariant.admitted_are c.self.invariant.taken_are
 
 pub returns-clause-legal : goal.returns-clause-legal
 returns-clause-legal c = (invariant_of-self c).legal

@@ -3,7 +3,7 @@ use Rattle.std.proofs.lemmas.List.{length-map}
 use Rattle.std.proofs.lemmas.Bool.{leb-true, lt-ltb}
 use Rattle.std.specs.Prelude.{nat_lt}
 use Rattle.metric_events.specs.History.{entries, ◌▸◌}
-use Rattle.metric_events.specs.Points.{taken, points}
+use Rattle.metric_events.specs.Points.{taken}
 use Rattle.metric_events.specs.Legal.{MayTake}
 use Rattle.metric_events.specs.Running.{owed, live_flushes}
 use Rattle.metric_events.specs.Choice.{first_eligible, pick, present, flush_points}

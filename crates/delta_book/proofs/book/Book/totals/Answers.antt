@@ -1,10 +1,5 @@
-use Rattle.std.proofs.Common.{◌≡◌, List, ℕ, sym, ap, ◌∙◌, refl, subst, map, Ok, Err}
-use Rattle.std.specs.List.{All}
-use Rattle.metric_events.specs.Points.{points}
-use Rattle.metric_events.specs.Running.{held_senders}
-use Rattle.metric_events.specs.Standing.{all_series}
 use Rattle.delta_book.specs.Journal.{history}
-use Rattle.delta_book.specs.Totals.{totals_of, totals_rows, IsBalanced}
+use Rattle.delta_book.specs.Totals.{totals_rows}
 use Rattle.delta_book.proofs.Journaled.{accepted_in}
 use Rattle.delta_book.proofs.Totalling.{if_rows, if_balanced, rows_in}
 use Rattle.delta_book.proofs.book.Book.totals.Goals as goal
