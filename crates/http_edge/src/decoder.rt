@@ -41,13 +41,17 @@ impl Decoder {
 
     /// Feeds the next piece, and tells whether the message is whole; bytes behind it are thrown away.
     /// An error other than NoMemory comes where no bytes that begin with those that were fed have a
-    /// message. After an error each later call answers it again.
+    /// message. NoMemory comes where the memory for what is to be kept was refused, and the bytes are
+    /// lost; once the message is whole, no call takes memory. After an error each later call answers
+    /// it again.
     pub fn feed(&mut self, piece: &[u8]) -> Result<bool, HttpFault>
         ensures holds { (bytes : List ℕ) → Holds self.old bytes → Holds self.new (bytes ++ piece.now) }
         ensures tells { (bytes : List ℕ) → Holds self.old bytes → Tells (bytes ++ piece.now) result }
         ensures done { IfOk result (λ whole. whole ≡ is_done self.new) }
         ensures failed { IfErr result (λ e. self.new ≡ failed e) }
         ensures again { (e : HttpFault) → self.old ≡ failed e → result ≡ Err e }
+        // Once the message is whole, it stays as it is.
+        ensures whole { is_done self.old ≡ true → (result ≡ Ok true) × (self.new ≡ self.old) }
         // However long the pieces go on, they come to an end.
         ensures less { result ≡ Ok false → most_to_come self.new + length piece.now ≤ most_to_come self.old }
     {

@@ -1,10 +1,10 @@
 //! The machine that reads a message from pieces of its bytes.
-ghost use Rattle.std.specs.Prelude.{◌≡◌, ◌+◌, ◌≤◌, ◌++◌, List, ℕ, [], length, Err, IfOk, IfErr};
+ghost use Rattle.std.specs.Prelude.{◌≡◌, ◌+◌, ◌≤◌, ◌++◌, List, ℕ, [], length, true, Ok, Err, IfOk, IfErr};
 ghost use Rattle.http_edge.specs.Answer.{Fails, Answers};
 ghost use Rattle.httparse.specs.Grammar.{RequestHead};
 ghost use Rattle.http_edge.specs.Message.{IsHeadAt};
 ghost use Rattle.http_edge.specs.Finish.{IsRequestOf};
-ghost use Rattle.http_edge.specs.Holds.{progress_of, start, failed, kept, IsSound, Holds, TakesHead, Advances, Stops, IsFramed, Starts};
+ghost use Rattle.http_edge.specs.Holds.{progress_of, start, failed, kept, is_done, IsSound, Holds, TakesHead, Advances, Stops, IsFramed, Starts};
 
 use crate::body::Body;
 use crate::fault::HttpFault;
@@ -63,13 +63,17 @@ impl Machine {
         Ok(found.len - had)
     }
 
-    /// Takes bytes that stand behind the head.
+    /// Takes bytes that stand behind the head. Behind a message that is whole nothing is looked at.
     fn take_body(&mut self, piece: &[u8]) -> Result<bool, HttpFault>
         requires stage { self.old.stage ≡ Stage.InBody }
         requires sound { IsSound (progress_of self.old) }
         ensures ok { IfOk result (Advances (progress_of self.old) (progress_of self.new) piece.now) }
         ensures fault { IfErr result (Stops (progress_of self.old) piece.now) }
+        ensures whole { is_done (progress_of self.old) ≡ true → (result ≡ Ok true) × (progress_of self.new ≡ progress_of self.old) }
     {
+        if self.body.is_whole() {
+            return Ok(true);
+        }
         self.body.feed(piece)?;
         Ok(self.body.is_whole())
     }
@@ -79,6 +83,7 @@ impl Machine {
         ensures ok { IfOk result (Advances (progress_of self.old) (progress_of self.new) piece.now) }
         ensures fault { IfErr result (Stops (progress_of self.old) piece.now) }
         ensures again { (e : HttpFault) → self.old.stage ≡ Stage.Failed e → result ≡ Err e }
+        ensures whole { is_done (progress_of self.old) ≡ true → (result ≡ Ok true) × (progress_of self.new ≡ progress_of self.old) }
     {
         match self.stage {
             Stage::InHead => {
@@ -111,6 +116,7 @@ impl Machine {
         ensures fault { IfErr result (Stops (progress_of self.old) piece.now) }
         ensures failed { IfErr result (λ e. progress_of self.new ≡ failed e) }
         ensures again { (e : HttpFault) → self.old.stage ≡ Stage.Failed e → result ≡ Err e }
+        ensures whole { is_done (progress_of self.old) ≡ true → (result ≡ Ok true) × (progress_of self.new ≡ progress_of self.old) }
     {
         match self.advance(piece) {
             Ok(done) => Ok(done),
