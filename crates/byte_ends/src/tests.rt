@@ -1,4 +1,4 @@
-ghost use Rattle.std.specs.Prelude.{◌≡◌, false};
+ghost use Rattle.std.specs.Prelude.{◌≡◌};
 
 use crate::{Failed, FromReader, Script, Sink, Source, Step, Tape, ToWriter};
 use std::test::Fail;
@@ -54,7 +54,7 @@ fn over_a_reader_and_a_writer(rt: HostRuntime) -> Result<(), Fail> {
 
 // What a caller of an end may ask for: that no call has failed so far.
 fn first_byte<S: Source>(source: &mut S) -> Option<u8>
-    requires { S.has_failed source.old ≡ false }
+    requires { S.failures source.old ≡ 0 }
 {
     let mut buf = [0];
     match source.read(&mut buf) {
@@ -64,7 +64,7 @@ fn first_byte<S: Source>(source: &mut S) -> Option<u8>
 }
 
 fn sends<K: Sink>(sink: &mut K, bytes: &[u8]) -> bool
-    requires { K.has_failed sink.old ≡ false }
+    requires { K.failures sink.old ≡ 0 }
 {
     sink.write(bytes) == Ok(bytes.len())
 }
