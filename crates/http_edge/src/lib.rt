@@ -34,6 +34,3 @@ pub use request::{Request, find_in};
 pub use response::read_response;
 pub use write::{write_post, write_response};
 pub use written::Written;
-
-#[cfg(test)]
-mod tests;
