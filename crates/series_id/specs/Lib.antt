@@ -10,5 +10,6 @@ pub mod Identity
 pub mod Views
 pub mod Checks
 pub mod Order
+pub mod Sharing
 pub mod Totals
 pub mod SeriesLaws

@@ -6,7 +6,7 @@ ghost use Rattle.series_id.specs.Attributes.{IsAttrSet, attribute_cmp, attrs_cmp
 ghost use Rattle.series_id.specs.Pairs.{attr_refusal};
 ghost use Rattle.series_id.specs.Sorting.{sorted_by_key};
 
-use crate::checks::attr_fault;
+use crate::checks::{attr_fault, keep_width};
 use crate::faults::AttrFault;
 use crate::sorting::sort_by_key;
 use crate::texts::Text;
@@ -88,6 +88,7 @@ impl AttrSet {
         if let Some(fault) = attr_fault(pairs.as_slice()) {
             return Err(fault);
         }
+        keep_width(pairs.as_slice());
         match sort_by_key(alloc, pairs) {
             Ok(pairs) => Ok(AttrSet { pairs }),
             Err(_) => Err(AttrFault::NoMemory),

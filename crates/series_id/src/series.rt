@@ -5,7 +5,8 @@ ghost use Rattle.series_id.specs.Checks.{checked_identity};
 ghost use Rattle.series_id.specs.Identity.{IsIdentity, row_length};
 ghost use Rattle.series_id.specs.SeriesLaws.{same_series_equiv, same_series_per, same_series_ties, series_po};
 ghost use Rattle.series_id.specs.Totals.{series_total};
-ghost use Rattle.series_id.specs.Order.{metric_cmp, same_series, scope_cmp, series_before, series_cmp};
+ghost use Rattle.series_id.specs.Order.{metric_cmp, resource_cmp, same_series, scope_cmp, series_before, series_cmp, stream_cmp};
+ghost use Rattle.series_id.specs.Sharing.{HasOneResource, HasOneScope, HasOneStream, shares_resource, shares_scope, shares_stream};
 
 use crate::attributes::AttrSet;
 use crate::kinds::Kind;
@@ -196,12 +197,36 @@ impl SeriesId {
         self.compare(other).is_lt()
     }
 
+    /// Whether both series have one set of resource attributes.
+    pub fn shares_resource(&self, other: &SeriesId) -> bool
+        ensures value { result ≡ shares_resource self.now other.now }
+        ensures exact { IsTrue result ↔ HasOneResource self.now other.now }
+    {
+        self.compare_resource(other).is_eq()
+    }
+
+    /// Whether both series have one scope: name, version and attributes.
+    pub fn shares_scope(&self, other: &SeriesId) -> bool
+        ensures value { result ≡ shares_scope self.now other.now }
+        ensures exact { IsTrue result ↔ HasOneScope self.now other.now }
+    {
+        self.compare_scope(other).is_eq()
+    }
+
+    /// Whether both series have one stream: the metric's name, unit and kind.
+    pub fn shares_stream(&self, other: &SeriesId) -> bool
+        ensures value { result ≡ shares_stream self.now other.now }
+        ensures exact { IsTrue result ↔ HasOneStream self.now other.now }
+    {
+        self.compare_stream(other).is_eq()
+    }
+
     /// Which of two series comes first: the first field that differs decides.
     #[tactic(auto, unfolding(crate::specs::Order::series_cmp))]
     fn compare(&self, other: &SeriesId) -> Ordering
         ensures { result ≡ series_cmp self.now other.now }
     {
-        let resource = self.resource.compare(&other.resource);
+        let resource = self.compare_resource(other);
         if resource.is_ne() {
             return resource;
         }
@@ -210,6 +235,13 @@ impl SeriesId {
             return scope;
         }
         self.compare_metric(other)
+    }
+
+    /// Which of two series comes first by its resource.
+    fn compare_resource(&self, other: &SeriesId) -> Ordering
+        ensures { result ≡ resource_cmp self.now other.now }
+    {
+        self.resource.compare(&other.resource)
     }
 
     /// Which of two series comes first by its scope: name, version and attributes.
@@ -233,6 +265,18 @@ impl SeriesId {
     fn compare_metric(&self, other: &SeriesId) -> Ordering
         ensures { result ≡ metric_cmp self.now other.now }
     {
+        let stream = self.compare_stream(other);
+        if stream.is_ne() {
+            return stream;
+        }
+        self.attrs.compare(&other.attrs)
+    }
+
+    /// Which of two series comes first by what the points of a metric share: name, unit and kind.
+    #[tactic(auto, unfolding(crate::specs::Order::stream_cmp))]
+    fn compare_stream(&self, other: &SeriesId) -> Ordering
+        ensures { result ≡ stream_cmp self.now other.now }
+    {
         let name = self.name.compare(&other.name);
         if name.is_ne() {
             return name;
@@ -241,11 +285,7 @@ impl SeriesId {
         if unit.is_ne() {
             return unit;
         }
-        let kind = self.kind.compare(&other.kind);
-        if kind.is_ne() {
-            return kind;
-        }
-        self.attrs.compare(&other.attrs)
+        self.kind.compare(&other.kind)
     }
 }
 
