@@ -1,6 +1,7 @@
 pub mod Texts
 pub mod Values
 pub mod Attributes
+pub mod Shares
 pub mod Pairs
 pub mod Sorting
 pub mod Bounds
