@@ -108,7 +108,6 @@ scope_tied x y h =
     (tied attrs_total x.scope_attrs y.scope_attrs h.attrs))
 
 pub stream_exact : (x y : Identity) → stream_cmp x y ≡ Equal → HasOneStream x y
-unfolding stream_cmp
 stream_exact x y e =
     let rest = then_second _ _ e in
     record {
@@ -118,7 +117,6 @@ stream_exact x y e =
     }
 
 pub stream_tied : (x y : Identity) → HasOneStream x y → stream_cmp x y ≡ Equal
-unfolding stream_cmp
 stream_tied x y h =
     both_equal _ _ (tied text_total x.name y.name h.name)
     (both_equal _ _ (tied text_total x.unit y.unit h.unit)

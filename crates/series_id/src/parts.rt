@@ -223,7 +223,6 @@ impl Parts {
     }
 
     /// Which of two series comes first by what the points of a metric share: name, unit and kind.
-    #[tactic(auto, unfolding(crate::specs::Order::stream_cmp))]
     pub(crate) fn compare_stream(&self, other: &Parts) -> Ordering
         ensures { result ≡ stream_cmp self.now other.now }
     {
