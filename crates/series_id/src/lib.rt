@@ -26,6 +26,3 @@ pub use scalars::{Scalar, Scalars};
 pub use series::SeriesId;
 pub use texts::Text;
 pub use values::AttrValue;
-
-#[cfg(test)]
-mod tests;

@@ -39,6 +39,7 @@ impl Model for SeriesId {
     ghost invariant = { λ s. IsIdentity (identity_of s) };
 }
 
+// Written out, since what a derive writes is proved again in each crate that lets one go.
 impl Drop for SeriesId {
     fn drop(self) {
         let SeriesId { held: _ } = self;
