@@ -17,7 +17,6 @@ use std::marker::Model;
 /// A store of accepted points with the journal of what changed it. Contracts see a book as
 /// its journal: the points, batches, flushes and senders that it keeps are those that the
 /// definitions give for the journal's history, and that history is legal.
-#[derive(Drop)]
 pub struct Book {
     alloc: Global,
     points: Vec<Accepted>,
@@ -27,6 +26,21 @@ pub struct Book {
     entries: Vec<Entry>,
     batches: u64,
     flushes: u64,
+}
+
+impl Drop for Book {
+    fn drop(self) {
+        let Book {
+            alloc: _,
+            points: _,
+            opened: _,
+            live: _,
+            held: _,
+            entries: _,
+            batches: _,
+            flushes: _,
+        } = self;
+    }
 }
 
 impl Model for Book {

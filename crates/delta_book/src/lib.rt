@@ -13,6 +13,4 @@ mod limiting;
 mod lists;
 mod part;
 mod sums;
-#[cfg(test)]
-mod tests;
 pub mod totals;

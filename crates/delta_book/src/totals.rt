@@ -19,7 +19,6 @@ use series_id::SeriesId;
 use std::alloc::{AllocError, Global};
 
 /// The sums of a series' accepted points, by where they stand.
-#[derive(Drop)]
 pub struct SeriesTotals {
     pub series: SeriesId,
     /// Who sends the series.
@@ -34,6 +33,22 @@ pub struct SeriesTotals {
     pub stored: Row,
     /// What is at home, where the owner is held.
     pub quarantined: Row,
+}
+
+impl Drop for SeriesTotals {
+    fn drop(self) {
+        let SeriesTotals {
+            series: _,
+            owner: _,
+            frontier: _,
+            accepted: _,
+            acknowledged: _,
+            dropped: _,
+            in_flight: _,
+            stored: _,
+            quarantined: _,
+        } = self;
+    }
 }
 
 /// Who sends a series that has a point.
