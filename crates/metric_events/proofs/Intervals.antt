@@ -1,8 +1,8 @@
 -- What makes an interval.
-use Rattle.std.proofs.Common.{◌≡◌, ℕ, ◌<◌, ◌≤◌, ◌^◌, ◌&&◌, true, arith}
+use Rattle.std.proofs.Common.{◌<◌, ◌≤◌, ◌^◌}
 use Rattle.std.specs.Prelude.{nat_le, nat_lt}
 use Rattle.std.proofs.lemmas.Bool.{and_parts, and_from, le-leb, leb-true, lt-ltb, ltb-true}
-use Rattle.metric_events.specs.Interval.{Interval, IsInterval, is_span}
+use Rattle.metric_events.specs.Interval.{Interval, IsInterval}
 
 pub starts : (span : Interval) → IsInterval span → 1 ≤ span.start
 starts span h = leb-true 1 span.start (and_parts (nat_le 1 span.start) (nat_lt span.start span.end) h.valid).0

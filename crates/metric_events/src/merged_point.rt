@@ -85,6 +85,19 @@ impl MergedPoint {
             && self.row.as_slice() == other.row.as_slice()
     }
 
+    /// Lets go of the own identity for a share of this one, where that is equal and shared.
+    /// Takes no memory. Nothing that can be seen of the point changes.
+    pub fn adopt(&mut self, series: &SeriesId)
+        ensures { self.new ≡ self.old }
+    {
+        if !self.series.is_same(series) {
+            return;
+        }
+        if let Some(shared) = series.shared_copy() {
+            self.series = shared;
+        }
+    }
+
     /// An equal one. Fails only for want of memory.
     pub fn copy(&self, alloc: Global) -> Result<MergedPoint, AllocError>
         ensures { IfOk result (λ copy. copy ≡ self.now) }
