@@ -1,6 +1,7 @@
 //! The run of a script.
 
-ghost use Rattle.std.specs.Prelude.{◌≡◌, ◌||◌, List, ℕ, [], Some};
+ghost use Rattle.std.specs.Prelude.{◌≡◌, List, ℕ, [], Some};
+ghost use Rattle.byte_ends.specs.Counts.{counted};
 ghost use Rattle.delta_book.specs.Journal.{history};
 ghost use Rattle.play.specs.Answered.{Answers, reply_text};
 ghost use Rattle.play.specs.Commands.{command};
@@ -37,7 +38,7 @@ fn answer_line<W: Sink>(
     writer: &mut W,
 ) -> Result<(), PlayFault>
     ensures answered { LineIsAnswered (history book.old) (command line.now) (history book.new) (W.contents writer.old) (W.contents writer.new) result }
-    ensures failed { W.has_failed writer.new ≡ (W.has_failed writer.old || cannot_write result) }
+    ensures failed { W.failures writer.new ≡ counted W.one_more (cannot_write result) (W.failures writer.old) }
 {
     let reply = reply_of(alloc, book, line);
     let mut text = Vec::new(alloc);
@@ -59,7 +60,7 @@ fn answer_lines<W: Sink>(
 ) -> Result<(), PlayFault>
     requires { book.old ≡ [] }
     ensures played { LinesArePlayed (W.contents writer.old) (W.contents writer.new) (lines input.now) result }
-    ensures failed { W.has_failed writer.new ≡ (W.has_failed writer.old || cannot_write result) }
+    ensures failed { W.failures writer.new ≡ counted W.one_more (cannot_write result) (W.failures writer.old) }
 {
     let mut rest = input;
     while !rest.is_empty() {
@@ -74,15 +75,16 @@ fn answer_lines<W: Sink>(
 ///
 /// Fails with `CannotRead` or `CannotWrite` where the reader or the writer failed, with `TooLong`
 /// where there are more than `MAX_INPUT` bytes, and with `NoMemory` where memory was refused that
-/// no reply could tell of. Where it can't read or the input is too long nothing was written.
+/// no reply could tell of. Where it can't read or the input is too long, whether that or the want of
+/// memory is told, nothing was written.
 pub fn play<R: Source, W: Sink>(
     alloc: Global,
     reader: &mut R,
     writer: &mut W,
 ) -> Result<(), PlayFault>
     ensures played { (input : List ℕ) → R.remaining reader.old ≡ Some input → IsPlayed (W.contents writer.old) (W.contents writer.new) input result }
-    ensures read { R.has_failed reader.new ≡ (R.has_failed reader.old || cannot_read result) }
-    ensures written { W.has_failed writer.new ≡ (W.has_failed writer.old || cannot_write result) }
+    ensures read { R.failures reader.new ≡ counted R.one_more (cannot_read result) (R.failures reader.old) }
+    ensures written { W.failures writer.new ≡ counted W.one_more (cannot_write result) (W.failures writer.old) }
 {
     let input = read_all(alloc, reader)?;
     let Ok(mut book) = Book::new(alloc) else {

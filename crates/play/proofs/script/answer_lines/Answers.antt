@@ -1,7 +1,6 @@
-use Rattle.std.proofs.Common.{refl, ap}
+use Rattle.std.proofs.Common.{refl, ap, ◌∙◌}
 use Rattle.std.proofs.lemmas.Result.{err_from_is_err_and}
 use Rattle.delta_book.specs.Journal.{history}
-use Rattle.play.proofs.Ended.{still_unfailed}
 use Rattle.play.proofs.Marked.{nothing_done, line_done, line_failed}
 use Rattle.play.proofs.script.answer_lines.Goals as goal
 
@@ -11,7 +10,7 @@ loop-rest-init g c = (nothing_done _ _ _ (ap history c.requires), refl)
 pub loop-rest-preserved : goal.loop-rest-preserved
 loop-rest-preserved g c =
     let a = c.in_ok-answer_line.ensures.answered in
-    (line_done _ _ _ _ _ _ _ _ c.cut_line.result.0.now a.0 c.loop-rest.invariant.0 c.cut_line.ensures.lines a.1 a.2, still_unfailed _ _ _ c.in_ok-answer_line.ensures.failed c.loop-rest.invariant.1)
+    (line_done _ _ _ _ _ _ _ _ c.cut_line.result.0.now a.0 c.loop-rest.invariant.0 c.cut_line.ensures.lines a.1 a.2, c.in_ok-answer_line.ensures.failed ∙ c.loop-rest.invariant.1)
 
 pub returns-in_err-answer_line-clause-played : goal.returns-in_err-answer_line-clause-played
 returns-in_err-answer_line-clause-played g c =
