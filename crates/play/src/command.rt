@@ -1,21 +1,27 @@
 //! What a line of a script asks for.
 
-ghost use Rattle.std.specs.Prelude.{◌≡◌, true, option_copied, IfSome};
+ghost use Rattle.std.specs.Prelude.{◌≡◌, ◌≢◌, true, option_copied, IfSome, IfOk, OnErr};
 ghost use Rattle.play.specs.Commands as spec;
+ghost use Rattle.play.specs.Run.{takes_memory};
 ghost use Rattle.play.specs.Told.{told, rest_words, IsReady};
 ghost use Rattle.metric_events.specs.Senders.{is_sender_name};
 
+use crate::line_points::read_points;
 use crate::names::is_name;
 use crate::numbers::{MAX_TAKEN, number};
 use crate::pieces::cut_word;
-use crate::point_line::are_points;
+use crate::point_line::PointLine;
 use crate::verb::{Verb, verb_of};
+use std::alloc::{AllocError, Global};
 
 /// A command, with the bytes of its line that name senders and points.
-#[derive(Clone, Copy)]
+#[derive(Drop)]
 pub enum Command<'a> {
-    /// Admit the points, which are four words each, of this sender.
-    Admit { sender: &'a [u8], points: &'a [u8] },
+    /// Admit the points of this sender.
+    Admit {
+        sender: &'a [u8],
+        points: Vec<PointLine<'a>>,
+    },
     /// Take a flush of at most so many series.
     Take(u64),
     Settle(u64),
@@ -27,7 +33,10 @@ pub enum Command<'a> {
     Hold(&'a [u8]),
     Lift(&'a [u8]),
     /// Admit the points of a request's body, which is the rest of the line.
-    Post { sender: &'a [u8], body: &'a [u8] },
+    Post {
+        sender: &'a [u8],
+        body: &'a [u8],
+    },
 }
 
 /// The number that is the one word of the rest.
@@ -54,23 +63,29 @@ fn only_name<'a>(rest: Option<&'a [u8]>) -> Option<&'a [u8]>
     }
 }
 
-/// The command of a sender and its points.
-fn admit(rest: Option<&[u8]>) -> Option<Command<'_>>
-    ensures told { told result ≡ spec.admit_words (rest_words rest.entry) }
-    ensures ready { IsReady result }
+/// The command of a sender and its points, which memory is taken for.
+fn admit<'a>(alloc: Global, rest: Option<&'a [u8]>) -> Result<Option<Command<'a>>, AllocError>
+    ensures told { IfOk result (λ command. told command ≡ spec.admit_words (rest_words rest.entry)) }
+    ensures ready { IfOk result IsReady }
+    ensures memory { OnErr result (takes_memory (spec.admit_words (rest_words rest.entry)) ≡ true) }
 {
-    let sender = cut_word(rest?);
-    let points = sender.rest?;
+    let Some(rest) = rest else {
+        return Ok(None);
+    };
+    let sender = cut_word(rest);
+    let Some(words) = sender.rest else {
+        return Ok(None);
+    };
     if !is_name(sender.first) {
-        return None;
+        return Ok(None);
     }
-    if !are_points(points) {
-        return None;
-    }
-    Some(Command::Admit {
+    let Some(points) = read_points(alloc, words)? else {
+        return Ok(None);
+    };
+    Ok(Some(Command::Admit {
         sender: sender.first,
         points,
-    })
+    }))
 }
 
 /// The command to take at most so many series.
@@ -112,13 +127,14 @@ fn post(rest: Option<&[u8]>) -> Option<Command<'_>>
     })
 }
 
-/// The command of a verb and the rest of its line.
+/// The command of a verb and the rest of its line, which takes no memory.
 fn command_by(verb: Verb, rest: Option<&[u8]>) -> Option<Command<'_>>
+    requires { verb ≢ Verb.Admit }
     ensures told { told result ≡ spec.command_by (Some verb) (rest_words rest.entry) }
     ensures ready { IsReady result }
 {
     match verb {
-        Verb::Admit => admit(rest),
+        Verb::Admit => unreachable!(),
         Verb::Take => take(rest),
         Verb::Settle => Some(Command::Settle(only_number(rest)?)),
         Verb::GiveBack => Some(Command::GiveBack(only_number(rest)?)),
@@ -134,10 +150,16 @@ fn command_by(verb: Verb, rest: Option<&[u8]>) -> Option<Command<'_>>
 
 /// The command of a line, where it is one: the words stand apart by one space each, numbers are
 /// decimal digits of a number in its range, names are those that a sender may have.
-pub fn command_of(line: &[u8]) -> Option<Command<'_>>
-    ensures told { told result ≡ spec.command line.now }
-    ensures ready { IsReady result }
+/// Memory is taken for the points of an `admit` line alone.
+pub fn command_of<'a>(alloc: Global, line: &'a [u8]) -> Result<Option<Command<'a>>, AllocError>
+    ensures told { IfOk result (λ command. told command ≡ spec.command line.now) }
+    ensures ready { IfOk result IsReady }
+    ensures memory { OnErr result (takes_memory (spec.command line.now) ≡ true) }
 {
     let word = cut_word(line);
-    command_by(verb_of(word.first)?, word.rest)
+    match verb_of(word.first) {
+        None => Ok(None),
+        Some(Verb::Admit) => admit(alloc, word.rest),
+        Some(verb) => Ok(command_by(verb, word.rest)),
+    }
 }

@@ -10,6 +10,7 @@ mod command;
 mod fault;
 mod flush_text;
 mod input;
+mod line_points;
 mod making;
 mod names;
 mod numbers;

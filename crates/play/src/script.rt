@@ -15,6 +15,7 @@ use crate::fault::PlayFault;
 use crate::input::read_all;
 use crate::output::write_all;
 use crate::pieces::cut_line;
+use crate::refusal::Refusal;
 use crate::reply::{Reply, put_reply};
 use byte_ends::{Sink, Source};
 use delta_book::book::Book;
@@ -24,9 +25,10 @@ use std::alloc::Global;
 fn reply_of<'a>(alloc: Global, book: &mut Book, line: &'a [u8]) -> Reply<'a>
     ensures { Answers (history book.old) (command line.now) (reply_text result) (history book.new) }
 {
-    match command_of(line) {
-        Some(command) => reply_to(alloc, book, command),
-        None => Reply::BadCommand,
+    match command_of(alloc, line) {
+        Ok(Some(command)) => reply_to(alloc, book, command),
+        Ok(None) => Reply::BadCommand,
+        Err(_) => Reply::Refused(Refusal::NoMemory),
     }
 }
 
