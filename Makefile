@@ -1,12 +1,21 @@
-# The two commands of the README.
+# The commands of the README.
 
-.PHONY: run test
+.PHONY: run build test edits
 
-# Proves and builds the script program, and runs it on its stored script.
+# Runs the script program on its stored script, with no proof: it needs less than a minute.
 run:
-	cd crates/play && mkdir -p out && rt run < stdin > out/run.log 2>&1 || { cat crates/play/out/run.log; exit 1; }
-	@crates/play/out/play < crates/play/stdin
+	@cd crates/play && mkdir -p out && rt try < stdin 2> out/run.log || { cat out/run.log; exit 1; }
+	@echo 'This run proved nothing: make build proves what it builds, make test everything.'
+
+# Proves the programs and builds them into bin/.
+build:
+	cd crates/play && mkdir -p out && rt run < /dev/null > out/build.log 2>&1 || { cat out/build.log; exit 1; }
+	mkdir -p bin && cp crates/play/out/play bin/
 
 # The gate: every proof from nothing, the must-fail edits, the tests and the programs.
 test:
 	rt ci
+
+# Tries all edits, those too that the gate leaves out: make edits, or make edits NAME=delta_book.
+edits:
+	@tests/edits.sh $(NAME)

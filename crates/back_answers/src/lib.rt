@@ -9,8 +9,6 @@ mod answer;
 mod deed;
 mod retry_after;
 mod rules;
-#[cfg(test)]
-mod tests;
 
 pub use answer::Answer;
 pub use deed::Act;

@@ -14,8 +14,6 @@ mod sink;
 mod source;
 mod step;
 mod tape;
-#[cfg(test)]
-mod tests;
 mod to_writer;
 
 pub use draining::drain;

@@ -32,6 +32,3 @@ pub use request::Request;
 pub use response::read_response;
 pub use write::{write_post, write_response};
 pub use written::Written;
-
-#[cfg(test)]
-mod tests;

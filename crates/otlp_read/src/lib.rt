@@ -25,6 +25,3 @@ pub use fault::ReadFault;
 pub use place::Place;
 pub use reading::Reading;
 pub use walk::read_request;
-
-#[cfg(test)]
-mod tests;

@@ -24,6 +24,3 @@ pub use scalars::{Scalar, Scalars};
 pub use series::{IdFault, SeriesId};
 pub use texts::Text;
 pub use values::AttrValue;
-
-#[cfg(test)]
-mod tests;

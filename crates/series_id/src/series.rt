@@ -22,7 +22,6 @@ pub enum IdFault {
 }
 
 /// What identifies a series. Contracts see it as an `Identity`.
-#[derive(Drop)]
 pub struct SeriesId {
     resource: AttrSet,
     scope_name: Text,
@@ -32,6 +31,22 @@ pub struct SeriesId {
     unit: Text,
     kind: Kind,
     attrs: AttrSet,
+}
+
+// Written out, since what a derive writes is proved again in each crate that lets one go.
+impl Drop for SeriesId {
+    fn drop(self) {
+        let SeriesId {
+            resource: _,
+            scope_name: _,
+            scope_version: _,
+            scope_attrs: _,
+            name: _,
+            unit: _,
+            kind: _,
+            attrs: _,
+        } = self;
+    }
 }
 
 impl Model for SeriesId {

@@ -1,0 +1,83 @@
+ghost use Rattle.std.specs.Prelude.{◌≡◌};
+
+use byte_ends::{Failed, FromReader, Script, Sink, Source, Step, Tape, ToWriter};
+use std::test::Fail;
+
+const TEXT: &[u8] = b"abcdef";
+
+#[test]
+fn script_cuts_and_fails(rt: HostRuntime) -> Result<(), Fail> {
+    let steps = [Step::AtMost(2), Step::Fail, Step::AtMost(0)];
+    let mut source = Script::new(TEXT, &steps);
+    let mut buf = [0; 3];
+    assert_eq!(rt; source.read(&mut buf), Ok(2));
+    assert!(rt; &buf[..2] == b"ab".as_slice());
+    assert_eq!(rt; source.read(&mut buf), Err(Failed));
+    assert!(rt; source.left() == b"cdef".as_slice());
+    assert_eq!(rt; source.read(&mut buf), Ok(1));
+    assert_eq!(rt; source.read(&mut buf), Ok(3));
+    assert!(rt; buf.as_slice() == b"def".as_slice());
+    assert_eq!(rt; source.read(&mut buf), Ok(0));
+    Ok(())
+}
+
+#[test]
+fn tape_cuts_and_fails(rt: HostRuntime) -> Result<(), Fail> {
+    let steps = [
+        Step::AtMost(2),
+        Step::Fail,
+        Step::AtMost(0),
+        Step::AtMost(9),
+    ];
+    let mut sink = Tape::new(rt.alloc(), &steps);
+    assert_eq!(rt; sink.write(TEXT), Ok(2));
+    assert_eq!(rt; sink.write(b"cd"), Err(Failed));
+    assert_eq!(rt; sink.write(b"cd"), Err(Failed));
+    assert_eq!(rt; sink.write(b"cd"), Ok(2));
+    assert_eq!(rt; sink.write(b"ef"), Ok(2));
+    assert!(rt; sink.taken() == TEXT);
+    Ok(())
+}
+
+#[test]
+fn over_a_reader_and_a_writer(rt: HostRuntime) -> Result<(), Fail> {
+    let mut source = FromReader::new(TEXT);
+    let mut sink = ToWriter::new(Vec::new(rt.alloc()));
+    let mut buf = [0; 4];
+    for n in [4, 2, 0] {
+        assert_eq!(rt; source.read(&mut buf), Ok(n));
+        assert_eq!(rt; sink.write(&buf[..n]), Ok(n));
+    }
+    assert!(rt; sink.into_inner().as_slice() == TEXT);
+    Ok(())
+}
+
+// What a caller of an end may ask for: that no call has failed so far.
+fn first_byte<S: Source>(source: &mut S) -> Option<u8>
+    requires { S.failures source.old ≡ 0 }
+{
+    let mut buf = [0];
+    match source.read(&mut buf) {
+        Ok(1) => Some(buf[0]),
+        _ => None,
+    }
+}
+
+fn sends<K: Sink>(sink: &mut K, bytes: &[u8]) -> bool
+    requires { K.failures sink.old ≡ 0 }
+{
+    sink.write(bytes) == Ok(bytes.len())
+}
+
+#[test]
+fn new_ends_have_not_failed(rt: HostRuntime) -> Result<(), Fail> {
+    let mut taken = Vec::new(rt.alloc());
+    assert_eq!(rt; first_byte(&mut FromReader::new(TEXT)), Some(b'a'));
+    assert_eq!(rt; first_byte(&mut Script::new(TEXT, &[])), Some(b'a'));
+    assert_eq!(rt; first_byte(&mut Script::new(TEXT, &[Step::Fail])), None);
+    assert!(rt; sends(&mut ToWriter::new(&mut taken), TEXT));
+    assert!(rt; taken.as_slice() == TEXT);
+    assert!(rt; sends(&mut Tape::new(rt.alloc(), &[]), TEXT));
+    assert!(rt; !sends(&mut Tape::new(rt.alloc(), &[Step::Fail]), TEXT));
+    Ok(())
+}

@@ -1,0 +1,272 @@
+use byte_ends::{Script, Step, Tape};
+use http::StatusCode;
+use http_edge::{
+    Decoder, HttpFault, MAX_BODY, Request, Written, read_message, read_response, write_post,
+    write_response,
+};
+use std::alloc::Global;
+use std::test::Fail;
+
+const CHUNKED: &[u8] =
+    b"POST /v1/metrics HTTP/1.1\r\nContent-Type: application/json\r\nTransfer-Encoding: chunked\r\n\r\n1\r\n{\r\n1\r\n}\r\n0\r\n\r\n";
+
+/// Whether it is the request that `CHUNKED` is.
+fn is_posted(request: &Request) -> bool {
+    request.method.as_slice() == b"POST".as_slice()
+        && request.target.as_slice() == b"/v1/metrics".as_slice()
+        && request.headers.len() == 2
+        && request.body.as_slice() == b"{}".as_slice()
+}
+
+/// The fault of the bytes, and None where they are read.
+fn fault_of(alloc: Global, bytes: &[u8]) -> Option<HttpFault> {
+    let mut source = Script::new(bytes, &[]);
+    read_message(alloc, &mut source).err()
+}
+
+#[test]
+fn cut_in_two_at_every_place(rt: HostRuntime) -> Result<(), Fail> {
+    for cut in 1..CHUNKED.len() {
+        let steps = [Step::AtMost(cut)];
+        let mut source = Script::new(CHUNKED, &steps);
+        let Ok(request) = read_message(rt.alloc(), &mut source) else {
+            panic!(rt; "cut {cut}");
+        };
+        assert!(rt; is_posted(&request), "cut {cut}");
+    }
+    Ok(())
+}
+
+#[test]
+fn byte_by_byte(rt: HostRuntime) -> Result<(), Fail> {
+    let mut decoder = Decoder::new(rt.alloc());
+    for (at, byte) in CHUNKED.iter().enumerate() {
+        assert_eq!(rt; decoder.feed(&[*byte]), Ok(at + 1 == CHUNKED.len()));
+    }
+    // The head has 89 bytes, and the body 2.
+    assert_eq!(rt; decoder.held(), 91);
+    assert_eq!(rt; decoder.feed(b"GET"), Ok(true));
+    let Ok(request) = decoder.finish() else {
+        panic!(rt; "no request");
+    };
+    assert!(rt; is_posted(&request));
+    Ok(())
+}
+
+#[test]
+fn a_fault_is_answered_again(rt: HostRuntime) -> Result<(), Fail> {
+    let mut decoder = Decoder::new(rt.alloc());
+    assert_eq!(rt;
+        decoder.feed(b"GET / HTTP/2.0\r\n"),
+        Err(HttpFault::BadHead)
+    );
+    assert_eq!(rt; decoder.feed(CHUNKED), Err(HttpFault::BadHead));
+    assert_eq!(rt; decoder.held(), 0);
+    assert!(rt; matches!(decoder.finish(), Err(HttpFault::BadHead)));
+    Ok(())
+}
+
+#[test]
+fn faults(rt: HostRuntime) -> Result<(), Fail> {
+    let cases: [(&[u8], HttpFault); 14] = [
+        (b"", HttpFault::Closed),
+        (b"POST", HttpFault::Truncated),
+        (b"GET /report HTTP/2.0\r\n\r\n", HttpFault::BadHead),
+        (
+            b"GET / HTTP/1.1\r\nContent-Length: 2\r\ncontent-length: 2\r\n\r\n{}",
+            HttpFault::BadLength,
+        ),
+        (
+            b"GET / HTTP/1.1\r\nContent-Length: 2\r\nTransfer-Encoding: chunked\r\n\r\n{}",
+            HttpFault::BadLength,
+        ),
+        (
+            b"GET / HTTP/1.0\r\nTransfer-Encoding: chunked\r\n\r\n0\r\n\r\n",
+            HttpFault::BadLength,
+        ),
+        (
+            b"GET / HTTP/1.1\r\nTransfer-Encoding: gzip\r\n\r\n",
+            HttpFault::BadLength,
+        ),
+        (
+            b"GET / HTTP/1.1\r\nContent-Length: +2\r\n\r\n{}",
+            HttpFault::BadLength,
+        ),
+        (
+            b"GET / HTTP/1.1\r\nContent-Length: 4194305\r\n\r\n{}",
+            HttpFault::BodyTooLong,
+        ),
+        (
+            b"GET / HTTP/1.1\r\nContent-Length: 3\r\n\r\n{}",
+            HttpFault::Truncated,
+        ),
+        (
+            b"GET / HTTP/1.1\r\nTransfer-Encoding: chunked\r\n\r\n2\r\n{}xx",
+            HttpFault::BadChunk,
+        ),
+        (
+            b"GET / HTTP/1.1\r\nTransfer-Encoding: chunked\r\n\r\n2\r\n{",
+            HttpFault::Truncated,
+        ),
+        (
+            b"GET / HTTP/1.1\r\nTransfer-Encoding: chunked\r\n\r\n400001\r\n",
+            HttpFault::BodyTooLong,
+        ),
+        (
+            b"GET / HTTP/1.1\r\nTransfer-Encoding: chunked\r\n\r\n0\r\n:\r\n\r\n",
+            HttpFault::BadChunk,
+        ),
+    ];
+    for (bytes, fault) in &cases {
+        assert_eq!(rt; fault_of(rt.alloc(), bytes), Some(*fault));
+    }
+    Ok(())
+}
+
+#[test]
+fn what_is_read(rt: HostRuntime) -> Result<(), Fail> {
+    let cases: [&[u8]; 5] = [
+        b"GET / HTTP/1.0\r\n\r\n",
+        b"GET / HTTP/1.1\r\ncontent-length: 007\r\n\r\n1234567 and more",
+        b"GET / HTTP/1.1\r\ntransfer-encoding: CHUNKED\r\n\r\nA ;name=value\r\n0123456789\r\n0\r\nTrailer: x\r\n\r\n",
+        b"\r\nGET / HTTP/1.1\nHost: h\n\n",
+        b"GET / HTTP/1.1\r\nContent-Length: 0\r\n\r\n",
+    ];
+    for bytes in &cases {
+        assert_eq!(rt; fault_of(rt.alloc(), bytes), None);
+    }
+    Ok(())
+}
+
+#[test]
+fn a_failing_reader(rt: HostRuntime) -> Result<(), Fail> {
+    let steps = [Step::AtMost(5), Step::Fail];
+    let mut source = Script::new(CHUNKED, &steps);
+    assert!(rt; matches!(read_message(rt.alloc(), &mut source), Err(HttpFault::Io)));
+    let mut source = Script::new(b"HTTP/1.1 200 OK\r\n\r\n", &steps);
+    assert!(rt; matches!(read_response(rt.alloc(), &mut source), Err(HttpFault::Io)));
+    Ok(())
+}
+
+#[test]
+fn limits(rt: HostRuntime) -> Result<(), Fail> {
+    let mut endless = Decoder::new(rt.alloc());
+    let run = [b'a'; 8_192];
+    assert_eq!(rt; endless.feed(&run), Ok(false));
+    assert_eq!(rt; endless.feed(&run), Err(HttpFault::HeadTooLong));
+
+    let mut fields = Decoder::new(rt.alloc());
+    assert_eq!(rt; fields.feed(b"GET / HTTP/1.1\r\n"), Ok(false));
+    for _ in 0..64 {
+        assert_eq!(rt; fields.feed(b"a: b\r\n"), Ok(false));
+    }
+    assert_eq!(rt; fields.feed(b"a: b\r\n"), Err(HttpFault::TooManyHeaders));
+
+    let mut line = Decoder::new(rt.alloc());
+    let head = b"GET / HTTP/1.1\r\nTransfer-Encoding: chunked\r\n\r\n";
+    assert_eq!(rt; line.feed(head), Ok(false));
+    assert_eq!(rt; line.feed(b"1;"), Ok(false));
+    assert_eq!(rt; line.feed(&run), Err(HttpFault::BadChunk));
+    Ok(())
+}
+
+#[test]
+fn a_body_at_the_limit(rt: HostRuntime) -> Result<(), Fail> {
+    let mut decoder = Decoder::new(rt.alloc());
+    let head = b"GET / HTTP/1.1\r\nTransfer-Encoding: chunked\r\n\r\n400000\r\n";
+    assert_eq!(rt; decoder.feed(head), Ok(false));
+    let piece = [b'x'; 16_384];
+    for _ in 0..256 {
+        assert_eq!(rt; decoder.feed(&piece), Ok(false));
+    }
+    assert_eq!(rt; decoder.held(), 46 + MAX_BODY);
+    assert_eq!(rt; decoder.feed(b"\r\n1\r\n"), Err(HttpFault::BodyTooLong));
+    Ok(())
+}
+
+#[test]
+fn replies(rt: HostRuntime) -> Result<(), Fail> {
+    let text =
+        b"HTTP/1.1 503 Service Unavailable\r\nRetry-After:  2 \r\nretry-after: 3\r\n\r\nbody";
+    for cut in 1..text.len() {
+        let steps = [Step::AtMost(cut)];
+        let mut source = Script::new(text, &steps);
+        let Ok(reply) = read_response(rt.alloc(), &mut source) else {
+            panic!(rt; "cut {cut}");
+        };
+        assert_eq!(rt; reply.status, 503);
+        let Some(seconds) = reply.retry_after else {
+            panic!(rt; "cut {cut}");
+        };
+        assert!(rt; seconds.as_slice() == b"2".as_slice());
+    }
+    let mut source = Script::new(b"HTTP/1.0 200\r\n\r\n", &[]);
+    let Ok(reply) = read_response(rt.alloc(), &mut source) else {
+        panic!(rt; "no reply");
+    };
+    assert_eq!(rt; reply.status, 200);
+    assert!(rt; reply.retry_after.is_none());
+    let cases: [(&[u8], HttpFault); 3] = [
+        (b"", HttpFault::Closed),
+        (b"HTTP/1.1 200 OK\r\n", HttpFault::Truncated),
+        (b"HTTP/2 200\r\n\r\n", HttpFault::BadHead),
+    ];
+    for (bytes, fault) in &cases {
+        let mut source = Script::new(bytes, &[]);
+        assert_eq!(rt; read_response(rt.alloc(), &mut source).err(), Some(*fault));
+    }
+    Ok(())
+}
+
+const RESPONSE: &[u8] =
+    b"HTTP/1.1 200 OK\r\nContent-Type: application/json\r\nContent-Length: 2\r\nConnection: close\r\n\r\n{}";
+
+#[test]
+fn written_responses(rt: HostRuntime) -> Result<(), Fail> {
+    let mut tape = Tape::new(rt.alloc(), &[]);
+    let kind = "application/json";
+    let done = write_response(&mut tape, StatusCode::OK, kind, None, b"{}");
+    assert_eq!(rt; done, Written::All);
+    assert!(rt; tape.taken() == RESPONSE);
+
+    let mut tape = Tape::new(rt.alloc(), &[]);
+    let wrong = StatusCode::METHOD_NOT_ALLOWED;
+    let done = write_response(&mut tape, wrong, "text/plain", Some("POST"), b"");
+    assert_eq!(rt; done, Written::All);
+    let text =
+        b"HTTP/1.1 405 Method Not Allowed\r\nContent-Type: text/plain\r\nContent-Length: 0\r\nAllow: POST\r\nConnection: close\r\n\r\n";
+    assert!(rt; tape.taken() == text.as_slice());
+    Ok(())
+}
+
+#[test]
+fn a_failing_writer(rt: HostRuntime) -> Result<(), Fail> {
+    let kind = "application/json";
+    for n in 1..RESPONSE.len() {
+        // One byte a call, and then a call that fails.
+        let mut steps = [Step::AtMost(1); 128];
+        if n < steps.len() {
+            steps[n] = Step::Fail;
+        }
+        let mut tape = Tape::new(rt.alloc(), &steps);
+        let done = write_response(&mut tape, StatusCode::OK, kind, None, b"{}");
+        assert_eq!(rt; done, Written::Part(n));
+        assert!(rt; tape.taken() == &RESPONSE[..n]);
+    }
+    let mut tape = Tape::new(rt.alloc(), &[Step::Fail]);
+    assert_eq!(rt; write_post(&mut tape, "h", b"{}"), Written::None_);
+    Ok(())
+}
+
+#[test]
+fn a_written_post(rt: HostRuntime) -> Result<(), Fail> {
+    let mut tape = Tape::new(rt.alloc(), &[]);
+    assert_eq!(rt;
+        write_post(&mut tape, "127.0.0.1:4318", b"{}"),
+        Written::All
+    );
+    let text =
+        b"POST /v1/metrics HTTP/1.1\r\nHost: 127.0.0.1:4318\r\nContent-Type: application/json\r\nContent-Length: 2\r\nConnection: close\r\n\r\n{}";
+    assert!(rt; tape.taken() == text.as_slice());
+    Ok(())
+}

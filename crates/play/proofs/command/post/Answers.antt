@@ -1,8 +1,0 @@
-use Rattle.std.proofs.Common.{sym, ◌∙◌}
-use Rattle.play.proofs.Wording.{good_post}
-use Rattle.play.proofs.command.post.Goals as goal
-
-pub returns-clause-told : goal.returns-clause-told
-returns-clause-told c =
-    let split = rw c.in_ok-body.was at c.cut_word-sender.ensures.words in
-    rw c.in_ok-rest.was (good_post _ _ _ split (sym c.is_name.ensures ∙ c.if-not-is_name.false))

@@ -1,0 +1,180 @@
+-- Which answer a call of the book gives.
+use Rattle.std.proofs.Common.{◌≡◌, ◌≢◌, ℕ, ◌+◌, Bool, true, false, ◌==◌, length, List, [], ◌∷◌, Option, Some, None, Ok, Err, codes, decimal, refl, sym, ap, ◌∙◌, inl, inr, ◌⊎◌}
+use Rattle.std.specs.Option.{unwrap_or}
+use Rattle.std.proofs.lemmas.List.Sums.{fold_push}
+use Rattle.series_id.specs.Identity.{Identity}
+use Rattle.metric_events.specs.History.{History, Start, ◌▸◌}
+use Rattle.metric_events.specs.Choice.{pick, flush_points}
+use Rattle.metric_events.specs.declared.entry.Entry.{Entry}
+use Rattle.metric_events.specs.declared.event.Event.{Event}
+use Rattle.metric_events.specs.declared.event.Event.TheVariants.{Take}
+use Rattle.delta_book.specs.Journal.{history, and_then, Appends, takes}
+use Rattle.delta_book.specs.Flushes.{IsTaken}
+use Rattle.delta_book.specs.declared.flush.Flush.{Flush}
+use Rattle.delta_book.specs.declared.faults.TakeFault.{TakeFault}
+use Rattle.metric_events.specs.declared.point.PointFault.{PointFault}
+use Rattle.metric_events.specs.declared.point.PointFault.TheVariants as point
+use Rattle.delta_book.specs.Refusals.{admit_refusal}
+use Rattle.delta_book.specs.Journal.{admits}
+use Rattle.delta_book.specs.declared.faults.AdmitFault.{AdmitFault}
+use Rattle.delta_book.specs.declared.faults.AdmitFault.TheVariants as admit
+use Rattle.metric_events.specs.declared.event.Event.TheVariants.{Admit}
+use Rattle.play_script.specs.PointLines.{PointWords, first_fault}
+use Rattle.metric_events.specs.DataPoint.{DataPoint}
+use Rattle.otlp_read.specs.Reading.{text_reading, Answers as Reads}
+use Rattle.otlp_read.specs.Tallies.{Tally}
+use Rattle.otlp_read.specs.declared.fault.ReadFault.{ReadFault}
+use Rattle.otlp_read.specs.declared.fault.ReadFault.TheVariants as read
+use Rattle.play_script.specs.Commands.{Asked, TakeLine, AdmitLine, PostLine}
+use Rattle.play_script.specs.Refused.{refusal_text, of_take, of_point, of_admit, of_read}
+use Rattle.play_script.specs.Replies.{said, batch_and_foreign, flush_text}
+use Rattle.play_script.specs.Run.{answer, takes_memory, happens, refused, only_says, taken_or, flushed, body_of, admitted_or, posted, posted_batch}
+use Rattle.play_script.specs.Answered.{Answers}
+use Rattle.play_script.specs.declared.refusal.Refusal.{Refusal}
+use Rattle.play_script.specs.declared.refusal.Refusal.TheVariants.{NotJson, WrongShape, NoMemory}
+
+pub history_more : (old new : List Entry) (seat : ℕ) (event : Event) → Appends old new seat event → history new ≡ history old ▸ event
+history_more old new seat event h = ap history h ∙ fold_push and_then Start old (record { seat = seat; event = event })
+
+-- the event happened
+pub happened : (asked : Asked) (old new : List Entry) (seat : ℕ) (event : Event) (word what : List ℕ) → Appends old new seat event
+    → answer (history old) asked ≡ happens (history old) event word what → Answers (history old) asked (said word what) (history new)
+happened asked old new seat event word what h is = (
+  false,
+  record {
+    allowed = refl;
+    text_is = ap (λ a. a.text) (sym is);
+    after_is = history_more old new seat event h ∙ ap (λ a. a.after) (sym is);
+  },
+)
+
+-- nothing happened, and the reply says why
+pub refused_as : (asked : Asked) (old new : List Entry) (why : Refusal) → new ≡ old
+    → answer (history old) asked ≡ refused (history old) why → Answers (history old) asked (said (codes "refused ") (refusal_text why)) (history new)
+refused_as asked old new why h is = (
+  false,
+  record {
+    allowed = refl;
+    text_is = ap (λ a. a.text) (sym is);
+    after_is = ap history h ∙ ap (λ a. a.after) (sym is);
+  },
+)
+
+-- nothing happened, and the reply says something
+pub says : (asked : Asked) (old new : List Entry) (text : List ℕ) → new ≡ old
+    → answer (history old) asked ≡ only_says (history old) text → Answers (history old) asked text (history new)
+says asked old new text h is = (
+  false,
+  record {
+    allowed = refl;
+    text_is = ap (λ a. a.text) (sym is);
+    after_is = ap history h ∙ ap (λ a. a.after) (sym is);
+  },
+)
+
+-- there was no memory
+pub without_memory : (asked : Asked) (old new : List Entry) → takes_memory asked ≡ true → new ≡ old
+    → Answers (history old) asked (said (codes "refused ") (refusal_text NoMemory)) (history new)
+without_memory asked old new may h = (
+  true,
+  record {
+    allowed = may;
+    text_is = refl;
+    after_is = ap history h;
+  },
+)
+
+-- the refusal that a fault is, where there is one, else want of memory
+pub refused_or : {F : Type 0} (asked : Asked) (old new : List Entry) (refusal_of : F → Refusal) (none fault : F) (refusal : Option F) → takes_memory asked ≡ true → new ≡ old
+    → refusal_of none ≡ NoMemory → fault ≡ unwrap_or refusal none → ((f : F) → refusal ≡ Some f → answer (history old) asked ≡ refused (history old) (refusal_of f))
+    → Answers (history old) asked (said (codes "refused ") (refusal_text (refusal_of fault))) (history new)
+refused_or asked old new refusal_of none fault None may h is e k = rw (e, is) (without_memory asked old new may h)
+refused_or asked old new refusal_of none fault (Some f) may h is e k = rw e (refused_as asked old new (refusal_of f) h (k f refl))
+
+taken_some : (E : History) (xs : List Identity) → xs ≢ [] → taken_or E xs None ≡ flushed E (takes E + 1) (E ▸ Take (takes E + 1) xs)
+taken_some E [] h = absurd (h refl)
+taken_some E (x ∷ xs) h = refl
+
+pub taken_full : (E : History) (xs : List Identity) (fault : TakeFault) → xs ≢ [] → taken_or E xs (Some fault) ≡ refused E (of_take fault)
+taken_full E [] fault h = absurd (h refl)
+taken_full E (x ∷ xs) fault h = refl
+
+-- a flush was taken
+pub flush_taken : (old new : List Entry) (seat max : ℕ) (flush : Flush) → IsTaken old new seat max flush
+    → Answers (history old) (TakeLine max) (flush_text flush.number flush.points) (history new)
+flush_taken old new seat max flush h =
+    let E = history old in
+    let is : answer E (TakeLine max) ≡ flushed E (takes E + 1) (E ▸ Take (takes E + 1) (pick E max)) = rw h.refused (taken_some E (pick E max) h.some) in
+    let grown : history new ≡ E ▸ Take flush.number (pick E max) = history_more old new seat (Take flush.number (pick E max)) h.entry in
+    let after : history new ≡ E ▸ Take (takes E + 1) (pick E max) = grown ∙ ap (λ n. E ▸ Take n (pick E max)) h.number in (
+      false,
+      record {
+        allowed = refl;
+        text_is = ap (λ ps. flush_text flush.number ps) h.points ∙ ap (λ n. flush_text n (flush_points (history new) n)) h.number ∙ ap (λ F. flush_text (takes E + 1) (flush_points F (takes E + 1))) after ∙ ap (λ a. a.text) (sym is);
+        after_is = after ∙ ap (λ a. a.after) (sym is);
+      },
+    )
+
+-- a point could not be made
+pub point_refused : (sender : List ℕ) (points : List PointWords) (old : List Entry) (fault : PointFault) → (fault ≡ point.NoMemory) ⊎ (first_fault points ≡ Some fault)
+    → Answers (history old) (AdmitLine sender points) (said (codes "refused ") (refusal_text (of_point fault))) (history old)
+point_refused sender points old fault (inl e) = rw e (without_memory (AdmitLine sender points) old old refl refl)
+point_refused sender points old fault (inr e) = refused_as (AdmitLine sender points) old old (of_point fault) refl (rw e refl)
+
+-- the book did not admit the batch
+pub batch_refused : (sender : List ℕ) (points : List PointWords) (old new : List Entry) (fault : AdmitFault) → first_fault points ≡ None → new ≡ old
+    → fault ≡ unwrap_or (admit_refusal (history old) (admits (history old) + 1) (body_of sender points)) admit.NoMemory
+    → Answers (history old) (AdmitLine sender points) (said (codes "refused ") (refusal_text (of_admit fault))) (history new)
+batch_refused sender points old new fault made h is =
+    refused_or (AdmitLine sender points) old new of_admit admit.NoMemory fault (admit_refusal (history old) (admits (history old) + 1) (body_of sender points)) refl h refl is
+    (λ f e. rw (made, e) refl)
+
+-- the book admitted the batch
+pub batch_admitted : (sender : List ℕ) (points : List PointWords) (old new : List Entry) (seat batch : ℕ) → first_fault points ≡ None
+    → batch ≡ admits (history old) + 1 → Appends old new seat (Admit batch (body_of sender points))
+    → admit_refusal (history old) (admits (history old) + 1) (body_of sender points) ≡ None
+    → Answers (history old) (AdmitLine sender points) (said (codes "batch ") (decimal batch)) (history new)
+batch_admitted sender points old new seat batch made number entry none =
+    happened (AdmitLine sender points) old new seat (Admit batch (body_of sender points)) (codes "batch ") (decimal batch) entry (rw (made, none, number) refl)
+
+-- a body could not be read
+pub body_refused : (sender body : List ℕ) (old : List Entry) (fault : ReadFault) → Reads body (Err fault)
+    → Answers (history old) (PostLine sender body) (said (codes "refused ") (refusal_text (of_read fault))) (history old)
+body_refused sender body old read.NoMemory h = without_memory (PostLine sender body) old old refl refl
+body_refused sender body old read.NotJson h = refused_as (PostLine sender body) old old NotJson refl (rw h refl)
+body_refused sender body old (read.WrongShape place) h = refused_as (PostLine sender body) old old WrongShape refl (rw h refl)
+
+-- a body has no point of the profile
+pub only_foreign : (sender body : List ℕ) (old : List Entry) (t : Tally) → text_reading body ≡ Some (Ok t) → t.points ≡ []
+    → Answers (history old) (PostLine sender body) (said (codes "nothing foreign ") (decimal t.foreign)) (history old)
+only_foreign sender body old t h none = says (PostLine sender body) old old (said (codes "nothing foreign ") (decimal t.foreign)) refl (rw (h, none) refl)
+
+pub not_empty : (points : List DataPoint) (empty : Bool) → empty ≡ (length points == 0) → empty ≡ false → points ≢ []
+not_empty [] empty is false_is = λ _. cc
+not_empty (p ∷ ps) empty is false_is = λ e. cc
+
+posted_some : (E : History) (sender : List ℕ) (points : List DataPoint) (foreign : ℕ) → points ≢ []
+    → posted E sender points foreign ≡ admitted_or E (admits E + 1) (posted_batch sender points) (batch_and_foreign (admits E + 1) foreign) (admit_refusal E (admits E + 1) (posted_batch sender points))
+posted_some E sender [] foreign h = absurd (h refl)
+posted_some E sender (p ∷ ps) foreign h = refl
+
+answer_posted : (E : History) (sender body : List ℕ) (t : Tally) → text_reading body ≡ Some (Ok t) → t.points ≢ []
+    → answer E (PostLine sender body) ≡ admitted_or E (admits E + 1) (posted_batch sender t.points) (batch_and_foreign (admits E + 1) t.foreign) (admit_refusal E (admits E + 1) (posted_batch sender t.points))
+answer_posted E sender body t h some = rw h (posted_some E sender t.points t.foreign some)
+
+-- the book did not admit a body's points
+pub post_refused : (sender body : List ℕ) (old new : List Entry) (t : Tally) (fault : AdmitFault) → text_reading body ≡ Some (Ok t) → t.points ≢ [] → new ≡ old
+    → fault ≡ unwrap_or (admit_refusal (history old) (admits (history old) + 1) (posted_batch sender t.points)) admit.NoMemory
+    → Answers (history old) (PostLine sender body) (said (codes "refused ") (refusal_text (of_admit fault))) (history new)
+post_refused sender body old new t fault h some same is =
+    refused_or (PostLine sender body) old new of_admit admit.NoMemory fault (admit_refusal (history old) (admits (history old) + 1) (posted_batch sender t.points)) refl same refl is
+    (λ f e. answer_posted (history old) sender body t h some ∙ rw e refl)
+
+-- the book admitted them
+pub post_admitted : (sender body : List ℕ) (old new : List Entry) (t : Tally) (seat batch : ℕ) → text_reading body ≡ Some (Ok t) → t.points ≢ []
+    → batch ≡ admits (history old) + 1 → Appends old new seat (Admit batch (posted_batch sender t.points))
+    → admit_refusal (history old) (admits (history old) + 1) (posted_batch sender t.points) ≡ None
+    → Answers (history old) (PostLine sender body) (said (codes "batch ") (batch_and_foreign batch t.foreign)) (history new)
+post_admitted sender body old new t seat batch h some number entry none =
+    happened (PostLine sender body) old new seat (Admit batch (posted_batch sender t.points)) (codes "batch ") (batch_and_foreign batch t.foreign) entry
+    (answer_posted (history old) sender body t h some ∙ rw (none, number) refl)

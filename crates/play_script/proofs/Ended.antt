@@ -1,0 +1,34 @@
+-- What was read of a source and written to a sink, call by call.
+use Rattle.std.proofs.Common.{◌≡◌, ℕ, ◌+◌, ◌-◌, ◌<◌, take, drop, List, ◌++◌, length, Option, Some, None, ap, ◌∙◌, append_assoc, length-append, arith}
+use Rattle.std.specs.Io.KnownBytes.{Consumes, IsAtEnd, Appends}
+use Rattle.std.proofs.lemmas.List.{append-nil, take-append-drop, take_rest}
+use Rattle.byte_ends.specs.Ends.{AreAll}
+use Rattle.play_script.specs.Ends.{HasMore}
+
+pub consumed : (old mid new : Option (List ℕ)) (xs ys : List ℕ) → Consumes old mid xs → Consumes mid new ys → Consumes old new (xs ++ ys)
+consumed None mid new xs ys h k = tt
+consumed (Some a) None new xs ys h k = absurd h
+consumed (Some a) (Some b) None xs ys h k = absurd k
+consumed (Some a) (Some b) (Some c) xs ys h k = h ∙ ap (λ m. xs ++ m) k ∙ simp append_assoc
+
+pub all_consumed : (old mid : Option (List ℕ)) (input : List ℕ) → Consumes old mid input → IsAtEnd mid → AreAll old input
+all_consumed None mid input h k = tt
+all_consumed (Some a) None input h k = absurd h
+all_consumed (Some a) (Some b) input h k = h ∙ ap (λ m. input ++ m) k ∙ append-nil input
+
+pub more_consumed : (old mid new : Option (List ℕ)) (xs ys : List ℕ) (most : ℕ) → Consumes old mid xs → Consumes mid new ys → most < length xs + length ys → HasMore old most
+more_consumed None mid new xs ys most h k long = tt
+more_consumed (Some a) None new xs ys most h k long = absurd h
+more_consumed (Some a) (Some b) None xs ys most h k long = absurd k
+more_consumed (Some a) (Some b) (Some c) xs ys most h k long = omega (arith, ap length h, ap length k, length-append xs b, length-append ys c)
+
+pub appended : (old mid new : Option (List ℕ)) (xs ys : List ℕ) → Appends old mid xs → Appends mid new ys → Appends old new (xs ++ ys)
+appended None mid new xs ys h k = tt
+appended (Some a) None new xs ys h k = absurd h
+appended (Some a) (Some b) None xs ys h k = absurd k
+appended (Some a) (Some b) (Some c) xs ys h k = k ∙ ap (λ m. m ++ ys) h ∙ simp append_assoc
+
+-- what is left after a part of the rest was written
+pub rest_written : (text done rest : List ℕ) (n : ℕ) → done ++ rest ≡ text → (done ++ take n rest) ++ take (length rest - n) (drop n rest) ≡ text
+rest_written text done rest n h =
+    ap (λ m. (done ++ take n rest) ++ m) (take_rest rest n) ∙ append_assoc done (take n rest) (drop n rest) ∙ ap (λ m. done ++ m) (take-append-drop n rest) ∙ h

@@ -1,0 +1,37 @@
+-- What the program's replies say, and which reply a line may get.
+use Rattle.std.specs.Prelude.{◌≡◌, ℕ, Bool, true, not, ◌||◌, List, codes, decimal}
+use Rattle.metric_events.specs.History.{History}
+use Rattle.play_script.specs.Commands.{Asked}
+use Rattle.play_script.specs.Refused.{refusal_text}
+use Rattle.play_script.specs.Replies.{said, batch_and_foreign, flush_text, report_text}
+use Rattle.play_script.specs.Run.{marked_answer, takes_memory}
+use Rattle.play_script.specs.declared.reply.Reply.{Reply}
+use Rattle.play_script.specs.declared.reply.Reply.TheVariants.{BadCommand, Refused, Nothing, Batch, Posted, OnlyForeign, Flushed, Settled, Returned, Undone, Confirmed, Dropped, Held, Lifted, Report}
+
+-- the text of a reply
+abbrev pub reply_text : Reply → List ℕ
+reply_text BadCommand = codes "bad command\n"
+reply_text (Refused why) = said (codes "refused ") (refusal_text why)
+reply_text Nothing = codes "nothing\n"
+reply_text (Batch b) = said (codes "batch ") (decimal b)
+reply_text (Posted b foreign) = said (codes "batch ") (batch_and_foreign b foreign)
+reply_text (OnlyForeign foreign) = said (codes "nothing foreign ") (decimal foreign)
+reply_text (Flushed flush) = flush_text flush.number flush.points
+reply_text (Settled f) = said (codes "settled ") (decimal f)
+reply_text (Returned f) = said (codes "returned ") (decimal f)
+reply_text (Undone b) = said (codes "undone ") (decimal b)
+reply_text (Confirmed b) = said (codes "confirmed ") (decimal b)
+reply_text (Dropped f) = said (codes "dropped ") (decimal f)
+reply_text (Held s) = said (codes "held ") s.now
+reply_text (Lifted s) = said (codes "lifted ") s.now
+reply_text (Report rows) = report_text rows.items
+
+-- this text and this history are the command's answer, for this mark
+pub record IsAnswer (E : History) (asked : Asked) (text : List ℕ) (F : History) (mark : Bool) : Type 0 where
+  pub allowed : (not mark || takes_memory asked) ≡ true
+  pub text_is : text ≡ (marked_answer E asked mark).text
+  pub after_is : F ≡ (marked_answer E asked mark).after
+
+-- for some mark
+abbrev pub Answers : History → Asked → List ℕ → History → Type 0
+Answers E asked text F = (mark : Bool) × IsAnswer E asked text F mark

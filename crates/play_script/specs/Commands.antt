@@ -1,0 +1,111 @@
+-- What a line of a script asks for.
+use Rattle.std.specs.Prelude.{ℕ, List, [], ◌∷◌, ◌==◌, codes, if◌then◌else◌, nat_le, Some, None}
+use Rattle.std.specs.declared.option.Option.{Option}
+use Rattle.std.specs.List.{join_with_byte}
+use Rattle.std.specs.Str.{bytes_eq}
+use Rattle.play_script.specs.Pieces.{words}
+use Rattle.play_script.specs.Numbers.{number}
+use Rattle.play_script.specs.PointLines.{PointWords, point_words, name_of}
+use Rattle.play_script.specs.declared.pieces.TheConstants.{SPACE}
+use Rattle.play_script.specs.declared.numbers.TheConstants.{MAX_TAKEN}
+use Rattle.play_script.specs.declared.verb.Verb.{Verb}
+use Rattle.play_script.specs.declared.verb.Verb.TheVariants.{Admit, Take, Settle, GiveBack, Report, Undo, Confirm, Discard, Hold, Lift, Post}
+
+pub data Asked : Type 0 where
+  AdmitLine : (sender : List ℕ) (points : List PointWords) → Asked
+  TakeLine : (max : ℕ) → Asked
+  OkLine : (flush : ℕ) → Asked
+  BackLine : (flush : ℕ) → Asked
+  ReportLine : Asked
+  UndoLine : (batch : ℕ) → Asked
+  ConfirmLine : (batch : ℕ) → Asked
+  DropLine : (flush : ℕ) → Asked
+  HoldLine : (sender : List ℕ) → Asked
+  LiftLine : (sender : List ℕ) → Asked
+  PostLine : (sender : List ℕ) (body : List ℕ) → Asked
+  BadLine : Asked
+
+-- the first word of a command
+abbrev pub verb : List ℕ → Option Verb
+verb word =
+    if bytes_eq word (codes "admit") then Some Admit
+    else (if bytes_eq word (codes "take") then Some Take
+    else (if bytes_eq word (codes "ok") then Some Settle
+    else (if bytes_eq word (codes "back") then Some GiveBack
+    else (if bytes_eq word (codes "report") then Some Report
+    else (if bytes_eq word (codes "undo") then Some Undo
+    else (if bytes_eq word (codes "confirm") then Some Confirm
+    else (if bytes_eq word (codes "drop") then Some Discard
+    else (if bytes_eq word (codes "hold") then Some Hold
+    else (if bytes_eq word (codes "lift") then Some Lift
+    else (if bytes_eq word (codes "post") then Some Post else None))))))))))
+
+-- a number that is the one word
+abbrev pub only_number : List (List ℕ) → Option ℕ
+only_number [] = None
+only_number (word ∷ []) = number word
+only_number (word ∷ next ∷ more) = None
+
+-- a name that is the one word
+abbrev pub only_name : List (List ℕ) → Option (List ℕ)
+only_name [] = None
+only_name (word ∷ []) = name_of word
+only_name (word ∷ next ∷ more) = None
+
+abbrev pub numbered : (ℕ → Asked) → Option ℕ → Asked
+numbered line None = BadLine
+numbered line (Some n) = line n
+
+abbrev pub named : (List ℕ → Asked) → Option (List ℕ) → Asked
+named line None = BadLine
+named line (Some name) = line name
+
+-- at least one series, and not too many
+abbrev pub take_line : ℕ → Asked
+take_line max = if max == 0 then BadLine else (if nat_le max MAX_TAKEN then TakeLine max else BadLine)
+
+-- a sender with at least one point
+abbrev pub admit_line : Option (List ℕ) → Option (List PointWords) → Asked
+admit_line (Some sender) (Some (point ∷ points)) = AdmitLine sender (point ∷ points)
+admit_line sender points = BadLine
+
+abbrev pub admit_words : List (List ℕ) → Asked
+admit_words [] = BadLine
+admit_words (sender ∷ points) = admit_line (name_of sender) (point_words points)
+
+abbrev pub post_line : Option (List ℕ) → List ℕ → Asked
+post_line None body = BadLine
+post_line (Some sender) body = PostLine sender body
+
+-- a sender, and the rest of the line as it is
+abbrev pub post_words : List (List ℕ) → Asked
+post_words [] = BadLine
+post_words (sender ∷ []) = BadLine
+post_words (sender ∷ word ∷ more) = post_line (name_of sender) (join_with_byte SPACE (word ∷ more))
+
+abbrev pub nothing_more : Asked → List (List ℕ) → Asked
+nothing_more line [] = line
+nothing_more line (word ∷ more) = BadLine
+
+-- by the first word and those after it
+abbrev pub command_by : Option Verb → List (List ℕ) → Asked
+command_by None rest = BadLine
+command_by (Some Admit) rest = admit_words rest
+command_by (Some Take) rest = numbered take_line (only_number rest)
+command_by (Some Settle) rest = numbered OkLine (only_number rest)
+command_by (Some GiveBack) rest = numbered BackLine (only_number rest)
+command_by (Some Report) rest = nothing_more ReportLine rest
+command_by (Some Undo) rest = numbered UndoLine (only_number rest)
+command_by (Some Confirm) rest = numbered ConfirmLine (only_number rest)
+command_by (Some Discard) rest = numbered DropLine (only_number rest)
+command_by (Some Hold) rest = named HoldLine (only_name rest)
+command_by (Some Lift) rest = named LiftLine (only_name rest)
+command_by (Some Post) rest = post_words rest
+
+abbrev pub command_of : List (List ℕ) → Asked
+command_of [] = BadLine
+command_of (word ∷ rest) = command_by (verb word) rest
+
+-- what the line asks for
+abbrev pub command : List ℕ → Asked
+command line = command_of (words line)

@@ -1,0 +1,38 @@
+-- What is read and written.
+use Rattle.std.specs.Prelude.{◌≡◌, ℕ, ◌<◌, Bool, true, false, List, ◌++◌, length, Some, None, Ok, Err, ⊤}
+use Rattle.std.specs.declared.option.Option.{Option}
+use Rattle.std.specs.declared.result.Result.{Result}
+use Rattle.std.specs.Io.KnownBytes.{Appends}
+use Rattle.play_script.specs.declared.fault.PlayFault.{PlayFault}
+use Rattle.play_script.specs.declared.fault.PlayFault.TheVariants.{CannotRead, TooLong, CannotWrite, NoMemory}
+
+-- more bytes were to come, where those are known
+abbrev pub HasMore : Option (List ℕ) → ℕ → Type 0
+HasMore None most = ⊤
+HasMore (Some xs) most = most < length xs
+
+-- known bytes grow by a front part of the text
+abbrev pub AppendsPart : Option (List ℕ) → Option (List ℕ) → List ℕ → Type 0
+AppendsPart old new text = (part : List ℕ) × (rest : List ℕ) × (part ++ rest ≡ text) × Appends old new part
+
+-- the fault is that of a reader, or of a writer
+abbrev pub cannot_read : {T : Type 0} → Result T PlayFault → Bool
+cannot_read (Ok x) = false
+cannot_read (Err CannotRead) = true
+cannot_read (Err TooLong) = false
+cannot_read (Err CannotWrite) = false
+cannot_read (Err NoMemory) = false
+
+abbrev pub cannot_write : {T : Type 0} → Result T PlayFault → Bool
+cannot_write (Ok x) = false
+cannot_write (Err CannotRead) = false
+cannot_write (Err TooLong) = false
+cannot_write (Err CannotWrite) = true
+cannot_write (Err NoMemory) = false
+
+-- the fault of reading: the input was too long, or no reason of the writer's
+abbrev pub IsReadFault : Option (List ℕ) → ℕ → PlayFault → Type 0
+IsReadFault old most CannotRead = ⊤
+IsReadFault old most TooLong = HasMore old most
+IsReadFault old most CannotWrite = ⊥
+IsReadFault old most NoMemory = ⊤

@@ -1,0 +1,156 @@
+-- The run of a script: a reply for each line, by the rules over the history so far.
+use Rattle.std.specs.Prelude.{ℕ, ◌+◌, Bool, true, false, not, ◌||◌, ◌&&◌, List, [], ◌∷◌, ◌++◌, map, codes, decimal, if◌then◌else◌, Some, None, Ok, Err}
+use Rattle.std.specs.declared.option.Option.{Option}
+use Rattle.std.specs.declared.result.Result.{Result}
+use Rattle.series_id.specs.Identity.{Identity}
+use Rattle.metric_events.specs.History.{History, Start, ◌▸◌}
+use Rattle.metric_events.specs.Running.{open_batches, live_flushes, held_senders}
+use Rattle.metric_events.specs.Legal.{is_open, is_live, is_held}
+use Rattle.metric_events.specs.Choice.{pick, flush_points}
+use Rattle.metric_events.specs.declared.batch.Batch.{Batch}
+use Rattle.metric_events.specs.declared.event.Event.{Event}
+use Rattle.metric_events.specs.declared.event.Event.TheVariants.{Admit, Undo, Confirm, Take, Settle, Drop, GiveBack, Quarantine, Lift}
+use Rattle.metric_events.specs.declared.point.PointFault.{PointFault}
+use Rattle.metric_events.specs.DataPoint.{DataPoint}
+use Rattle.otlp_read.specs.declared.place.Place.{Place}
+use Rattle.otlp_read.specs.Tallies.{Tally}
+use Rattle.otlp_read.specs.Reading.{text_reading}
+use Rattle.delta_book.specs.declared.faults.AdmitFault.{AdmitFault}
+use Rattle.delta_book.specs.declared.faults.TakeFault.{TakeFault}
+use Rattle.delta_book.specs.declared.faults.UndoFault.{UndoFault}
+use Rattle.delta_book.specs.declared.faults.QuarantineFault.{QuarantineFault}
+use Rattle.delta_book.specs.Journal.{admits, takes}
+use Rattle.delta_book.specs.Refusals.{admit_refusal, undo_refusal, quarantine_refusal}
+use Rattle.delta_book.specs.Flushes.{take_refusal}
+use Rattle.delta_book.specs.Totals.{totals_rows}
+use Rattle.play_script.specs.PointLines.{PointWords, point_of, first_fault}
+use Rattle.play_script.specs.Commands.{Asked, AdmitLine, TakeLine, OkLine, BackLine, ReportLine, UndoLine, ConfirmLine, DropLine, HoldLine, LiftLine, PostLine, BadLine, command}
+use Rattle.play_script.specs.Refused.{refusal_text, of_point, of_admit, of_take, of_undo, of_hold}
+use Rattle.play_script.specs.Replies.{said, batch_and_foreign, flush_text, report_text}
+use Rattle.play_script.specs.declared.refusal.Refusal.{Refusal}
+use Rattle.play_script.specs.declared.refusal.Refusal.TheVariants.{NotOpen, NotLive, NotHeld, NotJson, WrongShape, NoMemory}
+
+-- the reply to a line, and the history after it
+pub record Answer : Type 0 where
+  pub text : List ℕ
+  pub after : History
+
+-- nothing happens
+abbrev pub only_says : History → List ℕ → Answer
+only_says E text = record { text = text; after = E }
+
+abbrev pub refused : History → Refusal → Answer
+refused E why = only_says E (said (codes "refused ") (refusal_text why))
+
+-- the event happens, and the reply names it
+abbrev pub happens : History → Event → List ℕ → List ℕ → Answer
+happens E event word what = record { text = said word what; after = E ▸ event }
+
+abbrev pub body_of : List ℕ → List PointWords → Batch
+body_of sender points = record { sender = sender; points = map point_of points }
+
+-- a batch that is admitted is named so
+abbrev pub admitted_or : History → ℕ → Batch → List ℕ → Option AdmitFault → Answer
+admitted_or E b body named (Some fault) = refused E (of_admit fault)
+admitted_or E b body named None = happens E (Admit b body) (codes "batch ") named
+
+-- a point that can't be made is refused before the book is asked
+abbrev pub made_or : History → Batch → Option PointFault → Answer
+made_or E body (Some fault) = refused E (of_point fault)
+made_or E body None = admitted_or E (admits E + 1) body (decimal (admits E + 1)) (admit_refusal E (admits E + 1) body)
+
+abbrev pub posted_batch : List ℕ → List DataPoint → Batch
+posted_batch sender points = record { sender = sender; points = points }
+
+-- the points of the profile are one batch; without any the book is not asked
+abbrev pub posted : History → List ℕ → List DataPoint → ℕ → Answer
+posted E sender [] foreign = only_says E (said (codes "nothing foreign ") (decimal foreign))
+posted E sender (p ∷ ps) foreign = admitted_or E (admits E + 1) (posted_batch sender (p ∷ ps)) (batch_and_foreign (admits E + 1) foreign) (admit_refusal E (admits E + 1) (posted_batch sender (p ∷ ps)))
+
+-- a body that can't be read is refused before the book is asked
+abbrev pub read_or : History → List ℕ → Option (Result Tally Place) → Answer
+read_or E sender None = refused E NotJson
+read_or E sender (Some (Err place)) = refused E WrongShape
+read_or E sender (Some (Ok t)) = posted E sender t.points t.foreign
+
+-- the flush of these series
+abbrev pub flushed : History → ℕ → History → Answer
+flushed E f F = record { text = flush_text f (flush_points F f); after = F }
+
+abbrev pub taken_or : History → List Identity → Option TakeFault → Answer
+taken_or E [] refusal = only_says E (codes "nothing\n")
+taken_or E (x ∷ xs) (Some fault) = refused E (of_take fault)
+taken_or E (x ∷ xs) None = flushed E (takes E + 1) (E ▸ Take (takes E + 1) (x ∷ xs))
+
+-- the end of a live flush
+abbrev pub ended : History → Bool → Event → List ℕ → ℕ → Answer
+ended E live event word f = if live then happens E event word (decimal f) else refused E NotLive
+
+abbrev pub undone_or : History → ℕ → Option UndoFault → Answer
+undone_or E b (Some fault) = refused E (of_undo fault)
+undone_or E b None = happens E (Undo b) (codes "undone ") (decimal b)
+
+abbrev pub held_or : History → List ℕ → Option QuarantineFault → Answer
+held_or E s (Some fault) = refused E (of_hold fault)
+held_or E s None = happens E (Quarantine s) (codes "held ") s
+
+-- what a command answers after a history
+abbrev pub answer : History → Asked → Answer
+answer E (AdmitLine sender points) = made_or E (body_of sender points) (first_fault points)
+answer E (TakeLine max) = taken_or E (pick E max) (take_refusal E)
+answer E (OkLine f) = ended E (is_live f (live_flushes E)) (Settle f) (codes "settled ") f
+answer E (BackLine f) = ended E (is_live f (live_flushes E)) (GiveBack f) (codes "returned ") f
+answer E ReportLine = only_says E (report_text (totals_rows E))
+answer E (UndoLine b) = undone_or E b (undo_refusal E b)
+answer E (ConfirmLine b) = if is_open b (open_batches E) then happens E (Confirm b) (codes "confirmed ") (decimal b) else refused E NotOpen
+answer E (DropLine f) = ended E (is_live f (live_flushes E)) (Drop f) (codes "dropped ") f
+answer E (HoldLine s) = held_or E s (quarantine_refusal E s)
+answer E (LiftLine s) = if is_held s (held_senders E) then happens E (Lift s) (codes "lifted ") s else refused E NotHeld
+answer E (PostLine sender body) = read_or E sender (text_reading body)
+answer E BadLine = only_says E (codes "bad command\n")
+
+-- a mark says that a line found no memory
+abbrev pub marked_answer : History → Asked → Bool → Answer
+marked_answer E asked mark = if mark then refused E NoMemory else answer E asked
+
+-- the commands that may find no memory
+abbrev pub takes_memory : Asked → Bool
+takes_memory (AdmitLine sender points) = true
+takes_memory (TakeLine max) = true
+takes_memory (OkLine f) = false
+takes_memory (BackLine f) = false
+takes_memory ReportLine = true
+takes_memory (UndoLine b) = false
+takes_memory (ConfirmLine b) = false
+takes_memory (DropLine f) = false
+takes_memory (HoldLine s) = true
+takes_memory (LiftLine s) = true
+takes_memory (PostLine sender body) = true
+takes_memory BadLine = false
+
+-- a line and its mark
+abbrev pub line_answer : History → List ℕ → Bool → Answer
+line_answer E line mark = marked_answer E (command line) mark
+
+-- each line has a mark, which stands only where the line may find no memory
+abbrev pub are_marks : List (List ℕ) → List Bool → Bool
+are_marks [] [] = true
+are_marks [] (mark ∷ marks) = false
+are_marks (line ∷ lines) [] = false
+are_marks (line ∷ lines) (mark ∷ marks) = (not mark || takes_memory (command line)) && are_marks lines marks
+
+-- the replies to lines with their marks, after a history
+abbrev pub replies : History → List (List ℕ) → List Bool → List ℕ
+replies E [] marks = []
+replies E (line ∷ lines) [] = []
+replies E (line ∷ lines) (mark ∷ marks) = (line_answer E line mark).text ++ replies (line_answer E line mark).after lines marks
+
+-- the history after them
+abbrev pub history_after : History → List (List ℕ) → List Bool → History
+history_after E [] marks = E
+history_after E (line ∷ lines) [] = E
+history_after E (line ∷ lines) (mark ∷ marks) = history_after (line_answer E line mark).after lines marks
+
+-- the replies of a script
+abbrev pub run : List (List ℕ) → List Bool → List ℕ
+run lines marks = replies Start lines marks

@@ -1,0 +1,175 @@
+//! Commands asked of a book, and what it replies.
+
+ghost use Rattle.std.specs.Prelude.{◌≡◌, ◌≤◌, ◌<◌, Some, true, length};
+ghost use Rattle.metric_events.specs.Senders.{is_sender_name};
+ghost use Rattle.delta_book.specs.Journal.{history};
+ghost use Rattle.play_script.specs.Answered.{Answers, reply_text};
+ghost use Rattle.play_script.specs.Commands as asked;
+ghost use Rattle.play_script.specs.Told.{told, told_points, IsReady};
+
+use crate::command::Command;
+use crate::making::make_points;
+use crate::numbers::MAX_TAKEN;
+use crate::point_line::PointLine;
+use crate::refusal::{Refusal, of_admit, of_hold, of_point, of_read, of_take, of_undo};
+use crate::reply::Reply;
+use delta_book::book::Book;
+use metric_events::batch::Batch;
+use metric_events::sender_name::SenderName;
+use otlp_read::read_request;
+use std::alloc::Global;
+
+/// The seat from which a script's events come.
+const SEAT: u16 = 0;
+
+fn admit(alloc: Global, book: &mut Book, sender: &[u8], lines: &[PointLine<'_>]) -> Reply<'static>
+    requires named { is_sender_name sender.now ≡ true }
+    requires some { 0 < length lines.now }
+    ensures { Answers (history book.old) (asked.AdmitLine sender.now (told_points lines.now)) (reply_text result) (history book.new) }
+{
+    let Ok(sender) = SenderName::new(alloc, sender) else {
+        return Reply::Refused(Refusal::NoMemory);
+    };
+    let points = match make_points(alloc, lines) {
+        Ok(points) => points,
+        Err(fault) => return Reply::Refused(of_point(fault)),
+    };
+    match book.admit(SEAT, Batch { sender, points }) {
+        Ok(batch) => return Reply::Batch(batch),
+        Err((fault, _)) => return Reply::Refused(of_admit(fault)),
+    }
+}
+
+fn post(alloc: Global, book: &mut Book, sender: &[u8], body: &[u8]) -> Reply<'static>
+    requires named { is_sender_name sender.now ≡ true }
+    ensures { Answers (history book.old) (asked.PostLine sender.now body.now) (reply_text result) (history book.new) }
+{
+    let reading = match read_request(alloc, body) {
+        Ok(reading) => reading,
+        Err(fault) => return Reply::Refused(of_read(fault)),
+    };
+    let foreign = reading.foreign;
+    if reading.points.as_slice().is_empty() {
+        return Reply::OnlyForeign(foreign);
+    }
+    let Ok(sender) = SenderName::new(alloc, sender) else {
+        return Reply::Refused(Refusal::NoMemory);
+    };
+    let points = reading.points;
+    match book.admit(SEAT, Batch { sender, points }) {
+        Ok(batch) => return Reply::Posted { batch, foreign },
+        Err((fault, _)) => return Reply::Refused(of_admit(fault)),
+    }
+}
+
+fn take(book: &mut Book, max: u64) -> Reply<'static>
+    requires low { 1 ≤ max }
+    requires high { max ≤ MAX_TAKEN }
+    ensures { Answers (history book.old) (asked.TakeLine max) (reply_text result) (history book.new) }
+{
+    match book.take(SEAT, max as usize) {
+        Ok(None) => Reply::Nothing,
+        Ok(Some(flush)) => Reply::Flushed(flush),
+        Err(fault) => Reply::Refused(of_take(fault)),
+    }
+}
+
+fn settle(book: &mut Book, flush: u64) -> Reply<'static>
+    ensures { Answers (history book.old) (asked.OkLine flush) (reply_text result) (history book.new) }
+{
+    match book.settle(SEAT, flush) {
+        Ok(()) => Reply::Settled(flush),
+        Err(_) => Reply::Refused(Refusal::NotLive),
+    }
+}
+
+fn give_back(book: &mut Book, flush: u64) -> Reply<'static>
+    ensures { Answers (history book.old) (asked.BackLine flush) (reply_text result) (history book.new) }
+{
+    match book.give_back(SEAT, flush) {
+        Ok(()) => Reply::Returned(flush),
+        Err(_) => Reply::Refused(Refusal::NotLive),
+    }
+}
+
+fn discard(book: &mut Book, flush: u64) -> Reply<'static>
+    ensures { Answers (history book.old) (asked.DropLine flush) (reply_text result) (history book.new) }
+{
+    match book.drop_flush(SEAT, flush) {
+        Ok(()) => Reply::Dropped(flush),
+        Err(_) => Reply::Refused(Refusal::NotLive),
+    }
+}
+
+fn undo(book: &mut Book, batch: u64) -> Reply<'static>
+    ensures { Answers (history book.old) (asked.UndoLine batch) (reply_text result) (history book.new) }
+{
+    match book.undo(SEAT, batch) {
+        Ok(()) => Reply::Undone(batch),
+        Err(fault) => Reply::Refused(of_undo(fault)),
+    }
+}
+
+fn confirm(book: &mut Book, batch: u64) -> Reply<'static>
+    ensures { Answers (history book.old) (asked.ConfirmLine batch) (reply_text result) (history book.new) }
+{
+    match book.confirm(SEAT, batch) {
+        Ok(()) => Reply::Confirmed(batch),
+        Err(_) => Reply::Refused(Refusal::NotOpen),
+    }
+}
+
+fn hold<'a>(alloc: Global, book: &mut Book, sender: &'a [u8]) -> Reply<'a>
+    requires { is_sender_name sender.now ≡ true }
+    ensures { Answers (history book.old) (asked.HoldLine sender.now) (reply_text result) (history book.new) }
+{
+    let Ok(name) = SenderName::new(alloc, sender) else {
+        return Reply::Refused(Refusal::NoMemory);
+    };
+    match book.quarantine(SEAT, name) {
+        Ok(()) => Reply::Held(sender),
+        Err(fault) => Reply::Refused(of_hold(fault)),
+    }
+}
+
+fn lift<'a>(alloc: Global, book: &mut Book, sender: &'a [u8]) -> Reply<'a>
+    requires { is_sender_name sender.now ≡ true }
+    ensures { Answers (history book.old) (asked.LiftLine sender.now) (reply_text result) (history book.new) }
+{
+    let Ok(name) = SenderName::new(alloc, sender) else {
+        return Reply::Refused(Refusal::NoMemory);
+    };
+    match book.lift(SEAT, &name) {
+        Ok(()) => Reply::Lifted(sender),
+        Err(_) => Reply::Refused(Refusal::NotHeld),
+    }
+}
+
+fn report(book: &Book) -> Reply<'static>
+    ensures { Answers (history book.now) asked.ReportLine (reply_text result) (history book.now) }
+{
+    match book.totals() {
+        Ok(rows) => Reply::Report(rows),
+        Err(_) => Reply::Refused(Refusal::NoMemory),
+    }
+}
+
+/// Asks the book what the command says, and makes the reply.
+pub fn reply_to<'a>(alloc: Global, book: &mut Book, command: Command<'a>) -> Reply<'a>
+    requires { IsReady (Some command) }
+    ensures { Answers (history book.old) (told (Some command.entry)) (reply_text result) (history book.new) }
+{
+    match command {
+        Command::Admit { sender, points } => admit(alloc, book, sender, points.as_slice()),
+        Command::Take(max) => take(book, max),
+        Command::Settle(flush) => settle(book, flush),
+        Command::GiveBack(flush) => give_back(book, flush),
+        Command::Report => report(book),
+        Command::Undo(batch) => undo(book, batch),
+        Command::Confirm(batch) => confirm(book, batch),
+        Command::Discard(flush) => discard(book, flush),
+        Command::Hold(sender) => hold(alloc, book, sender),
+        Command::Lift(sender) => lift(alloc, book, sender),
+        Command::Post { sender, body } => post(alloc, book, sender, body),
+    }
+}

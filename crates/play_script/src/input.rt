@@ -1,0 +1,41 @@
+//! The whole input of a script.
+
+ghost use Rattle.std.specs.Prelude.{◌≡◌, ◌≤◌, IfOk, IfErr, length, vec_len};
+ghost use Rattle.byte_ends.specs.Counts.{counted};
+ghost use Rattle.byte_ends.specs.Ends.{AreAll};
+ghost use Rattle.play_script.specs.Ends.{IsReadFault, cannot_read};
+
+use crate::fault::PlayFault;
+use byte_ends::Source;
+use std::alloc::Global;
+
+/// The most bytes of an input.
+pub const MAX_INPUT: usize = 16_777_216;
+
+/// How many bytes are asked for at once.
+const PIECE: usize = 4096;
+
+/// Reads all that is there. A reader without end is cut: it gives `TooLong`.
+pub fn read_all<R: Source>(alloc: Global, reader: &mut R) -> Result<Vec<u8>, PlayFault>
+    ensures all { IfOk result (λ input. AreAll (R.remaining reader.old) input.items) }
+    ensures short { IfOk result (λ input. vec_len input ≤ MAX_INPUT) }
+    ensures fault { IfErr result (λ fault. IsReadFault (R.remaining reader.old) MAX_INPUT fault) }
+    ensures failed { R.failures reader.new ≡ counted R.one_more (cannot_read result) (R.failures reader.old) }
+{
+    let mut input = Vec::new(alloc);
+    let mut piece = [0; PIECE];
+    loop {
+        let Ok(count) = reader.read(&mut piece) else {
+            return Err(PlayFault::CannotRead);
+        };
+        if count == 0 {
+            return Ok(input);
+        }
+        if count > MAX_INPUT - input.len() {
+            return Err(PlayFault::TooLong);
+        }
+        if input.extend_from_slice(&piece[..count]).is_err() {
+            return Err(PlayFault::NoMemory);
+        }
+    }
+}

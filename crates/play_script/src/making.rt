@@ -1,0 +1,77 @@
+//! The points of an `admit` line, made.
+
+ghost use Rattle.std.specs.Prelude.{◌≡◌, ◌⊎◌, true, map, None, Some, IfOk, IfErr, OnOk, is_some};
+ghost use Rattle.metric_events.specs.Senders.{is_sender_name};
+ghost use Rattle.play_script.specs.PointLines as spec;
+ghost use Rattle.play_script.specs.PointLines.{fault_of, first_fault, point_of};
+ghost use Rattle.play_script.specs.Told.{told_point, told_points};
+
+use crate::point_line::PointLine;
+use metric_events::point::{Point, PointFault};
+use metric_events::points::Points;
+use series_id::{AttrSet, Kind, SeriesId, Text};
+use std::alloc::{AllocError, Global};
+
+/// The text of a name.
+fn text_of(alloc: Global, name: &[u8]) -> Result<Text, AllocError>
+    requires { is_sender_name name.now ≡ true }
+    ensures { IfOk result (λ text. text ≡ name.now) }
+{
+    match std::str::from_utf8(name) {
+        Ok(text) => Ok(Text::new(String::from_str(alloc, text)?)),
+        Err(_) => unreachable!(),
+    }
+}
+
+/// The series that a name stands for: the plain sum of this metric name, all else empty.
+fn series_named(alloc: Global, name: &[u8]) -> Result<SeriesId, AllocError>
+    requires { is_sender_name name.now ≡ true }
+    ensures { IfOk result (λ series. series ≡ spec.series_named name.now) }
+{
+    let name = text_of(alloc, name)?;
+    let scope_name = Text::new(String::new(alloc));
+    let scope_version = Text::new(String::new(alloc));
+    let unit = Text::new(String::new(alloc));
+    let kind = Kind::Sum { monotonic: false };
+    match SeriesId::new(
+        AttrSet::empty(alloc),
+        scope_name,
+        scope_version,
+        AttrSet::empty(alloc),
+        name,
+        unit,
+        kind,
+        AttrSet::empty(alloc),
+    ) {
+        Ok(series) => Ok(series),
+        Err(_) => unreachable!(),
+    }
+}
+
+/// The point that a script writes.
+fn make_point(alloc: Global, line: PointLine<'_>) -> Result<Point, PointFault>
+    ensures value { IfOk result (λ point. point ≡ point_of (told_point line.entry)) }
+    ensures none { OnOk result (fault_of (told_point line.entry) ≡ None) }
+    ensures fault { IfErr result (λ fault. (fault ≡ PointFault.NoMemory) ⊎ (fault_of (told_point line.entry) ≡ Some fault)) }
+{
+    match series_named(alloc, line.name) {
+        Ok(series) => Point::sum(alloc, series, line.start, line.end, line.value),
+        Err(_) => Err(PointFault::NoMemory),
+    }
+}
+
+/// The points of the lines, or the fault of the first that can't be made.
+pub fn make_points(alloc: Global, lines: &[PointLine<'_>]) -> Result<Points, PointFault>
+    ensures value { IfOk result (λ points. points ≡ map point_of (told_points lines.now)) }
+    ensures none { OnOk result (first_fault (told_points lines.now) ≡ None) }
+    ensures fault { IfErr result (λ fault. (fault ≡ PointFault.NoMemory) ⊎ (first_fault (told_points lines.now) ≡ Some fault)) }
+{
+    let mut points = Points::new(alloc);
+    for line in lines {
+        let point = make_point(alloc, *line)?;
+        let Ok(()) = points.push(point) else {
+            return Err(PointFault::NoMemory);
+        };
+    }
+    Ok(points)
+}

@@ -1,0 +1,96 @@
+//! The run of a script.
+
+ghost use Rattle.std.specs.Prelude.{◌≡◌, List, ℕ, [], Some};
+ghost use Rattle.byte_ends.specs.Counts.{counted};
+ghost use Rattle.delta_book.specs.Journal.{history};
+ghost use Rattle.play_script.specs.Answered.{Answers, reply_text};
+ghost use Rattle.play_script.specs.Commands.{command};
+ghost use Rattle.play_script.specs.Ends.{cannot_read, cannot_write};
+ghost use Rattle.play_script.specs.Pieces.{lines};
+ghost use Rattle.play_script.specs.Played.{LineIsAnswered, LinesArePlayed, IsPlayed};
+
+use crate::calls::reply_to;
+use crate::command::command_of;
+use crate::fault::PlayFault;
+use crate::input::read_all;
+use crate::output::write_all;
+use crate::pieces::cut_line;
+use crate::refusal::Refusal;
+use crate::reply::{Reply, put_reply};
+use byte_ends::{Sink, Source};
+use delta_book::book::Book;
+use std::alloc::Global;
+
+/// The book's reply to a line.
+fn reply_of<'a>(alloc: Global, book: &mut Book, line: &'a [u8]) -> Reply<'a>
+    ensures { Answers (history book.old) (command line.now) (reply_text result) (history book.new) }
+{
+    match command_of(alloc, line) {
+        Ok(Some(command)) => reply_to(alloc, book, command),
+        Ok(None) => Reply::BadCommand,
+        Err(_) => Reply::Refused(Refusal::NoMemory),
+    }
+}
+
+/// Makes a line's reply and writes it.
+fn answer_line<W: Sink>(
+    alloc: Global,
+    book: &mut Book,
+    line: &[u8],
+    writer: &mut W,
+) -> Result<(), PlayFault>
+    ensures answered { LineIsAnswered (history book.old) (command line.now) (history book.new) (W.contents writer.old) (W.contents writer.new) result }
+    ensures failed { W.failures writer.new ≡ counted W.one_more (cannot_write result) (W.failures writer.old) }
+{
+    let reply = reply_of(alloc, book, line);
+    let mut text = Vec::new(alloc);
+    if put_reply(&mut text, &reply).is_err() {
+        return Err(PlayFault::NoMemory);
+    }
+    match write_all(writer, text.as_slice()) {
+        Ok(()) => Ok(()),
+        Err(_) => Err(PlayFault::CannotWrite),
+    }
+}
+
+/// Answers all lines of an input, one after another.
+fn answer_lines<W: Sink>(
+    alloc: Global,
+    book: &mut Book,
+    input: &[u8],
+    writer: &mut W,
+) -> Result<(), PlayFault>
+    requires { book.old ≡ [] }
+    ensures played { LinesArePlayed (W.contents writer.old) (W.contents writer.new) (lines input.now) result }
+    ensures failed { W.failures writer.new ≡ counted W.one_more (cannot_write result) (W.failures writer.old) }
+{
+    let mut rest = input;
+    while !rest.is_empty() {
+        let (line, after) = cut_line(rest);
+        answer_line(alloc, book, line, writer)?;
+        rest = after;
+    }
+    Ok(())
+}
+
+/// Runs a script: reads all of it, makes the reply to each line and writes it.
+///
+/// Fails with `CannotRead` or `CannotWrite` where the reader or the writer failed, with `TooLong`
+/// where there are more than `MAX_INPUT` bytes, and with `NoMemory` where memory was refused that
+/// no reply could tell of. Where it can't read or the input is too long, whether that or the want of
+/// memory is told, nothing was written.
+pub fn play<R: Source, W: Sink>(
+    alloc: Global,
+    reader: &mut R,
+    writer: &mut W,
+) -> Result<(), PlayFault>
+    ensures played { (input : List ℕ) → R.remaining reader.old ≡ Some input → IsPlayed (W.contents writer.old) (W.contents writer.new) input result }
+    ensures read { R.failures reader.new ≡ counted R.one_more (cannot_read result) (R.failures reader.old) }
+    ensures written { W.failures writer.new ≡ counted W.one_more (cannot_write result) (W.failures writer.old) }
+{
+    let input = read_all(alloc, reader)?;
+    let Ok(mut book) = Book::new(alloc) else {
+        return Err(PlayFault::NoMemory);
+    };
+    answer_lines(alloc, &mut book, input.as_slice(), writer)
+}

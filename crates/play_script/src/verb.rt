@@ -1,0 +1,67 @@
+//! The first words of commands.
+
+ghost use Rattle.std.specs.Prelude.{◌≡◌};
+ghost use Rattle.std.specs.Str.{bytes_eq};
+ghost use Rattle.play_script.specs.Commands as spec;
+
+/// What a command asks for.
+#[derive(Clone, Copy, Debug, PartialEq, Eq)]
+pub enum Verb {
+    Admit,
+    Take,
+    Settle,
+    GiveBack,
+    Report,
+    Undo,
+    Confirm,
+    Discard,
+    Hold,
+    Lift,
+    Post,
+}
+
+fn is(word: &[u8], text: &[u8]) -> bool
+    ensures { result ≡ bytes_eq word.now text.now }
+{
+    word == text
+}
+
+/// The command that a word names.
+pub fn verb_of(word: &[u8]) -> Option<Verb>
+    ensures { result ≡ spec.verb word.now }
+{
+    if is(word, b"admit") {
+        return Some(Verb::Admit);
+    }
+    if is(word, b"take") {
+        return Some(Verb::Take);
+    }
+    if is(word, b"ok") {
+        return Some(Verb::Settle);
+    }
+    if is(word, b"back") {
+        return Some(Verb::GiveBack);
+    }
+    if is(word, b"report") {
+        return Some(Verb::Report);
+    }
+    if is(word, b"undo") {
+        return Some(Verb::Undo);
+    }
+    if is(word, b"confirm") {
+        return Some(Verb::Confirm);
+    }
+    if is(word, b"drop") {
+        return Some(Verb::Discard);
+    }
+    if is(word, b"hold") {
+        return Some(Verb::Hold);
+    }
+    if is(word, b"lift") {
+        return Some(Verb::Lift);
+    }
+    if is(word, b"post") {
+        return Some(Verb::Post);
+    }
+    None
+}

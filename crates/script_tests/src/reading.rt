@@ -1,0 +1,478 @@
+//! What no clause says: requests whose meaning was worked out by hand.
+
+use metric_events::point::Point;
+use otlp_read::{Place, ReadFault, Reading, read_request};
+use std::alloc::{AllocError, Global};
+use std::test::Fail;
+
+/// A request of one sum with these data points.
+fn sum_of(alloc: Global, points: &str) -> Result<String, AllocError> {
+    let head =
+        r#"{"resourceMetrics":[{"scopeMetrics":[{"metrics":[{"name":"a","sum":{"aggregationTemporality":1,"dataPoints":["#;
+    let mut body = String::from_str(alloc, head)?;
+    body.push_str(points)?;
+    body.push_str("]}}]}]}]}")?;
+    Ok(body)
+}
+
+/// A request of one sum with one data point of this value.
+fn sum_with(alloc: Global, value: &str) -> Result<String, AllocError> {
+    let mut point = String::from_str(
+        alloc,
+        r#"{"startTimeUnixNano":"10","timeUnixNano":"20","asInt":"#,
+    )?;
+    point.push_str(value)?;
+    point.push_str("}")?;
+    sum_of(alloc, point.as_str())
+}
+
+/// A request of one histogram with one data point of these fields.
+fn histogram_with(alloc: Global, fields: &str) -> Result<String, AllocError> {
+    let head =
+        r#"{"resourceMetrics":[{"scopeMetrics":[{"metrics":[{"name":"h","histogram":{"aggregationTemporality":1,"dataPoints":[{"startTimeUnixNano":"10","timeUnixNano":"20","#;
+    let mut body = String::from_str(alloc, head)?;
+    body.push_str(fields)?;
+    body.push_str("}]}}]}]}]}")?;
+    Ok(body)
+}
+
+/// That many letters.
+fn letters(alloc: Global, count: usize) -> Result<String, AllocError> {
+    let mut text = String::new(alloc);
+    for _ in 0..count {
+        text.push('x')?;
+    }
+    Ok(text)
+}
+
+/// A list of that many elements.
+fn list_of(alloc: Global, count: usize, element: &str) -> Result<String, AllocError> {
+    let mut list = String::new(alloc);
+    for i in 0..count {
+        if i > 0 {
+            list.push(',')?;
+        }
+        list.push_str(element)?;
+    }
+    Ok(list)
+}
+
+/// A request of one sum with one data point of these attributes.
+fn sum_about(alloc: Global, attributes: &str) -> Result<String, AllocError> {
+    let point = format!(in alloc;
+        r#"{{"startTimeUnixNano":10,"timeUnixNano":20,"asInt":1,"attributes":[{attributes}]}}"#
+    )?;
+    sum_of(alloc, point.as_str())
+}
+
+fn first(reading: &Reading) -> Option<&Point> {
+    reading.points.as_slice().first()
+}
+
+#[test]
+fn names_the_first_wrong_container(rt: HostRuntime) {
+    let alloc = rt.alloc();
+    let wrong = |place| ReadFault::WrongShape(place);
+    for (body, want) in [
+        ("", ReadFault::NotJson),
+        ("[1", ReadFault::NotJson),
+        ("{}x", ReadFault::NotJson),
+        ("[1e999]", ReadFault::NotJson),
+        ("[]", wrong(Place::Root)),
+        ("null", wrong(Place::Root)),
+        (r#"{"resourceMetrics":{}}"#, wrong(Place::ResourceMetrics)),
+        (
+            r#"{"resourceMetrics":[null]}"#,
+            wrong(Place::ResourceMetrics),
+        ),
+        (
+            r#"{"resourceMetrics":[{"resource":1},{}]}"#,
+            wrong(Place::Resource),
+        ),
+        (
+            r#"{"resourceMetrics":[{"resource":1},2]}"#,
+            wrong(Place::ResourceMetrics),
+        ),
+        (
+            r#"{"resourceMetrics":[{"scopeMetrics":"x"}]}"#,
+            wrong(Place::ScopeMetrics),
+        ),
+        (
+            r#"{"resourceMetrics":[{"scopeMetrics":[{"scope":[]}]}]}"#,
+            wrong(Place::Scope),
+        ),
+        (
+            r#"{"resourceMetrics":[{"scopeMetrics":[{"metrics":[[]]}]}]}"#,
+            wrong(Place::Metrics),
+        ),
+        (
+            r#"{"resourceMetrics":[{"scopeMetrics":[{"metrics":[{"summary":1,"gauge":{"dataPoints":{}}}]}]}]}"#,
+            wrong(Place::DataPoints),
+        ),
+        (
+            r#"{"resourceMetrics":[{"scopeMetrics":[{"metrics":[{"summary":[]}]}]}]}"#,
+            wrong(Place::DataField),
+        ),
+        (
+            r#"{"resourceMetrics":[{"scopeMetrics":[{"metrics":[{"sum":{"dataPoints":[{},7]}}]}]}]}"#,
+            wrong(Place::DataPoints),
+        ),
+    ] {
+        let found = read_request(alloc, body.as_bytes()).err();
+        assert_eq!(rt; found, Some(want), "at {body}");
+    }
+    assert_eq!(rt;
+        read_request(alloc, b"\"\xff\"").err(),
+        Some(ReadFault::NotJson)
+    );
+}
+
+#[test]
+fn nests_as_deep_as_serde_json(rt: HostRuntime) -> Result<(), Fail> {
+    let alloc = rt.alloc();
+    for (depth, want) in [
+        (127, ReadFault::WrongShape(Place::Root)),
+        (128, ReadFault::NotJson),
+    ] {
+        let mut body = String::new(alloc);
+        for _ in 0..depth {
+            body.push('[')?;
+        }
+        for _ in 0..depth {
+            body.push(']')?;
+        }
+        assert_eq!(rt;
+            read_request(alloc, body.as_bytes()).err(),
+            Some(want),
+            "{depth} deep"
+        );
+    }
+    Ok(())
+}
+
+#[test]
+fn counts_points_and_metrics(rt: HostRuntime) -> Result<(), Fail> {
+    let alloc = rt.alloc();
+    for (body, points, foreign, metrics) in [
+        ("{}", 0, 0, 0),
+        (r#"{"resourceMetrics":null,"other":[1]}"#, 0, 0, 0),
+        (
+            r#"{"resourceMetrics":[{"scopeMetrics":[{"metrics":[{"name":"a","sum":{"aggregationTemporality":1,"isMonotonic":true,"dataPoints":[{"asInt":"5","startTimeUnixNano":"10","timeUnixNano":"20"}]}}]}]}]}"#,
+            1,
+            0,
+            1,
+        ),
+        (
+            r#"{"resourceMetrics":[{"scopeMetrics":[{"metrics":[{"name":"g","gauge":{"dataPoints":[{},{}]}},{"name":"s","sum":{"aggregationTemporality":1,"dataPoints":[{"asDouble":1.5,"startTimeUnixNano":"10","timeUnixNano":"20"},{"asInt":1,"startTimeUnixNano":"10","timeUnixNano":"20"}]}}]}]}]}"#,
+            1,
+            3,
+            2,
+        ),
+        (
+            r#"{"resourceMetrics":[{"scopeMetrics":[{"metrics":[{"sum":{"aggregationTemporality":1,"dataPoints":[{"asInt":1,"startTimeUnixNano":1,"timeUnixNano":2}]},"gauge":{}}]}]}]}"#,
+            0,
+            1,
+            1,
+        ),
+        (
+            r#"{"resourceMetrics":[{"scopeMetrics":[{"metrics":[{"sum":{"aggregationTemporality":2,"dataPoints":[{"asInt":1,"startTimeUnixNano":1,"timeUnixNano":2}]}}]}]}]}"#,
+            0,
+            1,
+            1,
+        ),
+        (
+            r#"{"resourceMetrics":[{"scopeMetrics":[{"metrics":[{"sum":{"aggregationTemporality":1.0,"dataPoints":[{"asInt":1,"startTimeUnixNano":1,"timeUnixNano":2}]}}]}]}]}"#,
+            0,
+            1,
+            1,
+        ),
+        (
+            r#"{"resourceMetrics":[{"scopeMetrics":[{"scope":{"name":7},"metrics":[{"sum":{"aggregationTemporality":1,"dataPoints":[{"asInt":1,"startTimeUnixNano":1,"timeUnixNano":2}]}}]},{"metrics":[{}]}]}]}"#,
+            0,
+            1,
+            2,
+        ),
+        (
+            r#"{"resourceMetrics":[{"resource":{"attributes":[{"key":"k","value":{"doubleValue":1}}]},"scopeMetrics":[{"metrics":[{"sum":{"aggregationTemporality":1,"dataPoints":[{"asInt":1,"startTimeUnixNano":1,"timeUnixNano":2}]}}]}]}]}"#,
+            0,
+            1,
+            1,
+        ),
+        (
+            r#"{"resourceMetrics":[{"scopeMetrics":[{"metrics":[{"exponentialHistogram":{"dataPoints":[{}]}},{"summary":{"dataPoints":[{},{}]}}]}]}]}"#,
+            0,
+            3,
+            2,
+        ),
+    ] {
+        let reading = read_request(alloc, body.as_bytes())?;
+        assert_eq!(rt; reading.points.as_slice().len(), points, "at {body}");
+        assert_eq!(rt; reading.foreign, foreign, "at {body}");
+        assert_eq!(rt; reading.metrics, metrics, "at {body}");
+    }
+    Ok(())
+}
+
+#[test]
+fn reads_whole_numbers(rt: HostRuntime) -> Result<(), Fail> {
+    let alloc = rt.alloc();
+    for (value, added, taken) in [
+        (r#""5""#, 5, 0),
+        ("5", 5, 0),
+        ("-5", 0, 5),
+        (r#""007""#, 7, 0),
+        (r#""-0""#, 0, 0),
+        (r#""-09""#, 0, 9),
+        (r#""9223372036854775807""#, 9223372036854775807, 0),
+        ("-9223372036854775807", 0, 9223372036854775807),
+    ] {
+        let body = sum_with(alloc, value)?;
+        let reading = read_request(alloc, body.as_bytes())?;
+        let row = [1, added, taken];
+        let found = first(&reading).ok_or("a point")?;
+        assert_eq!(rt; found.row(), row.as_slice(), "at {value}");
+        assert_eq!(rt; (found.span().start(), found.span().end()), (10, 20));
+    }
+    for value in [
+        r#""+5""#,
+        r#"" 5""#,
+        r#""""#,
+        r#""-""#,
+        r#""5.0""#,
+        "5.0",
+        "5e0",
+        "-0",
+        "null",
+        "true",
+        r#""9223372036854775808""#,
+        "-9223372036854775808",
+        "18446744073709551615",
+    ] {
+        let body = sum_with(alloc, value)?;
+        let reading = read_request(alloc, body.as_bytes())?;
+        assert_eq!(rt; reading.foreign, 1, "at {value}");
+    }
+    Ok(())
+}
+
+#[test]
+fn refuses_points_outside_the_profile(rt: HostRuntime) -> Result<(), Fail> {
+    let alloc = rt.alloc();
+    for (point, foreign) in [
+        (
+            r#"{"asInt":1,"startTimeUnixNano":"0010","timeUnixNano":18446744073709551615}"#,
+            0,
+        ),
+        (r#"{"asInt":1,"timeUnixNano":"20"}"#, 1),
+        (
+            r#"{"asInt":1,"startTimeUnixNano":0,"timeUnixNano":"20"}"#,
+            1,
+        ),
+        (r#"{"asInt":1,"startTimeUnixNano":20,"timeUnixNano":20}"#, 1),
+        (
+            r#"{"asInt":1,"startTimeUnixNano":1,"timeUnixNano":"18446744073709551616"}"#,
+            1,
+        ),
+        (
+            r#"{"asInt":1,"startTimeUnixNano":1,"timeUnixNano":2,"flags":1}"#,
+            1,
+        ),
+        (
+            r#"{"asInt":1,"startTimeUnixNano":1,"timeUnixNano":2,"flags":"2"}"#,
+            0,
+        ),
+        (
+            r#"{"asInt":1,"startTimeUnixNano":1,"timeUnixNano":2,"flags":4294967296}"#,
+            1,
+        ),
+        (
+            r#"{"asInt":1,"startTimeUnixNano":1,"timeUnixNano":2,"asDouble":null}"#,
+            0,
+        ),
+        (
+            r#"{"asInt":1,"startTimeUnixNano":1,"timeUnixNano":2,"asDouble":{}}"#,
+            1,
+        ),
+        (
+            r#"{"asInt":1,"startTimeUnixNano":1,"timeUnixNano":2,"count":"x","attributes":null}"#,
+            0,
+        ),
+        (
+            r#"{"asInt":1,"startTimeUnixNano":1,"timeUnixNano":2,"attributes":{}}"#,
+            1,
+        ),
+        (
+            r#"{"asInt":1,"startTimeUnixNano":1,"timeUnixNano":2,"attributes":[null]}"#,
+            1,
+        ),
+        (
+            r#"{"asInt":1,"startTimeUnixNano":1,"timeUnixNano":2,"attributes":[{}]}"#,
+            0,
+        ),
+        (
+            r#"{"asInt":1,"startTimeUnixNano":1,"timeUnixNano":2,"attributes":[{},{"key":""}]}"#,
+            1,
+        ),
+        (
+            r#"{"asInt":1,"startTimeUnixNano":1,"timeUnixNano":2,"attributes":[{"value":{"boolValue":true,"intValue":1}}]}"#,
+            1,
+        ),
+        (
+            r#"{"asInt":1,"startTimeUnixNano":1,"timeUnixNano":2,"attributes":[{"value":{"arrayValue":{"values":[{},{"intValue":"-9223372036854775808"},{"stringValue":"x"}]}}}]}"#,
+            0,
+        ),
+        (
+            r#"{"asInt":1,"startTimeUnixNano":1,"timeUnixNano":2,"attributes":[{"value":{"arrayValue":{"values":[null]}}}]}"#,
+            1,
+        ),
+        (
+            r#"{"asInt":1,"startTimeUnixNano":1,"timeUnixNano":2,"attributes":[{"value":{"arrayValue":{"values":[{"arrayValue":{}}]}}}]}"#,
+            1,
+        ),
+        (
+            r#"{"asInt":1,"startTimeUnixNano":1,"timeUnixNano":2,"attributes":[{"value":{"kvlistValue":0}}]}"#,
+            1,
+        ),
+    ] {
+        let body = sum_of(alloc, point)?;
+        let reading = read_request(alloc, body.as_bytes())?;
+        assert_eq!(rt; reading.foreign, foreign, "at {point}");
+        assert_eq!(rt;
+            reading.points.as_slice().len() as u64,
+            1 - foreign,
+            "at {point}"
+        );
+    }
+    Ok(())
+}
+
+#[test]
+fn reads_histograms(rt: HostRuntime) -> Result<(), Fail> {
+    let alloc = rt.alloc();
+    for (fields, row) in [
+        (
+            r#""count":7,"sum":30,"bucketCounts":["1",2,"0",4],"explicitBounds":[0,5,10]"#,
+            [1, 0, 30, 1, 2, 0, 4].as_slice(),
+        ),
+        (
+            r#""count":"2","bucketCounts":[0,1,1,0],"explicitBounds":[-1,5,10],"min":1"#,
+            [1, 1, 0, 0, 1, 1, 0].as_slice(),
+        ),
+        (r#""count":3,"sum":"0""#, [1, 0, 0, 3].as_slice()),
+        (
+            r#""bucketCounts":[],"explicitBounds":null"#,
+            [1, 1, 0, 0].as_slice(),
+        ),
+        (r#""count":3,"bucketCounts":[3]"#, [1, 1, 0, 3].as_slice()),
+    ] {
+        let body = histogram_with(alloc, fields)?;
+        let reading = read_request(alloc, body.as_bytes())?;
+        let found = first(&reading).ok_or("a point")?;
+        assert_eq!(rt; found.row(), row, "at {fields}");
+    }
+    for fields in [
+        r#""count":8,"sum":30,"bucketCounts":[1,2,0,4],"explicitBounds":[0,5,10]"#,
+        r#""count":7,"bucketCounts":[1,2,4],"explicitBounds":[0,5,10]"#,
+        r#""count":7,"bucketCounts":[1,2,0,4],"explicitBounds":[0,5,5]"#,
+        r#""count":7,"bucketCounts":[1,2,0,4],"explicitBounds":[0,5.0,10]"#,
+        r#""count":7,"bucketCounts":[1,2,null,4],"explicitBounds":[0,5,10]"#,
+        r#""count":7,"explicitBounds":[0,5,10]"#,
+        r#""count":1,"sum":-1"#,
+        r#""count":1,"sum":9007199254740993"#,
+        r#""count":0,"bucketCounts":[0,0],"explicitBounds":[9007199254740993]"#,
+        r#""count":"9223372036854775808""#,
+    ] {
+        let body = histogram_with(alloc, fields)?;
+        let reading = read_request(alloc, body.as_bytes())?;
+        assert_eq!(rt; reading.foreign, 1, "at {fields}");
+    }
+    Ok(())
+}
+
+#[test]
+fn reads_identities(rt: HostRuntime) -> Result<(), Fail> {
+    let alloc = rt.alloc();
+    let body =
+        r#"{"resourceMetrics":[{"resource":{"attributes":[{"key":"r"}]},"scopeMetrics":[{"scope":{"name":"n","version":"v","attributes":[{"key":"s"}]},"metrics":[{"name":"m","unit":"By","sum":{"aggregationTemporality":1,"dataPoints":[{"asInt":1,"startTimeUnixNano":10,"timeUnixNano":20,"attributes":[{"key":"b","value":{"intValue":1}},{"key":"a","value":{"stringValue":"x"}}]},{"asInt":2,"startTimeUnixNano":20,"timeUnixNano":30,"attributes":[{"key":"a","value":{"stringValue":"x"}},{"key":"b","value":{"intValue":"1"}}]},{"asInt":3,"startTimeUnixNano":30,"timeUnixNano":40,"attributes":[{"key":"a"},{"key":"a"}]}]}}]}]}]}"#;
+    let reading = read_request(alloc, body.as_bytes())?;
+    assert_eq!(rt; (reading.points.as_slice().len(), reading.foreign), (2, 1));
+    let [one, other] = reading.points.as_slice() else {
+        return Err(Fail::from("two points"));
+    };
+    let series = one.series();
+    assert!(rt; series.is_same(other.series()));
+    assert_eq!(rt; series.scope_name().as_str(), "n");
+    assert_eq!(rt; series.scope_version().as_str(), "v");
+    assert_eq!(rt; series.name().as_str(), "m");
+    assert_eq!(rt; series.unit().as_str(), "By");
+    assert_eq!(rt; series.resource().pairs().len(), 1);
+    assert_eq!(rt; series.scope_attrs().pairs().len(), 1);
+    let first = series.attrs().pairs().first().ok_or("an attribute")?;
+    assert_eq!(rt; first.key.as_str(), "a");
+    Ok(())
+}
+
+#[test]
+fn reads_sets_and_lists_up_to_their_limits(rt: HostRuntime) -> Result<(), Fail> {
+    let alloc = rt.alloc();
+    for (count, foreign) in [(128, 0), (129, 1)] {
+        let mut attributes = String::new(alloc);
+        for i in 0..count {
+            let comma = if i > 0 { "," } else { "" };
+            write!(attributes, r#"{comma}{{"key":"{i}"}}"#)?;
+        }
+        let body = sum_about(alloc, attributes.as_str())?;
+        let reading = read_request(alloc, body.as_bytes())?;
+        assert_eq!(rt; reading.foreign, foreign, "{count} attributes");
+
+        let values = list_of(alloc, count, r#"{"intValue":1}"#)?;
+        let attribute = format!(in alloc;
+            r#"{{"value":{{"arrayValue":{{"values":[{values}]}}}}}}"#
+        )?;
+        let body = sum_about(alloc, attribute.as_str())?;
+        let reading = read_request(alloc, body.as_bytes())?;
+        assert_eq!(rt; reading.foreign, foreign, "{count} values");
+    }
+    Ok(())
+}
+
+#[test]
+fn reads_texts_up_to_their_limit(rt: HostRuntime) -> Result<(), Fail> {
+    let alloc = rt.alloc();
+    for (length, foreign) in [(4096, 0), (4097, 1)] {
+        let text = letters(alloc, length)?;
+        for body in [
+            format!(in alloc;
+                r#"{{"resourceMetrics":[{{"scopeMetrics":[{{"metrics":[{{"name":"{text}","sum":{{"aggregationTemporality":1,"dataPoints":[{{"asInt":1,"startTimeUnixNano":1,"timeUnixNano":2}}]}}}}]}}]}}]}}"#
+            )?,
+            sum_about(alloc, format!(in alloc; r#"{{"key":"{text}"}}"#)?.as_str())?,
+            sum_about(
+                alloc,
+                format!(in alloc; r#"{{"value":{{"stringValue":"{text}"}}}}"#)?.as_str(),
+            )?,
+        ] {
+            let reading = read_request(alloc, body.as_bytes())?;
+            assert_eq!(rt; reading.foreign, foreign, "{length} bytes");
+            assert_eq!(rt; reading.points.as_slice().len() as u64, 1 - foreign);
+        }
+    }
+    Ok(())
+}
+
+#[test]
+fn reads_bounds_up_to_their_limit(rt: HostRuntime) -> Result<(), Fail> {
+    let alloc = rt.alloc();
+    for (count, foreign) in [(255, 0), (256, 1)] {
+        let mut fields = String::from_str(alloc, r#""count":0,"explicitBounds":["#)?;
+        for i in 0..count {
+            let comma = if i > 0 { "," } else { "" };
+            write!(fields, "{comma}{i}")?;
+        }
+        let zeros = list_of(alloc, count + 1, "0")?;
+        write!(fields, r#"],"bucketCounts":[{zeros}]"#)?;
+        let body = histogram_with(alloc, fields.as_str())?;
+        let reading = read_request(alloc, body.as_bytes())?;
+        assert_eq!(rt; reading.foreign, foreign, "{count} bounds");
+    }
+    Ok(())
+}

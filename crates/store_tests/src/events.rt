@@ -1,0 +1,354 @@
+ghost use Rattle.std.specs.Prelude.{◌≡◌};
+ghost use Rattle.metric_events.specs.PointFaults.{IsHistogram, IsSum};
+
+use metric_events::batch::Batch;
+use metric_events::laws::striking;
+use metric_events::point::{Point, PointFault};
+use metric_events::points::Points;
+use metric_events::row::Row;
+use metric_events::sender_name::{NameFault, SenderName};
+use metric_events::series_list::SeriesList;
+use metric_events::span::Span;
+use series_id::{AttrSet, Kind, SeriesId, Text};
+use std::alloc::Global;
+use std::process::Abort;
+use std::test::Fail;
+
+fn text(rt: &impl Abort, alloc: Global, text: &str) -> Text {
+    Text::new(String::from_str(alloc, text).expect(rt, "memory"))
+}
+
+/// A series of this kind, named `x`, and nothing else.
+fn series(rt: &impl Abort, alloc: Global, kind: Kind) -> SeriesId
+    ensures { result.kind ≡ kind }
+{
+    let empty = text(rt, alloc, "");
+    let version = text(rt, alloc, "");
+    let name = text(rt, alloc, "x");
+    let unit = text(rt, alloc, "1");
+    let resource = AttrSet::empty(alloc);
+    let scope_attrs = AttrSet::empty(alloc);
+    let attrs = AttrSet::empty(alloc);
+    SeriesId::new(
+        resource,
+        empty,
+        version,
+        scope_attrs,
+        name,
+        unit,
+        kind,
+        attrs,
+    )
+    .expect(rt, "short texts")
+}
+
+/// A point of a sum that may fall.
+fn sum(rt: &impl Abort, alloc: Global, start: u64, end: u64, value: i64) -> Point {
+    let series = series(rt, alloc, Kind::Sum { monotonic: false });
+    Point::sum(alloc, series, start, end, value).expect(rt, "a point")
+}
+
+/// The row of a sum's point of this value is this.
+fn expect_row(rt: &impl Abort, alloc: Global, value: i64, row: &[u64]) {
+    let point = sum(rt, alloc, 10, 20, value);
+    assert_eq!(rt; point.row(), row, "at {value}");
+    assert_eq!(rt; point.span().start(), 10);
+    assert_eq!(rt; point.span().end(), 20);
+    assert_eq!(rt; point.series().name().as_str(), "x");
+}
+
+/// A sum's point with this value is refused like this, or not at all.
+fn expect_fault(
+    rt: &impl Abort,
+    alloc: Global,
+    kind: Kind,
+    start: u64,
+    value: i64,
+    want: Option<PointFault>,
+)
+    requires { IsSum kind }
+{
+    let series = series(rt, alloc, kind);
+    let fault = Point::sum(alloc, series, start, 20, value).err();
+    assert_eq!(rt; fault, want, "at {start} {value}");
+}
+
+/// A histogram's kind of these bounds.
+fn buckets_between(rt: &impl Abort, alloc: Global, bounds: &[i64]) -> Kind
+    ensures { IsHistogram result }
+{
+    let bounds = bounds.to_vec(alloc).expect(rt, "memory");
+    Kind::histogram(bounds).expect(rt, "bounds")
+}
+
+/// A histogram's point of these bounds, count, sum and buckets.
+fn histogram(
+    rt: &impl Abort,
+    alloc: Global,
+    bounds: &[i64],
+    start: u64,
+    count: u64,
+    sum: Option<u64>,
+    buckets: &[u64],
+) -> Result<Point, PointFault> {
+    let kind = buckets_between(rt, alloc, bounds);
+    let series = series(rt, alloc, kind);
+    let buckets = buckets.to_vec(alloc).expect(rt, "memory");
+    Point::histogram(alloc, series, start, 20, count, sum, buckets)
+}
+
+/// The row of a histogram's point of these bounds, sum, buckets and count is this.
+fn expect_buckets(
+    rt: &impl Abort,
+    alloc: Global,
+    bounds: &[i64],
+    sum: Option<u64>,
+    buckets: &[u64],
+    count: u64,
+    row: &[u64],
+) {
+    let point = histogram(rt, alloc, bounds, 10, count, sum, buckets).expect(rt, "a point");
+    assert_eq!(rt; point.row(), row, "of {count}");
+}
+
+/// The bytes are refused as a sender's name like this, or not at all.
+fn expect_name(rt: &impl Abort, alloc: Global, bytes: &[u8], want: Option<NameFault>) {
+    let fault = SenderName::new(alloc, bytes).err();
+    assert_eq!(rt; fault, want);
+}
+
+/// Both points have the same fields.
+fn expect_same(rt: &impl Abort, mine: &Point, its: &Point) {
+    assert!(rt; mine.series().is_same(its.series()));
+    assert_eq!(rt; mine.span().start(), its.span().start());
+    assert_eq!(rt; mine.span().end(), its.span().end());
+    assert_eq!(rt; mine.row(), its.row());
+}
+
+/// The parts of a point make a point of the same series, span and row.
+fn expect_remade(rt: &impl Abort, alloc: Global, point: &Point, row: &[u64]) {
+    let series = point.series().copy(alloc).expect(rt, "memory");
+    let words = point.row().to_vec(alloc).expect(rt, "memory");
+    let remade = Point::from_parts(series, point.span(), Row::new(words));
+    expect_same(rt, point, &remade);
+    assert_eq!(rt; remade.row(), row);
+    assert!(rt; remade.is_same(point));
+}
+
+#[test]
+fn spans_and_hulls(rt: HostRuntime) -> Result<(), Fail> {
+    let last = u64::MAX;
+    for (start, end, is_span) in [
+        (0, 20, false),
+        (20, 20, false),
+        (20, 10, false),
+        (0, 0, false),
+        (1, 2, true),
+        (10, 20, true),
+        (last - 1, last, true),
+        (last, last, false),
+    ] {
+        assert_eq!(rt;
+            Span::new(start, end).is_some(),
+            is_span,
+            "at {start} {end}"
+        );
+    }
+    let early = Span::new(10, 20).ok_or("no span")?;
+    let later = Span::new(20, 30).ok_or("no span")?;
+    assert!(rt; early.precedes(&later));
+    assert!(rt; !later.precedes(&early));
+    let hull = later.hull(&early);
+    assert_eq!(rt; (hull.start(), hull.end()), (10, 30));
+    Ok(())
+}
+
+#[test]
+fn names_of_senders(rt: HostRuntime) {
+    let alloc = rt.alloc();
+    let long = [b'a'; 65];
+    expect_name(&rt, alloc, b"", Some(NameFault::Empty));
+    expect_name(&rt, alloc, &long, Some(NameFault::TooLong));
+    expect_name(&rt, alloc, &long[..64], None);
+    expect_name(&rt, alloc, b"shop_1.a-Z", None);
+    expect_name(&rt, alloc, b"shop 1", Some(NameFault::BadByte));
+    expect_name(&rt, alloc, b"shop/1", Some(NameFault::BadByte));
+    expect_name(&rt, alloc, b"a@b", Some(NameFault::BadByte));
+    expect_name(&rt, alloc, b"\xc3\xa9", Some(NameFault::BadByte));
+}
+
+#[test]
+fn copies_of_names(rt: HostRuntime) {
+    let alloc = rt.alloc();
+    let name = SenderName::new(alloc, b"shop").expect(&rt, "a name");
+    let other = SenderName::new(alloc, b"shopA").expect(&rt, "a name");
+    let copy = name.copy(alloc).expect(&rt, "memory");
+    assert_eq!(rt; copy.as_bytes(), b"shop".as_slice());
+    assert!(rt; name.is_same(&copy));
+    assert!(rt; !name.is_same(&other));
+}
+
+#[test]
+fn rows_of_sums(rt: HostRuntime) {
+    let alloc = rt.alloc();
+    expect_row(&rt, alloc, 0, &[1, 0, 0]);
+    expect_row(&rt, alloc, 7, &[1, 7, 0]);
+    expect_row(&rt, alloc, -3, &[1, 0, 3]);
+    expect_row(&rt, alloc, i64::MAX, &[1, 9223372036854775807, 0]);
+    expect_row(&rt, alloc, -i64::MAX, &[1, 0, 9223372036854775807]);
+}
+
+#[test]
+fn faults_of_sums(rt: HostRuntime) {
+    let alloc = rt.alloc();
+    let falling = || Kind::Sum { monotonic: false };
+    let growing = || Kind::Sum { monotonic: true };
+    expect_fault(&rt, alloc, falling(), 20, 1, Some(PointFault::BadSpan));
+    expect_fault(
+        &rt,
+        alloc,
+        falling(),
+        0,
+        i64::MIN,
+        Some(PointFault::BadSpan),
+    );
+    expect_fault(
+        &rt,
+        alloc,
+        falling(),
+        10,
+        i64::MIN,
+        Some(PointFault::TooLarge),
+    );
+    expect_fault(&rt, alloc, growing(), 10, 5, None);
+    expect_fault(
+        &rt,
+        alloc,
+        growing(),
+        10,
+        -1,
+        Some(PointFault::NegativeMonotonic),
+    );
+    expect_fault(
+        &rt,
+        alloc,
+        growing(),
+        10,
+        i64::MIN,
+        Some(PointFault::NegativeMonotonic),
+    );
+    expect_fault(&rt, alloc, growing(), 0, -1, Some(PointFault::BadSpan));
+}
+
+#[test]
+fn rows_of_histograms(rt: HostRuntime) {
+    let alloc = rt.alloc();
+    let most = u64::MAX / 2;
+    let sum = 9007199254740992;
+    expect_buckets(
+        &rt,
+        alloc,
+        &[1, 2, 3],
+        Some(20),
+        &[1, 2, 0, 4],
+        7,
+        &[1, 0, 20, 1, 2, 0, 4],
+    );
+    expect_buckets(&rt, alloc, &[-5], None, &[3, 0], 3, &[1, 1, 0, 3, 0]);
+    expect_buckets(&rt, alloc, &[], None, &[], 5, &[1, 1, 0, 5]);
+    expect_buckets(
+        &rt,
+        alloc,
+        &[],
+        Some(sum),
+        &[most],
+        most,
+        &[1, 0, sum, most],
+    );
+}
+
+#[test]
+fn faults_of_histograms(rt: HostRuntime) {
+    let alloc = rt.alloc();
+    let past = u64::MAX / 2 + 1;
+    let fault = histogram(&rt, alloc, &[1], 20, 8, None, &[1]).err();
+    assert_eq!(rt; fault, Some(PointFault::BadSpan));
+    let fault = histogram(&rt, alloc, &[1, 2, 3], 10, 8, None, &[1, 2, 0, 4]).err();
+    assert_eq!(rt; fault, Some(PointFault::BucketMismatch));
+    let fault = histogram(&rt, alloc, &[1], 10, 0, None, &[]).err();
+    assert_eq!(rt; fault, Some(PointFault::BucketMismatch));
+    let fault = histogram(&rt, alloc, &[1], 10, 8, None, &[8]).err();
+    assert_eq!(rt; fault, Some(PointFault::BucketMismatch));
+    let fault = histogram(&rt, alloc, &[], 10, 1, Some(9007199254740993), &[1]).err();
+    assert_eq!(rt; fault, Some(PointFault::TooLarge));
+    let fault = histogram(&rt, alloc, &[], 10, past, None, &[]).err();
+    assert_eq!(rt; fault, Some(PointFault::TooLarge));
+    let fault = histogram(&rt, alloc, &[0], 10, past, None, &[past - 1, 1]).err();
+    assert_eq!(rt; fault, Some(PointFault::TooLarge));
+}
+
+#[test]
+fn copies_of_batches(rt: HostRuntime) {
+    let alloc = rt.alloc();
+    let sender = SenderName::new(alloc, b"shop").expect(&rt, "a name");
+    let mut points = Points::new(alloc);
+    points
+        .push(sum(&rt, alloc, 10, 20, 7))
+        .expect(&rt, "memory");
+    points
+        .push(sum(&rt, alloc, 20, 30, -3))
+        .expect(&rt, "memory");
+    let batch = Batch { sender, points };
+    let copy = batch.copy(alloc).expect(&rt, "memory");
+    assert!(rt; copy.sender.is_same(&batch.sender));
+    assert_eq!(rt; copy.points.as_slice().len(), 2);
+    for (mine, its) in batch.points.as_slice().iter().zip(copy.points.as_slice()) {
+        expect_same(&rt, mine, its);
+    }
+    assert!(rt; batch.is_same(&copy));
+    let sender = SenderName::new(alloc, b"shop").expect(&rt, "a name");
+    let mut points = Points::new(alloc);
+    points
+        .push(sum(&rt, alloc, 10, 20, 8))
+        .expect(&rt, "memory");
+    assert!(rt; !batch.is_same(&Batch { sender, points }));
+}
+
+#[test]
+fn copies_of_lists(rt: HostRuntime) {
+    let alloc = rt.alloc();
+    striking();
+    let mut list = Vec::new(alloc);
+    list.push(series(&rt, alloc, Kind::Sum { monotonic: true }))
+        .expect(&rt, "memory");
+    let list = SeriesList::new(list);
+    let copy = list.copy(alloc).expect(&rt, "memory");
+    assert_eq!(rt; copy.as_slice().len(), 1);
+}
+
+#[test]
+fn copies_of_rows(rt: HostRuntime) {
+    let alloc = rt.alloc();
+    let words = [1, 2, 3].to_vec(alloc).expect(&rt, "memory");
+    let row = Row::new(words);
+    let copy = row.copy(alloc).expect(&rt, "memory");
+    assert_eq!(rt; copy.as_slice(), [1, 2, 3].as_slice());
+}
+
+#[test]
+fn copies_of_points(rt: HostRuntime) {
+    let alloc = rt.alloc();
+    let point = sum(&rt, alloc, 10, 20, 7);
+    let copy = point.copy(alloc).expect(&rt, "memory");
+    assert!(rt; point.is_same(&copy));
+    let other = sum(&rt, alloc, 10, 20, -7);
+    assert!(rt; !point.is_same(&other));
+}
+
+#[test]
+fn points_of_parts(rt: HostRuntime) {
+    let alloc = rt.alloc();
+    expect_remade(&rt, alloc, &sum(&rt, alloc, 10, 20, -7), &[1, 0, 7]);
+    let buckets = histogram(&rt, alloc, &[5], 10, 3, Some(9), &[2, 1]).expect(&rt, "a point");
+    expect_remade(&rt, alloc, &buckets, &[1, 0, 9, 2, 1]);
+}

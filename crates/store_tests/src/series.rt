@@ -1,0 +1,387 @@
+use series_id::limits::{MAX_ATTRIBUTES, MAX_BOUNDS, MAX_TEXT, MAX_VALUES};
+use series_id::{
+    AttrFault, AttrSet, AttrValue, IdFault, Kind, KindFault, Scalar, Scalars, SeriesId, Text,
+};
+use std::alloc::Global;
+use std::cmp::Ordering;
+use std::process::Abort;
+
+fn text(rt: &impl Abort, alloc: Global, text: &str) -> Text {
+    Text::new(String::from_str(alloc, text).expect(rt, "memory"))
+}
+
+/// A text of so many bytes.
+fn long_text(rt: &impl Abort, alloc: Global, bytes: usize) -> Text {
+    let mut text = String::new(alloc);
+    for _ in 0..bytes {
+        text.push_str("a").expect(rt, "memory");
+    }
+    Text::new(text)
+}
+
+/// A list of so many empty values.
+fn empties(rt: &impl Abort, alloc: Global, count: usize) -> AttrValue {
+    let mut values = Vec::new(alloc);
+    for _ in 0..count {
+        if values.push(Scalar::Empty).is_err() {
+            assert!(rt; false, "memory");
+        }
+    }
+    AttrValue::Many(Scalars::new(values))
+}
+
+/// Puts a pair of a key and a text behind the others.
+fn push(
+    rt: &impl Abort,
+    alloc: Global,
+    pairs: &mut Vec<(Text, AttrValue)>,
+    key: &str,
+    value: &str,
+) {
+    let value = AttrValue::One(Scalar::Text(text(rt, alloc, value)));
+    if pairs.push((text(rt, alloc, key), value)).is_err() {
+        assert!(rt; false, "memory");
+    }
+}
+
+/// So many pairs with different keys.
+fn pairs(rt: &impl Abort, alloc: Global, count: u32) -> Vec<(Text, AttrValue)> {
+    let mut pairs = Vec::new(alloc);
+    for number in 0..count {
+        let key = format!(in alloc; "key {number}").expect(rt, "memory");
+        push(rt, alloc, &mut pairs, key.as_str(), "");
+    }
+    pairs
+}
+
+/// The fault of one pair.
+fn pair_fault(rt: &impl Abort, alloc: Global, key: Text, value: AttrValue) -> Option<AttrFault> {
+    let mut pairs = Vec::new(alloc);
+    if pairs.push((key, value)).is_err() {
+        assert!(rt; false, "memory");
+    }
+    AttrSet::from_pairs(alloc, pairs).err()
+}
+
+/// The fault of these bounds.
+fn bounds_fault(rt: &impl Abort, alloc: Global, bounds: &[i64]) -> Option<KindFault> {
+    Kind::histogram(bounds.to_vec(alloc).expect(rt, "memory")).err()
+}
+
+fn histogram(rt: &impl Abort, alloc: Global, bounds: &[i64]) -> Kind {
+    Kind::histogram(bounds.to_vec(alloc).expect(rt, "memory")).expect(rt, "a kind")
+}
+
+/// The set of one pair of texts.
+fn one_pair(rt: &impl Abort, alloc: Global, key: &str, value: &str) -> AttrSet {
+    let mut pairs = Vec::new(alloc);
+    push(rt, alloc, &mut pairs, key, value);
+    AttrSet::from_pairs(alloc, pairs).expect(rt, "a set")
+}
+
+/// A series with these texts and a kind.
+fn series(rt: &impl Abort, alloc: Global, resource: &str, name: &str, kind: Kind) -> SeriesId {
+    let id = SeriesId::new(
+        one_pair(rt, alloc, "host", resource),
+        text(rt, alloc, "lib"),
+        text(rt, alloc, "2.1"),
+        AttrSet::empty(alloc),
+        text(rt, alloc, name),
+        text(rt, alloc, "By"),
+        kind,
+        one_pair(rt, alloc, "path", "/"),
+    );
+    id.expect(rt, "a series")
+}
+
+/// A series with these attributes and a kind, and nothing else.
+fn plain_series(rt: &impl Abort, alloc: Global, attributes: AttrSet, kind: Kind) -> SeriesId {
+    let id = SeriesId::new(
+        AttrSet::empty(alloc),
+        Text::new(String::new(alloc)),
+        Text::new(String::new(alloc)),
+        AttrSet::empty(alloc),
+        Text::new(String::new(alloc)),
+        Text::new(String::new(alloc)),
+        kind,
+        attributes,
+    );
+    id.expect(rt, "a series")
+}
+
+/// A series with one attribute of this value.
+fn valued(rt: &impl Abort, alloc: Global, value: AttrValue) -> SeriesId {
+    let mut pairs = Vec::new(alloc);
+    if pairs.push((text(rt, alloc, "key"), value)).is_err() {
+        assert!(rt; false, "memory");
+    }
+    let attributes = AttrSet::from_pairs(alloc, pairs).expect(rt, "a set");
+    plain_series(rt, alloc, attributes, Kind::Sum { monotonic: false })
+}
+
+/// A series with one attribute that is this text.
+fn texted(rt: &impl Abort, alloc: Global, value: &str) -> SeriesId {
+    valued(
+        rt,
+        alloc,
+        AttrValue::One(Scalar::Text(text(rt, alloc, value))),
+    )
+}
+
+/// A series of this kind.
+fn of_kind(rt: &impl Abort, alloc: Global, kind: Kind) -> SeriesId {
+    plain_series(rt, alloc, AttrSet::empty(alloc), kind)
+}
+
+/// What becomes of names and a unit of these lengths.
+fn texts_fault(rt: &impl Abort, alloc: Global, lengths: [usize; 4]) -> Option<IdFault> {
+    let [scope_name, scope_version, name, unit] = lengths;
+    let id = SeriesId::new(
+        AttrSet::empty(alloc),
+        long_text(rt, alloc, scope_name),
+        long_text(rt, alloc, scope_version),
+        AttrSet::empty(alloc),
+        long_text(rt, alloc, name),
+        long_text(rt, alloc, unit),
+        Kind::Sum { monotonic: true },
+        AttrSet::empty(alloc),
+    );
+    id.err()
+}
+
+#[test]
+fn bounds_are_checked_in_order(rt: HostRuntime) {
+    let alloc = rt.alloc();
+    let cases = [
+        ([0, 5, 5], Some(KindFault::NotAscending)),
+        ([5, 5, 6], Some(KindFault::NotAscending)),
+        ([0, 5, 9007199254740993], Some(KindFault::BoundTooLarge)),
+        ([-9007199254740993, 5, 6], Some(KindFault::BoundTooLarge)),
+        ([9007199254740993, 5, 5], Some(KindFault::BoundTooLarge)),
+        ([-9007199254740992, 5, 9007199254740992], None),
+    ];
+    for (bounds, fault) in cases {
+        assert_eq!(rt; bounds_fault(&rt, alloc, &bounds), fault, "at {bounds:?}");
+    }
+    assert_eq!(rt; bounds_fault(&rt, alloc, &[]), None);
+    let many = [9007199254740993; 256];
+    assert_eq!(rt;
+        bounds_fault(&rt, alloc, &many),
+        Some(KindFault::TooManyBounds)
+    );
+    assert_eq!(rt;
+        bounds_fault(&rt, alloc, &many[..MAX_BOUNDS]),
+        Some(KindFault::BoundTooLarge)
+    );
+}
+
+#[test]
+fn sets_have_at_most_128_pairs(rt: HostRuntime) {
+    let alloc = rt.alloc();
+    let fault = AttrSet::from_pairs(alloc, pairs(&rt, alloc, 129)).err();
+    assert_eq!(rt; fault, Some(AttrFault::TooMany));
+    let set = AttrSet::from_pairs(alloc, pairs(&rt, alloc, 128)).expect(&rt, "a set");
+    assert_eq!(rt; set.pairs().len(), MAX_ATTRIBUTES);
+}
+
+#[test]
+fn lists_have_at_most_128_values(rt: HostRuntime) {
+    let alloc = rt.alloc();
+    let fault = pair_fault(
+        &rt,
+        alloc,
+        long_text(&rt, alloc, 4097),
+        empties(&rt, alloc, 129),
+    );
+    assert_eq!(rt; fault, Some(AttrFault::TooMany));
+    let fault = pair_fault(
+        &rt,
+        alloc,
+        text(&rt, alloc, "k"),
+        empties(&rt, alloc, MAX_VALUES),
+    );
+    assert_eq!(rt; fault, None);
+}
+
+#[test]
+fn texts_of_attributes_are_short(rt: HostRuntime) {
+    let alloc = rt.alloc();
+    for (key, value, fault) in [
+        (4097, 1, Some(AttrFault::TextTooLong)),
+        (1, 4097, Some(AttrFault::TextTooLong)),
+        (4096, MAX_TEXT, None),
+    ] {
+        let value = AttrValue::One(Scalar::Text(long_text(&rt, alloc, value)));
+        let got = pair_fault(&rt, alloc, long_text(&rt, alloc, key), value);
+        assert_eq!(rt; got, fault);
+    }
+}
+
+#[test]
+fn keys_stand_once(rt: HostRuntime) {
+    let alloc = rt.alloc();
+    let mut pairs = Vec::new(alloc);
+    push(&rt, alloc, &mut pairs, "a", "x");
+    push(&rt, alloc, &mut pairs, "b", "x");
+    push(&rt, alloc, &mut pairs, "a", "y");
+    assert_eq!(rt;
+        AttrSet::from_pairs(alloc, pairs).err(),
+        Some(AttrFault::DuplicateKey)
+    );
+}
+
+#[test]
+fn attribute_order_means_nothing(rt: HostRuntime) {
+    let alloc = rt.alloc();
+    let mut one = Vec::new(alloc);
+    push(&rt, alloc, &mut one, "b", "1");
+    push(&rt, alloc, &mut one, "a", "x");
+    let mut other = Vec::new(alloc);
+    push(&rt, alloc, &mut other, "a", "x");
+    push(&rt, alloc, &mut other, "b", "1");
+    let one = AttrSet::from_pairs(alloc, one).expect(&rt, "a set");
+    let other = AttrSet::from_pairs(alloc, other).expect(&rt, "a set");
+    assert_eq!(rt; one.pairs().len(), 2);
+    assert_eq!(rt; one.pairs()[0].key.as_str(), "a");
+    let one = plain_series(&rt, alloc, one, Kind::Sum { monotonic: true });
+    let other = plain_series(&rt, alloc, other, Kind::Sum { monotonic: true });
+    assert!(rt; one.is_same(&other));
+}
+
+/// Looks at the order of series that are to ascend.
+fn check_ascending(rt: &impl Abort, ascending: &[SeriesId]) {
+    for i in 0..ascending.len() {
+        for j in 0..ascending.len() {
+            assert_eq!(rt;
+                ascending[i].cmp(&ascending[j]),
+                i.cmp(&j),
+                "at {i} and {j}"
+            );
+        }
+    }
+}
+
+#[test]
+fn sorts_of_values_are_ordered(rt: HostRuntime) {
+    let alloc = rt.alloc();
+    let ascending = [
+        valued(&rt, alloc, AttrValue::One(Scalar::Empty)),
+        valued(&rt, alloc, AttrValue::One(Scalar::Truth(false))),
+        valued(&rt, alloc, AttrValue::One(Scalar::Truth(true))),
+        valued(&rt, alloc, AttrValue::One(Scalar::Int(-7))),
+        valued(&rt, alloc, AttrValue::One(Scalar::Int(3))),
+        texted(&rt, alloc, ""),
+        valued(&rt, alloc, empties(&rt, alloc, 0)),
+    ];
+    check_ascending(&rt, &ascending);
+}
+
+#[test]
+fn prefixes_come_first(rt: HostRuntime) {
+    let alloc = rt.alloc();
+    let ascending = [
+        texted(&rt, alloc, "x"),
+        texted(&rt, alloc, "xy"),
+        texted(&rt, alloc, "y"),
+        valued(&rt, alloc, empties(&rt, alloc, 1)),
+        valued(&rt, alloc, empties(&rt, alloc, 2)),
+    ];
+    check_ascending(&rt, &ascending);
+}
+
+#[test]
+fn kinds_are_ordered(rt: HostRuntime) {
+    let alloc = rt.alloc();
+    let ascending = [
+        of_kind(&rt, alloc, Kind::Sum { monotonic: false }),
+        of_kind(&rt, alloc, Kind::Sum { monotonic: true }),
+        of_kind(&rt, alloc, histogram(&rt, alloc, &[])),
+        of_kind(&rt, alloc, histogram(&rt, alloc, &[-1])),
+        of_kind(&rt, alloc, histogram(&rt, alloc, &[0, 5])),
+        of_kind(&rt, alloc, histogram(&rt, alloc, &[0, 5, 10])),
+        of_kind(&rt, alloc, histogram(&rt, alloc, &[0, 6])),
+    ];
+    check_ascending(&rt, &ascending);
+}
+
+/// Looks at the order of two series, the first of which is to come first.
+fn check_order(rt: &impl Abort, first: &SeriesId, second: &SeriesId) {
+    assert_eq!(rt; first.cmp(second), Ordering::Less);
+    assert!(rt; first.is_before(second));
+    assert!(rt; !second.is_before(first));
+    assert!(rt; first != second);
+}
+
+#[test]
+fn resources_come_before_names(rt: HostRuntime) {
+    let alloc = rt.alloc();
+    let first = series(&rt, alloc, "a", "n", Kind::Sum { monotonic: true });
+    let second = series(&rt, alloc, "b", "m", Kind::Sum { monotonic: false });
+    check_order(&rt, &first, &second);
+}
+
+#[test]
+fn names_come_before_kinds(rt: HostRuntime) {
+    let alloc = rt.alloc();
+    let first = series(&rt, alloc, "a", "m", histogram(&rt, alloc, &[0]));
+    let second = series(&rt, alloc, "a", "n", Kind::Sum { monotonic: false });
+    check_order(&rt, &first, &second);
+}
+
+/// Looks at the texts of `series`.
+fn check_texts(rt: &impl Abort, id: &SeriesId) {
+    assert_eq!(rt; id.scope_name().as_str(), "lib");
+    assert_eq!(rt; id.scope_version().as_bytes(), b"2.1".as_slice());
+    assert_eq!(rt; id.name().as_str(), "requests");
+    assert_eq!(rt; id.unit().as_str(), "By");
+}
+
+/// Looks at the sets of `series`.
+fn check_sets(rt: &impl Abort, id: &SeriesId) {
+    assert_eq!(rt; id.resource().pairs().len(), 1);
+    assert_eq!(rt; id.scope_attrs().pairs().len(), 0);
+    assert_eq!(rt; id.attrs().pairs().len(), 1);
+}
+
+#[test]
+fn copies_are_the_same_series(rt: HostRuntime) {
+    let alloc = rt.alloc();
+    let id = series(
+        &rt,
+        alloc,
+        "h1",
+        "requests",
+        histogram(&rt, alloc, &[0, 5, 10]),
+    );
+    let copy = id.copy(alloc).expect(&rt, "memory");
+    assert!(rt; copy.is_same(&id));
+    check_texts(&rt, &copy);
+    check_sets(&rt, &copy);
+}
+
+#[test]
+fn rows_fit_their_kind(rt: HostRuntime) {
+    let alloc = rt.alloc();
+    let sum = series(&rt, alloc, "h1", "requests", Kind::Sum { monotonic: true });
+    assert_eq!(rt; sum.row_len(), 3);
+    let histogram = series(
+        &rt,
+        alloc,
+        "h1",
+        "requests",
+        histogram(&rt, alloc, &[0, 5, 10]),
+    );
+    assert_eq!(rt; histogram.row_len(), 7);
+    assert!(rt; sum.is_before(&histogram));
+}
+
+#[test]
+fn texts_of_series_are_short(rt: HostRuntime) {
+    let alloc = rt.alloc();
+    let long = Some(IdFault::TextTooLong);
+    assert_eq!(rt; texts_fault(&rt, alloc, [4097, 0, 0, 0]), long);
+    assert_eq!(rt; texts_fault(&rt, alloc, [0, 4097, 0, 0]), long);
+    assert_eq!(rt; texts_fault(&rt, alloc, [0, 0, 4097, 0]), long);
+    assert_eq!(rt; texts_fault(&rt, alloc, [0, 0, 0, 4097]), long);
+    assert_eq!(rt; texts_fault(&rt, alloc, [MAX_TEXT; 4]), None);
+}
