@@ -3,6 +3,7 @@ ghost use Rattle.metric_events.specs.PointFaults.{IsHistogram, IsSum};
 
 use metric_events::batch::Batch;
 use metric_events::laws::striking;
+use metric_events::merged_point::MergedPoint;
 use metric_events::point::{Point, PointFault};
 use metric_events::points::Points;
 use metric_events::row::Row;
@@ -117,22 +118,23 @@ fn expect_name(rt: &impl Abort, alloc: Global, bytes: &[u8], want: Option<NameFa
     assert_eq!(rt; fault, want);
 }
 
-/// Both points have the same fields.
-fn expect_same(rt: &impl Abort, mine: &Point, its: &Point) {
+/// The point has the fields of the other, which is as one that adds up.
+fn expect_same(rt: &impl Abort, mine: &Point, its: &MergedPoint) {
     assert!(rt; mine.series().is_same(its.series()));
     assert_eq!(rt; mine.span().start(), its.span().start());
     assert_eq!(rt; mine.span().end(), its.span().end());
     assert_eq!(rt; mine.row(), its.row());
+    assert!(rt; mine.as_merged().is_same(its));
 }
 
-/// The parts of a point make a point of the same series, span and row.
+/// The parts of a point make one that adds up, of the same series, span and row.
 fn expect_remade(rt: &impl Abort, alloc: Global, point: &Point, row: &[u64]) {
-    let series = point.series().copy(alloc).expect(rt, "memory");
-    let words = point.row().to_vec(alloc).expect(rt, "memory");
-    let remade = Point::from_parts(series, point.span(), Row::new(words));
-    expect_same(rt, point, &remade);
+    let merged = point.as_merged();
+    let series = merged.series().copy(alloc).expect(rt, "memory");
+    let words = merged.row().to_vec(alloc).expect(rt, "memory");
+    let remade = MergedPoint::new(series, merged.span(), Row::new(words));
     assert_eq!(rt; remade.row(), row);
-    assert!(rt; remade.is_same(point));
+    expect_same(rt, point, &remade);
 }
 
 #[test]
@@ -303,7 +305,7 @@ fn copies_of_batches(rt: HostRuntime) {
     assert!(rt; copy.sender.is_same(&batch.sender));
     assert_eq!(rt; copy.points.as_slice().len(), 2);
     for (mine, its) in batch.points.as_slice().iter().zip(copy.points.as_slice()) {
-        expect_same(&rt, mine, its);
+        expect_same(&rt, mine, its.as_merged());
     }
     assert!(rt; batch.is_same(&copy));
     let sender = SenderName::new(alloc, b"shop").expect(&rt, "a name");
