@@ -21,9 +21,9 @@ no_name : (word : List ℕ) (more : List (List ℕ)) → 0 < length more → Non
 no_name word [] h = absurd (omega arith)
 no_name word (next ∷ more) h = refl
 
-no_report : (more : List (List ℕ)) → 0 < length more → spec.BadLine ≡ spec.nothing_more spec.ReportLine more
-no_report [] h = absurd (omega arith)
-no_report (next ∷ more) h = refl
+none_more : (line : spec.Asked) (more : List (List ℕ)) → 0 < length more → spec.BadLine ≡ spec.nothing_more line more
+none_more line [] h = absurd (omega arith)
+none_more line (next ∷ more) h = refl
 
 pub only_number_more : (all : List (List ℕ)) (word rest : List ℕ) → all ≡ word ∷ words rest → None ≡ spec.only_number all
 only_number_more all word rest h = rw h (no_number word (words rest) (some_words rest))
@@ -31,8 +31,8 @@ only_number_more all word rest h = rw h (no_number word (words rest) (some_words
 pub only_name_more : (all : List (List ℕ)) (word rest : List ℕ) → all ≡ word ∷ words rest → None ≡ spec.only_name all
 only_name_more all word rest h = rw h (no_name word (words rest) (some_words rest))
 
-pub report_more : (rest : List ℕ) → spec.BadLine ≡ spec.nothing_more spec.ReportLine (words rest)
-report_more rest = no_report (words rest) (some_words rest)
+pub nothing_more : (line : spec.Asked) (rest : List ℕ) → spec.BadLine ≡ spec.nothing_more line (words rest)
+nothing_more line rest = none_more line (words rest) (some_words rest)
 
 good_words : (sender : List ℕ) (points : List PointWords) → is_sender_name sender ≡ true → 0 < length points → spec.AdmitLine sender points ≡ spec.admit_line (name_of sender) (Some points)
 good_words sender [] named some = absurd (omega arith)

@@ -6,11 +6,11 @@ use Rattle.std.specs.declared.alloc.Global.{Global}
 use denote.Ref.{Bor}
 use Rattle.play_script.specs.Pieces.{words}
 use Rattle.play_script.specs.PointLines.{PointWords, point_words}
-use Rattle.play_script.specs.Commands.{Asked, AdmitLine, TakeLine, OkLine, BackLine, ReportLine, UndoLine, ConfirmLine, DropLine, HoldLine, LiftLine, PostLine, BadLine}
+use Rattle.play_script.specs.Commands.{Asked, AdmitLine, TakeLine, OkLine, BackLine, ReportLine, UndoLine, ConfirmLine, DropLine, HoldLine, LiftLine, PostLine, RoundLine, PastLine, BadLine}
 use Rattle.play_script.specs.declared.numbers.TheConstants.{MAX_TAKEN}
 use Rattle.play_script.specs.declared.point_line.PointLine.{PointLine}
 use Rattle.play_script.specs.declared.command.Command.{Command}
-use Rattle.play_script.specs.declared.command.Command.TheVariants.{Admit, Take, Settle, GiveBack, Report, Undo, Confirm, Discard, Hold, Lift, Post}
+use Rattle.play_script.specs.declared.command.Command.TheVariants.{Admit, Take, Settle, GiveBack, Report, Undo, Confirm, Discard, Hold, Lift, Post, Round, Past}
 
 abbrev pub told_point : PointLine → PointWords
 told_point p = record { name = p.name.now; start = p.start; end = p.end; value = p.value }
@@ -46,6 +46,8 @@ told (Some (Discard flush)) = DropLine flush
 told (Some (Hold sender)) = HoldLine sender.now
 told (Some (Lift sender)) = LiftLine sender.now
 told (Some (Post sender body)) = PostLine sender.now body.now
+told (Some Round) = RoundLine
+told (Some Past) = PastLine
 
 -- the parts of a command are in their ranges
 abbrev pub IsReady : Option Command → Type 0
@@ -61,3 +63,5 @@ IsReady (Some (Discard flush)) = ⊤
 IsReady (Some (Hold sender)) = is_sender_name sender.now ≡ true
 IsReady (Some (Lift sender)) = is_sender_name sender.now ≡ true
 IsReady (Some (Post sender body)) = is_sender_name sender.now ≡ true
+IsReady (Some Round) = ⊤
+IsReady (Some Past) = ⊤

@@ -11,7 +11,7 @@ use crate::command::Command;
 use crate::making::make_points;
 use crate::numbers::MAX_TAKEN;
 use crate::point_line::PointLine;
-use crate::refusal::{Refusal, of_admit, of_hold, of_point, of_read, of_take, of_undo};
+use crate::refusal::{Refusal, of_admit, of_hold, of_point, of_read, of_round, of_take, of_undo};
 use crate::reply::Reply;
 use delta_book::book::Book;
 use metric_events::batch::Batch;
@@ -154,6 +154,24 @@ fn report(book: &Book) -> Reply<'static>
     }
 }
 
+fn round(book: &mut Book) -> Reply<'static>
+    ensures { Answers (history book.old) asked.RoundLine (reply_text result) (history book.new) }
+{
+    match book.close_round() {
+        Ok(round) => Reply::Round(round),
+        Err(fault) => Reply::Refused(of_round(fault)),
+    }
+}
+
+fn past(book: &Book) -> Reply<'static>
+    ensures { Answers (history book.now) asked.PastLine (reply_text result) (history book.now) }
+{
+    match book.past() {
+        Ok(rows) => Reply::Past(rows),
+        Err(_) => Reply::Refused(Refusal::NoMemory),
+    }
+}
+
 /// Asks the book what the command says, and makes the reply.
 pub fn reply_to<'a>(alloc: Global, book: &mut Book, command: Command<'a>) -> Reply<'a>
     requires { IsReady (Some command) }
@@ -171,5 +189,7 @@ pub fn reply_to<'a>(alloc: Global, book: &mut Book, command: Command<'a>) -> Rep
         Command::Hold(sender) => hold(alloc, book, sender),
         Command::Lift(sender) => lift(alloc, book, sender),
         Command::Post { sender, body } => post(alloc, book, sender, body),
+        Command::Round => round(book),
+        Command::Past => past(book),
     }
 }

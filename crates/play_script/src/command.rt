@@ -4,14 +4,14 @@ ghost use Rattle.std.specs.Prelude.{◌≡◌, ◌≢◌, true, option_copied, I
 ghost use Rattle.play_script.specs.Commands as spec;
 ghost use Rattle.play_script.specs.Run.{takes_memory};
 ghost use Rattle.play_script.specs.Told.{told, rest_words, IsReady};
-ghost use Rattle.metric_events.specs.Senders.{is_sender_name};
+ghost use Rattle.metric_events.specs.Senders as senders;
 
 use crate::line_points::read_points;
-use crate::names::is_name;
 use crate::numbers::{MAX_TAKEN, number};
 use crate::pieces::cut_word;
 use crate::point_line::PointLine;
 use crate::verb::{Verb, verb_of};
+use metric_events::sender_name::is_sender_name;
 use std::alloc::{AllocError, Global};
 
 /// A command, with the bytes of its line that name senders and points.
@@ -37,6 +37,10 @@ pub enum Command<'a> {
         sender: &'a [u8],
         body: &'a [u8],
     },
+    /// Close the round and begin the next one.
+    Round,
+    /// Tell what earlier rounds brought.
+    Past,
 }
 
 /// The number that is the one word of the rest.
@@ -53,11 +57,11 @@ fn only_number(rest: Option<&[u8]>) -> Option<u64>
 /// The name that is the one word of the rest.
 fn only_name<'a>(rest: Option<&'a [u8]>) -> Option<&'a [u8]>
     ensures name { option_copied result ≡ spec.only_name (rest_words rest.entry) }
-    ensures ready { IfSome result (λ name. is_sender_name name.now ≡ true) }
+    ensures ready { IfSome result (λ name. senders.is_sender_name name.now ≡ true) }
 {
     let word = cut_word(rest?);
     match word.rest {
-        None if is_name(word.first) => Some(word.first),
+        None if is_sender_name(word.first) => Some(word.first),
         None => None,
         Some(_) => None,
     }
@@ -76,7 +80,7 @@ fn admit<'a>(alloc: Global, rest: Option<&'a [u8]>) -> Result<Option<Command<'a>
     let Some(words) = sender.rest else {
         return Ok(None);
     };
-    if !is_name(sender.first) {
+    if !is_sender_name(sender.first) {
         return Ok(None);
     }
     let Some(points) = read_points(alloc, words)? else {
@@ -111,6 +115,28 @@ fn report(rest: Option<&[u8]>) -> Option<Command<'_>>
     }
 }
 
+/// The command to close the round, of which nothing more is said.
+fn round(rest: Option<&[u8]>) -> Option<Command<'_>>
+    ensures told { told result ≡ spec.nothing_more spec.RoundLine (rest_words rest.entry) }
+    ensures ready { IsReady result }
+{
+    match rest {
+        None => Some(Command::Round),
+        Some(_) => None,
+    }
+}
+
+/// The command to tell of earlier rounds, of which nothing more is said.
+fn past(rest: Option<&[u8]>) -> Option<Command<'_>>
+    ensures told { told result ≡ spec.nothing_more spec.PastLine (rest_words rest.entry) }
+    ensures ready { IsReady result }
+{
+    match rest {
+        None => Some(Command::Past),
+        Some(_) => None,
+    }
+}
+
 /// The command to read a body, which is the rest of the line after the sender.
 fn post(rest: Option<&[u8]>) -> Option<Command<'_>>
     ensures told { told result ≡ spec.post_words (rest_words rest.entry) }
@@ -118,7 +144,7 @@ fn post(rest: Option<&[u8]>) -> Option<Command<'_>>
 {
     let sender = cut_word(rest?);
     let body = sender.rest?;
-    if !is_name(sender.first) {
+    if !is_sender_name(sender.first) {
         return None;
     }
     Some(Command::Post {
@@ -145,6 +171,8 @@ fn command_by(verb: Verb, rest: Option<&[u8]>) -> Option<Command<'_>>
         Verb::Hold => Some(Command::Hold(only_name(rest)?)),
         Verb::Lift => Some(Command::Lift(only_name(rest)?)),
         Verb::Post => post(rest),
+        Verb::Round => round(rest),
+        Verb::Past => past(rest),
     }
 }
 

@@ -6,10 +6,10 @@ ghost use Rattle.play_script.specs.Pieces.{words};
 ghost use Rattle.play_script.specs.PointLines.{point_words, with_point};
 ghost use Rattle.play_script.specs.Told.{told_point, points_after, AreRead};
 
-use crate::names::is_name;
 use crate::numbers::{number, value};
 use crate::pieces::cut_word;
 use crate::point_line::PointLine;
+use metric_events::sender_name::is_sender_name;
 use std::alloc::{AllocError, Global};
 
 /// A point, and the words after it, where there are more.
@@ -28,7 +28,7 @@ fn next_point(text: &[u8]) -> Option<NextPoint<'_>>
     let start = cut_word(name.rest?);
     let end = cut_word(start.rest?);
     let last = cut_word(end.rest?);
-    if !is_name(name.first) {
+    if !is_sender_name(name.first) {
         return None;
     }
     let point = PointLine {

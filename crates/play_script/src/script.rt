@@ -1,7 +1,8 @@
 //! The run of a script.
 
-ghost use Rattle.std.specs.Prelude.{◌≡◌, List, ℕ, [], Some};
+ghost use Rattle.std.specs.Prelude.{◌≡◌, List, ℕ, Some};
 ghost use Rattle.byte_ends.specs.Counts.{counted};
+ghost use Rattle.metric_events.specs.History.{Start};
 ghost use Rattle.delta_book.specs.Journal.{history};
 ghost use Rattle.play_script.specs.Answered.{Answers, reply_text};
 ghost use Rattle.play_script.specs.Commands.{command};
@@ -60,7 +61,7 @@ fn answer_lines<W: Sink>(
     input: &[u8],
     writer: &mut W,
 ) -> Result<(), PlayFault>
-    requires { book.old ≡ [] }
+    requires { history book.old ≡ Start }
     ensures played { LinesArePlayed (W.contents writer.old) (W.contents writer.new) (lines input.now) result }
     ensures failed { W.failures writer.new ≡ counted W.one_more (cannot_write result) (W.failures writer.old) }
 {

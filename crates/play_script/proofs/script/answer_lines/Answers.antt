@@ -1,11 +1,10 @@
-use Rattle.std.proofs.Common.{refl, ap, ◌∙◌}
+use Rattle.std.proofs.Common.{refl, ◌∙◌}
 use Rattle.std.proofs.lemmas.Result.{err_from_is_err_and}
-use Rattle.delta_book.specs.Journal.{history}
 use Rattle.play_script.proofs.Marked.{nothing_done, line_done, line_failed}
 use Rattle.play_script.proofs.script.answer_lines.Goals as goal
 
 pub loop-rest-init : goal.loop-rest-init
-loop-rest-init g c = (nothing_done _ _ _ (ap history c.requires), refl)
+loop-rest-init g c = (nothing_done _ _ _ c.requires, refl)
 
 pub loop-rest-preserved : goal.loop-rest-preserved
 loop-rest-preserved g c =
