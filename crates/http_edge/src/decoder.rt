@@ -4,6 +4,7 @@ ghost use Rattle.http_edge.specs.Answer.{Answers, Tells};
 ghost use Rattle.http_edge.specs.Holds.{start, failed, is_done, kept, most_to_come, Holds};
 
 use crate::fault::HttpFault;
+use crate::limits::{MAX_HEAD, MAX_TRAILER};
 use crate::machine::Machine;
 use crate::request::Request;
 use std::alloc::Global;
@@ -61,7 +62,7 @@ impl Decoder {
     /// How many bytes it keeps, at most 32,768 more than the content of the body. It takes no memory.
     pub fn held(&self) -> usize
         ensures all { result ≡ kept self.now }
-        ensures small { result ≤ length self.now.body.content + 32768 }
+        ensures small { result ≤ length self.now.body.content + (MAX_HEAD + MAX_TRAILER) }
     {
         self.machine.held()
     }

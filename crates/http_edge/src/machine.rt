@@ -10,7 +10,7 @@ use crate::body::Body;
 use crate::fault::HttpFault;
 use crate::framing::{Framing, frame};
 use crate::head::look_for_head;
-use crate::limits::{MAX_FIELDS, MAX_HEAD};
+use crate::limits::{MAX_FIELDS, MAX_HEAD, MAX_TRAILER};
 use crate::phase::Phase;
 use crate::request::{Request, request_of};
 use crate::stage::Stage;
@@ -155,7 +155,7 @@ impl Machine {
     pub fn held(&self) -> usize
         requires { IsSound (progress_of self.now) }
         ensures all { result ≡ kept (progress_of self.now) }
-        ensures small { result ≤ length self.now.body.content.items + 32768 }
+        ensures small { result ≤ length self.now.body.content.items + (MAX_HEAD + MAX_TRAILER) }
     {
         self.head.len() + self.body.content.len() + self.body.part.len()
     }
