@@ -11,7 +11,7 @@ use Rattle.http_edge.specs.Message.{Message}
 use Rattle.http_edge.specs.Reading.{BeginsWith, NotYet}
 use Rattle.http_edge.specs.Answer.{Answers, Explains, Fails}
 use Rattle.http_edge.specs.Delivery.{SaysFault, Says, StopsReading, IsClosed}
-use Rattle.http_edge.specs.Holds.{Progress, start, Holds}
+use Rattle.http_edge.specs.Holds.{Progress, Holds, fault_in}
 use Rattle.http_edge.proofs.FaultLemmas.{fails_more}
 use Rattle.http_edge.proofs.MachineLemmas.{not_yet_in_head, start_is_sound}
 use Rattle.http_edge.proofs.AnswerLemmas.{silent, answers_later}
@@ -20,7 +20,7 @@ use Rattle.http_edge.proofs.AnswerLemmas.{silent, answers_later}
 pub record Fed (old now : Option (List ℕ)) (p : Progress) (fed : List ℕ) : Type 0 where
   pub holds : Holds p fed
   pub known : Consumes old now fed
-  pub fresh : fed ≡ [] → p ≡ start
+  pub fine : fault_in p ≡ None
   pub open_ : NotYet fed
 
 nothing_yet : NotYet []
@@ -29,9 +29,9 @@ nothing_yet = not_yet_in_head [] [] start_is_sound.1 refl
 unclosed : (e : HttpFault) (bytes : List ℕ) → (bytes ≡ [] → IsClosed (Err e)) → e ≢ Closed → e ≢ Io → bytes ≢ []
 unclosed e bytes closed not_closed not_io h = elim (closed h) [ inl is ↦ not_closed cc | inr is ↦ not_io cc ]
 
-pub begins : (old : Option (List ℕ)) → Fed old old start []
-begins None = record { holds = refl; known = tt; fresh = λ _. refl; open_ = nothing_yet }
-begins (Some bytes) = record { holds = refl; known = refl; fresh = λ _. refl; open_ = nothing_yet }
+pub begins : (old : Option (List ℕ)) (p : Progress) → Holds p [] → fault_in p ≡ None → Fed old old p []
+begins None p holds fine = record { holds = holds; known = tt; fine = fine; open_ = nothing_yet }
+begins (Some bytes) p holds fine = record { holds = holds; known = refl; fine = fine; open_ = nothing_yet }
 
 pub known_more : (old now next : Option (List ℕ)) (fed piece : List ℕ) → Consumes old now fed → Consumes now next piece
     → Consumes old next (fed ++ piece)
@@ -40,13 +40,8 @@ known_more (Some bytes) None next fed piece known took = absurd known
 known_more (Some bytes) (Some left) None fed piece known took = absurd took
 known_more (Some bytes) (Some left) (Some more) fed piece known took = known ∙ ap (λ x. fed ++ x) took ∙ sym (append_assoc fed piece more)
 
-pub goes_on : (old now next : Option (List ℕ)) (p q : Progress) (fed piece : List ℕ) → Fed old now p fed → Consumes now next piece → 0 < length piece → Holds q (fed ++ piece) → NotYet (fed ++ piece) → Fed old next q (fed ++ piece)
-goes_on old now next p q fed piece so took some holds none = record {
-  open_ = none;
-  holds = holds;
-  known = known_more old now next fed piece so.known took;
-  fresh = λ e. absurd (omega (arith, ap length e, length-append fed piece, some));
-}
+pub goes_on : (old now next : Option (List ℕ)) (p q : Progress) (fed piece : List ℕ) → Fed old now p fed → Consumes now next piece → Holds q (fed ++ piece) → fault_in q ≡ None → NotYet (fed ++ piece) → Fed old next q (fed ++ piece)
+goes_on old now next p q fed piece so took holds fine none = record { holds = holds; known = known_more old now next fed piece so.known took; fine = fine; open_ = none }
 
 abbrev Said : Option (List ℕ) → Result Request HttpFault → Type 0
 Said old r = IfSome old (λ bytes. (r ≡ Err Io) ⊎ Answers bytes r)
@@ -103,12 +98,12 @@ pub stops_after : (old now next : Option (List ℕ)) (p : Progress) (fed piece :
 stops_after old now next p fed piece so took short = (fed, piece, known_more old now next fed piece so.known took, short, so.open_)
 
 -- where there is no byte, nothing was fed
-pub closed_at_end : (old now : Option (List ℕ)) (p : Progress) (fed : List ℕ) (r : Result Request HttpFault) → Fed old now p fed → (p ≡ start → r ≡ Err Closed) → IfSome old (λ bytes. bytes ≡ [] → IsClosed r)
+pub closed_at_end : (old now : Option (List ℕ)) (p : Progress) (fed : List ℕ) (r : Result Request HttpFault) → Fed old now p fed → (Holds p [] → fault_in p ≡ None → r ≡ Err Closed) → IfSome old (λ bytes. bytes ≡ [] → IsClosed r)
 closed_at_end None now p fed r so closed = tt
 closed_at_end (Some bytes) None p fed r so closed = absurd so.known
 closed_at_end (Some bytes) (Some left) p fed r so closed = λ e.
     let none : length fed ≡ 0 = omega (arith, ap length so.known, ap length e, length-append fed left) in
-    inl (closed (so.fresh (nil_from_length fed none)))
+    inl (closed (subst (Holds p) (nil_from_length fed none) so.holds) so.fine)
 
 -- where a piece came, there is a byte
 pub not_closed : (old now next : Option (List ℕ)) (p : Progress) (fed piece : List ℕ) (r : Result Request HttpFault) → Fed old now p fed → Consumes now next piece → 0 < length piece → IfSome old (λ bytes. bytes ≡ [] → IsClosed r)

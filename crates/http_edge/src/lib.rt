@@ -19,7 +19,6 @@ mod read;
 mod reply;
 mod request;
 mod response;
-mod stage;
 mod write;
 mod written;
 

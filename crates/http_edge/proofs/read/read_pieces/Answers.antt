@@ -1,10 +1,13 @@
-use Rattle.std.proofs.Common.{◌<◌, ◌≤◌, ◌++◌, length, take, arith, true, false, Ok}
+use Rattle.std.proofs.Common.{◌<◌, ◌≤◌, [], refl, ◌++◌, length, take, arith, true, false, Ok}
 use Rattle.std.specs.Io.KnownBytes.{Consumes}
 use Rattle.std.proofs.lemmas.List.{length-take-le}
 use Rattle.std.proofs.lemmas.Result.{err_from_is_err_and}
 use Rattle.http_edge.specs.Answer.{Tells}
-use Rattle.http_edge.proofs.ReadLemmas.{goes_on, known_more, at_message, at_fault, closed_at_end, not_closed, stops_after}
+use Rattle.http_edge.proofs.ReadLemmas.{begins, goes_on, known_more, at_message, at_fault, closed_at_end, not_closed, stops_after}
 use Rattle.http_edge.proofs.read.read_pieces.Goals as goal
+
+pub pieces-init : goal.pieces-init
+pieces-init g c = record { so_far = ([], begins (g.S.Source.remaining c.args.source.now) c.new-decoder.result c.new-decoder.ensures.nothing c.new-decoder.ensures.fine); well = refl }
 
 pub returns-then-n-eq0-clause-closed : goal.returns-then-n-eq0-clause-closed
 returns-then-n-eq0-clause-closed g c =
@@ -78,7 +81,7 @@ pieces-preserved g c =
     let some : 0 < length piece = omega (arith, length-take-le c.in-Ok.n c.read.new.buf c.in-Ok.ensures.bound, c.if-n-eq0.false) in
     let holds = c.feed.ensures.holds fed so.holds in
     let told : Tells (fed ++ piece) (Ok false) = rw c.if-branch.false at (c.in_ok-feed.ensures.tells fed so.holds) in
-    record { so_far = (fed ++ piece, goes_on r0 r1 r2 c.pieces.decoder c.feed.new.self fed piece so took some holds told); well = rw c.in-Ok.ensures.failed c.pieces.invariant.well }
+    record { so_far = (fed ++ piece, goes_on r0 r1 r2 c.pieces.decoder c.feed.new.self fed piece so took holds c.in_ok-feed.ensures.fault told); well = rw c.in-Ok.ensures.failed c.pieces.invariant.well }
 
 pub returns-then-n-eq0-clause-stops : goal.returns-then-n-eq0-clause-stops
 returns-then-n-eq0-clause-stops g c =

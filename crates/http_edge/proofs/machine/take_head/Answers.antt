@@ -5,24 +5,20 @@ use Rattle.httparse.specs.Spans.{header_bytes}
 use Rattle.http_edge.specs.Framing.{framing_by}
 use Rattle.http_edge.specs.Framed.{Frames}
 use Rattle.http_edge.specs.Head.{LooksForHead}
-use Rattle.http_edge.specs.Holds.{SoundAt}
-use Rattle.http_edge.specs.Body.{stand_of}
 use Rattle.http_edge.specs.Answer.{Fails}
-use Rattle.http_edge.specs.declared.stage.Stage.TheVariants.{InHead}
 use Rattle.http_edge.proofs.ListLemmas.{grown}
 use Rattle.http_edge.proofs.FaultLemmas.{looks_fails, frames_fails, head_found, fails_more}
-use Rattle.http_edge.proofs.MachineLemmas.{head_ends, head_whole, framing_found, framed_ok, starts_at}
-use Rattle.http_edge.proofs.machine.Machine.take_head.Goals as goal
+use Rattle.http_edge.proofs.MachineLemmas.{head_ends, head_whole, framing_found, framed_ok}
+use Rattle.http_edge.proofs.machine.take_head.Goals as goal
 
 pub returns-in_err-found-clause-fault : goal.returns-in_err-found-clause-fault
 returns-in_err-found-clause-fault c =
-    let m = c.args.self.now in
     let piece = c.args.piece.now in
     let u = take c.min-n.result piece in
     let buf = c.extend_from_slice.new.self.items in
-    let is : buf ≡ m.head.items ++ u = grown c.extend_from_slice.result buf m.head.items u (sym c.if-is_err.false ∙ c.is_err.ensures.value) c.extend_from_slice.ensures.items in
-    let whole : buf ++ drop c.min-n.result piece ≡ m.head.items ++ piece =
-    ap (λ s. s ++ drop c.min-n.result piece) is ∙ append_assoc m.head.items u (drop c.min-n.result piece) ∙ ap (λ s. m.head.items ++ s) (take-append-drop c.min-n.result piece) in
+    let is : buf ≡ c.args.head.now.items ++ u = grown c.extend_from_slice.result buf c.args.head.now.items u (sym c.if-is_err.false ∙ c.is_err.ensures.value) c.extend_from_slice.ensures.items in
+    let whole : buf ++ drop c.min-n.result piece ≡ c.args.head.now.items ++ piece =
+    ap (λ s. s ++ drop c.min-n.result piece) is ∙ append_assoc c.args.head.now.items u (drop c.min-n.result piece) ∙ ap (λ s. c.args.head.now.items ++ s) (take-append-drop c.min-n.result piece) in
     let p = err_from_is_err_and c.from_residual.result c.from_residual.ensures.1 in
     let e = c.in_err-found.field-0.0 in
     let P : List ℕ → Type 0 = λ s. LooksForHead s c.look_for_head.new.spans (Err e) in
@@ -31,13 +27,12 @@ returns-in_err-found-clause-fault c =
 
 pub returns-in_err-framing-clause-fault : goal.returns-in_err-framing-clause-fault
 returns-in_err-framing-clause-fault c =
-    let m = c.args.self.now in
     let piece = c.args.piece.now in
     let u = take c.min-n.result piece in
     let buf = c.extend_from_slice.new.self.items in
-    let is : buf ≡ m.head.items ++ u = grown c.extend_from_slice.result buf m.head.items u (sym c.if-is_err.false ∙ c.is_err.ensures.value) c.extend_from_slice.ensures.items in
-    let whole : buf ++ drop c.min-n.result piece ≡ m.head.items ++ piece =
-    ap (λ s. s ++ drop c.min-n.result piece) is ∙ append_assoc m.head.items u (drop c.min-n.result piece) ∙ ap (λ s. m.head.items ++ s) (take-append-drop c.min-n.result piece) in
+    let is : buf ≡ c.args.head.now.items ++ u = grown c.extend_from_slice.result buf c.args.head.now.items u (sym c.if-is_err.false ∙ c.is_err.ensures.value) c.extend_from_slice.ensures.items in
+    let whole : buf ++ drop c.min-n.result piece ≡ c.args.head.now.items ++ piece =
+    ap (λ s. s ++ drop c.min-n.result piece) is ∙ append_assoc c.args.head.now.items u (drop c.min-n.result piece) ∙ ap (λ s. c.args.head.now.items ++ s) (take-append-drop c.min-n.result piece) in
     let spans = c.look_for_head.new.spans in
     let found = rw (c.in-Some.is, c.deref.ensures.value) at c.in_ok-found.ensures in
     let p = err_from_is_err_and c.from_residual-in_err-framing.result c.from_residual-in_err-framing.ensures.1 in
@@ -51,34 +46,29 @@ returns-in_err-framing-clause-fault c =
 
 pub overflow_sub-result : goal.overflow_sub-result
 overflow_sub-result c =
-    let m = c.args.self.now in
     let piece = c.args.piece.now in
     let u = take c.min-n.result piece in
     let buf = c.extend_from_slice.new.self.items in
-    let is : buf ≡ m.head.items ++ u = grown c.extend_from_slice.result buf m.head.items u (sym c.if-is_err.false ∙ c.is_err.ensures.value) c.extend_from_slice.ensures.items in
+    let is : buf ≡ c.args.head.now.items ++ u = grown c.extend_from_slice.result buf c.args.head.now.items u (sym c.if-is_err.false ∙ c.is_err.ensures.value) c.extend_from_slice.ensures.items in
     let spans = c.look_for_head.new.spans in
     let found = rw (c.in-Some.is, c.deref.ensures.value) at c.in_ok-found.ensures in
-    let sound : SoundAt InHead m.head.items (stand_of m.body) = rw c.requires.stage at c.requires.sound in
-    let had_is : c.len-had.result ≡ length m.head.items = omega (arith, m.head.ok.0, c.len-had.ensures) in
-    let ends = head_ends m.head.items piece buf c.len-had.result c.min-n.result spans c.in-Some.found found.0 had_is (omega arith) sound.1 is found.1 in
+    let had_is : c.len-had.result ≡ length c.args.head.now.items = omega (arith, c.args.head.now.ok.0, c.len-had.ensures) in
+    let ends = head_ends c.args.head.now.items piece buf c.len-had.result c.min-n.result spans c.in-Some.found found.0 had_is (omega arith) c.requires.none is found.1 in
     omega (arith, ends.some)
 
 pub returns-clause-ok : goal.returns-clause-ok
 returns-clause-ok c =
-    let m = c.args.self.now in
     let piece = c.args.piece.now in
     let u = take c.min-n.result piece in
     let buf = c.extend_from_slice.new.self.items in
-    let is : buf ≡ m.head.items ++ u = grown c.extend_from_slice.result buf m.head.items u (sym c.if-is_err.false ∙ c.is_err.ensures.value) c.extend_from_slice.ensures.items in
+    let is : buf ≡ c.args.head.now.items ++ u = grown c.extend_from_slice.result buf c.args.head.now.items u (sym c.if-is_err.false ∙ c.is_err.ensures.value) c.extend_from_slice.ensures.items in
     let spans = c.look_for_head.new.spans in
     let found = rw (c.in-Some.is, c.deref.ensures.value) at c.in_ok-found.ensures in
-    let sound : SoundAt InHead m.head.items (stand_of m.body) = rw c.requires.stage at c.requires.sound in
-    let had_is : c.len-had.result ≡ length m.head.items = omega (arith, m.head.ok.0, c.len-had.ensures) in
+    let had_is : c.len-had.result ≡ length c.args.head.now.items = omega (arith, c.args.head.now.ok.0, c.len-had.ensures) in
     let r = c.in-Some.found in
     let w = c.in_ok-framing.framing in
     let P : List ℕ → Type 0 = λ s. Frames (framing_by r.version (map (header_bytes s) (take r.headers spans))) (Ok w) in
     let frames = subst P c.deref-2.ensures.value c.in_ok-framing.ensures in
     let framing = framing_by r.version (map (header_bytes buf) (take r.headers spans)) in
     let framed = framed_ok framing w frames in
-    let starts = starts_at w c.first_phase-self.result (stand_of m.body) sound.2 c.first_phase-self.ensures in
-    rw c.requires.stage (head_whole m.head.items piece buf c.truncate.new.self.items c.len-had.result c.min-n.result spans r found.0 w (stand_of m.body) _ had_is (omega arith) sound.0 sound.1 is found.1 c.truncate.ensures.items (sym (framing_found buf spans r found.0 found.1.at) ∙ framed.0) starts)
+    head_whole c.args.head.now.items piece buf c.truncate.new.self.items c.len-had.result c.min-n.result spans r found.0 w had_is (omega arith) c.requires.none is found.1 c.truncate.ensures.items (sym (framing_found buf spans r found.0 found.1.at) ∙ framed.0) framed.1
