@@ -1,10 +1,9 @@
 -- The first words of the acknowledged points are those of the series' acknowledged rows.
-use Rattle.std.proofs.Common.{◌≡◌, ℕ, ◌+◌, Bool, true, false, cond, not, ◌&&◌, ◌||◌, List, [], ◌∷◌, map, refl, ap, sym, ◌∙◌, subst, arith}
+use Rattle.std.proofs.Common.{◌≡◌, ℕ, ◌+◌, Bool, true, false, cond, not, ◌||◌, List, [], ◌∷◌, map, refl, ap, sym, ◌∙◌, subst, arith}
 use Rattle.std.specs.Prelude.{slice_index}
 use Rattle.std.specs.List.{list_any, list_all, filter}
 use Rattle.std.proofs.lemmas.Bool.{and_parts, and_from, or_left, or_right, not-true}
 use Rattle.series_id.specs.Identity.{Identity, row_length}
-use Rattle.series_id.specs.Order.{same_series}
 use Rattle.series_id.proofs.Order.{same_series-refl, same_series-exact}
 use Rattle.metric_events.specs.Points.{is_acknowledged, is_among}
 use Rattle.metric_events.specs.Series.{is_of, of_series, row_sum, series_in_order}
