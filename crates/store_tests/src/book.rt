@@ -418,3 +418,27 @@ fn a_full_journal_is_closed(rt: HostRuntime) -> Result<(), Fail> {
     assert_eq!(rt; admitted(&rt, &mut book, batch(alloc, 1, 2, 1)?), Ok(2));
     Ok(())
 }
+
+// A batch of one point of this series, with the value 1.
+fn batch_of(alloc: Global, series: SeriesId, start: u64) -> Result<Batch, Fail> {
+    let mut points = Points::new(alloc);
+    points.push(Point::sum(alloc, series, start, start.saturating_add(1), 1)?)?;
+    let sender = sender(alloc, 0)?;
+    Ok(Batch { sender, points })
+}
+
+// What is kept of a second batch shares the identity of the first: its entry and its accepted point.
+#[test]
+fn known_series_are_kept_once(rt: HostRuntime) -> Result<(), Fail> {
+    let alloc = rt.alloc();
+    let mut book = Book::new(alloc)?;
+    let series_1 = series(alloc, 1, Kind::Sum { monotonic: false })?;
+    let shared = series_1.share(alloc).expect(&rt, "memory");
+    let first = batch_of(alloc, shared.copy(alloc)?, 1)?;
+    assert_eq!(rt; admitted(&rt, &mut book, first), Ok(1));
+    assert_eq!(rt; shared.owners(), 3);
+    let own = series(alloc, 1, Kind::Sum { monotonic: false })?;
+    assert_eq!(rt; admitted(&rt, &mut book, batch_of(alloc, own, 2)?), Ok(2));
+    assert_eq!(rt; shared.owners(), 5);
+    Ok(())
+}
