@@ -1,5 +1,4 @@
 pub mod Answering
-pub mod Digits
 pub mod Ended
 pub mod Marked
 pub mod PointSteps

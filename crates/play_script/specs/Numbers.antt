@@ -1,14 +1,9 @@
 -- The numbers of a script.
-use Rattle.std.specs.Prelude.{ℕ, ℤ, pos, neg_ℤ, ◌&&◌, ◌==◌, List, [], ◌∷◌, length, nat_lt, nat_le, if◌then◌else◌, Some, None}
+use Rattle.std.specs.Prelude.{ℕ, ℤ, pos, neg_ℤ, ◌==◌, List, [], ◌∷◌, if◌then◌else◌, None}
 use Rattle.std.specs.declared.option.Option.{Option}
-use Rattle.std.specs.Str.{all_ascii_digits}
-use Rattle.std.specs.Str.Parse.{digits_value}
 use Rattle.std.specs.Option.{option_map}
+use Rattle.decimals.specs.Numbers.{number_up_to}
 use Rattle.play_script.specs.declared.numbers.TheConstants.{MAX_NUMBER, MAX_ABOVE, MAX_BELOW}
-
--- one or more decimal digits of a number up to this one; zeros may lead
-abbrev pub number_up_to : ℕ → List ℕ → Option ℕ
-number_up_to most digits = if all_ascii_digits digits && nat_lt 0 (length digits) && nat_le (digits_value 10 digits) most then Some (digits_value 10 digits) else None
 
 -- a number below 2^64
 abbrev pub number : List ℕ → Option ℕ
