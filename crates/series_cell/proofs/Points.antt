@@ -1,7 +1,9 @@
 -- Lists of points of one series.
-use Rattle.std.proofs.Common.{◌≡◌, ℕ, ◌<◌, ◌≤◌, ◌==◌, Bool, true, false, cond, not, ◌&&◌, List, [], ◌∷◌, ◌++◌, map, filter, length, remove, max, refl, ap, sym, ◌∙◌, subst, arith}
+use Rattle.std.proofs.Common.{◌≡◌, ℕ, ◌<◌, ◌≤◌, Bool, true, false, cond, ◌&&◌, List, [], ◌∷◌, ◌++◌, map, filter, length, remove, max, refl, ap, sym, ◌∙◌, subst, arith, get_or, zero, suc}
 use Rattle.std.specs.List.{list_all}
-use Rattle.std.proofs.lemmas.Bool.{and_parts, and_from, leb-true, le-leb, eqb-true}
+use Rattle.std.specs.List.Sorted.{IsNonDecreasingBy}
+use Rattle.std.specs.Prelude.{nat_le}
+use Rattle.std.proofs.lemmas.Bool.{and_parts, and_from, leb-true, le-leb}
 use Rattle.series_id.specs.Identity.{Identity, row_length}
 use Rattle.metric_events.specs.Interval.{IsInterval}
 use Rattle.metric_events.specs.DataPoint.{DataPoint}
@@ -150,17 +152,28 @@ pub in_order_last : (qs rs : List Accepted) → InOrder (qs ++ rs) → InOrder r
 in_order_last [] rs h = h
 in_order_last (a ∷ qs) rs h = in_order_last qs rs h.1
 
--- no earlier point starts where a later one does
-pub none_starts : (s : List ℕ) (x : Identity) (before after : List Accepted) (a : Accepted) → AllOwn s x (before ++ a ∷ after) → InOrder (before ++ a ∷ after) → list_all (λ b. not (b.point.span.start == a.point.span.start)) before ≡ true
-none_starts s x [] after a h o = refl
-none_starts s x (b ∷ before) after a h o =
+-- each earlier point ends where a later one starts, or before
+pub all_end_by : (before after : List Accepted) (a : Accepted) → InOrder (before ++ a ∷ after) → list_all (λ b. nat_le b.point.span.end a.point.span.start) before ≡ true
+all_end_by [] after a o = refl
+all_end_by (b ∷ before) after a o =
     let p = starts_parts b.point.span.end before (a ∷ after) o.0 in
-    let q = leb-true b.point.span.end a.point.span.start (and_parts (starts_from b.point.span.end a) (list_all (starts_from b.point.span.end) after) p.1).0 in
-    and_from (not (b.point.span.start == a.point.span.start)) _ (differs (b.point.span.start == a.point.span.start) refl (omega (arith, q, ends_after b.point.span h.0.span))) (none_starts s x before after a h.1 o.1)
-  where
-    differs : (v : Bool) → (b.point.span.start == a.point.span.start) ≡ v → b.point.span.start < a.point.span.start → not (b.point.span.start == a.point.span.start) ≡ true
-    differs true e l = absurd (omega (arith, l, eqb-true b.point.span.start a.point.span.start e))
-    differs false e l = ap not e
+    and_from (nat_le b.point.span.end a.point.span.start) _ (and_parts (starts_from b.point.span.end a) (list_all (starts_from b.point.span.end) after) p.1).0 (all_end_by before after a o.1)
+
+-- ends in order of time ascend
+
+later_ends : (s : List ℕ) (x : Identity) (end : ℕ) (qs : List Accepted) (j : ℕ) (d : BatchSpan) → AllOwn s x qs → list_all (starts_from end) qs ≡ true → j < length (map span_of qs) → end ≤ (get_or (map span_of qs) j d).span.end
+later_ends s x end [] j d h k l = absurd (omega (arith, l))
+later_ends s x end (a ∷ qs) zero d h k l =
+    let p = and_parts (starts_from end a) (list_all (starts_from end) qs) k in
+    omega (arith, leb-true end a.point.span.start p.0, ends_after a.point.span h.0.span)
+later_ends s x end (a ∷ qs) (suc j) d h k l = later_ends s x end qs j d h.1 (and_parts (starts_from end a) (list_all (starts_from end) qs) k).1 (omega arith)
+
+pub ends_ascend : (s : List ℕ) (x : Identity) (qs : List Accepted) → AllOwn s x qs → InOrder qs → IsNonDecreasingBy (λ (m : BatchSpan). m.span.end) (map span_of qs)
+ends_ascend s x [] h o i j d l b = absurd (omega (arith, b))
+ends_ascend s x (a ∷ qs) h o zero zero d l b = omega arith
+ends_ascend s x (a ∷ qs) h o zero (suc j) d l b = later_ends s x a.point.span.end qs j d h.1 o.0 (omega arith)
+ends_ascend s x (a ∷ qs) h o (suc i) zero d l b = absurd (omega (arith, l))
+ends_ascend s x (a ∷ qs) h o (suc i) (suc j) d l b = ends_ascend s x qs h.1 o.1 i j d (omega arith) (omega arith)
 
 -- ends
 
@@ -286,18 +299,15 @@ past t (x ∷ xs) ys (b ∷ before) after a h n e =
     record { between = r.between; rest = r.rest; first = ap (λ y. y ∷ before) same ∙ ap (λ zs. x ∷ zs) r.first }
 
 -- the place of a span among others
-pub place_at : (start : ℕ) (before after : List Accepted) (a : Accepted) → a.point.span.start ≡ start → list_all (λ b. not (b.point.span.start == start)) before ≡ true → place_of start (map span_of (before ++ a ∷ after)) ≡ length before
-place_at start [] after a e h = rw (eqb-refl a.point.span.start start e) refl
+pub place_at : (before after : List Accepted) (a : Accepted) → IsInterval a.point.span → list_all (λ b. nat_le b.point.span.end a.point.span.start) before ≡ true → place_of a.point.span.start (map span_of (before ++ a ∷ after)) ≡ length before
+place_at [] after a i h = rw (not_by (nat_le a.point.span.end a.point.span.start) refl) refl
   where
-    eqb-refl : (m n : ℕ) → m ≡ n → (m == n) ≡ true
-    eqb-refl m n e = grind arith
-place_at start (b ∷ before) after a e h =
-    let p = and_parts (not (b.point.span.start == start)) (list_all (λ b. not (b.point.span.start == start)) before) h in
-    rw (is_false (b.point.span.start == start) p.0) (omega (arith, place_at start before after a e p.1))
-  where
-    is_false : (v : Bool) → not v ≡ true → v ≡ false
-    is_false true k = cc
-    is_false false k = refl
+    not_by : (v : Bool) → nat_le a.point.span.end a.point.span.start ≡ v → nat_le a.point.span.end a.point.span.start ≡ false
+    not_by true e = absurd (omega (arith, leb-true a.point.span.end a.point.span.start e, ends_after a.point.span i))
+    not_by false e = e
+place_at (b ∷ before) after a i h =
+    let p = and_parts (nat_le b.point.span.end a.point.span.start) (list_all (λ b. nat_le b.point.span.end a.point.span.start) before) h in
+    rw p.0 (omega (arith, place_at before after a i p.1))
 
 pub remove_at : (xs zs : List BatchSpan) (m : BatchSpan) → remove (xs ++ m ∷ zs) (length xs) ≡ xs ++ zs
 remove_at [] zs m = refl

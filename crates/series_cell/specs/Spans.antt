@@ -1,5 +1,5 @@
 -- The spans of points that have not landed.
-use Rattle.std.specs.Prelude.{ℕ, ◌+◌, ◌==◌, Bool, List, [], ◌∷◌, if◌then◌else◌, Some, None}
+use Rattle.std.specs.Prelude.{ℕ, ◌+◌, ◌==◌, Bool, List, [], ◌∷◌, nat_le, if◌then◌else◌, Some, None}
 use Rattle.std.specs.declared.option.Option.{Option}
 use Rattle.metric_events.specs.Interval.{Interval, joined_to}
 use Rattle.metric_events.specs.declared.accepted.Accepted.{Accepted}
@@ -12,10 +12,14 @@ span_of a = record { span = a.point.span; batch = a.batch }
 abbrev pub is_span_of : ℕ → BatchSpan → Bool
 is_span_of b m = m.batch == b
 
--- where the span that starts there stands
+-- the span ends at this moment or before
+abbrev pub ends_by : ℕ → BatchSpan → Bool
+ends_by moment m = nat_le m.span.end moment
+
+-- how many spans, from the first on, end by this moment: the place of the span that starts there
 abbrev pub place_of : ℕ → List BatchSpan → ℕ
 place_of start [] = 0
-place_of start (m ∷ ms) = if m.span.start == start then 0 else 1 + place_of start ms
+place_of start (m ∷ ms) = if ends_by start m then 1 + place_of start ms else 0
 
 -- the end of the last span, or what came before all
 abbrev pub end_of_spans : ℕ → List BatchSpan → ℕ

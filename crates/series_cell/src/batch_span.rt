@@ -1,5 +1,6 @@
 ghost use Rattle.std.specs.Prelude.{◌≡◌, ◌≤◌, ◌-◌, length, drop, take, vec_capacity, vec_len};
 ghost use Rattle.std.specs.List.{list_any};
+ghost use Rattle.std.specs.List.Sorted.{IsNonDecreasingBy};
 ghost use Rattle.metric_events.specs.Interval as interval;
 ghost use Rattle.series_cell.specs.Spans.{is_span_of, place_of, end_of_spans, hull_of, joined_spans};
 
@@ -35,17 +36,12 @@ pub fn has_batch(spans: &[BatchSpan], batch: u64) -> bool
     spans.iter().any(|span| span.batch == batch)
 }
 
-/// Where the span that starts there stands.
+/// Where the span that starts there stands, among spans each of which ends before the next starts.
 pub fn find_start(spans: &[BatchSpan], start: u64) -> usize
-    ensures value { result ≡ place_of start spans.now }
+    ensures value { IsNonDecreasingBy (λ m. m.span.end) spans.now → result ≡ place_of start spans.now }
     ensures inside { result ≤ length spans.now }
 {
-    for (i, of_batch) in spans.iter().enumerate() {
-        if of_batch.span.start() == start {
-            return i;
-        }
-    }
-    spans.len()
+    spans.partition_point(|of_batch| of_batch.span.end() <= start)
 }
 
 /// The end of the last span, or what came before all.

@@ -1,8 +1,8 @@
-use Rattle.std.proofs.Common.{◌≡◌, ◌-◌, ◌<◌, sym, ap, ◌∙◌, subst, arith, drop, max, length}
+use Rattle.std.proofs.Common.{◌≡◌, ◌-◌, ◌<◌, sym, ap, ◌∙◌, subst, arith, drop, length}
 use Rattle.std.specs.Prelude.{vec_capacity, vec_len}
 use Rattle.metric_events.specs.Rows.{zeros}
 use Rattle.series_cell.specs.Cells.{CellView, Stands, HandsOn, end_of, opened_with}
-use Rattle.series_cell.specs.Spans.{end_of_spans, hull_of, joined_spans}
+use Rattle.series_cell.specs.Spans.{hull_of, joined_spans}
 use Rattle.series_cell.proofs.ByPlace.{cleared_row}
 use Rattle.series_cell.proofs.Sizes.{sized}
 use Rattle.series_cell.proofs.Carrying.{stands_carried, handed, hands_on}
