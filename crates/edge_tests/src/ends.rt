@@ -1,6 +1,6 @@
 ghost use Rattle.std.specs.Prelude.{◌≡◌};
 
-use byte_ends::{Failed, FromReader, Script, Sink, Source, Step, Tape, ToWriter};
+use byte_ends::{Failed, FromReader, Script, Sink, Source, Step, Tape, ToWriter, drain};
 use std::test::Fail;
 
 const TEXT: &[u8] = b"abcdef";
@@ -49,6 +49,21 @@ fn over_a_reader_and_a_writer(rt: HostRuntime) -> Result<(), Fail> {
         assert_eq!(rt; sink.write(&buf[..n]), Ok(n));
     }
     assert!(rt; sink.into_inner().as_slice() == TEXT);
+    Ok(())
+}
+
+#[test]
+fn drain_throws_away_what_is_left(rt: HostRuntime) -> Result<(), Fail> {
+    let cuts = [Step::AtMost(3), Step::AtMost(9)];
+    let mut source = Script::new(TEXT, &cuts);
+    assert_eq!(rt; drain(&mut source, 4), Ok(()));
+    assert!(rt; source.left() == b"ef".as_slice());
+    assert_eq!(rt; drain(&mut source, 9), Ok(()));
+    assert!(rt; source.left().is_empty());
+    let fails = [Step::AtMost(2), Step::Fail];
+    let mut source = Script::new(TEXT, &fails);
+    assert_eq!(rt; drain(&mut source, 9), Err(Failed));
+    assert!(rt; source.left() == b"cdef".as_slice());
     Ok(())
 }
 
