@@ -1,7 +1,7 @@
 -- Where a head says that its body ends.
-use Rattle.std.specs.Prelude.{◌==◌, ℕ, Bool, ◌&&◌, List, [], ◌∷◌, length, map, filter, Option, Some, None, option_map, codes, nat_lt, if◌then◌else◌}
-use Rattle.std.specs.Str.{all_ascii_digits, str_eq_ignore_ascii_case}
-use Rattle.std.specs.Str.Parse.{digits_value}
+use Rattle.std.specs.Prelude.{◌==◌, ℕ, Bool, ◌&&◌, List, [], ◌∷◌, map, filter, Option, Some, None, option_map, codes, if◌then◌else◌}
+use Rattle.std.specs.Str.{str_eq_ignore_ascii_case}
+use Rattle.decimals.specs.Numbers.{number}
 use Rattle.http_edge.specs.declared.framing.Framing.{Framing}
 use Rattle.http_edge.specs.declared.framing.Framing.TheVariants.{Sized, Chunked}
 use Rattle.http_edge.specs.Message.{Header}
@@ -14,13 +14,9 @@ is_named name h = str_eq_ignore_ascii_case h.0 name
 unfoldable pub values_of : List ℕ → List Header → List (List ℕ)
 values_of name hs = map (λ h. h.1) (filter (is_named name) hs)
 
--- the number that one or more decimal digits write
-unfoldable pub number_of : List ℕ → Option ℕ
-number_of v = if all_ascii_digits v && nat_lt 0 (length v) then Some (digits_value 10 v) else None
-
 -- a body of as many bytes as the text says
 abbrev pub sized_by : List ℕ → Option Framing
-sized_by v = option_map (λ n. Sized n) (number_of v)
+sized_by v = option_map (λ n. Sized n) (number v)
 
 -- the one coding that is known, and only in HTTP/1.1
 abbrev pub coded_by : ℕ → List ℕ → Option Framing

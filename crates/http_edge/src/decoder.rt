@@ -47,8 +47,8 @@ impl Decoder {
     /// Feeds the next piece, and tells whether the message is whole; bytes behind it are thrown away.
     /// An error other than NoMemory comes where no bytes that begin with those that were fed have a
     /// message. NoMemory comes where the memory for what is to be kept was refused, and the bytes are
-    /// lost; once the message is whole, no call takes memory. After an error each later call answers
-    /// it again.
+    /// lost; once the message is whole, no call answers it. After an error each later call answers it
+    /// again.
     pub fn feed(&mut self, piece: &[u8]) -> Result<bool, HttpFault>
         ensures holds { (bytes : List ℕ) → Holds self.old bytes → Holds self.new (bytes ++ piece.now) }
         ensures tells { (bytes : List ℕ) → Holds self.old bytes → Tells (bytes ++ piece.now) result }

@@ -1,13 +1,12 @@
 //! How the fields of a head frame its body (RFC 9112, section 6).
-ghost use Rattle.std.specs.Prelude.{◌≡◌, ◌∷◌, ◌++◌, [], ◌≤◌, ◌<◌, ◌+◌, length, map, min, All, MatchResult, option_to_list, option_copied, IsTrue};
-ghost use Rattle.std.specs.Str.{all_ascii_digits};
-ghost use Rattle.std.specs.Str.Parse.{digits_value};
+ghost use Rattle.std.specs.Prelude.{◌≡◌, ◌∷◌, ◌++◌, [], ◌≤◌, ◌<◌, length, map, All, MatchResult, option_to_list, option_copied};
 ghost use Rattle.httparse.specs.Spans.{header_bytes, IsHeaderWithin};
 ghost use Rattle.http_edge.specs.Framing.{is_named, values_of, sized_by, coded_by, framing_by};
 ghost use Rattle.http_edge.specs.Framed.{Frames};
 
 use crate::fault::HttpFault;
 use crate::limits::MAX_BODY;
+use decimals::capped;
 use httparse::spans::HeaderSpan;
 
 /// Where a body ends.
@@ -66,39 +65,14 @@ fn value_of<'b>(
     Ok(found)
 }
 
-fn are_digits(text: &[u8]) -> bool
-    ensures { result ≡ all_ascii_digits text.now }
-{
-    for b in text {
-        if !b.is_ascii_digit() {
-            return false;
-        }
-    }
-    true
-}
-
-/// The value of decimal digits, or one more than the limit of a body where it is more.
-fn number_up_to(text: &[u8]) -> u64
-    requires { IsTrue (all_ascii_digits text.now) }
-    ensures { result ≡ min (digits_value 10 text.now) (MAX_BODY + 1) }
-{
-    let mut value = 0u64;
-    for b in text {
-        value = (value * 10 + u64::from(*b - b'0')).min(MAX_BODY as u64 + 1);
-    }
-    value
-}
-
 /// The framing by the text of a `Content-Length`.
-#[tactic(auto, unfolding(crate::specs::Framing::number_of))]
 fn sized(text: &[u8]) -> Result<Framing, HttpFault>
     ensures { Frames (sized_by text.now) result }
 {
-    if text.is_empty() || !are_digits(text) {
+    let Some(size) = capped(text, MAX_BODY as u64) else {
         return Err(HttpFault::BadLength);
-    }
-    let size = number_up_to(text);
-    if size > MAX_BODY as u64 {
+    };
+    if size > MAX_BODY as u128 {
         return Err(HttpFault::BodyTooLong);
     }
     Ok(Framing::Sized(size as usize))

@@ -1,12 +1,12 @@
-use Rattle.std.proofs.Common.{◌≡◌, true, ap, option_map, arith, sym, length}
-use Rattle.std.proofs.lemmas.Bool.{eqb-false}
-use Rattle.std.specs.Str.{all_ascii_digits}
-use Rattle.std.specs.Str.Parse.{digits_value}
+use Rattle.std.proofs.Common.{◌≡◌, ℕ, ◌+◌, ◌<◌, min, Option, Some, None, option_map, refl, arith}
+use Rattle.decimals.specs.Numbers.{number}
 use Rattle.http_edge.specs.declared.framing.Framing.TheVariants.{Sized}
-use Rattle.http_edge.proofs.FieldLemmas.{number_is}
 use Rattle.http_edge.proofs.framing.sized.Goals as goal
 
+-- a number that was read up to one more than the limit, and is over it
+too_long : (o : Option ℕ) (size : ℕ) → Some size ≡ option_map (λ n. min n (4194304 + 1)) o → 4194304 < size → (n : ℕ) × (option_map (λ k. Sized k) o ≡ Some (Sized n)) × (4194304 < n)
+too_long None size is long = absurd cc
+too_long (Some n) size is long = let same : size ≡ min n (4194304 + 1) = cc in (n, refl, omega (arith, same, long))
+
 pub returns-then-size : goal.returns-then-size
-returns-then-size c =
-    let digits : all_ascii_digits c.args.text.now ≡ true = cc (c.are_digits.ensures, c.if-not-are_digits.false) in
-    (digits_value 10 c.args.text.now, ap (option_map (λ n. Sized n)) (number_is c.args.text.now digits (let other = eqb-false (length c.args.text.now) 0 (sym c.if-is_empty.ensures) in omega (arith, other))), omega (arith, c.number_up_to-size.ensures))
+returns-then-size c = too_long (number c.args.text.now) c.in-Some.size c.in-Some.ensures c.if-size.true
