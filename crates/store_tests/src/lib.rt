@@ -1,4 +1,4 @@
-//! Tests of the store: series, points and events, and the book. They run what no clause says:
+//! Tests of the store: rows of words, series, points and events, and the book. They run what no clause says:
 //! worked values, each call once with ample memory, and the counts at which the limits lie.
 #![tactic(auto)]
 
@@ -6,5 +6,7 @@
 mod book;
 #[cfg(test)]
 mod events;
+#[cfg(test)]
+mod lanes;
 #[cfg(test)]
 mod series;

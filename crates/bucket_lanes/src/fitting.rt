@@ -1,0 +1,55 @@
+ghost use Rattle.std.specs.Prelude.{◌≡◌, ℕ, ◌+◌, ◌*◌, ◌<◌, ◌≤◌, ◌↔◌, IsTrue, length, slice_index};
+ghost use Rattle.bucket_lanes.specs.ByPlace.{Fits};
+
+use crate::blocks::{LANES, every, load, none_past, rests};
+
+/// Whether no sum of the eight words at a place is above `most`. What is left of the limit is
+/// compared, so a carry out of a lane can't hide a sum.
+#[inline(always)]
+fn fits_block(a: &[u64], b: &[u64], most: u64, at: usize) -> bool
+    requires room { (at + 8 ≤ length a.now) × (at + 8 ≤ length b.now) }
+    ensures { IsTrue result ↔ ((k : ℕ) → k < 8 → slice_index a.now (at + k) + slice_index b.now (at + k) ≤ most) }
+{
+    let limit = every(most);
+    let used = load(b, at);
+    if !none_past(used, limit) {
+        return false;
+    }
+    none_past(load(a, at), rests(limit, used))
+}
+
+/// Whether no sum of the first full eights is above `most`.
+fn fit_blocks(a: &[u64], b: &[u64], most: u64, blocks: usize) -> bool
+    requires same { length a.now ≡ length b.now }
+    requires room { 8 * blocks ≤ length a.now }
+    ensures { IsTrue result ↔ ((k : ℕ) → k < 8 * blocks → slice_index a.now k + slice_index b.now k ≤ most) }
+{
+    for block in 0..blocks {
+        if !fits_block(a, b, most, block * LANES) {
+            return false;
+        }
+    }
+    true
+}
+
+/// Whether no sum from a place on is above `most`.
+fn fits_tail(a: &[u64], b: &[u64], most: u64, from: usize) -> bool
+    requires { length a.now ≡ length b.now }
+    ensures { IsTrue result ↔ ((k : ℕ) → from ≤ k → k < length a.now → slice_index a.now k + slice_index b.now k ≤ most) }
+{
+    for k in from..a.len() {
+        if b[k] > most || a[k] > most - b[k] {
+            return false;
+        }
+    }
+    true
+}
+
+/// Whether every sum by place is at most `most`, also where it would not fit a word.
+pub fn fits(a: &[u64], b: &[u64], most: u64) -> bool
+    requires { length a.now ≡ length b.now }
+    ensures { IsTrue result ↔ Fits most a.now b.now }
+{
+    let blocks = a.len() / LANES;
+    fit_blocks(a, b, most, blocks) && fits_tail(a, b, most, blocks * LANES)
+}

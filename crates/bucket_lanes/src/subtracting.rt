@@ -1,0 +1,53 @@
+ghost use Rattle.std.specs.Prelude.{◌≡◌, ℕ, ◌+◌, ◌-◌, ◌*◌, ◌<◌, ◌≤◌, length, slice_index};
+ghost use Rattle.bucket_lanes.specs.ByPlace.{Covers, AreRests};
+
+use crate::blocks::{LANES, load, rests, store};
+
+/// Takes the eight words of `src` at a place away from those of `dst`.
+#[inline(always)]
+fn sub_block(dst: &mut [u64], src: &[u64], at: usize)
+    requires room { (at + 8 ≤ length dst.old) × (at + 8 ≤ length src.now) }
+    requires within { (k : ℕ) → k < 8 → slice_index src.now (at + k) ≤ slice_index dst.old (at + k) }
+    ensures here { (k : ℕ) → k < 8 → slice_index dst.new (at + k) + slice_index src.now (at + k) ≡ slice_index dst.old (at + k) }
+    ensures before { (k : ℕ) → k < at → slice_index dst.new k ≡ slice_index dst.old k }
+    ensures after { (k : ℕ) → at + 8 ≤ k → slice_index dst.new k ≡ slice_index dst.old k }
+{
+    let rest = rests(load(dst, at), load(src, at));
+    store(dst, at, rest);
+}
+
+/// Takes the words of the first full eights away.
+fn sub_blocks(dst: &mut [u64], src: &[u64], blocks: usize)
+    requires same { length dst.old ≡ length src.now }
+    requires within { Covers dst.old src.now }
+    requires room { 8 * blocks ≤ length dst.old }
+    ensures rests { (k : ℕ) → k < 8 * blocks → slice_index dst.new k + slice_index src.now k ≡ slice_index dst.old k }
+    ensures rest { (k : ℕ) → 8 * blocks ≤ k → slice_index dst.new k ≡ slice_index dst.old k }
+{
+    for block in 0..blocks {
+        sub_block(dst, src, block * LANES);
+    }
+}
+
+/// Takes the words from a place on away.
+fn sub_tail(dst: &mut [u64], src: &[u64], from: usize)
+    requires same { length dst.old ≡ length src.now }
+    requires within { (k : ℕ) → from ≤ k → k < length dst.old → slice_index src.now k ≤ slice_index dst.old k }
+    ensures rests { (k : ℕ) → from ≤ k → k < length dst.old → slice_index dst.new k + slice_index src.now k ≡ slice_index dst.old k }
+    ensures rest { (k : ℕ) → k < from → slice_index dst.new k ≡ slice_index dst.old k }
+{
+    for k in from..dst.len() {
+        dst[k] -= src[k];
+    }
+}
+
+/// Takes the words of `src` away from those of `dst`, place by place.
+pub fn sub_from(dst: &mut [u64], src: &[u64])
+    requires same { length dst.old ≡ length src.now }
+    requires within { Covers dst.old src.now }
+    ensures { AreRests dst.old src.now dst.new }
+{
+    let blocks = dst.len() / LANES;
+    sub_blocks(dst, src, blocks);
+    sub_tail(dst, src, blocks * LANES);
+}

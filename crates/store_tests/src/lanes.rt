@@ -1,0 +1,121 @@
+//! What no clause says of the kernels: that they run, over full eights alone (8 words), with a
+//! tail of four (12) and with one of three (259), and that a carry out of a word is seen.
+ghost use Rattle.std.specs.Prelude.{◌≡◌, ◌≤◌, length};
+
+use bucket_lanes::{add_into, clear, fits, is_zero, move_into, sub_from, total};
+use std::process::Abort;
+use std::test::Fail;
+
+const MOST: u64 = 18_446_744_073_709_551_615;
+
+/// Sets word k to `first + k`.
+fn count_from(words: &mut [u64], first: u64) {
+    for (k, word) in words.iter_mut().enumerate() {
+        *word = first.saturating_add(k as u64);
+    }
+}
+
+/// Each word k is `first + step * k`.
+fn expect_words(rt: &impl Abort, words: &[u64], first: u64, step: u64) {
+    for (k, word) in words.iter().enumerate() {
+        let want = u128::from(first) + u128::from(step) * (k as u128);
+        assert_eq!(rt; u128::from(*word), want, "word {k} of {}", words.len());
+    }
+}
+
+/// Sums, what is left of them, and moved words, of these two rows.
+fn expect_sums(rt: &impl Abort, a: &mut [u64], b: &mut [u64])
+    requires { length a.old ≡ length b.old }
+{
+    count_from(a, 5);
+    count_from(b, 7);
+    assert!(rt; fits(a, b, MOST));
+    add_into(a, b);
+    expect_words(rt, a, 12, 2);
+    expect_words(rt, b, 7, 1);
+    sub_from(a, b);
+    expect_words(rt, a, 5, 1);
+    assert!(rt; fits(a, b, MOST));
+    move_into(a, b);
+    expect_words(rt, a, 12, 2);
+    expect_words(rt, b, 0, 0);
+}
+
+/// One word alone, at a place, is seen by each test; and no word once all are 0.
+fn expect_seen(rt: &impl Abort, words: &mut [u64], zeros: &[u64], at: usize)
+    requires { length words.old ≡ length zeros.now }
+{
+    clear(words);
+    assert!(rt; is_zero(words), "{} words", words.len());
+    assert_eq!(rt; total(words), 0);
+    assert!(rt; at < words.len());
+    words[at] = MOST;
+    assert!(rt; !is_zero(words), "word {at} of {}", words.len());
+    assert_eq!(rt; total(words), u128::from(MOST));
+    assert!(rt; fits(words, zeros, MOST), "word {at} of {}", words.len());
+    assert!(rt;
+        !fits(words, zeros, MOST - 1),
+        "word {at} of {}",
+        words.len()
+    );
+    assert!(rt;
+        !fits(zeros, words, MOST - 1),
+        "word {at} of {}",
+        words.len()
+    );
+}
+
+/// The sum of 2^64 - 1 and 1 at a place is over any limit, though its word would be 0.
+fn expect_carry(rt: &impl Abort, words: &mut [u64], ones: &[u64], at: usize)
+    requires { length words.old ≡ length ones.now }
+{
+    clear(words);
+    assert!(rt; at < words.len());
+    words[at] = MOST;
+    assert!(rt; !fits(words, ones, MOST), "word {at} of {}", words.len());
+    words[at] = MOST - 1;
+    assert!(rt; fits(words, ones, MOST), "word {at} of {}", words.len());
+}
+
+#[test]
+fn kernels_run_over_each_tail(rt: HostRuntime) {
+    for len in [0usize, 7, 8, 12, 259] {
+        let mut a = [0u64; 259];
+        let mut b = [0u64; 259];
+        expect_sums(&rt, &mut a[..len], &mut b[..len]);
+    }
+}
+
+/// A length and a place in it: the ends of the full eights, and of the tail.
+const PLACES: [(usize, usize); 11] = [
+    (8, 0),
+    (8, 7),
+    (12, 0),
+    (12, 7),
+    (12, 8),
+    (12, 11),
+    (259, 0),
+    (259, 8),
+    (259, 255),
+    (259, 256),
+    (259, 258),
+];
+
+#[test]
+fn each_place_counts(rt: HostRuntime) {
+    for (len, at) in PLACES {
+        let mut words = [3u64; 259];
+        let zeros = [0u64; 259];
+        let ones = [1u64; 259];
+        assert!(&rt; len <= 259);
+        expect_seen(&rt, &mut words[..len], &zeros[..len], at);
+        expect_carry(&rt, &mut words[..len], &ones[..len], at);
+    }
+}
+
+#[test]
+fn a_total_is_wider_than_a_word(rt: HostRuntime) {
+    let words = [MOST; 259];
+    assert_eq!(rt; total(&words), 259 * u128::from(MOST));
+    assert!(rt; !fits(&[MOST], &[1], MOST));
+}
