@@ -1,7 +1,10 @@
 #!/usr/bin/env python3
 """Prints how much memory and processor time the script program needs for each accepted point.
 
-    bench/memory.py [PROGRAM]        bin/play, as `make build` makes it, where none is named
+    bench/memory.py [PROGRAM [POINTS ..]]
+
+PROGRAM is bin/play, as `make build` makes it, where none is named; POINTS are 2000 and 20000. The
+book looks through all of its points at each call, so 20000 take some minutes.
 
 The requests look like those of a real exporter: 200 points of 200 series each, ten attributes of
 the resource, three of the point. Each series gets one point a request, so after the first request
@@ -16,6 +19,7 @@ import tempfile
 
 SERIES = 200
 COUNTS = [2_000, 20_000]
+FLUSHES = 10
 
 
 def attribute(key, value):
@@ -84,18 +88,23 @@ def run(program, text):
 
 def main():
     program = sys.argv[1] if len(sys.argv) > 1 else "bin/play"
+    counts = [int(word) for word in sys.argv[2:]] or COUNTS
     empty, _ = run(program, "")
-    for points in COUNTS:
+    for points in counts:
         posts = script(points, 0)
-        flushes = 10
         peak, time = run(program, posts)
-        _, longer = run(program, script(points, flushes))
         print(
             f"{points} points: {(peak - empty) // points} bytes a point at the peak"
             f" (of them {len(posts) // points} the script itself),"
-            f" post {time / points * 1e6:.1f} us a point,"
-            f" take and back {(longer - time) / flushes * 1e3:.1f} ms a flush of {SERIES} series"
+            f" post {time / points * 1e6:.1f} us a point"
         )
+    points = counts[0]
+    _, time = run(program, script(points, 0))
+    _, longer = run(program, script(points, FLUSHES))
+    print(
+        f"{points} points: take and back"
+        f" {(longer - time) / FLUSHES * 1e3:.1f} ms a flush of {SERIES} series"
+    )
 
 
 if __name__ == "__main__":
