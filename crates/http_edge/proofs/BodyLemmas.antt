@@ -105,14 +105,6 @@ content_end n b c p u open_ is len = record {
 
 -- ---- the line end of a chunk
 
-pub returned : (b p : List ℕ) → IsOpen (at Return b p) → Reaches (at Return b p) (at LineFeed b p) (13 ∷ [])
-returned b p open_ = record {
-  opened = open_;
-  steps = record { forward = λ more body h. let e : more ≡ 10 ∷ h.0 = cc (h.1) in (h.0, e, h.2); backward = λ more body h. (h.0, ap (λ s. 13 ∷ s) h.1, h.2) };
-  kept = λ e. refl;
-  less = λ e. omega arith;
-}
-
 pub no_line_yet : HasNoChunkLine []
 unfolding print_chunk_line
 no_line_yet l rest h = omega (arith, h.0.digits.0, ap length h.1, simp length-append at (ap length h.1))
@@ -199,31 +191,12 @@ line_over b part v w l e is large more =
     let same : part ++ ((v ++ w) ++ more) ≡ print_chunk_line l ++ (w ++ more) = ap (λ s. part ++ s) (append_assoc v w more) ∙ after_line part v (w ++ more) l e in
     subst (λ (s : List ℕ). HasChunks b s None) (sym same) (over b l (w ++ more) is large)
 
-pub line_more : (b part u : List ℕ) → IsOpen (at Line b part) → length (part ++ u) < 1024 → HasNoChunkLine (part ++ u) → Reaches (at Line b part) (at Line b (part ++ u)) u
-line_more b part u open_ short none = record {
-  opened = (short, open_.1, none);
-  steps = record {
-    forward = λ more body h. subst (λ (s : List ℕ). HasChunks b s body) (sym (append_assoc part u more)) h;
-    backward = λ more body h. subst (λ (s : List ℕ). HasChunks b s body) (append_assoc part u more) h;
-  };
-  kept = λ _. refl;
-  less = λ _. omega (arith, length-append part u, short);
-}
-
 pub line_refused : (b part u w : List ℕ) → ((more : List ℕ) (body : Option (List ℕ)) → ¬ (HasChunks b ((part ++ u) ++ more) body)) → Refuses BadChunk (at Line b part) (u ++ w)
 line_refused b part u w never more body h =
     let same : part ++ ((u ++ w) ++ more) ≡ (part ++ u) ++ (w ++ more) = ap (λ s. part ++ s) (append_assoc u w more) ∙ sym (append_assoc part u (w ++ more)) in
     never (w ++ more) body (subst (λ (s : List ℕ). HasChunks b s body) same h)
 
 -- ---- the trailer section
-
-trailer_forward : (b part u more : List ℕ) (body : Option (List ℕ)) → Becomes (at Trailer b part) (u ++ more) body → Becomes (at Trailer b (part ++ u)) more body
-trailer_forward b part u more None h = h
-trailer_forward b part u more (Some body) h = (subst HasTrailer (sym (append_assoc part u more)) h.0, h.1)
-
-trailer_backward : (b part u more : List ℕ) (body : Option (List ℕ)) → Becomes (at Trailer b (part ++ u)) more body → Becomes (at Trailer b part) (u ++ more) body
-trailer_backward b part u more None h = h
-trailer_backward b part u more (Some body) h = (subst HasTrailer (append_assoc part u more) h.0, h.1)
 
 whole_forward : (b part bytes more : List ℕ) (body : Option (List ℕ)) → Becomes (at Trailer b part) bytes body → Becomes (at Whole b []) more body
 whole_forward b part bytes more None h = h
@@ -232,14 +205,6 @@ whole_forward b part bytes more (Some body) h = h.1
 whole_backward : (b part bytes more : List ℕ) (body : Option (List ℕ)) → HasTrailer (part ++ bytes) → Becomes (at Whole b []) more body → Becomes (at Trailer b part) bytes body
 whole_backward b part bytes more None t h = h
 whole_backward b part bytes more (Some body) t h = (t, h)
-
-pub trailer_more : (b part u : List ℕ) → IsOpen (at Trailer b part) → length (part ++ u) < 16384 → HasNoSection (part ++ u) → Reaches (at Trailer b part) (at Trailer b (part ++ u)) u
-trailer_more b part u open_ short none = record {
-  opened = (short, open_.1, none);
-  steps = record { forward = λ more body h. trailer_forward b part u more body h; backward = λ more body h. trailer_backward b part u more body h };
-  kept = λ _. refl;
-  less = λ _. omega (arith, length-append part u, short);
-}
 
 trailer_refused : (b part u w : List ℕ) → ((more : List ℕ) → ¬ (HasTrailer ((part ++ u) ++ more))) → Refuses BadChunk (at Trailer b part) (u ++ w)
 trailer_refused b part u w never more None h = h
@@ -292,18 +257,6 @@ goes_on old mid new u v first second =
       kept = λ e. first.kept (second.kept e);
       less = λ e. omega (arith, second.less e, first.less (second.kept e), length-append u v);
     }
-
-whole_on : (b p x y : List ℕ) (body : Option (List ℕ)) → Becomes (at Whole b p) x body → Becomes (at Whole b p) y body
-whole_on b p x y None h = h
-whole_on b p x y (Some body) h = h
-
-pub whole_stays : (b p v : List ℕ) → IsOpen (at Whole b p) → Reaches (at Whole b p) (at Whole b p) v
-whole_stays b p v opened = record {
-  opened = opened;
-  steps = record { forward = λ more body h. whole_on b p (v ++ more) more body h; backward = λ more body h. whole_on b p more (v ++ more) body h };
-  kept = λ e. e;
-  less = λ e. absurd cc;
-}
 
 pub refused_later : (old mid : Stand) (u v : List ℕ) (e : HttpFault) → Reaches old mid u → Refuses e mid v → Refuses e old (u ++ v)
 refused_later old mid u v BadChunk first h = λ more body is. h more body (first.steps.forward (v ++ more) body (subst (λ (s : List ℕ). Becomes old s body) (append_assoc u v more) is))

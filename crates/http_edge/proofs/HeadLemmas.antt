@@ -1,21 +1,9 @@
 -- A head within the limits, and what follows it.
-use Rattle.std.proofs.Common.{◌≡◌, ℕ, ◌<◌, ◌≤◌, List, length, drop, take, ap, arith}
-use Rattle.std.proofs.lemmas.List.{length-map, length-take}
-use Rattle.httparse.specs.Grammar.{RequestHead, print_request, HasNoRequest, NeverHasRequest}
-use Rattle.httparse.specs.declared.spans.HeaderSpan.{HeaderSpan}
-use Rattle.httparse.specs.declared.spans.RequestSpans.{RequestSpans}
-use Rattle.httparse.specs.Spans.{IsRequestAt, IsRequestWithin, header_bytes, name_and_value}
+use Rattle.std.proofs.Common.{ℕ, ◌<◌, ◌≤◌, List, length, drop, arith}
+use Rattle.httparse.specs.Grammar.{print_request, HasNoRequest, NeverHasRequest}
 use Rattle.http_edge.specs.Message.{NeverHead}
-use Rattle.http_edge.specs.Head.{FindsHead, HasTooManyFields, HasLongHead}
+use Rattle.http_edge.specs.Head.{HasTooManyFields, HasLongHead}
 use Rattle.http_edge.proofs.ListLemmas.{front_of}
-
-pub finds_head : (buf : List ℕ) (spans : List HeaderSpan) (r : RequestSpans) (k : RequestHead) → length spans ≡ 64 → length buf ≤ 16384 → IsRequestAt buf spans r k → IsRequestWithin buf spans r → FindsHead buf spans r k
-finds_head buf spans r k room short at within = record {
-  at = at;
-  within = within;
-  few = omega (arith, ap length at.fields, length-map (take r.headers spans) (header_bytes buf), length-map k.fields name_and_value, length-take r.headers spans);
-  short = omega (arith, at.len, within.section.len_fits);
-}
 
 -- what is no front that fits is longer
 pub long_or_front : (p buf : List ℕ) → 16384 ≤ length buf → ¬ (length p ≤ length buf) → 16384 < length p

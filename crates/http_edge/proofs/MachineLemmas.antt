@@ -1,7 +1,7 @@
 -- What a machine holds, step by step.
 use Rattle.std.proofs.Common.{◌≡◌, ◌≢◌, ℕ, ◌-◌, ◌<◌, ◌≤◌, Bool, true, false, List, [], ◌∷◌, ◌++◌, length, map, drop, take, min, Option, Some, None, Ok, Err, refl, sym, ap, subst, ◌∙◌, arith, append_assoc}
 use Rattle.std.specs.Prelude.{Result, IfOk, IfErr}
-use Rattle.std.proofs.lemmas.List.{length-append, length-take, length-drop, append-nil, take-append-drop, take_at, take_all, nil_from_length}
+use Rattle.std.proofs.lemmas.List.{length-append, length-take, length-drop, append-nil, take-append-drop, take_at, nil_from_length}
 use Rattle.httparse.specs.Grammar.{RequestHead, print_request, ReadsRequest, HasNoRequest}
 use Rattle.httparse.specs.declared.spans.HeaderSpan.{HeaderSpan}
 use Rattle.httparse.specs.declared.spans.RequestSpans.{RequestSpans}
@@ -21,7 +21,7 @@ use Rattle.http_edge.specs.Head.{FindsHead}
 use Rattle.http_edge.specs.Reading.{HasBody, framing_in, message_of, Reads, BeginsWith, NotYet}
 use Rattle.http_edge.specs.Body.{Stand, Becomes, IsOpen, is_whole, Reaches, Refuses}
 use Rattle.http_edge.specs.Answer.{Fails, Tells}
-use Rattle.http_edge.specs.Holds.{Progress, in_head, in_body, failed, start, IsBehind, Holds, IsSound, IsFramed, Starts, EndsHead, TakesHead, Advances, Stops, fault_in, is_done}
+use Rattle.http_edge.specs.Holds.{Progress, in_head, in_body, failed, start, IsBehind, Holds, IsSound, IsFramed, Starts, EndsHead, Advances, Stops, fault_in, is_done}
 use Rattle.http_edge.proofs.ListLemmas.{text_taken, EndsIn}
 use Rattle.http_edge.proofs.ChunkLemmas.{no_chunks}
 use Rattle.http_edge.proofs.BodyLemmas.{at, no_line_yet}
@@ -78,21 +78,16 @@ head_whole part piece buf text had n spans r k w had_is within none is found tex
 take_len : (n : ℕ) (piece : List ℕ) → length (take n piece) ≡ min n (length piece)
 take_len n piece = length-take n piece
 
--- where the head isn't whole, all of the piece is of it
-pub head_more : (part piece buf : List ℕ) (n : ℕ) → n ≡ min (length piece) (16384 - length part) → buf ≡ part ++ take n piece → HasNoRequest buf → length buf < 16384 → TakesHead part buf piece None
-head_more part piece buf n n_is is none short =
-    let all : n ≡ length piece = omega (arith, ap length is, length-append part (take n piece), n_is, short, take_len n piece) in
-    (is ∙ ap (λ s. part ++ s) (take_all n piece (omega (arith, all))), short, none)
-
 -- ---- at the end of a head
 
-unread : (head bytes : List ℕ) (k : RequestHead) (w : Framing) (body : Stand) → bytes ≡ head → IsHeadAt head k [] → framing_in k ≡ Some w → Starts w body → IsBehind head body bytes k []
-unread head bytes k w body is at framed starts =
+unread : (head bytes : List ℕ) (k : RequestHead) (w : Framing) (body : Stand) → bytes ≡ head → length head ≤ 16384 → IsHeadAt head k [] → framing_in k ≡ Some w → Starts w body → IsBehind head body bytes k []
+unread head bytes k w body is short at framed starts =
     let Q : Option Framing → List ℕ → Option (List ℕ) → Type 0 = HasBody in
     record {
       at = at;
       bytes_are = is ∙ sym (append-nil head);
       framed = λ e. let x : Some w ≡ None = sym framed ∙ e in cc;
+      bounded = λ e. omega (arith, ap length is, short, starts.less);
       forward = λ more o h. starts.forward more o (subst (λ (f : Option Framing). HasBody f more o) framed h);
       backward = λ more o h. subst (λ (f : Option Framing). HasBody f more o) (sym framed) (starts.backward more o h);
     }
@@ -160,6 +155,7 @@ goes_on_behind head old new piece short reaches = record {
       at = h.2.at;
       bytes_are = ap (λ s. s ++ piece) h.2.bytes_are ∙ append_assoc head h.1 piece;
       framed = h.2.framed;
+      bounded = λ e. omega (arith, h.2.bounded (reaches.kept e), reaches.less e, length-append bytes piece);
       forward = λ more o x. reaches.steps.forward more o (h.2.forward (piece ++ more) o (subst (λ (s : List ℕ). HasBody (framing_in h.0) s o) (append_assoc h.1 piece more) x));
       backward = λ more o x. subst (λ (s : List ℕ). HasBody (framing_in h.0) s o) (sym (append_assoc h.1 piece more)) (h.2.backward (piece ++ more) o (reaches.steps.backward more o x));
     },
@@ -231,15 +227,6 @@ split : (part text piece bytes : List ℕ) (n : ℕ) → part ++ take n piece �
 split part text piece bytes n front is =
     ap (λ s. s ++ drop n piece) (sym front) ∙ append_assoc part (take n piece) (drop n piece) ∙ ap (λ s. part ++ s) (take-append-drop n piece) ∙ ap (λ s. s ++ piece) (sym is)
 
-pub in_head_still : (part text piece : List ℕ) → TakesHead part text piece None → Advances (in_head part) (in_head text) piece false
-in_head_still part text piece takes = record {
-  sound = (takes.1, takes.2);
-  fine = refl;
-  done_is = refl;
-  holds = λ bytes h. ap (λ s. s ++ piece) h ∙ sym takes.0;
-  less = λ e. omega (arith, ap length takes.0, length-append part piece, takes.1);
-}
-
 pub into_body : (part text piece : List ℕ) (n : ℕ) (w : Framing) (first new : Stand) → EndsHead part text piece n w → Starts w first → Reaches first new (drop n piece)
     → Advances (in_head part) (in_body text new) piece (is_whole new.phase)
 into_body part text piece n w first new ends starts reaches =
@@ -249,17 +236,14 @@ into_body part text piece n w first new ends starts reaches =
       sound = goes.sound;
       fine = refl;
       done_is = refl;
-      holds = λ bytes h. subst P (split part text piece bytes n ends.front h) (goes.holds text (ends.head, [], unread text text ends.head w first refl ends.at ends.framed starts));
+      holds = λ bytes h. subst P (split part text piece bytes n ends.front h) (goes.holds text (ends.head, [], unread text text ends.head w first refl ends.short ends.at ends.framed starts));
       less = λ e. omega (arith, reaches.less e, starts.less, ap length ends.front, length-append part (take n piece), take_len n piece, length-drop n piece, ends.within, ends.short);
     }
 
 pub stops_behind : (e : HttpFault) (part text piece : List ℕ) (n : ℕ) (w : Framing) (first : Stand) → EndsHead part text piece n w → Starts w first → Refuses e first (drop n piece) → Stops (in_head part) piece e
 stops_behind e part text piece n w first ends starts refuses bytes h =
     let P : List ℕ → Type 0 = λ s. Fails e s in
-    subst P (split part text piece bytes n ends.front h) (stops_body e text first (drop n piece) refuses text (ends.head, [], unread text text ends.head w first refl ends.at ends.framed starts))
-
-pub stops_in_head : (e : HttpFault) (part piece : List ℕ) → Fails e (part ++ piece) → Stops (in_head part) piece e
-stops_in_head e part piece fails bytes h = let P : List ℕ → Type 0 = λ s. Fails e (s ++ piece) in subst P (sym h) fails
+    subst P (split part text piece bytes n ends.front h) (stops_body e text first (drop n piece) refuses text (ends.head, [], unread text text ends.head w first refl ends.short ends.at ends.framed starts))
 
 -- ---- at first, and at an answer
 

@@ -2,8 +2,8 @@
 use Rattle.std.proofs.Common.{◌≡◌, ◌≢◌, ℕ, ◌<◌, ◌≤◌, List, [], ◌++◌, length, Option, Some, None, Err, refl, sym, ap, subst, ◌∙◌, arith, append_assoc}
 use Rattle.std.specs.Prelude.{Result, IfSome, ◌⊎◌}
 use Rattle.std.proofs.Common.{Ok, inl, inr}
-use Rattle.std.proofs.lemmas.List.{length-append, append-nil, nil_from_length}
-use Rattle.std.specs.Io.KnownBytes.{Consumes, IsAtEnd}
+use Rattle.std.proofs.lemmas.List.{length-append, nil_from_length}
+use Rattle.std.specs.Io.KnownBytes.{Consumes}
 use Rattle.http_edge.specs.declared.fault.HttpFault.{HttpFault}
 use Rattle.http_edge.specs.declared.fault.HttpFault.TheVariants.{Closed, BadHead, TooManyHeaders, HeadTooLong, BadLength, BodyTooLong, BadChunk, Truncated, Io, NoMemory}
 use Rattle.http_edge.specs.declared.request.Request.{Request}
@@ -45,14 +45,6 @@ goes_on old now next p q fed piece so took holds fine none = record { holds = ho
 
 abbrev Said : Option (List ℕ) → Result Request HttpFault → Type 0
 Said old r = IfSome old (λ bytes. (r ≡ Err Io) ⊎ Answers bytes r)
-
--- at the end of the source
-pub at_end : (old now : Option (List ℕ)) (p : Progress) (fed : List ℕ) (r : Result Request HttpFault) → Fed old now p fed → IsAtEnd now → Answers fed r → Said old r
-at_end None now p fed r so ended x = tt
-at_end (Some bytes) None p fed r so ended x = absurd so.known
-at_end (Some bytes) (Some left) p fed r so ended x =
-    let e : bytes ≡ fed = so.known ∙ ap (λ s. fed ++ s) ended ∙ append-nil fed in
-    inr (subst (λ (s : List ℕ). Answers s r) (sym e) x)
 
 -- once a message was fed
 pub at_message : (old now : Option (List ℕ)) (fed : List ℕ) (r : Result Request HttpFault) (m : Message) → Consumes old now fed → BeginsWith fed m → Answers fed r → Said old r

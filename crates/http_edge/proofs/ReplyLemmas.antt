@@ -1,12 +1,11 @@
 -- What was kept of a response, and what it tells.
 use Rattle.std.proofs.Common.{◌≡◌, ◌≢◌, ℕ, ◌+◌, ◌<◌, ◌≤◌, true, false, List, [], ◌∷◌, ◌++◌, length, map, take, drop, get_or, Option, Some, None, Ok, Err, refl, sym, ap, subst, ◌∙◌, arith, append_assoc, inl, inr}
-use Rattle.std.specs.Prelude.{Result, IfSome, ◌⊎◌, codes}
-use Rattle.std.proofs.lemmas.List.{length-append, length-take, length-map, append-nil, take-append-drop, map-append}
+use Rattle.std.specs.Prelude.{Result, IfSome, ◌⊎◌}
+use Rattle.std.proofs.lemmas.List.{length-append, append-nil, take-append-drop, map-append}
 use Rattle.std.specs.Io.KnownBytes.{Consumes, IsAtEnd}
-use Rattle.httparse.specs.Grammar.{ResponseHead, print_response, ReadsResponse, HasNoResponse, status_code}
+use Rattle.httparse.specs.Grammar.{ResponseHead, print_response, ReadsResponse, HasNoResponse}
 use Rattle.httparse.specs.declared.spans.HeaderSpan.{HeaderSpan}
-use Rattle.httparse.specs.declared.spans.ResponseSpans.{ResponseSpans}
-use Rattle.httparse.specs.Spans.{name_and_value, header_bytes, IsResponseWithin}
+use Rattle.httparse.specs.Spans.{header_bytes}
 use Rattle.httparse.proofs.GrammarLemmas.{ReadsResponse-append, response_unique}
 use Rattle.http_edge.specs.declared.fault.HttpFault.{HttpFault}
 use Rattle.http_edge.specs.declared.fault.HttpFault.TheVariants.{Closed, BadHead, TooManyHeaders, HeadTooLong, BadLength, BodyTooLong, BadChunk, Truncated, Io, NoMemory}
@@ -15,7 +14,6 @@ use Rattle.http_edge.specs.Message.{Header}
 use Rattle.http_edge.specs.Framing.{is_named, values_of}
 use Rattle.http_edge.specs.Reply.{Told, first, told_by, told_in, BeginsSaying, NoReply, ExplainsReply, AnswersReply, LastsFor, SaysReplyFault, SaysReply, DeliversReply, IsClosedReply}
 use Rattle.http_edge.specs.Delivery.{StopsReading}
-use Rattle.httparse.specs.Spans as parsed
 use Rattle.http_edge.proofs.FieldLemmas.{values_of-append, values_of_more}
 use Rattle.http_edge.proofs.ListLemmas.{front_of}
 use Rattle.http_edge.proofs.HeadLemmas.{long_or_front}
@@ -31,16 +29,6 @@ pub none_at_first : HasNoResponse []
 none_at_first k after r = omega (arith, some_bytes [] after k r)
 
 -- ---- a head that was found
-
-same_told : (a b : ℕ) (x y : Option (List ℕ)) → a ≡ b → x ≡ y → ◌≡◌ {A = Told} (record { status = a; retry_after = x }) (record { status = b; retry_after = y })
-same_told a b x y p q = cc
-
-pub begins_saying : (buf : List ℕ) (spans : List HeaderSpan) (r : ResponseSpans) (k : ResponseHead) (value : Option (List ℕ)) → length spans ≡ 64 → length buf ≤ 16384 → parsed.IsResponseAt buf spans r k → IsResponseWithin buf spans r
-    → value ≡ first (values_of (codes "retry-after") (map (header_bytes buf) (take r.headers spans))) → BeginsSaying buf (record { status = r.code; retry_after = value })
-begins_saying buf spans r k value room short is within value_is =
-    let few : length k.fields ≤ 64 = omega (arith, ap length is.fields, length-map (take r.headers spans) (header_bytes buf), length-map k.fields name_and_value, length-take r.headers spans) in
-    let value_of : value ≡ first (values_of (codes "retry-after") (map name_and_value k.fields)) = value_is ∙ ap (λ hs. first (values_of (codes "retry-after") hs)) is.fields in
-    (k, drop r.len buf, record { reads = is.reads; few = few; short = omega (arith, is.len, within.section.len_fits, short) }, same_told r.code (status_code k) value (first (values_of (codes "retry-after") (map name_and_value k.fields))) is.code value_of)
 
 pub long_head : (buf : List ℕ) → HasNoResponse buf → 16384 ≤ length buf → ExplainsReply HeadTooLong buf
 long_head buf none long = (
@@ -219,11 +207,6 @@ grows (Some bytes) (Some left) (Some more) kept piece front back new so took cut
     let f : (kept ++ (front ++ back)) ++ more ≡ new ++ (back ++ more) = ap (λ x. x ++ more) (sym (append_assoc kept front back)) ∙ append_assoc (kept ++ front) back more ∙ ap (λ x. x ++ (back ++ more)) (sym is) in
     record { all = (back ++ more, e ∙ f); some = omega (arith, ap length is, length-append kept front, some) }
 
-pub keeps : (old now next : Option (List ℕ)) (kept piece new : List ℕ) → Kept old now kept → Consumes now next piece → new ≡ kept ++ piece → HasNoResponse new → length new < 16384 → Kept old next new
-keeps old now next kept piece new so took is none short =
-    let P : List ℕ → Type 0 = λ s. Consumes old next s in
-    record { known = subst P (sym is) (known_more old now next kept piece so.known took); none = none; short = short }
-
 pub stops_after : (old now next : Option (List ℕ)) (kept piece : List ℕ) → Kept old now kept → Consumes now next piece → length piece ≤ 4096 → StopsReading NoReply old next
 stops_after old now next kept piece so took short = (kept, piece, known_more old now next kept piece so.known took, short, λ k after b. so.none k after b.reads)
 
@@ -243,15 +226,3 @@ pub closed : (old now : Option (List ℕ)) (kept : List ℕ) → Kept old now ke
 closed None now kept so ended is = tt
 closed (Some bytes) None kept so ended is = absurd so.known
 closed (Some bytes) (Some left) kept so ended is = inr (so.known ∙ ap (λ x. kept ++ x) ended ∙ append-nil kept ∙ is)
-
-pub truncated : (old now : Option (List ℕ)) (kept : List ℕ) → Kept old now kept → IsAtEnd now → 0 < length kept → Said old (Err Truncated)
-truncated None now kept so ended some = tt
-truncated (Some bytes) None kept so ended some = absurd so.known
-truncated (Some bytes) (Some left) kept so ended some =
-    let e : bytes ≡ kept = so.known ∙ ap (λ x. kept ++ x) ended ∙ append-nil kept in
-    inr (λ is. omega (arith, ap length is, ap length e, some), λ k after b. let P : List ℕ → Type 0 = λ s. ReadsResponse s k after in so.none k after (subst P e b.reads))
-
-pub not_closed_at_end : (old now : Option (List ℕ)) (kept : List ℕ) (r : Result Reply HttpFault) → Kept old now kept → 0 < length kept → IfSome old (λ bytes. bytes ≡ [] → IsClosedReply r)
-not_closed_at_end None now kept r so some = tt
-not_closed_at_end (Some bytes) None kept r so some = absurd so.known
-not_closed_at_end (Some bytes) (Some left) kept r so some = λ e. absurd (omega (arith, ap length e, ap length so.known, length-append kept left, some))

@@ -33,11 +33,16 @@ IsSound (in_head head) = (length head < MAX_HEAD) × HasNoRequest head
 IsSound (in_body head body) = (length head ≤ MAX_HEAD) × IsOpen body
 IsSound (failed e) = ⊤
 
+-- the most bytes of a message: those of a head, and of chunks and trailers
+abbrev pub most_of_a_message : ℕ
+most_of_a_message = MAX_HEAD + most_of_chunks MAX_BODY
+
 -- the head and its bytes, and what stands behind them and then any others comes to what these come to from here
 pub record IsBehind (head : List ℕ) (body : Stand) (bytes : List ℕ) (k : RequestHead) (fed : List ℕ) : Type 0 where
   pub at : IsHeadAt head k []
   pub bytes_are : bytes ≡ head ++ fed
   pub framed : framing_in k ≢ None
+  pub bounded : is_whole body.phase ≡ false → length bytes + most_left body ≤ most_of_a_message
   pub forward : (more : List ℕ) (o : Option (List ℕ)) → HasBody (framing_in k) (fed ++ more) o → Becomes body more o
   pub backward : (more : List ℕ) (o : Option (List ℕ)) → Becomes body more o → HasBody (framing_in k) (fed ++ more) o
 

@@ -28,7 +28,7 @@ fn read_pieces<S: Source>(alloc: Global, source: &mut S) -> Result<Request, Http
         if n == 0 {
             return decoder.finish();
         }
-        if decoder.feed(&piece[..n])? {
+        if decoder.step(&piece[..n])? {
             return decoder.finish();
         }
     }

@@ -1,3 +1,13 @@
 pub mod Putting
 pub mod Whole
 pub mod Loops
+pub mod Grouping
+pub mod NumbersAgain
+pub mod AttributesAgain
+pub mod PointsAgain
+pub mod SumsAgain
+pub mod HistogramsAgain
+pub mod Sharing
+pub mod RequestAgain
+pub mod Apart
+pub mod EachOnce

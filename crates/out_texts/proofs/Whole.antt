@@ -1,7 +1,7 @@
 -- Values that have no float and nest little.
 use Rattle.std.proofs.Common.{◌≡◌, ◌≤◌, ℕ, ◌==◌, Bool, true, false, List, [], ◌∷◌, map, refl, if◌then◌else◌, Option, Some, None, ℤ, pos, negsuc, arith}
-use Rattle.std.specs.Prelude.{decimal, codes, sum}
-use Rattle.serde_json.specs.Data.{Data, number, string, object, Members, no_members, member, depth, items_depth, members_depth}
+use Rattle.std.specs.Prelude.{decimal}
+use Rattle.serde_json.specs.Data.{Data, number, string, depth, items_depth}
 use Rattle.serde_json.specs.Find.{of_integer}
 use Rattle.serde_json.specs.View.{items_of}
 use Rattle.serde_json.specs.Written.{has_float, items_have_float}

@@ -9,3 +9,5 @@ pub mod Sharing
 pub mod Attributes
 pub mod Points
 pub mod Request
+pub mod Back
+pub mod Once

@@ -1,16 +1,19 @@
 //! The request that forwards the points of a flush.
 
-ghost use Rattle.std.specs.Prelude.{◌≡◌, map, IfOk};
+ghost use Rattle.std.specs.Prelude.{◌≡◌, map, true, IfOk};
 ghost use Rattle.serde_json.specs.View.{view, items_view, items_of};
 ghost use Rattle.out_texts.specs.declared.level.Level.TheVariants as level;
+ghost use Rattle.metric_events.specs.Series.{is_ascending};
+ghost use Rattle.out_texts.specs.Back.{ReadsBack};
 ghost use Rattle.out_texts.specs.Groups.{groups, members};
+ghost use Rattle.out_texts.specs.Once.{HasEachOnce};
 ghost use Rattle.out_texts.specs.Sharing.{same};
 ghost use Rattle.out_texts.specs.Request as spec;
 
 use crate::attributes::attributes_value;
 use crate::json_text::text_of;
 use crate::level::Level;
-use crate::points::point_values;
+use crate::points::{keep_limits, point_values};
 use crate::runs::run;
 use delta_book::flush::Flush;
 use delta_book::flush_point::FlushPoint;
@@ -121,10 +124,19 @@ fn request_value(alloc: Global, points: &[FlushPoint]) -> Result<Value, AllocErr
 /// The body that forwards the points of a flush (OTLP metrics, `ExportMetricsServiceRequest`).
 /// Neighbours of one resource stand in one element of `resourceMetrics`, of these neighbours of one
 /// scope in one of `scopeMetrics`, and of these neighbours of one name, unit and kind in one metric.
+///
+/// Read again, the text says for each point, in order, its series, its span and its value, or its
+/// buckets and its sum where each merged point had one, and nothing foreign.
+///
+/// Of points in series order no resource stands twice, in none a scope, in none of these a metric.
 #[tactic(auto, unfolding(crate::specs::Request::request_text))]
 pub fn request_text(alloc: Global, flush: &Flush) -> Result<Vec<u8>, AllocError>
     ensures text { IfOk result (λ text. text.items ≡ spec.request_text flush.now.points.items) }
+    ensures back { IfOk result (λ text. ReadsBack text.items flush.now.points.items) }
+    ensures once { is_ascending (map (λ p. p.series) flush.now.points.items) ≡ true → HasEachOnce flush.now.points.items }
 {
-    let value = request_value(alloc, flush.points.as_slice())?;
+    let points = flush.points.as_slice();
+    keep_limits(points);
+    let value = request_value(alloc, points)?;
     text_of(alloc, value)
 }

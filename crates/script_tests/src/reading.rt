@@ -412,6 +412,21 @@ fn reads_identities(rt: HostRuntime) -> Result<(), Fail> {
     Ok(())
 }
 
+/// What the points of one metric have in common is made once.
+#[test]
+fn points_share_their_resource(rt: HostRuntime) -> Result<(), Fail> {
+    let alloc = rt.alloc();
+    let body =
+        r#"{"resourceMetrics":[{"resource":{"attributes":[{"key":"r"}]},"scopeMetrics":[{"metrics":[{"name":"m","sum":{"aggregationTemporality":1,"dataPoints":[{"asInt":1,"startTimeUnixNano":10,"timeUnixNano":20},{"asInt":2,"startTimeUnixNano":20,"timeUnixNano":30}]}}]}]}]}"#;
+    let reading = read_request(alloc, body.as_bytes())?;
+    for point in reading.points.as_slice() {
+        assert_eq!(rt; point.series().resource().owners(), 2);
+        assert!(rt; point.series().shared_copy().is_some());
+    }
+    assert_eq!(rt; reading.points.as_slice().len(), 2);
+    Ok(())
+}
+
 #[test]
 fn reads_sets_and_lists_up_to_their_limits(rt: HostRuntime) -> Result<(), Fail> {
     let alloc = rt.alloc();

@@ -14,7 +14,6 @@ use std::cmp::Ordering;
 use std::marker::Model;
 
 /// The parts of an identity. Contracts see them as an `Identity`.
-#[derive(Drop)]
 pub(crate) struct Parts {
     resource: AttrSet,
     scope_name: Text,
@@ -37,6 +36,21 @@ impl Model for Parts {
     ghost view = { identity_of_parts };
 
     ghost invariant = { λ s. IsIdentity (identity_of_parts s) };
+}
+
+impl Drop for Parts {
+    fn drop(self) {
+        let Parts {
+            resource: _,
+            scope_name: _,
+            scope_version: _,
+            scope_attrs: _,
+            name: _,
+            unit: _,
+            kind: _,
+            attrs: _,
+        } = self;
+    }
 }
 
 impl Parts {

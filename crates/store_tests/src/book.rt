@@ -303,10 +303,13 @@ fn first_round(rt: &impl Abort, alloc: Global, book: &mut Book) -> Result<(), Fa
     assert_eq!(rt; book.round(), 1);
     assert_eq!(rt; admitted(rt, book, single(alloc, 0, 10, 5)?), Ok(1));
     assert_eq!(rt; taken(book), Ok(Some(1)));
+    assert_eq!(rt; book.acknowledged(), 0);
     assert_eq!(rt; book.settle(7, 1), Ok(()));
+    assert_eq!(rt; book.acknowledged(), 1);
     assert_eq!(rt; book.close_round(), Err(RoundFault::BatchOpen));
     assert_eq!(rt; book.confirm(7, 1), Ok(()));
     assert_eq!(rt; book.close_round(), Ok(2));
+    assert_eq!(rt; book.acknowledged(), 0);
     assert_eq!(rt; book.journal().len(), 0);
     Ok(())
 }

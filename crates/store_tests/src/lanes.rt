@@ -1,5 +1,5 @@
-//! What no clause says of the kernels: that they run, over full eights alone (8 words), with a
-//! tail of four (12) and with one of three (259), and that a carry out of a word is seen.
+//! What no clause says of the kernels: that they run, over rows of every length up to 259 words,
+//! so with no full eight, with full eights alone and with each tail, and see a carry out of a word.
 ghost use Rattle.std.specs.Prelude.{◌≡◌, ◌≤◌, length};
 
 use bucket_lanes::{add_into, clear, fits, is_zero, move_into, sub_from, total};
@@ -79,37 +79,24 @@ fn expect_carry(rt: &impl Abort, words: &mut [u64], ones: &[u64], at: usize)
 
 #[test]
 fn kernels_run_over_each_tail(rt: HostRuntime) {
-    for len in [0usize, 7, 8, 12, 259] {
+    for len in 0usize..260 {
         let mut a = [0u64; 259];
         let mut b = [0u64; 259];
         expect_sums(&rt, &mut a[..len], &mut b[..len]);
     }
 }
 
-/// A length and a place in it: the ends of the full eights, and of the tail.
-const PLACES: [(usize, usize); 11] = [
-    (8, 0),
-    (8, 7),
-    (12, 0),
-    (12, 7),
-    (12, 8),
-    (12, 11),
-    (259, 0),
-    (259, 8),
-    (259, 255),
-    (259, 256),
-    (259, 258),
-];
-
+/// The first word, the last of the first eight, the one after it and the last of all.
 #[test]
 fn each_place_counts(rt: HostRuntime) {
-    for (len, at) in PLACES {
-        let mut words = [3u64; 259];
-        let zeros = [0u64; 259];
-        let ones = [1u64; 259];
-        assert!(&rt; len <= 259);
-        expect_seen(&rt, &mut words[..len], &zeros[..len], at);
-        expect_carry(&rt, &mut words[..len], &ones[..len], at);
+    for len in 9usize..260 {
+        for at in [0, 7, 8, len - 1] {
+            let mut words = [3u64; 259];
+            let zeros = [0u64; 259];
+            let ones = [1u64; 259];
+            expect_seen(&rt, &mut words[..len], &zeros[..len], at);
+            expect_carry(&rt, &mut words[..len], &ones[..len], at);
+        }
     }
 }
 

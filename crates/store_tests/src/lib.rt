@@ -1,9 +1,12 @@
-//! Tests of the store: rows of words, series, points and events, and the book. They run what no clause says:
-//! worked values, each call once with ample memory, and the counts at which the limits lie.
+//! Tests of the store: rows of words, series, points and events, cells, and the book. They run
+//! what no clause says: worked values, each call once with ample memory, and the counts at which
+//! the limits lie.
 #![tactic(auto)]
 
 #[cfg(test)]
 mod book;
+#[cfg(test)]
+mod cells;
 #[cfg(test)]
 mod events;
 #[cfg(test)]

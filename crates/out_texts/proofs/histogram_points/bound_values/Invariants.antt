@@ -1,7 +1,6 @@
 use Rattle.std.proofs.Common.{◌≡◌, map, take}
 use Rattle.serde_json.specs.View.{view}
-use Rattle.std.specs.Prelude.{decimal}
-use Rattle.serde_json.specs.Data.{string, number}
+use Rattle.serde_json.specs.Data.{number}
 use Rattle.serde_json.specs.Find.{of_integer}
 use Rattle.out_texts.proofs.histogram_points.bound_values.Given as goal
 

@@ -1,0 +1,37 @@
+-- The end of the last span.
+use Rattle.std.specs.List.Sorted.{IsPartitionPoint}
+use Rattle.std.proofs.Common.{◌≡◌, ℕ, ◌+◌, ◌-◌, ◌≤◌, ◌==◌, true, false, List, [], ◌∷◌, get_or, length, refl, ap, sym, arith, zero, suc, None}
+use Rattle.std.proofs.lemmas.Option.{none-some}
+use Rattle.series_cell.specs.Spans.{end_of_spans, hull_of, joined_spans, ends_by, place_of}
+use Rattle.series_cell.specs.declared.batch_span.BatchSpan.{BatchSpan}
+
+last_at : (before n : ℕ) (ms : List BatchSpan) (m : BatchSpan) → length ms ≡ suc n → m ≡ get_or ms n m → end_of_spans before ms ≡ m.span.end
+last_at before n [] m l e = absurd (omega (arith, l))
+last_at before zero (a ∷ []) m l e = ap (λ (w : BatchSpan). w.span.end) (sym e)
+last_at before zero (a ∷ b ∷ ms) m l e = absurd (omega (arith, l))
+last_at before (suc n) (a ∷ ms) m l e = last_at a.span.end n ms m (omega (arith, l)) e
+
+pub last_span : (before n : ℕ) (ms : List BatchSpan) (m : BatchSpan) → length ms ≡ n + 1 → m ≡ get_or ms n m → end_of_spans before ms ≡ m.span.end
+last_span before n ms m l e = last_at before n ms m (omega (arith, l)) e
+
+pub none_yet : (before : ℕ) (ms : List BatchSpan) → length ms ≡ 0 → end_of_spans before ms ≡ before
+none_yet before [] l = refl
+none_yet before (m ∷ ms) l = absurd (omega (arith, l))
+
+pub some_yet : (n : ℕ) → (n == 0) ≡ false → n ≡ (n - 1) + 1
+some_yet zero e = absurd (let q : true ≡ false = e in cc)
+some_yet (suc n) e = omega arith
+
+-- no hull, no spans
+pub not_joined : (ms : List BatchSpan) → hull_of ms ≡ None → ms ≡ joined_spans (hull_of ms)
+not_joined [] e = refl
+not_joined (m ∷ ms) e = absurd (none-some _ (sym e))
+
+-- the place before which all spans end by a moment, and none from it on
+pub place_is : (start : ℕ) (ms : List BatchSpan) (n : ℕ) → n ≤ length ms → IsPartitionPoint (λ m. ends_by start m ≡ true) (λ m. ends_by start m ≡ false) ms n → n ≡ place_of start ms
+place_is start [] n l h = omega arith
+place_is start (m ∷ ms) zero l h = let first : ends_by start m ≡ false = h.1 0 m (omega arith) (omega arith) in rw first refl
+place_is start (m ∷ ms) (suc n) l h =
+    let first : ends_by start m ≡ true = h.0 0 m (omega arith) (omega arith) in
+    let rest = place_is start ms n (omega arith) ((λ k d low high. h.0 (suc k) d (omega arith) (omega arith)), (λ k d low high. h.1 (suc k) d (omega arith) (omega arith))) in
+    rw first (omega (arith, rest))

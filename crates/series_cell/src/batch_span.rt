@@ -1,0 +1,92 @@
+ghost use Rattle.std.specs.Prelude.{◌≡◌, ◌≤◌, ◌-◌, length, drop, take, vec_capacity, vec_len};
+ghost use Rattle.std.specs.List.{list_any};
+ghost use Rattle.std.specs.List.Sorted.{IsNonDecreasingBy};
+ghost use Rattle.metric_events.specs.Interval as interval;
+ghost use Rattle.series_cell.specs.Spans.{is_span_of, place_of, end_of_spans, hull_of, joined_spans};
+
+use metric_events::span::Span;
+
+/// The span of a point that has not landed, and its batch.
+#[derive(Clone, Copy, Drop)]
+pub struct BatchSpan {
+    pub span: Span,
+    pub batch: u64,
+}
+
+/// Those from a place on.
+pub fn spans_from(spans: &[BatchSpan], from: usize) -> &[BatchSpan]
+    requires { from ≤ length spans.now }
+    ensures { result.now ≡ drop from spans.now }
+{
+    &spans[from..]
+}
+
+/// Those before a place.
+pub fn spans_to(spans: &[BatchSpan], to: usize) -> &[BatchSpan]
+    requires { to ≤ length spans.now }
+    ensures { result.now ≡ take to spans.now }
+{
+    &spans[..to]
+}
+
+/// Whether one is of this batch.
+pub fn has_batch(spans: &[BatchSpan], batch: u64) -> bool
+    ensures { result ≡ list_any (is_span_of batch) spans.now }
+{
+    spans.iter().any(|span| span.batch == batch)
+}
+
+/// Where the span that starts there stands, among spans each of which ends before the next starts.
+pub fn find_start(spans: &[BatchSpan], start: u64) -> usize
+    ensures value { IsNonDecreasingBy (λ m. m.span.end) spans.now → result ≡ place_of start spans.now }
+    ensures inside { result ≤ length spans.now }
+{
+    spans.partition_point(|of_batch| of_batch.span.end() <= start)
+}
+
+/// The end of the last span, or what came before all.
+pub fn end_or(spans: &[BatchSpan], before: u64) -> u64
+    ensures { result ≡ end_of_spans before spans.now }
+{
+    if spans.is_empty() {
+        return before;
+    }
+    spans[spans.len() - 1].span.end()
+}
+
+fn joined_to(span: Span, other: Option<Span>) -> Span
+    ensures { result ≡ interval.joined_to span other }
+{
+    match other {
+        None => span,
+        Some(other) => span.hull(&other),
+    }
+}
+
+/// From the first start to the last end.
+pub fn hull(spans: &[BatchSpan]) -> Option<Span>
+    ensures { result ≡ hull_of spans.now }
+{
+    let mut span = None;
+    let mut i = spans.len();
+    while i > 0 {
+        i -= 1;
+        span = Some(joined_to(spans[i].span, span));
+    }
+    span
+}
+
+/// Makes the spans one, from the first start to the last end and of no batch, where there is
+/// one. Takes no memory.
+pub fn join_all(spans: &mut Vec<BatchSpan>)
+    ensures items { spans.new.items ≡ joined_spans (hull_of spans.old.items) }
+    ensures room { vec_capacity spans.old - vec_len spans.old ≤ vec_capacity spans.new - vec_len spans.new }
+{
+    match hull(spans.as_slice()) {
+        None => {}
+        Some(span) => {
+            spans.truncate(1);
+            spans[0] = BatchSpan { span, batch: 0 };
+        }
+    }
+}

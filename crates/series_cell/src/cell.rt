@@ -1,0 +1,310 @@
+//! The cell of one series.
+ghost use Rattle.std.specs.Prelude.{◌≡◌, ℕ, ◌+◌, ◌-◌, ◌<◌, ◌≤◌, ◌^◌, ◌++◌, ◌∷◌, [], List, map, drop, take, length, slice_index, nat_lt, true, IfOk, OnOk, OnErr, IsOk};
+ghost use Rattle.std.specs.List.{list_any};
+ghost use Rattle.bucket_lanes.specs.ByPlace.{Fits};
+ghost use Rattle.metric_events.specs.Points.{admitted, landed};
+ghost use Rattle.metric_events.specs.Legal.{is_batch_home};
+ghost use Rattle.metric_events.specs.declared.place.Place.TheVariants.{Home, Acknowledged, Dropped};
+ghost use Rattle.metric_events.specs.declared.accepted.Accepted.{Accepted};
+ghost use Rattle.metric_events.specs.declared.opened_series.OpenedSeries.{OpenedSeries};
+ghost use Rattle.series_cell.specs.Cells.{Stands, IsCell, IsOfSame, HasHome, HandsOn, AreTogether, is_of_batch, end_of, home_hull, flight_hull, lifted, opened_with};
+
+use crate::batch_span::{
+    BatchSpan, end_or, find_start, has_batch, hull, join_all, spans_from, spans_to,
+};
+use crate::rows::{keeps_words, zero_row};
+use bucket_lanes::{add_into, clear, move_into, sub_from};
+use metric_events::point::Point;
+use metric_events::sender_name::SenderName;
+use metric_events::span::Span;
+use series_id::SeriesId;
+use std::alloc::{AllocError, Global};
+use std::marker::Model;
+
+/// The totals of one series: what was accepted, what is at home (`stored`), in flight,
+/// acknowledged and dropped, each a row of words that changes lane by lane; and the spans of the
+/// points that are in flight or at home, those in flight first.
+pub struct Cell {
+    owner: SenderName,
+    id: SeriesId,
+    accepted: Vec<u64>,
+    stored: Vec<u64>,
+    in_flight: Vec<u64>,
+    acknowledged: Vec<u64>,
+    dropped: Vec<u64>,
+    spans: Vec<BatchSpan>,
+    /// How many of the spans are in flight.
+    cut: usize,
+    /// The flush that they are in flight with.
+    flush: u64,
+    /// The greatest end of what has landed, 0 where nothing has.
+    landed: u64,
+}
+
+impl Model for Cell {
+    ghost use Rattle.std.specs.Prelude.{◌-◌, vec_capacity, vec_len};
+    ghost use Rattle.series_cell.specs.Cells.{CellView, IsCell};
+
+    ghost Value = { CellView };
+
+    ghost view = { λ c. record { owner = c.owner; id = c.id; accepted = c.accepted.items; stored = c.stored.items; in_flight = c.in_flight.items; acknowledged = c.acknowledged.items; dropped = c.dropped.items; spans = c.spans.items; cut = c.cut; flush = c.flush; landed = c.landed; spare = vec_capacity c.spans - vec_len c.spans } };
+
+    ghost invariant = { λ c. IsCell (record { owner = c.owner; id = c.id; accepted = c.accepted.items; stored = c.stored.items; in_flight = c.in_flight.items; acknowledged = c.acknowledged.items; dropped = c.dropped.items; spans = c.spans.items; cut = c.cut; flush = c.flush; landed = c.landed; spare = vec_capacity c.spans - vec_len c.spans }) };
+}
+
+impl Drop for Cell {
+    fn drop(self) {
+        let Cell {
+            owner: _,
+            id: _,
+            accepted: _,
+            stored: _,
+            in_flight: _,
+            acknowledged: _,
+            dropped: _,
+            spans: _,
+            cut: _,
+            flush: _,
+            landed: _,
+        } = self;
+    }
+}
+
+impl Cell {
+    /// A cell that stands for no point. Fails only for want of memory.
+    pub fn new(alloc: Global, owner: SenderName, id: SeriesId) -> Result<Cell, AllocError>
+        ensures none { IfOk result (λ c. Stands c []) }
+        ensures owner { IfOk result (λ c. c.owner ≡ owner) }
+        ensures id { IfOk result (λ c. c.id ≡ id) }
+    {
+        let n = id.row_len();
+        let accepted = zero_row(alloc, n)?;
+        let stored = zero_row(alloc, n)?;
+        let in_flight = zero_row(alloc, n)?;
+        let acknowledged = zero_row(alloc, n)?;
+        let dropped = zero_row(alloc, n)?;
+        Ok(Cell {
+            owner,
+            id,
+            accepted,
+            stored,
+            in_flight,
+            acknowledged,
+            dropped,
+            spans: Vec::new(alloc),
+            cut: 0,
+            flush: 0,
+            landed: 0,
+        })
+    }
+
+    /// Makes room for so many points more. Nothing else changes.
+    pub fn reserve(&mut self, n: usize) -> Result<(), AllocError>
+        ensures spare { OnOk result (n ≤ self.new.spare) }
+        ensures less { self.old.spare ≤ self.new.spare }
+        ensures same { IsOfSame self.old self.new }
+        ensures stands { (qs : List Accepted) → Stands self.old qs → Stands self.new qs }
+    {
+        self.spans.reserve(n)
+    }
+
+    /// Puts a point of a batch at home. It takes memory only where there is no room to spare;
+    /// without memory nothing changes.
+    pub fn put(&mut self, point: &Point, batch: u64) -> Result<(), AllocError>
+        requires series { point.now.series ≡ self.old.id }
+        requires order { end_of self.old ≤ point.now.span.start }
+        requires fits { Fits (2 ^ 64 - 1) self.old.accepted point.now.row }
+        ensures ok { OnOk result ((qs : List Accepted) → Stands self.old qs → Stands self.new (qs ++ admitted batch self.old.owner point.now ∷ [])) }
+        ensures same { IsOfSame self.old self.new }
+        ensures flush { self.new.flush ≡ self.old.flush }
+        ensures room { 1 ≤ self.old.spare → IsOk result }
+        ensures spare { self.old.spare ≤ self.new.spare + 1 }
+        ensures err { OnErr result ((qs : List Accepted) → Stands self.old qs → Stands self.new qs) }
+    {
+        self.spans.reserve(1)?;
+        add_into(&mut self.accepted, point.row());
+        add_into(&mut self.stored, point.row());
+        self.spans.push_reserved(BatchSpan {
+            span: point.span(),
+            batch,
+        });
+        Ok(())
+    }
+
+    /// Whether no point of a batch here is away. Asked of a batch that has a point here, and
+    /// whose points here are in one place.
+    pub fn can_remove(&self, batch: u64) -> bool
+        ensures { (qs : List Accepted) → Stands self.now qs → list_any (is_of_batch batch) qs ≡ true → AreTogether batch qs → result ≡ is_batch_home batch qs }
+    {
+        has_batch(spans_from(&self.spans, self.cut), batch)
+    }
+
+    /// Takes a point of a batch that is at home out again, as if it had never come.
+    pub fn remove(&mut self, batch: u64, point: &Point)
+        requires { HasHome self.old batch point.now }
+        ensures stands { (before after : List Accepted) → Stands self.old (before ++ admitted batch self.old.owner point.now ∷ after) → Stands self.new (before ++ after) }
+        ensures same { IsOfSame self.old self.new }
+        ensures spare { self.old.spare ≤ self.new.spare }
+    {
+        let _batch = batch;
+        let at = self.cut + find_start(spans_from(&self.spans, self.cut), point.span().start());
+        sub_from(&mut self.accepted, point.row());
+        sub_from(&mut self.stored, point.row());
+        self.spans.remove(at);
+    }
+
+    /// Sends what is at home away with a flush.
+    pub fn lift_off(&mut self, flush: u64)
+        requires { self.old.cut ≡ 0 }
+        ensures stands { (qs : List Accepted) → Stands self.old qs → Stands self.new (map (lifted flush) qs) }
+        ensures same { IsOfSame self.old self.new }
+        ensures flush { self.new.flush ≡ flush }
+        ensures spare { self.old.spare ≤ self.new.spare }
+    {
+        keeps_words(self.accepted.as_slice());
+        move_into(&mut self.in_flight, &mut self.stored);
+        self.cut = self.spans.len();
+        self.flush = flush;
+    }
+
+    /// What is in flight is at home again.
+    pub fn set_down(&mut self)
+        ensures stands { (qs : List Accepted) → Stands self.old qs → Stands self.new (map (landed self.old.flush Home) qs) }
+        ensures same { IsOfSame self.old self.new }
+        ensures spare { self.old.spare ≤ self.new.spare }
+    {
+        keeps_words(self.accepted.as_slice());
+        move_into(&mut self.stored, &mut self.in_flight);
+        self.cut = 0;
+    }
+
+    /// What is in flight is acknowledged for good.
+    pub fn acknowledge(&mut self)
+        ensures stands { (qs : List Accepted) → Stands self.old qs → Stands self.new (map (landed self.old.flush Acknowledged) qs) }
+        ensures same { IsOfSame self.old self.new }
+        ensures spare { self.old.spare ≤ self.new.spare }
+    {
+        keeps_words(self.accepted.as_slice());
+        move_into(&mut self.acknowledged, &mut self.in_flight);
+        self.landed = self.landed.max(end_or(spans_to(&self.spans, self.cut), 0));
+        self.spans.rotate_left(self.cut);
+        self.spans.truncate(self.spans.len() - self.cut);
+        self.cut = 0;
+    }
+
+    /// What is in flight is dropped for good.
+    pub fn discard(&mut self)
+        ensures stands { (qs : List Accepted) → Stands self.old qs → Stands self.new (map (landed self.old.flush Dropped) qs) }
+        ensures same { IsOfSame self.old self.new }
+        ensures spare { self.old.spare ≤ self.new.spare }
+    {
+        keeps_words(self.accepted.as_slice());
+        move_into(&mut self.dropped, &mut self.in_flight);
+        self.landed = self.landed.max(end_or(spans_to(&self.spans, self.cut), 0));
+        self.spans.rotate_left(self.cut);
+        self.spans.truncate(self.spans.len() - self.cut);
+        self.cut = 0;
+    }
+
+    /// Begins the next round: what was acknowledged and dropped is past, what is at home is all
+    /// that is accepted, as one point from the first start to the last end. Who sends the series
+    /// and where it ends stays. Asked where nothing is in flight. Takes no memory.
+    pub fn carry(&mut self)
+        requires nothing { self.old.cut ≡ 0 }
+        requires some { 0 < end_of self.old }
+        ensures stands { (s : OpenedSeries) → HandsOn self.old s → Stands self.new (opened_with s) }
+        ensures same { IsOfSame self.old self.new }
+        ensures spare { self.old.spare ≤ self.new.spare }
+    {
+        let frontier = self.frontier();
+        self.accepted.copy_from_slice(self.stored.as_slice());
+        clear(&mut self.acknowledged);
+        clear(&mut self.dropped);
+        self.landed = frontier;
+        join_all(&mut self.spans);
+    }
+
+    /// Whether something is in flight.
+    pub fn is_flying(&self) -> bool
+        ensures { result ≡ nat_lt 0 self.now.cut }
+    {
+        0 < self.cut
+    }
+
+    /// Whether something is at home.
+    pub fn has_stored(&self) -> bool
+        ensures { result ≡ nat_lt self.now.cut (length self.now.spans) }
+    {
+        self.cut < self.spans.len()
+    }
+
+    /// Who sends the series.
+    pub fn owner(&self) -> &SenderName
+        ensures { result.now ≡ self.now.owner }
+    {
+        &self.owner
+    }
+
+    /// The series.
+    pub fn id(&self) -> &SeriesId
+        ensures { result.now ≡ self.now.id }
+    {
+        &self.id
+    }
+
+    /// The greatest end of its points in nanoseconds, 0 where there is none.
+    pub fn frontier(&self) -> u64
+        ensures { result ≡ end_of self.now }
+    {
+        self.landed.max(end_or(&self.spans, 0))
+    }
+
+    /// The sum of all its points.
+    pub fn accepted(&self) -> &[u64]
+        ensures { result.now ≡ self.now.accepted }
+    {
+        self.accepted.as_slice()
+    }
+
+    /// The sum of what is at home.
+    pub fn stored(&self) -> &[u64]
+        ensures { result.now ≡ self.now.stored }
+    {
+        self.stored.as_slice()
+    }
+
+    /// The sum of what is in flight.
+    pub fn in_flight(&self) -> &[u64]
+        ensures { result.now ≡ self.now.in_flight }
+    {
+        self.in_flight.as_slice()
+    }
+
+    /// The sum of what the back end has taken.
+    pub fn acknowledged(&self) -> &[u64]
+        ensures { result.now ≡ self.now.acknowledged }
+    {
+        self.acknowledged.as_slice()
+    }
+
+    /// The sum of what the back end has refused for good.
+    pub fn dropped(&self) -> &[u64]
+        ensures { result.now ≡ self.now.dropped }
+    {
+        self.dropped.as_slice()
+    }
+
+    /// From the first start to the last end of what is at home.
+    pub fn stored_span(&self) -> Option<Span>
+        ensures { result ≡ home_hull self.now }
+    {
+        hull(spans_from(&self.spans, self.cut))
+    }
+
+    /// From the first start to the last end of what is in flight.
+    pub fn flight_span(&self) -> Option<Span>
+        ensures { result ≡ flight_hull self.now }
+    {
+        hull(spans_to(&self.spans, self.cut))
+    }
+}

@@ -1,0 +1,21 @@
+//! Rows of words, place by place.
+ghost use Rattle.std.specs.Prelude.{◌≡◌, ℕ, ◌<◌, ◌^◌, slice_index, IfOk};
+ghost use Rattle.metric_events.specs.Rows.{zeros};
+
+use std::alloc::{AllocError, Global};
+
+/// A row of so many words, each of them 0.
+pub fn zero_row(alloc: Global, len: usize) -> Result<Vec<u64>, AllocError>
+    ensures { IfOk result (λ v. v.items ≡ zeros len) }
+{
+    let mut row = Vec::new(alloc);
+    row.resize(len, 0)?;
+    Ok(row)
+}
+
+/// Each word is one of 64 bits. It does nothing: a caller that names it can cite its clause.
+pub fn keeps_words(row: &[u64])
+    ensures { (k : ℕ) → slice_index row.now k < 2 ^ 64 }
+{
+    let _row = row;
+}

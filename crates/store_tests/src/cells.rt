@@ -1,0 +1,255 @@
+//! What no clause says of a cell: that its calls run, with ample memory, over a worked series of
+//! calls; rows longer than a block, with each tail; and room that is made beforehand.
+ghost use Rattle.std.specs.Prelude.{◌≡◌, ◌++◌, ◌∷◌, [], List, IfOk};
+ghost use Rattle.metric_events.specs.PointFaults.{IsHistogram};
+ghost use Rattle.metric_events.specs.Points.{admitted};
+ghost use Rattle.metric_events.specs.declared.accepted.Accepted.{Accepted};
+ghost use Rattle.series_cell.specs.Cells.{Stands, IsOfSame};
+
+use bucket_lanes::{fits, is_zero, total};
+use metric_events::point::Point;
+use metric_events::sender_name::SenderName;
+use metric_events::span::Span;
+use series_cell::cell::Cell;
+use series_cell::laws::telling;
+use series_id::{AttrSet, Kind, SeriesId, Text};
+use std::alloc::Global;
+use std::process::Abort;
+use std::test::Fail;
+
+/// A series of this kind, and nothing else.
+fn series(alloc: Global, kind: Kind) -> Result<SeriesId, Fail>
+    ensures { IfOk result (λ x. x.kind ≡ kind) }
+{
+    Ok(SeriesId::new(
+        AttrSet::empty(alloc),
+        Text::new(String::new(alloc)),
+        Text::new(String::new(alloc)),
+        AttrSet::empty(alloc),
+        Text::new(String::from_str(alloc, "x")?),
+        Text::new(String::new(alloc)),
+        kind,
+        AttrSet::empty(alloc),
+    )?)
+}
+
+/// A sum's point.
+fn counted(alloc: Global, start: u64, end: u64, value: i64) -> Result<Point, Fail> {
+    let series = series(alloc, Kind::Sum { monotonic: false })?;
+    Ok(Point::sum(alloc, series, start, end, value)?)
+}
+
+/// Whole bounds from 0 up to a number, which is left out.
+fn bounds_below(alloc: Global, count: u32) -> Result<Vec<i64>, Fail> {
+    let mut bounds = Vec::new(alloc);
+    for bound in 0..count {
+        bounds.push(i64::from(bound))?;
+    }
+    Ok(bounds)
+}
+
+/// A histogram's kind of so many bounds.
+fn buckets_between(alloc: Global, bounds: u32) -> Result<Kind, Fail>
+    ensures { IfOk result IsHistogram }
+{
+    Ok(Kind::histogram(bounds_below(alloc, bounds)?)?)
+}
+
+/// A histogram's point of a series with so many bounds: 3 in the first bucket and 1 in the last.
+fn spread(alloc: Global, bounds: u32, start: u64) -> Result<Point, Fail> {
+    let series = series(alloc, buckets_between(alloc, bounds)?)?;
+    let mut buckets = vec![in alloc; 3u64]?;
+    for _ in 1..bounds {
+        buckets.push(0)?;
+    }
+    buckets.push(1)?;
+    let end = start.saturating_add(10);
+    Ok(Point::histogram(alloc, series, start, end, 4, Some(9), buckets)?)
+}
+
+/// A cell of this series, of the sender `A`.
+fn empty_cell(alloc: Global, id: SeriesId) -> Result<Cell, Fail>
+    ensures { IfOk result (λ c. Stands c []) }
+{
+    let owner = SenderName::new(alloc, b"A")?;
+    Ok(Cell::new(alloc, owner, id)?)
+}
+
+/// Puts a point that is of the cell's series, after its frontier and within a word.
+fn put(rt: &impl Abort, cell: &mut Cell, point: &Point, batch: u64)
+    ensures stands { (qs : List Accepted) → Stands cell.old qs → Stands cell.new (qs ++ admitted batch cell.old.owner point.now ∷ []) }
+    ensures same { IsOfSame cell.old cell.new }
+    ensures flush { cell.new.flush ≡ cell.old.flush }
+{
+    assert!(rt; cell.id().is_same(point.series()), "another series");
+    assert!(rt; cell.frontier() <= point.span().start(), "out of order");
+    assert!(rt; cell.accepted().len() == point.row().len(), "row length");
+    assert!(rt;
+        fits(cell.accepted(), point.row(), 18_446_744_073_709_551_615),
+        "a sum over a word"
+    );
+    let put = cell.put(point, batch);
+    assert!(rt; put.is_ok(), "memory");
+}
+
+/// The five rows are these: accepted, stored, in flight, acknowledged, dropped.
+fn expect_rows(rt: &impl Abort, cell: &Cell, rows: [[u64; 3]; 5]) {
+    assert_eq!(rt; cell.accepted(), &rows[0][..], "accepted");
+    assert_eq!(rt; cell.stored(), &rows[1][..], "stored");
+    assert_eq!(rt; cell.in_flight(), &rows[2][..], "in flight");
+    assert_eq!(rt; cell.acknowledged(), &rows[3][..], "acknowledged");
+    assert_eq!(rt; cell.dropped(), &rows[4][..], "dropped");
+}
+
+/// A span is from this start to that end, or there is none.
+fn expect_span(rt: &impl Abort, span: Option<Span>, want: Option<(u64, u64)>) {
+    assert_eq!(rt; span.map(|s| (s.start(), s.end())), want);
+}
+
+/// A flush takes the first point, a second comes, the flush is given back, the first is undone.
+fn give_back_and_undo(rt: &impl Abort, cell: &mut Cell, first: &Point, second: &Point)
+    requires { Stands cell.old [] }
+{
+    put(rt, cell, first, 1);
+    assert!(rt; !cell.is_flying() && cell.has_stored());
+    cell.lift_off(1);
+    put(rt, cell, second, 2);
+    expect_rows(
+        rt,
+        cell,
+        [[2, 12, 0], [1, 7, 0], [1, 5, 0], [0, 0, 0], [0, 0, 0]],
+    );
+    assert!(rt; !cell.can_remove(1) && cell.can_remove(2));
+    expect_span(rt, cell.flight_span(), Some((10, 20)));
+    expect_span(rt, cell.stored_span(), Some((20, 30)));
+    cell.set_down();
+    expect_rows(
+        rt,
+        cell,
+        [[2, 12, 0], [2, 12, 0], [0, 0, 0], [0, 0, 0], [0, 0, 0]],
+    );
+    expect_span(rt, cell.stored_span(), Some((10, 30)));
+    assert!(rt; cell.can_remove(1));
+    cell.remove(1, first);
+    expect_rows(
+        rt,
+        cell,
+        [[1, 7, 0], [1, 7, 0], [0, 0, 0], [0, 0, 0], [0, 0, 0]],
+    );
+    expect_span(rt, cell.stored_span(), Some((20, 30)));
+    assert_eq!(rt; cell.frontier(), 30);
+}
+
+#[test]
+fn a_flush_comes_back_and_a_batch_is_undone(rt: HostRuntime) -> Result<(), Fail> {
+    let alloc = rt.alloc();
+    telling();
+    let first = counted(alloc, 10, 20, 5)?;
+    let second = counted(alloc, 20, 30, 7)?;
+    let mut cell = empty_cell(alloc, series(alloc, Kind::Sum { monotonic: false })?)?;
+    assert_eq!(&rt; cell.owner().as_bytes(), b"A".as_slice());
+    assert_eq!(&rt; cell.frontier(), 0);
+    give_back_and_undo(&rt, &mut cell, &first, &second);
+    Ok(())
+}
+
+/// What is in flight lands for good, then the next round begins.
+fn land_and_carry(rt: &impl Abort, cell: &mut Cell, points: [&Point; 4])
+    requires { Stands cell.old [] }
+{
+    put(rt, cell, points[0], 1);
+    assert!(rt; !cell.is_flying());
+    cell.lift_off(1);
+    cell.acknowledge();
+    put(rt, cell, points[1], 2);
+    assert!(rt; !cell.is_flying());
+    cell.lift_off(2);
+    put(rt, cell, points[2], 3);
+    cell.discard();
+    put(rt, cell, points[3], 4);
+    expect_rows(
+        rt,
+        cell,
+        [[4, 20, 1], [2, 12, 1], [0, 0, 0], [1, 5, 0], [1, 3, 0]],
+    );
+    assert_eq!(rt; cell.frontier(), 60);
+    assert!(rt; !cell.is_flying() && cell.frontier() > 0);
+    cell.carry();
+    expect_rows(
+        rt,
+        cell,
+        [[2, 12, 1], [2, 12, 1], [0, 0, 0], [0, 0, 0], [0, 0, 0]],
+    );
+    expect_span(rt, cell.stored_span(), Some((30, 60)));
+    assert_eq!(rt; cell.frontier(), 60);
+    assert!(rt; !cell.is_flying() && cell.frontier() > 0);
+    cell.lift_off(3);
+    cell.acknowledge();
+    assert!(rt; !cell.is_flying() && cell.frontier() > 0);
+    cell.carry();
+    expect_rows(rt, cell, [[0, 0, 0]; 5]);
+    assert!(rt; !cell.has_stored());
+    assert_eq!(rt; cell.frontier(), 60);
+}
+
+#[test]
+fn a_round_begins_with_what_is_at_home(rt: HostRuntime) -> Result<(), Fail> {
+    let alloc = rt.alloc();
+    let a = counted(alloc, 10, 20, 5)?;
+    let b = counted(alloc, 20, 30, 3)?;
+    let c = counted(alloc, 30, 40, 12)?;
+    let d = counted(alloc, 50, 60, -1)?;
+    let mut cell = empty_cell(alloc, series(alloc, Kind::Sum { monotonic: false })?)?;
+    land_and_carry(&rt, &mut cell, [&a, &b, &c, &d]);
+    Ok(())
+}
+
+/// Room that is made beforehand is used, and no row is changed by it.
+#[test]
+fn room_is_made_beforehand(rt: HostRuntime) -> Result<(), Fail> {
+    let alloc = rt.alloc();
+    let point = counted(alloc, 10, 20, 5)?;
+    let mut cell = empty_cell(alloc, series(alloc, Kind::Sum { monotonic: false })?)?;
+    put(&rt, &mut cell, &point, 1);
+    cell.reserve(100)?;
+    expect_rows(
+        &rt,
+        &cell,
+        [[1, 5, 0], [1, 5, 0], [0, 0, 0], [0, 0, 0], [0, 0, 0]],
+    );
+    expect_span(&rt, cell.stored_span(), Some((10, 20)));
+    Ok(())
+}
+
+/// The first word, the third and fourth and the last of a row, and all of them added up.
+fn expect_ends(rt: &impl Abort, row: &[u64], points: u64) {
+    assert!(rt; row.len() > 4);
+    assert_eq!(rt; row[0], points);
+    assert_eq!(rt; u128::from(row[2]), 9 * u128::from(points));
+    assert_eq!(rt; u128::from(row[3]), 3 * u128::from(points));
+    assert_eq!(rt; row[row.len() - 1], points);
+    assert_eq!(rt; total(row), 14 * u128::from(points), "{} words", row.len());
+}
+
+/// Rows of 8, 12 and 259 words, so with each tail after the full eights.
+#[test]
+fn rows_of_each_length_move(rt: HostRuntime) -> Result<(), Fail> {
+    let alloc = rt.alloc();
+    for bounds in [4u32, 8, 255] {
+        let first = spread(alloc, bounds, 10)?;
+        let second = spread(alloc, bounds, 20)?;
+        let mut cell = empty_cell(alloc, first.series().copy(alloc)?)?;
+        put(&rt, &mut cell, &first, 1);
+        put(&rt, &mut cell, &second, 1);
+        expect_ends(&rt, cell.stored(), 2);
+        assert!(&rt; !cell.is_flying());
+        cell.lift_off(1);
+        assert!(&rt; is_zero(cell.stored()));
+        expect_ends(&rt, cell.in_flight(), 2);
+        cell.discard();
+        assert!(&rt; is_zero(cell.in_flight()));
+        expect_ends(&rt, cell.dropped(), 2);
+        expect_ends(&rt, cell.accepted(), 2);
+    }
+    Ok(())
+}
