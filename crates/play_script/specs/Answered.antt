@@ -4,7 +4,9 @@ use Rattle.metric_events.specs.History.{History}
 use Rattle.delta_book.specs.PastRows.{told as past_told}
 use Rattle.play_script.specs.Commands.{Asked}
 use Rattle.play_script.specs.Refused.{refusal_text}
-use Rattle.play_script.specs.Replies.{said, batch_and_foreign, flush_text, report_text, past_text}
+use Rattle.play_script.specs.Replies.{said, batch_and_foreign, flush_text}
+use Rattle.out_texts.specs.Report.{report_text}
+use Rattle.out_texts.specs.Past.{past_text}
 use Rattle.play_script.specs.Run.{marked_answer, takes_memory}
 use Rattle.play_script.specs.declared.reply.Reply.{Reply}
 use Rattle.play_script.specs.declared.reply.Reply.TheVariants.{BadCommand, Refused, Nothing, Batch, Posted, OnlyForeign, Flushed, Settled, Returned, Undone, Confirmed, Dropped, Held, Lifted, Report, Round, Past}

@@ -3,9 +3,6 @@ pub mod Numbers
 pub mod PointLines
 pub mod Commands
 pub mod Told
-pub mod Escaped
-pub mod Rows
-pub mod SeriesNames
 pub mod Refused
 pub mod Replies
 pub mod Ends

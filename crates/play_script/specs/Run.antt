@@ -28,7 +28,9 @@ use Rattle.delta_book.specs.PastRows.{past_rows}
 use Rattle.play_script.specs.PointLines.{PointWords, point_of, first_fault}
 use Rattle.play_script.specs.Commands.{Asked, AdmitLine, TakeLine, OkLine, BackLine, ReportLine, UndoLine, ConfirmLine, DropLine, HoldLine, LiftLine, PostLine, RoundLine, PastLine, BadLine, command}
 use Rattle.play_script.specs.Refused.{refusal_text, of_point, of_admit, of_take, of_undo, of_hold, of_round}
-use Rattle.play_script.specs.Replies.{said, batch_and_foreign, flush_text, report_text, past_text}
+use Rattle.play_script.specs.Replies.{said, batch_and_foreign, flush_text}
+use Rattle.out_texts.specs.Report.{report_text}
+use Rattle.out_texts.specs.Past.{past_text}
 use Rattle.play_script.specs.declared.refusal.Refusal.{Refusal}
 use Rattle.play_script.specs.declared.refusal.Refusal.TheVariants.{NotOpen, NotLive, NotHeld, NotJson, WrongShape, NoMemory}
 

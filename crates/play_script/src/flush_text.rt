@@ -3,11 +3,10 @@
 ghost use Rattle.std.specs.Prelude.{◌≡◌, ◌++◌, OnOk};
 ghost use Rattle.play_script.specs.Replies as spec;
 
-use crate::series_name::put_series_name;
-use crate::texts::{put_number, put_row};
 use delta_book::flush::Flush;
 use delta_book::flush_point::FlushPoint;
 use metric_events::span::Span;
+use out_texts::{put_number, put_row, put_series_name};
 use std::alloc::AllocError;
 
 #[tactic(auto, unfolding(crate::specs::Replies::span_text))]

@@ -14,15 +14,11 @@ mod line_points;
 mod making;
 mod numbers;
 mod output;
-mod past;
 mod pieces;
 mod point_line;
 mod refusal;
 mod reply;
-mod report;
 mod script;
-mod series_name;
-mod texts;
 mod verb;
 
 pub use fault::PlayFault;

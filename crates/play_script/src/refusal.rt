@@ -3,10 +3,10 @@
 ghost use Rattle.std.specs.Prelude.{◌≡◌, ◌++◌, OnOk};
 ghost use Rattle.play_script.specs.Refused as spec;
 
-use crate::texts::put_number;
 use delta_book::faults::{AdmitFault, QuarantineFault, RoundFault, TakeFault, UndoFault};
 use metric_events::point::PointFault;
 use otlp_read::ReadFault;
+use out_texts::put_number;
 use std::alloc::AllocError;
 
 /// Why a command is refused. A point is named by its place in its batch, from 0.

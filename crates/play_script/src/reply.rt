@@ -6,13 +6,11 @@ ghost use Rattle.play_script.specs.Refused.{refusal_text};
 ghost use Rattle.play_script.specs.Replies.{said, batch_and_foreign};
 
 use crate::flush_text::put_flush;
-use crate::past::put_past;
 use crate::refusal::{Refusal, put_refusal};
-use crate::report::put_report;
-use crate::texts::put_number;
 use delta_book::flush::Flush;
 use delta_book::past_totals::PastTotals;
 use delta_book::totals::SeriesTotals;
+use out_texts::{put_number, put_past, put_report};
 use std::alloc::AllocError;
 
 /// The reply to a line.

@@ -1,7 +1,0 @@
-use Rattle.std.proofs.Common.{◌≡◌, ◌++◌, take}
-use Rattle.std.specs.List.{flat_map}
-use Rattle.play_script.specs.Replies.{series_line}
-use Rattle.play_script.proofs.report.put_report.Given as goal
-
-abbrev pub invariant-loop-totals : goal.invariant-loop-totals
-invariant-loop-totals l = l.out.items ≡ l.fn.out.items ++ flat_map series_line (take l.totals-index l.rows)
