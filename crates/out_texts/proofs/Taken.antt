@@ -1,5 +1,5 @@
 -- What a flush takes stands in series order.
-use Rattle.std.proofs.Common.{◌≡◌, ℕ, true, List, [], ◌∷◌, map, Option, Some, None, refl, sym, ap, ◌∙◌}
+use Rattle.std.proofs.Common.{◌≡◌, ℕ, true, List, [], ◌∷◌, map, Option, Some, None, refl, ap, ◌∙◌}
 use Rattle.std.specs.Prelude.{Bool, filter, ◌==◌}
 use Rattle.std.specs.List.{list_all}
 use Rattle.std.proofs.lemmas.Bool.{and_parts, and_from, eq-eqb, cond-true}
@@ -62,10 +62,10 @@ picked_in_order : (E : History) (f max : ℕ) → is_ascending (series_of (flush
 picked_in_order E f max =
     ap (λ xs. is_ascending (series_of (present (map (forwarded (E ▸ Take f (pick E max)) f) xs)))) (cond-true (f == f) (pick E max) (series_taken E f) (eq-eqb f f refl))
     ∙ ascending_sent (E ▸ Take f (pick E max)) f (pick E max)
-      (ascending_take max (series_in_order (eligible E)) (series_ascend (eligible E)))
+    (ascending_take max (series_in_order (eligible E)) (series_ascend (eligible E)))
 
 -- of what a flush takes nothing that is shared stands twice
 pub taken_once : (old new : Journal) (seat max : ℕ) (flush : Flush) → IsTaken old new seat max flush → HasEachOnce flush.points.items
 taken_once old new seat max flush h =
     each_once flush.points.items
-      (ap (λ (ps : List DataPoint). is_ascending (series_of ps)) (h.points ∙ ap (λ (E : History). flush_points E flush.number) h.grows) ∙ picked_in_order (history old) flush.number max)
+    (ap (λ (ps : List DataPoint). is_ascending (series_of ps)) (h.points ∙ ap (λ (E : History). flush_points E flush.number) h.grows) ∙ picked_in_order (history old) flush.number max)
