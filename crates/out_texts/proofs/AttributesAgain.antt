@@ -1,16 +1,10 @@
 -- Reading attributes that were written.
-use Rattle.std.proofs.Common.{◌≡◌, ◌≢◌, ℕ, suc, ◌<◌, ◌-◌, ◌^◌, true, leb, ltb, ◌&&◌, List, ◌∷◌, length, map, get_or, Some, None, option_map, ℤ, pos, negsuc, refl, sym, ap, ◌∙◌, arith}
-use Rattle.std.specs.Prelude.{decimal}
+use Rattle.std.proofs.Common.{◌≡◌, List, length, map, Some, refl, ap, ◌∙◌}
 use Rattle.std.specs.List.{AllByRecursion}
-use Rattle.std.specs.Fmt.{signed_decimal}
-use Rattle.std.specs.Str.{all_ascii_digits}
-use Rattle.std.specs.Str.Parse.{digits_value}
-use Rattle.std.proofs.lemmas.Bool.{and_from, lt-ltb, le-leb, cond-true}
-use Rattle.std.proofs.lemmas.Fmt.{digits_decimal, digits_value-decimal, decimal_nonempty}
+use Rattle.std.proofs.lemmas.Bool.{le-leb}
 use Rattle.std.proofs.lemmas.List.{map-id}
 use Rattle.std.proofs.lemmas.List.Elements.{recursion_from_All}
-use Rattle.std.proofs.lemmas.Str.Parse.{not_in_digits}
-use Rattle.serde_json.specs.Data.{string, array}
+use Rattle.serde_json.specs.Data.{array}
 use Rattle.serde_json.specs.View.{items_of}
 use Rattle.series_id.specs.declared.limits.TheConstants.{MAX_TEXT}
 use Rattle.series_id.specs.declared.scalars.Scalar.{Scalar}
@@ -19,7 +13,7 @@ use Rattle.series_id.specs.declared.values.AttrValue.{AttrValue}
 use Rattle.series_id.specs.declared.values.AttrValue.TheVariants.{One, Many}
 use Rattle.series_id.specs.declared.attributes.Attribute.{Attribute}
 use Rattle.series_id.specs.Attributes.{IsAttribute, IsAttrSet}
-use Rattle.series_id.specs.Values.{IsInt, IsScalar, IsValue}
+use Rattle.series_id.specs.Values.{IsScalar, IsValue}
 use Rattle.series_id.specs.Sorting.{pair_of as pair}
 use Rattle.series_id.proofs.Refusals.{each_more}
 use Rattle.series_id.proofs.Again.{set_unrefused, sorted_again}

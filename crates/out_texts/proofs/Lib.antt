@@ -11,3 +11,4 @@ pub mod Sharing
 pub mod RequestAgain
 pub mod Apart
 pub mod EachOnce
+pub mod Taken

@@ -7,6 +7,7 @@ mod attributes;
 mod escaped;
 mod histogram_points;
 mod json_text;
+pub mod laws;
 mod level;
 mod past;
 mod points;
