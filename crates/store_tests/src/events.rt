@@ -354,3 +354,35 @@ fn points_of_parts(rt: HostRuntime) {
     let buckets = histogram(&rt, alloc, &[5], 10, 3, Some(9), &[2, 1]).expect(&rt, "a point");
     expect_remade(&rt, alloc, &buckets, &[1, 0, 9, 2, 1]);
 }
+
+/// A series of this kind whose identity can be shared.
+fn shared_series(rt: &impl Abort, alloc: Global, monotonic: bool) -> SeriesId {
+    let series = series(rt, alloc, Kind::Sum { monotonic });
+    let shared = series.share(alloc).expect(rt, "memory");
+    assert_eq!(rt; shared.owners(), 1);
+    shared
+}
+
+#[test]
+fn points_adopt_equal_identities(rt: HostRuntime) {
+    let alloc = rt.alloc();
+    let shared = shared_series(&rt, alloc, false);
+    let other = shared_series(&rt, alloc, true);
+    let mut point = sum(&rt, alloc, 10, 20, 7);
+    point.adopt(&other);
+    assert_eq!(rt; other.owners(), 1);
+    point.adopt(&shared);
+    assert_eq!(rt; shared.owners(), 2);
+    assert_eq!(rt; point.row(), [1, 7, 0].as_slice());
+    let mut points = Points::new(alloc);
+    points
+        .push(sum(&rt, alloc, 20, 30, 8))
+        .expect(&rt, "memory");
+    points.adopt(0, &shared);
+    points.adopt(0, &other);
+    assert_eq!(rt; shared.owners(), 3);
+    assert_eq!(rt; other.owners(), 1);
+    let copy = points.copy(alloc).expect(&rt, "memory");
+    assert_eq!(rt; shared.owners(), 4);
+    assert!(rt; copy.is_same(&points));
+}
