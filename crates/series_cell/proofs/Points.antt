@@ -7,14 +7,14 @@ use Rattle.std.proofs.lemmas.Bool.{and_parts, and_from, leb-true, le-leb}
 use Rattle.series_id.specs.Identity.{Identity, row_length}
 use Rattle.metric_events.specs.Interval.{IsInterval}
 use Rattle.metric_events.specs.DataPoint.{DataPoint}
-use Rattle.metric_events.specs.Rows.{add_rows}
+use Rattle.metric_events.specs.Rows.{add_rows, zeros}
 use Rattle.metric_events.specs.Points.{at, is_home, is_in_flight, landed}
 use Rattle.metric_events.specs.Series.{row_sum}
 use Rattle.metric_events.specs.Standing.{stands}
 use Rattle.metric_events.specs.declared.place.Place.{Place}
 use Rattle.metric_events.specs.declared.place.Place.TheVariants.{Home, InFlight, Acknowledged, Dropped}
 use Rattle.metric_events.specs.declared.accepted.Accepted.{Accepted}
-use Rattle.metric_events.proofs.Sums.{add_rows_swap, length-zeros, length-add_rows}
+use Rattle.metric_events.proofs.Sums.{row_sum-append, row_sum_long, add_rows-comm, add_rows-zeros, add_rows_longer, add_rows_swap, length-zeros, length-add_rows}
 use Rattle.metric_events.proofs.Intervals.{ends_after}
 use Rattle.series_cell.specs.Cells.{AllOwn, InOrder, starts_from, greatest_end, is_landed, lifted}
 use Rattle.series_cell.specs.Spans.{span_of, end_of_spans, place_of}
@@ -91,6 +91,15 @@ sum-moved n f m (a ∷ qs) = ap (λ (p : DataPoint). add_rows p.row (row_sum n (
 pub sum_out : (n : ℕ) (before after : List Accepted) (a : Accepted) → row_sum n (before ++ a ∷ after) ≡ add_rows a.point.row (row_sum n (before ++ after))
 sum_out n [] after a = refl
 sum_out n (b ∷ before) after a = ap (add_rows b.point.row) (sum_out n before after a) ∙ add_rows_swap b.point.row a.point.row (row_sum n (before ++ after))
+
+-- one more point at the end
+pub row_sum_push : (n : ℕ) (qs : List Accepted) (a : Accepted) → row_sum n (qs ++ a ∷ []) ≡ add_rows (row_sum n qs) a.point.row
+row_sum_push n qs a =
+    let Long : List ℕ → Type 0 = λ row. n ≤ length row in
+    row_sum-append n qs (a ∷ [])
+    ∙ (ap (add_rows (row_sum n qs)) (add_rows-comm a.point.row (zeros n))
+    ∙ (add_rows_swap (row_sum n qs) (zeros n) a.point.row
+    ∙ add_rows-zeros n (add_rows (row_sum n qs) a.point.row) (subst Long (add_rows-comm a.point.row (row_sum n qs)) (add_rows_longer a.point.row (row_sum n qs) n (row_sum_long n qs)))))
 
 -- order, and the end of the last point, or what came before all
 

@@ -17,12 +17,12 @@ use Rattle.metric_events.specs.declared.place.Place.{Place}
 use Rattle.metric_events.specs.declared.place.Place.TheVariants.{Home, InFlight, Acknowledged, Dropped}
 use Rattle.metric_events.specs.declared.accepted.Accepted.{Accepted}
 use Rattle.metric_events.proofs.Lists.{all_append, all_first, all_last}
-use Rattle.metric_events.proofs.Sums.{row_sum-append, row_sum_push, row_sum_long, add_rows-comm, add_rows-zeros}
+use Rattle.metric_events.proofs.Sums.{row_sum-append, row_sum_long, add_rows-comm, add_rows-zeros}
 use Rattle.metric_events.specs.Legal.{is_batch_home}
 use Rattle.series_cell.specs.Cells.{CellView, Stands, AllOwn, InOrder, greatest_end, is_landed, lifted, end_of, AreTogether, is_of_batch, is_other_or_off}
 use Rattle.series_cell.specs.Spans.{span_of, end_of_spans, place_of, is_span_of}
 use Rattle.series_cell.specs.declared.batch_span.BatchSpan.{BatchSpan}
-use Rattle.series_cell.proofs.Points.{all_own-append, all_own_first, all_own_last, all_own-map, sum_length, moves_at, moves_landed, moves_lifted, sum-moved, sum_out, last_end, in_order_push, in_order-map, in_order_without, in_order_first, in_order_last, all_end_by, ends_ascend, last_greatest, greatest_end-append, greatest_end-map, spans_end, spans_moved, all_at, filter_at, filter_off, landed-gone, landed-home, landed-away, lifted-gone, lifted-home, past, place_at, remove_at}
+use Rattle.series_cell.proofs.Points.{all_own-append, all_own_first, all_own_last, all_own-map, sum_length, moves_at, moves_landed, moves_lifted, sum-moved, sum_out, row_sum_push, last_end, in_order_push, in_order-map, in_order_without, in_order_first, in_order_last, all_end_by, ends_ascend, last_greatest, greatest_end-append, greatest_end-map, spans_end, spans_moved, all_at, filter_at, filter_off, landed-gone, landed-home, landed-away, lifted-gone, lifted-home, past, place_at, remove_at}
 
 three : (xs ys zs ws : List Accepted) → (xs ++ (ys ++ zs)) ++ ws ≡ xs ++ (ys ++ (zs ++ ws))
 three xs ys zs ws = append_assoc xs (ys ++ zs) ws ∙ ap (λ rs. xs ++ rs) (append_assoc ys zs ws)

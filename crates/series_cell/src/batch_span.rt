@@ -76,6 +76,16 @@ pub fn hull(spans: &[BatchSpan]) -> Option<Span>
     span
 }
 
+/// Takes the first spans out. Takes no memory.
+pub fn drop_first(spans: &mut Vec<BatchSpan>, count: usize)
+    requires { count ≤ vec_len spans.old }
+    ensures items { spans.new.items ≡ drop count spans.old.items }
+    ensures room { vec_capacity spans.old - vec_len spans.old ≤ vec_capacity spans.new - vec_len spans.new }
+{
+    spans.rotate_left(count);
+    spans.truncate(spans.len() - count);
+}
+
 /// Makes the spans one, from the first start to the last end and of no batch, where there is
 /// one. Takes no memory.
 pub fn join_all(spans: &mut Vec<BatchSpan>)

@@ -10,7 +10,7 @@ ghost use Rattle.metric_events.specs.declared.opened_series.OpenedSeries.{Opened
 ghost use Rattle.series_cell.specs.Cells.{Stands, IsCell, IsOfSame, HasHome, HandsOn, AreTogether, is_of_batch, end_of, home_hull, flight_hull, lifted, opened_with};
 
 use crate::batch_span::{
-    BatchSpan, end_or, find_start, has_batch, hull, join_all, spans_from, spans_to,
+    BatchSpan, drop_first, end_or, find_start, has_batch, hull, join_all, spans_from, spans_to,
 };
 use crate::rows::{keeps_words, zero_row};
 use bucket_lanes::{add_into, clear, move_into, sub_from};
@@ -187,8 +187,7 @@ impl Cell {
         keeps_words(self.accepted.as_slice());
         move_into(&mut self.acknowledged, &mut self.in_flight);
         self.landed = self.landed.max(end_or(spans_to(&self.spans, self.cut), 0));
-        self.spans.rotate_left(self.cut);
-        self.spans.truncate(self.spans.len() - self.cut);
+        drop_first(&mut self.spans, self.cut);
         self.cut = 0;
     }
 
@@ -201,8 +200,7 @@ impl Cell {
         keeps_words(self.accepted.as_slice());
         move_into(&mut self.dropped, &mut self.in_flight);
         self.landed = self.landed.max(end_or(spans_to(&self.spans, self.cut), 0));
-        self.spans.rotate_left(self.cut);
-        self.spans.truncate(self.spans.len() - self.cut);
+        drop_first(&mut self.spans, self.cut);
         self.cut = 0;
     }
 

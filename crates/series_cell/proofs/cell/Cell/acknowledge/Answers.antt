@@ -6,7 +6,7 @@ use Rattle.metric_events.specs.declared.place.Place.TheVariants.{Acknowledged}
 use Rattle.series_cell.specs.Cells.{CellView, Stands}
 use Rattle.series_cell.specs.Spans.{end_of_spans}
 use Rattle.series_cell.proofs.ByPlace.{moved}
-use Rattle.series_cell.proofs.Sizes.{sized, within, cut_off}
+use Rattle.series_cell.proofs.Sizes.{sized, within}
 use Rattle.series_cell.proofs.Standing.{stands_acknowledged_as}
 use Rattle.series_cell.proofs.cell.Cell.acknowledge.Goals as goal
 
@@ -33,7 +33,7 @@ invariant_of-self c =
     let m = moved i.acknowledged.items i.in_flight.items _ _ _ _ i.acknowledged.len i.in_flight.len c.deref_mut.ensures.value c.deref_mut-2.ensures.value (s.acknowledged ∙ sym s.in_flight) c.move_into.auto.dst c.move_into.auto.src c.move_into.ensures.sums c.move_into.ensures.none i.acknowledged.ok.0 i.in_flight.ok.0 in (
       map (landed i.flush Acknowledged) c.self.invariant.0,
       stands_acknowledged_as _ i.flush c.self.invariant.0 _ _ _ _ _ refl h m.0 (m.1 ∙ ap zeros s.in_flight)
-          (cut_off i.spans.items _ _ i.cut _ c.rotate_left.ensures.items c.truncate.ensures.items (omega (arith, c.len.ensures, c.rotate_left.ensures.len, i.spans.ok.0)))
+          c.drop_first.ensures.items
           (c.max-self-inside.ensures ∙ ap (λ n. max i.landed n) (c.end_or.ensures ∙ ap (end_of_spans 0) (c.spans_to.ensures ∙ ap (take i.cut) c.deref.ensures.value))),
     )
 
@@ -45,5 +45,5 @@ returns-clause-stands c = λ qs g.
     let s = sized v qs h in
     let m = moved i.acknowledged.items i.in_flight.items _ _ _ _ i.acknowledged.len i.in_flight.len c.deref_mut.ensures.value c.deref_mut-2.ensures.value (s.acknowledged ∙ sym s.in_flight) c.move_into.auto.dst c.move_into.auto.src c.move_into.ensures.sums c.move_into.ensures.none i.acknowledged.ok.0 i.in_flight.ok.0 in
     stands_acknowledged_as v c.args.self.now.flush qs _ _ _ _ _ (sym (ap (λ (w : CellView). w.flush) c.self.view_is)) h m.0 (m.1 ∙ ap zeros s.in_flight)
-    (cut_off i.spans.items _ _ i.cut _ c.rotate_left.ensures.items c.truncate.ensures.items (omega (arith, c.len.ensures, c.rotate_left.ensures.len, i.spans.ok.0)))
+    c.drop_first.ensures.items
     (c.max-self-inside.ensures ∙ ap (λ n. max i.landed n) (c.end_or.ensures ∙ ap (end_of_spans 0) (c.spans_to.ensures ∙ ap (take i.cut) c.deref.ensures.value)))
