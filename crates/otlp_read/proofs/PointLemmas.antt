@@ -5,7 +5,7 @@ use Rattle.series_id.specs.Identity.{Identity}
 use Rattle.series_id.specs.Checks.{checked_identity, has_long_text}
 use Rattle.series_id.specs.declared.attributes.Attribute.{Attribute}
 use Rattle.series_id.specs.declared.kinds.Kind.{Kind}
-use Rattle.series_id.specs.declared.series.IdFault.TheVariants.{TextTooLong}
+use Rattle.series_id.specs.declared.faults.IdFault.TheVariants.{TextTooLong}
 use Rattle.series_id.specs.declared.kinds.Kind.TheVariants.{Histogram}
 use Rattle.series_id.specs.declared.faults.KindFault.{KindFault}
 use Rattle.series_id.specs.Ascending.{kind_refusal, kind_unless, histogram_of}

@@ -1,13 +1,12 @@
 -- Whole numbers, as JSON numbers or as decimal texts.
-use Rattle.std.specs.Prelude.{ℕ, suc, ◌^◌, ◌&&◌, ℤ, pos, negsuc, neg_ℤ, List, [], ◌∷◌, length, Option, Some, None, option_map, nat_lt, nat_le, if◌then◌else◌, ◌==◌}
-use Rattle.std.specs.Str.{all_ascii_digits}
-use Rattle.std.specs.Str.Parse.{digits_value}
+use Rattle.std.specs.Prelude.{ℕ, suc, ◌-◌, ◌^◌, ℤ, pos, negsuc, neg_ℤ, List, [], ◌∷◌, Option, Some, None, option_map, nat_le, if◌then◌else◌, ◌==◌}
+use Rattle.decimals.specs.Numbers.{number_up_to}
 use Rattle.serde_json.specs.Data.{Data, null, boolean, number, string, array, object}
 use Rattle.serde_json.specs.Find.{as_integer}
 
 -- one or more decimal digits, with leading zeros or without, whose value is below 2^64: no range goes further
 unfoldable pub magnitude : List ℕ → Option ℕ
-magnitude ds = if all_ascii_digits ds && nat_lt 0 (length ds) && nat_lt (digits_value 10 ds) (2 ^ 64) then Some (digits_value 10 ds) else None
+magnitude ds = number_up_to (2 ^ 64 - 1) ds
 
 -- an optional minus, and digits
 abbrev pub text_whole : List ℕ → Option ℤ

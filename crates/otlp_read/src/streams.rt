@@ -98,7 +98,8 @@ pub fn sum_stream_in<'a>(
     Some(SumStream { stream, monotonic })
 }
 
-/// The series of a kind and of attributes in a stream.
+/// The series of a kind and of attributes in a stream, shared, so that no copy of it copies a
+/// text.
 #[tactic(auto, unfolding(crate::specs::Streams::series_in))]
 pub fn series_in(
     alloc: Global,
@@ -124,7 +125,10 @@ pub fn series_in(
         kind,
         attributes,
     );
-    Ok(made.ok())
+    match made {
+        Ok(series) => Ok(Some(series.share(alloc)?)),
+        Err(_) => Ok(None),
+    }
 }
 
 fn text(alloc: Global, text: &str) -> Result<Text, AllocError>

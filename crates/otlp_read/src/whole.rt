@@ -4,16 +4,15 @@ ghost use Rattle.std.specs.Prelude.{◌≡◌, ◌<◌, ◌≤◌, ◌^◌};
 ghost use Rattle.serde_json.specs.View.{view};
 ghost use Rattle.otlp_read.specs.Whole.{magnitude, text_whole, whole, unsigned_in, signed_in};
 
+use decimals::number_up_to;
 use serde_json::Value;
 
 /// The value of the digits, where it is below 2^64.
+#[tactic(auto, unfolding(crate::specs::Whole::magnitude))]
 fn digits_below(text: &str) -> Option<u64>
     ensures { result ≡ magnitude text.now }
 {
-    if text.starts_with('+') {
-        return None;
-    }
-    text.parse::<u64>().ok()
+    number_up_to(text.as_bytes(), u64::MAX)
 }
 
 /// The value of an optional minus and digits.

@@ -1,6 +1,7 @@
 pub mod Texts
 pub mod Values
 pub mod Attributes
+pub mod Shares
 pub mod Pairs
 pub mod Sorting
 pub mod Bounds
@@ -10,5 +11,6 @@ pub mod Identity
 pub mod Views
 pub mod Checks
 pub mod Order
+pub mod Sharing
 pub mod Totals
 pub mod SeriesLaws

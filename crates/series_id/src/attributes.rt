@@ -1,12 +1,12 @@
 //! Attributes, and sets of them.
 
-ghost use Rattle.std.specs.Prelude.{◌≡◌, IfErr, IfOk, None, OnOk, []};
+ghost use Rattle.std.specs.Prelude.{◌≡◌, ◌<◌, IfErr, IfOk, None, OnOk, []};
 ghost use Rattle.std.specs.Option.{unwrap_or};
 ghost use Rattle.series_id.specs.Attributes.{IsAttrSet, attribute_cmp, attrs_cmp};
 ghost use Rattle.series_id.specs.Pairs.{attr_refusal};
 ghost use Rattle.series_id.specs.Sorting.{sorted_by_key};
 
-use crate::checks::attr_fault;
+use crate::checks::{attr_fault, keep_width};
 use crate::faults::AttrFault;
 use crate::sorting::sort_by_key;
 use crate::texts::Text;
@@ -14,6 +14,7 @@ use crate::values::AttrValue;
 use std::alloc::{AllocError, Global};
 use std::cmp::Ordering;
 use std::marker::Model;
+use std::sync::Arc;
 
 /// A key with its value.
 #[derive(Drop)]
@@ -27,21 +28,25 @@ pub struct Attribute {
 /// A set of attributes: the keys ascend by bytes, so that one set has one list of pairs. It has
 /// at most `MAX_ATTRIBUTES` pairs, lists of at most `MAX_VALUES` values, and texts of at most
 /// `MAX_TEXT` bytes. Contracts see it as the list of its pairs.
+///
+/// The pairs stand behind a count of their owners, so a copy of a set takes no memory, and nor
+/// does the empty set.
 #[derive(Drop)]
 pub struct AttrSet {
-    pairs: Vec<Attribute>,
+    pairs: Option<Arc<Vec<Attribute>, Global>>,
 }
 
 impl Model for AttrSet {
     ghost use Rattle.std.specs.Prelude.{List};
     ghost use Rattle.series_id.specs.declared.attributes.Attribute.{Attribute};
     ghost use Rattle.series_id.specs.Attributes.{IsAttrSet};
+    ghost use Rattle.series_id.specs.Shares.{shared_items};
 
     ghost Value = { List Attribute };
 
-    ghost view = { λ s. s.pairs.items };
+    ghost view = { λ s. shared_items s.pairs };
 
-    ghost invariant = { λ s. IsAttrSet s.pairs.items };
+    ghost invariant = { λ s. IsAttrSet (shared_items s.pairs) };
 }
 
 impl Attribute {
@@ -65,13 +70,12 @@ impl Attribute {
 }
 
 impl AttrSet {
-    /// The set with no attribute.
-    pub fn empty(alloc: Global) -> AttrSet
+    /// The set with no attribute. Takes no memory.
+    pub fn empty(_alloc: Global) -> AttrSet
         ensures { result ≡ [] }
     {
-        AttrSet {
-            pairs: Vec::new(alloc),
-        }
+        let pairs = None;
+        AttrSet { pairs }
     }
 
     /// The set of the pairs, in whatever order they come.
@@ -88,8 +92,12 @@ impl AttrSet {
         if let Some(fault) = attr_fault(pairs.as_slice()) {
             return Err(fault);
         }
+        keep_width(pairs.as_slice());
         match sort_by_key(alloc, pairs) {
-            Ok(pairs) => Ok(AttrSet { pairs }),
+            Ok(sorted) => match share_pairs(alloc, sorted) {
+                Ok(set) => Ok(set),
+                Err(_) => Err(AttrFault::NoMemory),
+            },
             Err(_) => Err(AttrFault::NoMemory),
         }
     }
@@ -98,15 +106,32 @@ impl AttrSet {
     pub fn pairs(&self) -> &[Attribute]
         ensures { result.now ≡ self.now }
     {
-        self.pairs.as_slice()
+        match &self.pairs {
+            None => &[],
+            Some(shared) => shared.as_slice(),
+        }
     }
 
-    /// An equal set.
-    pub fn copy(&self, alloc: Global) -> Result<AttrSet, AllocError>
+    /// An equal set, which shares its pairs with this one. Takes no memory.
+    pub fn copy(&self, _alloc: Global) -> Result<AttrSet, AllocError>
         ensures { IfOk result (λ copy. copy ≡ self.now) }
     {
-        let pairs = copy_pairs(alloc, &self.pairs)?;
-        Ok(AttrSet { pairs })
+        match &self.pairs {
+            None => Ok(AttrSet { pairs: None }),
+            Some(shared) => Ok(AttrSet {
+                pairs: Some(Arc::try_clone(shared)?),
+            }),
+        }
+    }
+
+    /// How many sets share these pairs at the moment, this one counted.
+    pub fn owners(&self) -> usize
+        ensures { 0 < result }
+    {
+        match &self.pairs {
+            None => 1,
+            Some(shared) => Arc::strong_count(shared),
+        }
     }
 
     /// Does nothing: its contract tells a caller that the set is within its limits.
@@ -125,15 +150,17 @@ impl AttrSet {
     }
 }
 
-/// Copies of the pairs in order.
-fn copy_pairs(alloc: Global, pairs: &[Attribute]) -> Result<Vec<Attribute>, AllocError>
-    ensures { IfOk result (λ copies. copies.items ≡ pairs.now) }
+/// The set of pairs that are one. None take no memory.
+fn share_pairs(alloc: Global, sorted: Vec<Attribute>) -> Result<AttrSet, AllocError>
+    requires { IsAttrSet sorted.items }
+    ensures { IfOk result (λ set. set ≡ sorted.items) }
 {
-    let mut copies = Vec::with_capacity(alloc, pairs.len())?;
-    for pair in pairs {
-        copies.push(pair.copy(alloc)?)?;
+    if sorted.is_empty() {
+        return Ok(AttrSet { pairs: None });
     }
-    Ok(copies)
+    Ok(AttrSet {
+        pairs: Some(Arc::new(alloc, sorted)?),
+    })
 }
 
 /// Which of two lists of pairs comes first.

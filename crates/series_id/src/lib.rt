@@ -8,9 +8,11 @@
 mod attributes;
 mod checks;
 mod faults;
+mod held;
 mod kinds;
 pub mod laws;
 pub mod limits;
+mod parts;
 mod scalars;
 mod series;
 mod sorting;
@@ -18,9 +20,9 @@ mod texts;
 mod values;
 
 pub use attributes::{AttrSet, Attribute};
-pub use faults::{AttrFault, KindFault};
+pub use faults::{AttrFault, IdFault, KindFault};
 pub use kinds::{Bounds, Kind};
 pub use scalars::{Scalar, Scalars};
-pub use series::{IdFault, SeriesId};
+pub use series::SeriesId;
 pub use texts::Text;
 pub use values::AttrValue;

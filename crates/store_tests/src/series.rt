@@ -385,3 +385,80 @@ fn texts_of_series_are_short(rt: HostRuntime) {
     assert_eq!(rt; texts_fault(&rt, alloc, [0, 0, 0, 4097]), long);
     assert_eq!(rt; texts_fault(&rt, alloc, [MAX_TEXT; 4]), None);
 }
+
+/// Takes only what threads may share and pass on.
+fn check_threads<T: Send + Sync>(_: &T) {}
+
+#[test]
+fn threads_may_share_series(rt: HostRuntime) {
+    let alloc = rt.alloc();
+    let id = series(&rt, alloc, "h1", "requests", Kind::Sum { monotonic: true });
+    check_threads(&id);
+    check_threads(id.resource());
+}
+
+/// Looks at how many own the parts of an identity, and the pairs of its resource.
+fn check_owners(rt: &impl Abort, id: &SeriesId, parts: usize, pairs: usize) {
+    assert_eq!(rt; id.owners(), parts);
+    assert_eq!(rt; id.resource().owners(), pairs);
+}
+
+#[test]
+fn sets_share_their_pairs(rt: HostRuntime) {
+    let alloc = rt.alloc();
+    let set = one_pair(&rt, alloc, "host", "h1");
+    assert_eq!(rt; set.owners(), 1);
+    let copy = set.copy(alloc).expect(&rt, "memory");
+    assert_eq!(rt; set.owners(), 2);
+    assert_eq!(rt; copy.pairs().len(), 1);
+    drop(set);
+    assert_eq!(rt; copy.owners(), 1);
+}
+
+#[test]
+fn an_identity_alone_is_copied_once(rt: HostRuntime) {
+    let alloc = rt.alloc();
+    let own = series(&rt, alloc, "h1", "requests", Kind::Sum { monotonic: true });
+    assert!(rt; own.shared_copy().is_none());
+    let copy = own.copy(alloc).expect(&rt, "memory");
+    check_owners(&rt, &own, 1, 2);
+    let again = copy.copy(alloc).expect(&rt, "memory");
+    check_owners(&rt, &again, 2, 2);
+    drop(copy);
+    check_owners(&rt, &again, 1, 2);
+    check_texts(&rt, &again);
+    check_sets(&rt, &again);
+}
+
+#[test]
+fn shared_identities_are_one(rt: HostRuntime) {
+    let alloc = rt.alloc();
+    let own = series(&rt, alloc, "h1", "requests", Kind::Sum { monotonic: true });
+    let shared = own.share(alloc).ok().expect(&rt, "memory");
+    let copy = shared.shared_copy().expect(&rt, "a shared identity");
+    check_owners(&rt, &copy, 2, 1);
+    let twice = shared.share(alloc).ok().expect(&rt, "memory");
+    check_owners(&rt, &twice, 2, 1);
+    assert!(rt; twice.is_same(&copy));
+    check_texts(&rt, &twice);
+}
+
+/// Looks at whether two series share a resource, a scope and a stream.
+fn check_shares(rt: &impl Abort, first: &SeriesId, second: &SeriesId, shares: [bool; 3]) {
+    assert_eq!(rt; first.shares_resource(second), shares[0]);
+    assert_eq!(rt; first.shares_scope(second), shares[1]);
+    assert_eq!(rt; first.shares_stream(second), shares[2]);
+}
+
+#[test]
+fn series_share_their_parts(rt: HostRuntime) {
+    let alloc = rt.alloc();
+    let first = series(&rt, alloc, "h1", "requests", Kind::Sum { monotonic: true });
+    let other_host = series(&rt, alloc, "h2", "requests", Kind::Sum { monotonic: true });
+    let other_kind = series(&rt, alloc, "h1", "requests", Kind::Sum { monotonic: false });
+    let nothing = texted(&rt, alloc, "h1");
+    check_shares(&rt, &first, &first, [true, true, true]);
+    check_shares(&rt, &first, &other_host, [false, true, true]);
+    check_shares(&rt, &first, &other_kind, [true, true, false]);
+    check_shares(&rt, &first, &nothing, [false, false, false]);
+}

@@ -1,0 +1,28 @@
+-- The value of decimal digits, one by one.
+use Rattle.std.proofs.Common.{◌≡◌, ℕ, ◌+◌, ◌*◌, ◌-◌, ◌<◌, true, min, List, ◌∷◌, length, drop, take, get_or, sym, ap, ◌∙◌, arith}
+use Rattle.std.specs.Str.{all_ascii_digits}
+use Rattle.std.specs.Char.{digit_value}
+use Rattle.std.specs.Str.Parse.{digits_value}
+use Rattle.std.specs.Int.{IsInRange}
+use Rattle.std.proofs.lemmas.List.{drop_more}
+use Rattle.std.proofs.lemmas.Str.{digit_value_digit}
+use Rattle.std.proofs.lemmas.Int.Digits.{digits_value_more}
+use Rattle.std.proofs.lemmas.Str.Parse.{tells_all_ascii_digits}
+
+-- digits from here on begin with one
+pub digit_here : (text : List ℕ) (i : ℕ) → i < length text → all_ascii_digits (drop i text) ≡ true
+    → IsInRange 48 57 (get_or text i 0) × (all_ascii_digits (drop (i + 1) text) ≡ true)
+digit_here text i within h =
+    let here : all_ascii_digits (get_or text i 0 ∷ drop (i + 1) text) ≡ true = ap all_ascii_digits (sym (drop_more text i 0 within)) ∙ h in
+    tells_all_ascii_digits.parts (get_or text i 0) (drop (i + 1) text) here
+
+capped : (v d m : ℕ) → min (min v (m + 1) * 10 + d) (m + 1) ≡ min (v * 10 + d) (m + 1)
+capped v d m = omega arith
+
+-- one more digit
+pub number_more : (text : List ℕ) (i most value next : ℕ) → i < length text → IsInRange 48 57 (get_or text i 0) → value ≡ min (digits_value 10 (take i text)) (most + 1)
+    → next ≡ min (value * 10 + (get_or text i 0 - 48)) (most + 1) → next ≡ min (digits_value 10 (take (i + 1) text)) (most + 1)
+number_more text i most value next within digit so_far step =
+    let d : digit_value (get_or text i 0) ≡ get_or text i 0 - 48 = omega (arith, digit_value_digit (get_or text i 0) digit) in
+    let more : digits_value 10 (take (i + 1) text) ≡ digits_value 10 (take i text) * 10 + (get_or text i 0 - 48) = digits_value_more 10 text i within ∙ ap (λ n. digits_value 10 (take i text) * 10 + n) d in
+    step ∙ ap (λ n. min (n * 10 + (get_or text i 0 - 48)) (most + 1)) so_far ∙ capped (digits_value 10 (take i text)) (get_or text i 0 - 48) most ∙ ap (λ n. min n (most + 1)) (sym more)

@@ -1,0 +1,17 @@
+-- The numbers that decimal digits write.
+use Rattle.std.specs.Prelude.{ℕ, ◌&&◌, List, length, nat_lt, nat_le, if◌then◌else◌, Option, Some, None}
+use Rattle.std.specs.Str.{all_ascii_digits}
+use Rattle.std.specs.Str.Parse.{digits_value}
+
+-- one or more decimal digits, with leading zeros or without
+abbrev pub number : List ℕ → Option ℕ
+number ds = if all_ascii_digits ds && nat_lt 0 (length ds) then Some (digits_value 10 ds) else None
+
+-- a number, where it is not above `most`
+abbrev pub at_most : ℕ → Option ℕ → Option ℕ
+at_most most None = None
+at_most most (Some n) = if nat_le n most then Some n else None
+
+-- the number that the digits write, where it is not above `most`
+abbrev pub number_up_to : ℕ → List ℕ → Option ℕ
+number_up_to most ds = at_most most (number ds)

@@ -1,0 +1,55 @@
+//! Whole numbers as decimal digits: what some bytes write, read once for all texts that have
+//! numbers in them (a script, a request, a header field).
+#![tactic(auto)]
+
+ghost use Rattle.std.specs.Prelude.{◌≡◌, ◌+◌, true, min, option_map};
+ghost use Rattle.std.specs.Str.{all_ascii_digits};
+ghost use Rattle.std.specs.Str.Parse.{digits_value};
+ghost use Rattle.decimals.specs.Numbers as spec;
+
+/// The number that decimal digits write, where it is not above `most`. One digit is enough,
+/// zeros may lead, and there is no sign.
+pub fn number_up_to(digits: &[u8], most: u64) -> Option<u64>
+    ensures { result ≡ spec.number_up_to most digits.now }
+{
+    let value = capped(digits, most)?;
+    if value > u128::from(most) {
+        return None;
+    }
+    Some(value as u64)
+}
+
+/// The number that decimal digits write, or one more than `most` where it is more; nothing where
+/// they are no digits.
+pub fn capped(digits: &[u8], most: u64) -> Option<u128>
+    ensures { result ≡ option_map (λ n. min n (most + 1)) (spec.number digits.now) }
+{
+    if digits.is_empty() || !are_digits(digits) {
+        return None;
+    }
+    Some(capped_value(digits, most))
+}
+
+fn are_digits(text: &[u8]) -> bool
+    ensures { result ≡ all_ascii_digits text.now }
+{
+    for byte in text {
+        if !byte.is_ascii_digit() {
+            return false;
+        }
+    }
+    true
+}
+
+/// The value of decimal digits, or one more than `most` where it is more.
+fn capped_value(digits: &[u8], most: u64) -> u128
+    requires { all_ascii_digits digits.now ≡ true }
+    ensures { result ≡ min (digits_value 10 digits.now) (most + 1) }
+{
+    let cap = u128::from(most) + 1;
+    let mut value = 0u128;
+    for digit in digits {
+        value = (value * 10 + u128::from(*digit - b'0')).min(cap);
+    }
+    value
+}
