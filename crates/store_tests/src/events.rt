@@ -3,6 +3,7 @@ ghost use Rattle.metric_events.specs.PointFaults.{IsHistogram, IsSum};
 
 use metric_events::batch::Batch;
 use metric_events::laws::striking;
+use metric_events::merged_point::MergedPoint;
 use metric_events::point::{Point, PointFault};
 use metric_events::points::Points;
 use metric_events::row::Row;
@@ -117,22 +118,23 @@ fn expect_name(rt: &impl Abort, alloc: Global, bytes: &[u8], want: Option<NameFa
     assert_eq!(rt; fault, want);
 }
 
-/// Both points have the same fields.
-fn expect_same(rt: &impl Abort, mine: &Point, its: &Point) {
+/// The point has the fields of the other, which is as one that adds up.
+fn expect_same(rt: &impl Abort, mine: &Point, its: &MergedPoint) {
     assert!(rt; mine.series().is_same(its.series()));
     assert_eq!(rt; mine.span().start(), its.span().start());
     assert_eq!(rt; mine.span().end(), its.span().end());
     assert_eq!(rt; mine.row(), its.row());
+    assert!(rt; mine.as_merged().is_same(its));
 }
 
-/// The parts of a point make a point of the same series, span and row.
+/// The parts of a point make one that adds up, of the same series, span and row.
 fn expect_remade(rt: &impl Abort, alloc: Global, point: &Point, row: &[u64]) {
-    let series = point.series().copy(alloc).expect(rt, "memory");
-    let words = point.row().to_vec(alloc).expect(rt, "memory");
-    let remade = Point::from_parts(series, point.span(), Row::new(words));
-    expect_same(rt, point, &remade);
+    let merged = point.as_merged();
+    let series = merged.series().copy(alloc).expect(rt, "memory");
+    let words = merged.row().to_vec(alloc).expect(rt, "memory");
+    let remade = MergedPoint::new(series, merged.span(), Row::new(words));
     assert_eq!(rt; remade.row(), row);
-    assert!(rt; remade.is_same(point));
+    expect_same(rt, point, &remade);
 }
 
 #[test]
@@ -303,7 +305,7 @@ fn copies_of_batches(rt: HostRuntime) {
     assert!(rt; copy.sender.is_same(&batch.sender));
     assert_eq!(rt; copy.points.as_slice().len(), 2);
     for (mine, its) in batch.points.as_slice().iter().zip(copy.points.as_slice()) {
-        expect_same(&rt, mine, its);
+        expect_same(&rt, mine, its.as_merged());
     }
     assert!(rt; batch.is_same(&copy));
     let sender = SenderName::new(alloc, b"shop").expect(&rt, "a name");
@@ -351,4 +353,36 @@ fn points_of_parts(rt: HostRuntime) {
     expect_remade(&rt, alloc, &sum(&rt, alloc, 10, 20, -7), &[1, 0, 7]);
     let buckets = histogram(&rt, alloc, &[5], 10, 3, Some(9), &[2, 1]).expect(&rt, "a point");
     expect_remade(&rt, alloc, &buckets, &[1, 0, 9, 2, 1]);
+}
+
+/// A series of this kind whose identity can be shared.
+fn shared_series(rt: &impl Abort, alloc: Global, monotonic: bool) -> SeriesId {
+    let series = series(rt, alloc, Kind::Sum { monotonic });
+    let shared = series.share(alloc).expect(rt, "memory");
+    assert_eq!(rt; shared.owners(), 1);
+    shared
+}
+
+#[test]
+fn points_adopt_equal_identities(rt: HostRuntime) {
+    let alloc = rt.alloc();
+    let shared = shared_series(&rt, alloc, false);
+    let other = shared_series(&rt, alloc, true);
+    let mut point = sum(&rt, alloc, 10, 20, 7);
+    point.adopt(&other);
+    assert_eq!(rt; other.owners(), 1);
+    point.adopt(&shared);
+    assert_eq!(rt; shared.owners(), 2);
+    assert_eq!(rt; point.row(), [1, 7, 0].as_slice());
+    let mut points = Points::new(alloc);
+    points
+        .push(sum(&rt, alloc, 20, 30, 8))
+        .expect(&rt, "memory");
+    points.adopt(0, &shared);
+    points.adopt(0, &other);
+    assert_eq!(rt; shared.owners(), 3);
+    assert_eq!(rt; other.owners(), 1);
+    let copy = points.copy(alloc).expect(&rt, "memory");
+    assert_eq!(rt; shared.owners(), 4);
+    assert!(rt; copy.is_same(&points));
 }
