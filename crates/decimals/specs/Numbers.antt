@@ -1,7 +1,7 @@
 -- The numbers that decimal digits write.
-use Rattle.std.specs.Prelude.{ℕ, ◌&&◌, List, length, nat_lt, nat_le, if◌then◌else◌, Option, Some, None}
+use Rattle.std.specs.Prelude.{◌≡◌, ℕ, ◌≤◌, ◌&&◌, List, length, nat_lt, nat_le, if◌then◌else◌, Option, Some, None}
 use Rattle.std.specs.Str.{all_ascii_digits}
-use Rattle.std.specs.Str.Parse.{digits_value}
+use Rattle.std.specs.Str.Parse.{IsNumeral, digits_value}
 
 -- one or more decimal digits, with leading zeros or without
 abbrev pub number : List ℕ → Option ℕ
@@ -15,3 +15,7 @@ at_most most (Some n) = if nat_le n most then Some n else None
 -- the number that the digits write, where it is not above `most`
 abbrev pub number_up_to : ℕ → List ℕ → Option ℕ
 number_up_to most ds = at_most most (number ds)
+
+-- the digits are a numeral, which writes the number n, and it is not above `most`
+abbrev pub TellsUpTo : ℕ → List ℕ → ℕ → Type 0
+TellsUpTo most ds n = IsNumeral 10 ds × (digits_value 10 ds ≡ n) × (n ≤ most)

@@ -2,7 +2,7 @@
 //! numbers in them (a script, a request, a header field).
 #![tactic(auto)]
 
-ghost use Rattle.std.specs.Prelude.{◌≡◌, ◌+◌, true, min, option_map};
+ghost use Rattle.std.specs.Prelude.{◌≡◌, ◌↔◌, ◌+◌, ℕ, List, Some, true, min, option_map};
 ghost use Rattle.std.specs.Str.{all_ascii_digits};
 ghost use Rattle.std.specs.Str.Parse.{digits_value};
 ghost use Rattle.decimals.specs.Numbers as spec;
@@ -53,3 +53,9 @@ fn capped_value(digits: &[u8], most: u64) -> u128
     }
     value
 }
+
+/// A number is told exactly where the digits are a numeral of it and it is within the limit. The
+/// law is the contract of a function that does nothing.
+pub fn numbers_are_told()
+    ensures { (most : ℕ) (digits : List ℕ) (n : ℕ) → (spec.number_up_to most digits ≡ Some n) ↔ spec.TellsUpTo most digits n }
+{}

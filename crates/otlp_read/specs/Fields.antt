@@ -3,7 +3,7 @@ use Rattle.std.specs.Prelude.{ℕ, ◌-◌, ◌^◌, ◌%◌, List, [], length, 
 use Rattle.serde_json.specs.Data.{Data, null, boolean, number, string, array, object}
 use Rattle.serde_json.specs.Find.{get, as_str, as_bool, as_number, as_u64}
 use Rattle.series_id.specs.declared.limits.TheConstants.{MAX_TEXT}
-use Rattle.otlp_read.specs.Whole.{unsigned_in}
+use Rattle.otlp_read.specs.Whole.{unsigned_in, unsigned_64}
 
 -- null counts as absent
 abbrev pub present : Option Data → Option Data
@@ -56,4 +56,4 @@ is_delta (Some d) = is_one (option_and_then as_u64 (as_number d))
 
 -- startTimeUnixNano and timeUnixNano: nanoseconds since the epoch, of 64 bits; absent is none
 unfoldable pub nanos_in : Option Data → Option ℕ
-nanos_in found = option_and_then (unsigned_in (2 ^ 64 - 1)) found
+nanos_in found = option_and_then unsigned_64 found

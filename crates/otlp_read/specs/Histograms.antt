@@ -1,5 +1,5 @@
 -- Points of histograms.
-use Rattle.std.specs.Prelude.{ℕ, ◌-◌, ◌^◌, if◌then◌else◌, Option, Some, None, option_map, option_and_then, codes}
+use Rattle.std.specs.Prelude.{ℕ, if◌then◌else◌, Option, Some, None, option_map, option_and_then, codes}
 use Rattle.std.specs.Result.{result_ok}
 use Rattle.serde_json.specs.Data.{Data}
 use Rattle.series_id.specs.declared.limits.TheConstants.{MAX_BOUND}
@@ -8,7 +8,7 @@ use Rattle.series_id.specs.Ascending.{histogram_of}
 use Rattle.metric_events.specs.DataPoint.{DataPoint}
 use Rattle.metric_events.specs.Rows.{histogram_row}
 use Rattle.metric_events.specs.PointFaults.{histogram_fault, given_buckets, bounds_of}
-use Rattle.otlp_read.specs.Whole.{unsigned_in, signed_in}
+use Rattle.otlp_read.specs.Whole.{unsigned_64, signed_in}
 use Rattle.otlp_read.specs.Fields.{field, flags_fit, nanos_in}
 use Rattle.otlp_read.specs.Lists.{list_in}
 use Rattle.otlp_read.specs.Rules.{unless}
@@ -22,12 +22,12 @@ o >>= f = option_and_then f o
 -- count: a whole number of 64 bits; absent is 0. How large counts, sums and buckets may be is a rule of points
 unfoldable pub count_in : Option Data → Option ℕ
 count_in None = Some 0
-count_in (Some d) = unsigned_in (2 ^ 64 - 1) d
+count_in (Some d) = unsigned_64 d
 
 -- sum: a whole number of 64 bits; absent it is absent
 unfoldable pub total_in : Option Data → Option (Option ℕ)
 total_in None = Some None
-total_in (Some d) = option_map (λ n. Some n) (unsigned_in (2 ^ 64 - 1) d)
+total_in (Some d) = option_map (λ n. Some n) (unsigned_64 d)
 
 -- start, end, count and sum of a histogram's point
 pub record HistogramFields : Type 0 where
@@ -56,7 +56,7 @@ unfoldable pub histogram_point : Stream → Data → Option DataPoint
 histogram_point stream d = do
   fields ← histogram_fields d
   kind ← kind_in d
-  buckets ← list_in (unsigned_in (2 ^ 64 - 1)) (field (codes "bucketCounts") d)
+  buckets ← list_in unsigned_64 (field (codes "bucketCounts") d)
   attributes ← attributes_in (field (codes "attributes") d)
   series ← series_in stream kind attributes
   unless (histogram_fault series.kind fields.start fields.end fields.count fields.total buckets) (record { series = series; span = record { start = fields.start; end = fields.end }; row = histogram_row fields.total (given_buckets (bounds_of series.kind) fields.count buckets) })

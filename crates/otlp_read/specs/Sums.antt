@@ -1,11 +1,11 @@
 -- Points of sums.
-use Rattle.std.specs.Prelude.{ℕ, ℤ, ◌-◌, ◌^◌, Bool, not, ◌&&◌, if◌then◌else◌, Option, Some, None, option_and_then, is_some, codes}
+use Rattle.std.specs.Prelude.{ℕ, ℤ, Bool, not, ◌&&◌, if◌then◌else◌, Option, Some, None, option_and_then, is_some, codes}
 use Rattle.serde_json.specs.Data.{Data}
 use Rattle.series_id.specs.declared.kinds.Kind.TheVariants.{Sum}
 use Rattle.metric_events.specs.DataPoint.{DataPoint}
 use Rattle.metric_events.specs.Rows.{sum_row}
 use Rattle.metric_events.specs.PointFaults.{sum_fault}
-use Rattle.otlp_read.specs.Whole.{signed_in}
+use Rattle.otlp_read.specs.Whole.{signed_64}
 use Rattle.otlp_read.specs.Fields.{field, flags_fit, nanos_in}
 use Rattle.otlp_read.specs.Rules.{unless}
 use Rattle.otlp_read.specs.Attributes.{attributes_in}
@@ -17,7 +17,7 @@ o >>= f = option_and_then f o
 
 -- asInt: a whole number of 64 bits; how large it may be, and that it is not negative in a monotonic sum, is a rule of points
 unfoldable pub number_in : Option Data → Option ℤ
-number_in found = found >>= signed_in (2 ^ 63) (2 ^ 63 - 1)
+number_in found = found >>= signed_64
 
 -- a recorded value, and not a double
 unfoldable pub is_whole_value : Data → Bool

@@ -1,12 +1,12 @@
 -- Values of attributes (`AnyValue` of the standard): one scalar, or a list of scalars.
-use Rattle.std.specs.Prelude.{◌-◌, ◌^◌, List, Bool, ◌||◌, if◌then◌else◌, Option, Some, None, option_map, is_some, codes}
+use Rattle.std.specs.Prelude.{List, Bool, ◌||◌, if◌then◌else◌, Option, Some, None, option_map, is_some, codes}
 use Rattle.serde_json.specs.Data.{Data}
 use Rattle.serde_json.specs.Find.{as_str, as_bool}
 use Rattle.series_id.specs.declared.scalars.Scalar.{Scalar}
 use Rattle.series_id.specs.declared.scalars.Scalar.TheVariants.{Empty, Truth, Int, Text}
 use Rattle.series_id.specs.declared.values.AttrValue.{AttrValue}
 use Rattle.series_id.specs.declared.values.AttrValue.TheVariants.{One, Many}
-use Rattle.otlp_read.specs.Whole.{signed_in}
+use Rattle.otlp_read.specs.Whole.{signed_64}
 use Rattle.otlp_read.specs.Fields.{field}
 use Rattle.otlp_read.specs.Containers.{is_object}
 use Rattle.otlp_read.specs.Lists.{list_in}
@@ -38,7 +38,7 @@ abbrev pub only_of : Option Data → Option Data → Option Data → Option Scal
 only_of None None None = Some Empty
 only_of (Some d) None None = option_map Text (as_str d)
 only_of None (Some d) None = option_map Truth (as_bool d)
-only_of None None (Some d) = option_map Int (signed_in (2 ^ 63) (2 ^ 63 - 1) d)
+only_of None None (Some d) = option_map Int (signed_64 d)
 only_of (Some d) (Some e) int = None
 only_of (Some d) None (Some e) = None
 only_of None (Some d) (Some e) = None

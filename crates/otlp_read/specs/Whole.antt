@@ -41,3 +41,10 @@ between below above (Some (negsuc n)) = if nat_le (suc n) below then Some (negsu
 -- the whole number from -below to above that a value is
 unfoldable pub signed_in : ℕ → ℕ → Data → Option ℤ
 signed_in below above d = between below above (whole d)
+
+-- the whole number of 64 bits that a value is, without a sign, and with one: the widths of the standard's messages
+abbrev pub unsigned_64 : Data → Option ℕ
+unsigned_64 d = unsigned_in (2 ^ 64 - 1) d
+
+abbrev pub signed_64 : Data → Option ℤ
+signed_64 d = signed_in (2 ^ 63) (2 ^ 63 - 1) d

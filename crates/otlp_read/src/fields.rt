@@ -4,7 +4,7 @@ ghost use Rattle.std.specs.Prelude.{◌≡◌, option_map};
 ghost use Rattle.serde_json.specs.View.{view};
 ghost use Rattle.otlp_read.specs.Fields.{field, flags_fit, text_in, truth_in, is_delta, nanos_in};
 
-use crate::whole::unsigned;
+use crate::whole::{unsigned, unsigned_64};
 use serde_json::Value;
 use series_id::limits::MAX_TEXT;
 
@@ -77,5 +77,5 @@ pub fn is_delta(found: Option<&Value>) -> bool
 pub fn nanos_in(found: Option<&Value>) -> Option<u64>
     ensures { result ≡ nanos_in (option_map (λ v. view v.now) found.entry) }
 {
-    unsigned(found?, u64::MAX)
+    unsigned_64(found?)
 }

@@ -11,7 +11,7 @@ use crate::fields::{field, flags_fit, nanos_in};
 use crate::lists::{signed_list, unsigned_list};
 use crate::made::made;
 use crate::streams::{Stream, series_in};
-use crate::whole::unsigned;
+use crate::whole::unsigned_64;
 use metric_events::point::Point;
 use serde_json::Value;
 use series_id::Kind;
@@ -34,7 +34,7 @@ fn count_in(found: Option<&Value>) -> Option<u64>
 {
     match found {
         None => Some(0),
-        Some(value) => unsigned(value, u64::MAX),
+        Some(value) => unsigned_64(value),
     }
 }
 
@@ -45,7 +45,7 @@ fn total_in(found: Option<&Value>) -> Option<Option<u64>>
 {
     match found {
         None => Some(None),
-        Some(value) => unsigned(value, u64::MAX).map(Some),
+        Some(value) => unsigned_64(value).map(Some),
     }
 }
 

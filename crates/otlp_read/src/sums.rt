@@ -10,7 +10,7 @@ use crate::attributes::attributes_in;
 use crate::fields::{field, flags_fit, nanos_in};
 use crate::made::made;
 use crate::streams::{SumStream, series_in};
-use crate::whole::signed;
+use crate::whole::signed_64;
 use metric_events::point::Point;
 use serde_json::Value;
 use series_id::Kind;
@@ -28,7 +28,7 @@ struct SumFields {
 fn number_in(found: Option<&Value>) -> Option<i64>
     ensures { result ≡ number_in (option_map (λ v. view v.now) found.entry) }
 {
-    signed(found?, 1 << 63, (1 << 63) - 1)
+    signed_64(found?)
 }
 
 #[tactic(auto, unfolding(crate::specs::Sums::is_whole_value))]

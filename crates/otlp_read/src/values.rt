@@ -11,7 +11,7 @@ ghost use Rattle.otlp_read.specs.ValueViews.{fields_data};
 
 use crate::fields::field;
 use crate::lists::elements_in;
-use crate::whole::signed;
+use crate::whole::signed_64;
 use serde_json::Value;
 use series_id::{AttrValue, Scalar, Scalars, Text};
 use std::alloc::{AllocError, Global};
@@ -148,7 +148,7 @@ fn scalar_of(alloc: Global, fields: ValueFields<'_>) -> Result<Option<Scalar>, A
         (None, None, None) => Ok(Some(Scalar::Empty)),
         (Some(value), None, None) => text_scalar(alloc, value),
         (None, Some(value), None) => Ok(value.as_bool().map(Scalar::Truth)),
-        (None, None, Some(value)) => Ok(signed(value, 1 << 63, (1 << 63) - 1).map(Scalar::Int)),
+        (None, None, Some(value)) => Ok(signed_64(value).map(Scalar::Int)),
         _ => Ok(None),
     }
 }

@@ -2,7 +2,7 @@
 
 ghost use Rattle.std.specs.Prelude.{◌≡◌, ◌<◌, ◌≤◌, ◌^◌};
 ghost use Rattle.serde_json.specs.View.{view};
-ghost use Rattle.otlp_read.specs.Whole.{magnitude, text_whole, whole, unsigned_in, signed_in};
+ghost use Rattle.otlp_read.specs.Whole.{magnitude, text_whole, whole, unsigned_in, unsigned_64, signed_in, signed_64};
 
 use decimals::number_up_to;
 use serde_json::Value;
@@ -66,4 +66,18 @@ pub fn signed(value: &Value, below: u64, above: u64) -> Option<i64>
         return None;
     }
     Some(found as i64)
+}
+
+/// The whole number of 64 bits without a sign that a value is.
+pub fn unsigned_64(value: &Value) -> Option<u64>
+    ensures { result ≡ unsigned_64 (view value.now) }
+{
+    unsigned(value, u64::MAX)
+}
+
+/// The whole number of 64 bits with its sign that a value is.
+pub fn signed_64(value: &Value) -> Option<i64>
+    ensures { result ≡ signed_64 (view value.now) }
+{
+    signed(value, 1 << 63, (1 << 63) - 1)
 }

@@ -1,2 +1,12 @@
 pub mod Putting
 pub mod Whole
+pub mod Loops
+pub mod Grouping
+pub mod AttributesAgain
+pub mod PointsAgain
+pub mod SumsAgain
+pub mod HistogramsAgain
+pub mod Sharing
+pub mod RequestAgain
+pub mod Apart
+pub mod EachOnce

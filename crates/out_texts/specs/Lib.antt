@@ -4,3 +4,10 @@ pub mod SeriesNames
 pub mod Report
 pub mod Past
 pub mod Answers
+pub mod Groups
+pub mod Sharing
+pub mod Attributes
+pub mod Points
+pub mod Request
+pub mod Back
+pub mod Once

@@ -1,0 +1,102 @@
+#!/usr/bin/env python3
+"""Prints how much memory and processor time the script program needs for each accepted point.
+
+    bench/memory.py [PROGRAM]        bin/play, as `make build` makes it, where none is named
+
+The requests look like those of a real exporter: 200 points of 200 series each, ten attributes of
+the resource, three of the point. Each series gets one point a request, so after the first request
+every point is of a known series. What is printed says what was measured here, and asserts nothing.
+"""
+
+import json
+import os
+import subprocess
+import sys
+import tempfile
+
+SERIES = 200
+COUNTS = [2_000, 20_000]
+
+
+def attribute(key, value):
+    return {"key": key, "value": {"stringValue": value}}
+
+
+def point(series, request):
+    return {
+        "attributes": [
+            attribute("http.request.method", "GET"),
+            attribute("http.response.status_code", "200"),
+            attribute("http.route", f"/api/v1/customers/{series}/orders"),
+        ],
+        "startTimeUnixNano": str(10 * request + 1),
+        "timeUnixNano": str(10 * request + 10),
+        "asInt": "7",
+    }
+
+
+def body(request):
+    """The JSON text of one request, on one line."""
+    resource = [
+        attribute(f"k8s.deployment.label.{number}", f"value-of-label-{number}")
+        for number in range(10)
+    ]
+    metric = {
+        "name": "http.server.request.count",
+        "unit": "{request}",
+        "sum": {
+            "aggregationTemporality": 1,
+            "isMonotonic": True,
+            "dataPoints": [point(series, request) for series in range(SERIES)],
+        },
+    }
+    scope = {"name": "io.opentelemetry.http", "version": "2.9.0"}
+    request = {
+        "resourceMetrics": [
+            {
+                "resource": {"attributes": resource},
+                "scopeMetrics": [{"scope": scope, "metrics": [metric]}],
+            }
+        ]
+    }
+    return json.dumps(request, separators=(",", ":"))
+
+
+def script(points, flushes):
+    """Requests with so many points, and then so many flushes, each given back."""
+    lines = [f"post A {body(request)}" for request in range(points // SERIES)]
+    for flush in range(1, flushes + 1):
+        lines += ["take 1000", f"back {flush}"]
+    return "\n".join(lines) + "\n" if lines else ""
+
+
+def run(program, text):
+    """Peak memory in bytes and processor time in seconds of a run over the text."""
+    with tempfile.TemporaryFile() as stdin:
+        stdin.write(text.encode())
+        stdin.seek(0)
+        child = subprocess.Popen([program], stdin=stdin, stdout=subprocess.DEVNULL)
+        _, status, usage = os.wait4(child.pid, 0)
+    if status != 0:
+        sys.exit(f"{program} ended with status {status}")
+    return usage.ru_maxrss * 1024, usage.ru_utime + usage.ru_stime
+
+
+def main():
+    program = sys.argv[1] if len(sys.argv) > 1 else "bin/play"
+    empty, _ = run(program, "")
+    for points in COUNTS:
+        posts = script(points, 0)
+        flushes = 10
+        peak, time = run(program, posts)
+        _, longer = run(program, script(points, flushes))
+        print(
+            f"{points} points: {(peak - empty) // points} bytes a point at the peak"
+            f" (of them {len(posts) // points} the script itself),"
+            f" post {time / points * 1e6:.1f} us a point,"
+            f" take and back {(longer - time) / flushes * 1e3:.1f} ms a flush of {SERIES} series"
+        )
+
+
+if __name__ == "__main__":
+    main()
