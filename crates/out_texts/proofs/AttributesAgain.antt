@@ -23,40 +23,13 @@ use Rattle.series_id.specs.Values.{IsInt, IsScalar, IsValue}
 use Rattle.series_id.specs.Sorting.{pair_of as pair}
 use Rattle.series_id.proofs.Refusals.{each_more}
 use Rattle.series_id.proofs.Again.{set_unrefused, sorted_again}
-use Rattle.otlp_read.specs.Whole.{magnitude, text_whole, unsigned_in, signed_in}
 use Rattle.otlp_read.specs.Fields.{field, present, text_in}
 use Rattle.otlp_read.specs.Lists.{elements_in, list_in}
 use Rattle.otlp_read.specs.Values.{has_other, fields_of, scalar_of, scalar_in, scalars_of, many_of, value_of, value_in}
 use Rattle.otlp_read.specs.Attributes.{pair_of, set_of, attributes_in}
-use Rattle.otlp_read.proofs.WholeLemmas.{own, plain_text}
 use Rattle.out_texts.specs.Attributes.{scalar_value, attr_value, attribute_value}
+use Rattle.out_texts.proofs.NumbersAgain.{signed_again}
 use Rattle.out_texts.proofs.Grouping.{elements_of_items, all_again}
-
-magnitude_decimal : (n : ℕ) → n < 2 ^ 64 → magnitude (decimal n) ≡ Some n
-unfolding magnitude
-magnitude_decimal n small =
-    let value : digits_value 10 (decimal n) ≡ n = digits_value-decimal own n small in
-    let passes : (all_ascii_digits (decimal n) && ltb 0 (length (decimal n)) && ltb (digits_value 10 (decimal n)) (2 ^ 64)) ≡ true =
-    and_from _ _ (and_from _ _ (digits_decimal own n small) (lt-ltb 0 _ (decimal_nonempty n small))) (lt-ltb _ (2 ^ 64) (rw value small)) in
-    cond-true _ (Some (digits_value 10 (decimal n))) None passes ∙ ap (λ m. Some m) value
-
-not_minus : (n : ℕ) → n < 2 ^ 64 → (rest : List ℕ) → decimal n ≢ 45 ∷ rest
-not_minus n small rest e =
-    not_in_digits own (decimal n) 45 (digits_decimal own n small) (λ h. omega arith) 0 (decimal_nonempty n small) (ap (λ (s : List ℕ). get_or s 0 0) e)
-
-whole_decimal : (n : ℕ) → n < 2 ^ 64 → text_whole (decimal n) ≡ Some (pos n)
-whole_decimal n small = sym (plain_text (decimal n) (not_minus n small)) ∙ ap (option_map (λ m. pos m)) (magnitude_decimal n small)
-
-pub unsigned_again : (n : ℕ) → n < 2 ^ 64 → unsigned_in (2 ^ 64 - 1) (string (decimal n)) ≡ Some n
-unfolding unsigned_in
-unsigned_again n small = rw (whole_decimal n small) (cond-true (leb n (2 ^ 64 - 1)) (Some n) None (le-leb n (2 ^ 64 - 1) (omega (arith, small))))
-
-pub signed_again : (z : ℤ) → IsInt z → signed_in (2 ^ 63) (2 ^ 63 - 1) (string (signed_decimal z)) ≡ Some z
-unfolding signed_in
-signed_again (pos n) small = rw (whole_decimal n (omega (arith, small))) (cond-true (leb n (2 ^ 63 - 1)) (Some (pos n)) None (le-leb n (2 ^ 63 - 1) (omega (arith, small))))
-signed_again (negsuc n) small = rw (magnitude_decimal (suc n) (omega (arith, small))) (cond-true (leb (suc n) (2 ^ 63)) (Some (negsuc n)) None (le-leb (suc n) (2 ^ 63) (omega (arith, small))))
-
--- ---- values
 
 scalar_again : (x : Scalar) → IsScalar x → scalar_in (scalar_value x) ≡ Some x
 unfolding scalar_in scalar_of fields_of has_other field scalar_value

@@ -34,7 +34,8 @@ use Rattle.out_texts.specs.Points.{total_of, histogram_data, counts_value, bound
 use Rattle.out_texts.specs.Request.{metric_of_kind}
 use Rattle.out_texts.specs.Back.{point_read, row_read}
 use Rattle.out_texts.proofs.Grouping.{Adds, each_point_again, elements_of_items, all_again}
-use Rattle.out_texts.proofs.AttributesAgain.{unsigned_again, attributes_again}
+use Rattle.out_texts.proofs.AttributesAgain.{attributes_again}
+use Rattle.out_texts.proofs.NumbersAgain.{unsigned_again}
 use Rattle.out_texts.proofs.PointsAgain.{stream_of, series_again, start_fits}
 use Rattle.out_texts.proofs.SumsAgain.{IsOf, stream_below}
 

@@ -2,6 +2,7 @@ pub mod Putting
 pub mod Whole
 pub mod Loops
 pub mod Grouping
+pub mod NumbersAgain
 pub mod AttributesAgain
 pub mod PointsAgain
 pub mod SumsAgain

@@ -22,7 +22,8 @@ use Rattle.otlp_read.specs.Sums.{number_in, is_whole_value, sum_fields, sum_poin
 use Rattle.out_texts.specs.Attributes.{attributes_value, attribute_value}
 use Rattle.out_texts.specs.Points.{sum_of, sum_point_value}
 use Rattle.out_texts.specs.Back.{point_read, row_read}
-use Rattle.out_texts.proofs.AttributesAgain.{unsigned_again, signed_again, attributes_again}
+use Rattle.out_texts.proofs.AttributesAgain.{attributes_again}
+use Rattle.out_texts.proofs.NumbersAgain.{unsigned_again, signed_again}
 
 -- what stands above the points of a series
 abbrev pub scope_of : Identity → Scope
