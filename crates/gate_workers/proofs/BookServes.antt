@@ -1,0 +1,256 @@
+-- From the calls of a request to the journal.
+use Rattle.std.proofs.Common.{◌≡◌, ◌≢◌, ℕ, ◌+◌, Bool, true, false, List, [], ◌∷◌, ◌++◌, map, codes, Option, Some, None, Result, Ok, Err, refl, sym, ap, subst, ◌∙◌}
+use Rattle.std.specs.Option.{unwrap_or}
+use Rattle.metric_events.specs.DataPoint.{DataPoint}
+use Rattle.metric_events.specs.History.{History, ◌▸◌}
+use Rattle.metric_events.specs.declared.batch.Batch.{Batch}
+use Rattle.metric_events.specs.declared.event.Event.{Event}
+use Rattle.metric_events.specs.declared.event.Event.TheVariants.{Admit, Undo, Confirm, Quarantine, Lift}
+use Rattle.back_answers.specs.declared.answer.Answer.{Answer}
+use Rattle.back_answers.specs.declared.answer.Answer.TheVariants.{Unknown}
+use Rattle.delta_book.specs.Journal.{Journal, journal_of, appended, history, admits, Appends}
+use Rattle.delta_book.specs.Refusals.{admit_refusal, undo_refusal, confirm_refusal, quarantine_refusal, lift_refusal}
+use Rattle.delta_book.specs.Totals.{totals_rows}
+use Rattle.delta_book.specs.declared.totals.SeriesTotals.{SeriesTotals}
+use Rattle.delta_book.specs.declared.faults.AdmitFault.{AdmitFault}
+use Rattle.delta_book.specs.declared.faults.AdmitFault.TheVariants as admission
+use Rattle.delta_book.specs.declared.faults.UndoFault.{UndoFault}
+use Rattle.delta_book.specs.declared.faults.UndoFault.TheVariants.{Taken, NotOpen as not_open}
+use Rattle.delta_book.specs.declared.faults.NotOpen.{NotOpen}
+use Rattle.delta_book.specs.declared.faults.QuarantineFault.{QuarantineFault}
+use Rattle.delta_book.specs.declared.faults.QuarantineFault.TheVariants as holding
+use Rattle.delta_book.specs.declared.faults.NotQuarantined.{NotQuarantined}
+use Rattle.http_edge.specs.declared.written.Written.{Written}
+use Rattle.http_edge.specs.declared.written.Written.TheVariants.{All, None_, Part}
+use Rattle.gate_workers.specs.declared.end.End.{End}
+use Rattle.gate_workers.specs.declared.end.End.TheVariants.{NoBatch, Confirmed, Undone}
+use Rattle.gate_workers.specs.declared.desk.BookKeeper.{BookKeeper}
+use Rattle.gate_workers.specs.declared.order_fault.OrderFault.{OrderFault}
+use Rattle.gate_workers.specs.declared.refusal.Refusal.{Refusal}
+use Rattle.gate_workers.specs.declared.refusal.Refusal.TheVariants.{NotQuarantined as not_quarantined, NoMemory}
+use Rattle.gate_workers.specs.declared.turn.Turn.{Turn}
+use Rattle.gate_workers.specs.Calls.{Call, admit, undo, confirm, quarantine, lift, totals, order}
+use Rattle.gate_workers.specs.Refusals.{of_admit, of_hold}
+use Rattle.gate_workers.specs.Responses.{Response, done, refused, marked, turned, reported, ordered}
+use Rattle.gate_workers.specs.Asked.{Asked, Metrics, Hold, LetGo, FlushNow, Report, Turned}
+use Rattle.gate_workers.specs.Conversations.{IsConversation, IsPosted, IsAdmitted, IsClosed, IsUndone, IsMarked, SaysHeld, SaysLifted, SaysOrdered, SaysReport}
+use Rattle.gate_workers.specs.Turns.{Want, Nowhere, turn_of}
+use Rattle.gate_workers.specs.BookCalls.{BookGives, KeeperGives, Adds, AreSent, IsMade, entry_of}
+use Rattle.gate_workers.specs.declared.served.Served.{Served}
+use Rattle.gate_workers.specs.declared.served.Served.TheVariants.{Closed, Broken, Replied}
+use Rattle.gate_workers.specs.Served.{IsServed}
+use Rattle.gate_workers.specs.ServedBook.{IsServedBook, Outcome, IsOutcome, IsOneOf, served, posted, admitted, admitted_or, held_or, lifted_or, flushed, happens, only_says, unless_marked, end_by, closed_by}
+use Rattle.gate_workers.proofs.BookTurns.{nothing_added, two_added}
+
+abbrev pub KeeperOver : {U : Type 0} → (U → List ℕ → Answer → U → Type 0) → BookKeeper U → Call → BookKeeper U → Type 0
+KeeperOver sends k c w = (w.desk.seat ≡ k.desk.seat) × (w.max ≡ k.max) × KeeperGives sends k.desk.seat k.max k.desk.book k.uplink c w.desk.book w.uplink
+
+-- the seat and the size stay, and the journal, the uplink and the response are those of the definition
+pub record IsKept {U : Type 0} (sends : U → List ℕ → Answer → U → Type 0) (asked : Asked) (written : Written) (k k' : BookKeeper U) (response : Response) (end : End) : Type 0 where
+  pub seat : k'.desk.seat ≡ k.desk.seat
+  pub max : k'.max ≡ k.max
+  pub one : IsOneOf sends k.desk.seat k.max asked written k.desk.book k'.desk.book k.uplink k'.uplink response end
+
+outcome : {U : Type 0} (sends : U → List ℕ → Answer → U → Type 0) (seat max : ℕ) (asked : Asked) (written : Written) (J J' : Journal) (u u' : U) (response : Response) (end : End)
+    (answer : Answer) (mark : Bool) (want : Want) (o : Outcome) → served asked (history J) max answer written mark want ≡ o
+    → response ≡ o.response → end ≡ o.end → Adds seat J J' o.events → AreSent sends answer u o.sent u' → IsOneOf sends seat max asked written J J' u u' response end
+outcome {U} sends seat max asked written J J' u u' response end answer mark want o is says ends adds sent =
+    let P : Outcome → Type 0 = λ (x : Outcome). IsOutcome sends seat answer J J' u u' x response end in
+    (answer, mark, want, subst P (sym is) (record { says = says; ends = ends; adds = adds; sent = sent }))
+
+silent : {U : Type 0} (sends : U → List ℕ → Answer → U → Type 0) (seat max : ℕ) (asked : Asked) (written : Written) (J J' : Journal) (u u' : U) (response : Response) (end : End)
+    (mark : Bool) (r : Response) → served asked (history J) max Unknown written mark Nowhere ≡ only_says r
+    → response ≡ r → end ≡ NoBatch → J' ≡ J → u' ≡ u → IsOneOf sends seat max asked written J J' u u' response end
+silent sends seat max asked written J J' u u' response end mark r is says ends book uplink =
+    outcome sends seat max asked written J J' u u' response end Unknown mark Nowhere (only_says r) is says ends (nothing_added seat J J' book) uplink
+
+marked_only : (mark : Bool) (r : Response) → unless_marked mark (only_says r) ≡ only_says (marked mark r)
+marked_only true r = refl
+marked_only false r = refl
+
+marked_memory : (mark : Bool) → marked mark (refused NoMemory) ≡ refused NoMemory
+marked_memory true = refl
+marked_memory false = refl
+
+-- a refusal that was said, or that there was no memory
+refused_or : {F : Type 0} (of : F → Refusal) (none fault : F) (refusal : Option F) (other : Option F → Outcome) (mark : Bool) → ((f : F) → other (Some f) ≡ only_says (refused (of f)))
+    → of none ≡ NoMemory → fault ≡ unwrap_or refusal none → (m : Bool) × (unless_marked m (other refusal) ≡ only_says (marked mark (refused (of fault))))
+refused_or of none fault None other mark some memory is =
+    (true, ap only_says (sym (marked_memory mark)) ∙ ap (λ (w : Refusal). only_says (marked mark (refused w))) (sym (ap of is ∙ memory)))
+refused_or of none fault (Some f) other true some memory is = (true, refl)
+refused_or of none fault (Some f) other false some memory is = (false, some f ∙ ap (λ x. only_says (refused (of x))) (sym is))
+
+kept_turned : {U : Type 0} (sends : U → List ℕ → Answer → U → Type 0) (written : Written) (k k' : BookKeeper U) (response : Response) (end : End) (why : Refusal)
+    → IsConversation (KeeperOver sends) (Turned why) k k' response written end → IsKept sends (Turned why) written k k' response end
+kept_turned {U} sends written k k' response end why h = record {
+  seat = ap (λ (x : BookKeeper U). x.desk.seat) (sym h.0);
+  max = ap (λ (x : BookKeeper U). x.max) (sym h.0);
+  one = silent sends k.desk.seat k.max (Turned why) written k.desk.book k'.desk.book k.uplink k'.uplink response end h.1.0 (marked h.1.0 (refused why)) (marked_only h.1.0 (refused why)) h.1.1 h.2
+      (ap (λ (x : BookKeeper U). x.desk.book) (sym h.0)) (ap (λ (x : BookKeeper U). x.uplink) (sym h.0));
+}
+
+kept_held : {U : Type 0} (sends : U → List ℕ → Answer → U → Type 0) (written : Written) (k k' : BookKeeper U) (response : Response) (end : End) (s : List ℕ) (r : Result (Unit {0}) QuarantineFault)
+    → KeeperOver sends k (quarantine s r) k' → SaysHeld r response → end ≡ NoBatch → IsKept sends (Hold s) written k k' response end
+kept_held sends written k k' response end s (Ok x) h says ends = record {
+  seat = h.0;
+  max = h.1;
+  one = outcome sends k.desk.seat k.max (Hold s) written k.desk.book k'.desk.book k.uplink k'.uplink response end Unknown false Nowhere (happens (Quarantine s) (done (codes "{}")))
+      (ap (held_or s) h.2.1.0) says ends h.2.1.1 h.2.0;
+}
+kept_held sends written k k' response end s (Err fault) h says ends =
+    let m = refused_or of_hold holding.NoMemory fault (quarantine_refusal (history k.desk.book) s) (held_or s) says.0 (λ f. refl) refl h.2.1.0 in
+    record {
+      seat = h.0;
+      max = h.1;
+      one = silent sends k.desk.seat k.max (Hold s) written k.desk.book k'.desk.book k.uplink k'.uplink response end m.0 (marked says.0 (refused (of_hold fault))) m.1 says.1 ends h.2.1.1 h.2.0;
+    }
+
+kept_lifted : {U : Type 0} (sends : U → List ℕ → Answer → U → Type 0) (written : Written) (k k' : BookKeeper U) (response : Response) (end : End) (s : List ℕ) (r : Result (Unit {0}) NotQuarantined)
+    → KeeperOver sends k (lift s r) k' → SaysLifted r response → end ≡ NoBatch → IsKept sends (LetGo s) written k k' response end
+kept_lifted sends written k k' response end s (Ok x) h says ends = record {
+  seat = h.0;
+  max = h.1;
+  one = outcome sends k.desk.seat k.max (LetGo s) written k.desk.book k'.desk.book k.uplink k'.uplink response end Unknown false Nowhere (happens (Lift s) (done (codes "{}")))
+      (ap (lifted_or s) h.2.1.0) says ends h.2.1.1 h.2.0;
+}
+kept_lifted sends written k k' response end s (Err fault) h says ends = record {
+  seat = h.0;
+  max = h.1;
+  one = silent sends k.desk.seat k.max (LetGo s) written k.desk.book k'.desk.book k.uplink k'.uplink response end says.0 (marked says.0 (refused not_quarantined))
+      (ap (λ o. unless_marked says.0 (lifted_or s o)) h.2.1.0 ∙ marked_only says.0 (refused not_quarantined)) says.1 ends h.2.1.1 h.2.0;
+}
+
+kept_ordered : {U : Type 0} (sends : U → List ℕ → Answer → U → Type 0) (written : Written) (k k' : BookKeeper U) (response : Response) (end : End) (r : Result Turn OrderFault)
+    → KeeperOver sends k (order r) k' → SaysOrdered r response → end ≡ NoBatch → IsKept sends FlushNow written k k' response end
+kept_ordered sends written k k' response end (Ok t) h says ends =
+    let made = h.2 in
+    record {
+      seat = h.0;
+      max = h.1;
+      one = outcome sends k.desk.seat k.max FlushNow written k.desk.book k'.desk.book k.uplink k'.uplink response end made.0 says.0 made.1 (flushed says.0 (turn_of (history k.desk.book) k.max made.0 made.1))
+          refl (says.1 ∙ ap (λ x. marked says.0 (turned x)) made.2) ends made.3 made.4;
+    }
+kept_ordered sends written k k' response end (Err fault) h says ends = absurd h.2
+
+kept_report : {U : Type 0} (sends : U → List ℕ → Answer → U → Type 0) (written : Written) (k k' : BookKeeper U) (response : Response) (end : End) (rows : Option (List SeriesTotals))
+    → KeeperOver sends k (totals rows) k' → SaysReport rows response → end ≡ NoBatch → IsKept sends Report written k k' response end
+kept_report sends written k k' response end None h says ends = record {
+  seat = h.0;
+  max = h.1;
+  one = silent sends k.desk.seat k.max Report written k.desk.book k'.desk.book k.uplink k'.uplink response end true (refused NoMemory) refl (says.1 ∙ marked_memory says.0) ends h.2.1 h.2.0;
+}
+kept_report sends written k k' response end (Some rows) h says ends = record {
+  seat = h.0;
+  max = h.1;
+  one = silent sends k.desk.seat k.max Report written k.desk.book k'.desk.book k.uplink k'.uplink response end says.0 (marked says.0 (reported (Some (totals_rows (history k.desk.book)))))
+      (marked_only says.0 _) (says.1 ∙ ap (λ x. marked says.0 (reported (Some x))) h.2.1.0) ends h.2.1.1 h.2.0;
+}
+
+-- a batch that was just admitted is closed by what was written
+pub record IsClosedBook {U : Type 0} (k k' : BookKeeper U) (n : ℕ) (written : Written) (end : End) : Type 0 where
+  pub seat : k'.desk.seat ≡ k.desk.seat
+  pub max : k'.max ≡ k.max
+  pub uplink : k'.uplink ≡ k.uplink
+  pub entry : Appends k.desk.book k'.desk.book k.desk.seat (closed_by written n)
+  pub ends : end ≡ end_by written
+
+confirmed : {U : Type 0} (sends : U → List ℕ → Answer → U → Type 0) (k k' : BookKeeper U) (n : ℕ) (r : Result (Unit {0}) NotOpen) → confirm_refusal (history k.desk.book) n ≡ None
+    → KeeperOver sends k (confirm n r) k' → Appends k.desk.book k'.desk.book k.desk.seat (Confirm n)
+confirmed sends k k' n (Ok x) opened h = h.2.1
+confirmed sends k k' n (Err x) opened h = let no : None ≡ Some x = sym opened ∙ h.2.1.0 in cc
+
+confirmed_uplink : {U : Type 0} (sends : U → List ℕ → Answer → U → Type 0) (k k' : BookKeeper U) (n : ℕ) (r : Result (Unit {0}) NotOpen) → KeeperOver sends k (confirm n r) k' → k'.uplink ≡ k.uplink
+confirmed_uplink sends k k' n r h = h.2.0
+
+undone : {U : Type 0} (sends : U → List ℕ → Answer → U → Type 0) (k m k' : BookKeeper U) (n : ℕ) (end : End) (r : Result (Unit {0}) UndoFault) → undo_refusal (history k.desk.book) n ≡ None
+    → KeeperOver sends k (undo n r) m → IsUndone (KeeperOver sends) n r m k' end → IsClosedBook k k' n None_ end
+undone {U} sends k m k' n end (Ok x) can h e = record {
+  seat = ap (λ (x : BookKeeper U). x.desk.seat) (sym e.0) ∙ h.0;
+  max = ap (λ (x : BookKeeper U). x.max) (sym e.0) ∙ h.1;
+  uplink = ap (λ (x : BookKeeper U). x.uplink) (sym e.0) ∙ h.2.0;
+  entry = ap (λ (x : BookKeeper U). x.desk.book) (sym e.0) ∙ h.2.1;
+  ends = e.1;
+}
+undone sends k m k' n end (Err fault) can h e = let no : None ≡ Some fault = sym can ∙ h.2.1.0 in cc
+
+closed : {U : Type 0} (sends : U → List ℕ → Answer → U → Type 0) (k k' : BookKeeper U) (n : ℕ) (end : End) (written : Written) → confirm_refusal (history k.desk.book) n ≡ None
+    → undo_refusal (history k.desk.book) n ≡ None → IsClosed (KeeperOver sends) n written k k' end → IsClosedBook k k' n written end
+closed sends k k' n end None_ opened can h = undone sends k h.1 k' n end h.0 can h.2 h.3
+closed sends k k' n end All opened can h = record { seat = h.1.0; max = h.1.1; uplink = confirmed_uplink sends k k' n h.0 h.1; entry = confirmed sends k k' n h.0 opened h.1; ends = h.2 }
+closed sends k k' n end (Part i) opened can h = record { seat = h.1.0; max = h.1.1; uplink = confirmed_uplink sends k k' n h.0 h.1; entry = confirmed sends k k' n h.0 opened h.1; ends = h.2 }
+
+abbrev batch_of : List ℕ → List DataPoint → Batch
+batch_of sender points = record { sender = sender; points = points }
+
+kept_admitted : {U : Type 0} (sends : U → List ℕ → Answer → U → Type 0) (written : Written) (k m k' : BookKeeper U) (response : Response) (end : End) (body : Batch) (text : List ℕ) (p : DataPoint) (ps : List DataPoint)
+    (r : Result ℕ (AdmitFault × Batch)) → body.points ≡ p ∷ ps → KeeperOver sends k (admit (batch_of body.sender (p ∷ ps)) r) m → IsAdmitted (KeeperOver sends) text r m k' response written end
+    → IsKept sends (Metrics body text) written k k' response end
+kept_admitted {U} sends written k m k' response end body text p ps (Ok n) some h a =
+    let J = k.desk.book in
+    let E = history J in
+    let batch = batch_of body.sender (p ∷ ps) in
+    let is_in = h.2.1 in
+    let c = closed sends m k' n end written is_in.opened is_in.undoable a.1 in
+    let entry : Appends m.desk.book k'.desk.book k.desk.seat (closed_by written n) = c.entry ∙ ap (λ s. appended m.desk.book (entry_of s (closed_by written n))) h.0 in
+    let adds : Adds k.desk.seat J k'.desk.book (Admit n batch ∷ closed_by written n ∷ []) = two_added k.desk.seat J m.desk.book k'.desk.book (Admit n batch) (closed_by written n) is_in.entry entry in
+    let is : served (Metrics body text) E k.max Unknown written false Nowhere ≡ admitted (admits E + 1) batch text written =
+    ap (λ xs. posted E body.sender xs text written) some ∙ ap (λ o. admitted_or (admits E + 1) batch text written o) is_in.none in
+    record {
+      seat = c.seat ∙ h.0;
+      max = c.max ∙ h.1;
+      one = outcome sends k.desk.seat k.max (Metrics body text) written J k'.desk.book k.uplink k'.uplink response end Unknown false Nowhere (admitted (admits E + 1) batch text written)
+          is a.0 c.ends (adds ∙ ap (λ i. journal_of J.opening (J.entries ++ map (entry_of k.desk.seat) (Admit i batch ∷ closed_by written i ∷ []))) is_in.number) (c.uplink ∙ h.2.0);
+    }
+kept_admitted {U} sends written k m k' response end body text p ps (Err e) some h a =
+    let J = k.desk.book in
+    let E = history J in
+    let batch = batch_of body.sender (p ∷ ps) in
+    let x = refused_or of_admit admission.NoMemory e.0 (admit_refusal E batch) (λ o. admitted_or (admits E + 1) batch text written o) a.1.0 (λ f. refl) refl h.2.1.0 in
+    record {
+      seat = ap (λ (w : BookKeeper U). w.desk.seat) (sym a.0) ∙ h.0;
+      max = ap (λ (w : BookKeeper U). w.max) (sym a.0) ∙ h.1;
+      one = silent sends k.desk.seat k.max (Metrics body text) written J k'.desk.book k.uplink k'.uplink response end x.0 (marked a.1.0 (refused (of_admit e.0)))
+          (ap (λ xs. unless_marked x.0 (posted E body.sender xs text written)) some ∙ x.1) a.1.1 a.2
+          (ap (λ (w : BookKeeper U). w.desk.book) (sym a.0) ∙ h.2.1.1) (ap (λ (w : BookKeeper U). w.uplink) (sym a.0) ∙ h.2.0);
+    }
+
+kept_posted : {U : Type 0} (sends : U → List ℕ → Answer → U → Type 0) (written : Written) (k k' : BookKeeper U) (response : Response) (end : End) (body : Batch) (text : List ℕ) (points : List DataPoint)
+    → body.points ≡ points → IsPosted (KeeperOver sends) body.sender points text k k' response written end → IsKept sends (Metrics body text) written k k' response end
+kept_posted {U} sends written k k' response end body text [] none h = record {
+  seat = ap (λ (x : BookKeeper U). x.desk.seat) (sym h.0);
+  max = ap (λ (x : BookKeeper U). x.max) (sym h.0);
+  one = silent sends k.desk.seat k.max (Metrics body text) written k.desk.book k'.desk.book k.uplink k'.uplink response end false (done text)
+      (ap (λ xs. posted (history k.desk.book) body.sender xs text written) none) h.1 h.2 (ap (λ (x : BookKeeper U). x.desk.book) (sym h.0)) (ap (λ (x : BookKeeper U). x.uplink) (sym h.0));
+}
+kept_posted sends written k k' response end body text (p ∷ ps) some h = kept_admitted sends written k h.1 k' response end body text p ps h.0 some h.2 h.3
+
+pub kept : {U : Type 0} (sends : U → List ℕ → Answer → U → Type 0) (asked : Asked) (written : Written) (k k' : BookKeeper U) (response : Response) (end : End)
+    → IsConversation (KeeperOver sends) asked k k' response written end → IsKept sends asked written k k' response end
+kept sends (Metrics body text) written k k' response end h = kept_posted sends written k k' response end body text body.points refl h
+kept sends (Hold s) written k k' response end h = kept_held sends written k k' response end s h.0 h.1 h.2 h.3
+kept sends (LetGo s) written k k' response end h = kept_lifted sends written k k' response end s h.0 h.1 h.2 h.3
+kept sends FlushNow written k k' response end h = kept_ordered sends written k k' response end h.0 h.1 h.2 h.3
+kept sends Report written k k' response end h = kept_report sends written k k' response end h.0 h.1 h.2 h.3
+kept sends (Turned why) written k k' response end h = kept_turned sends written k k' response end why h
+
+-- a request that was served over a keeper is served over its book
+pub record IsServedKeeper {U : Type 0} (sends : U → List ℕ → Answer → U → Type 0) (input : Option (List ℕ)) (k k' : BookKeeper U) (old new : Option (List ℕ)) (s : Served) : Type 0 where
+  pub seat : k'.desk.seat ≡ k.desk.seat
+  pub max : k'.max ≡ k.max
+  pub served : IsServedBook sends k.desk.seat k.max input k.desk.book k'.desk.book k.uplink k'.uplink old new s
+
+pub served_keeper : {U : Type 0} (sends : U → List ℕ → Answer → U → Type 0) (input : Option (List ℕ)) (k k' : BookKeeper U) (old new : Option (List ℕ)) (s : Served)
+    → IsServed (KeeperOver sends) input k k' old new s → IsServedKeeper sends input k k' old new s
+served_keeper {U} sends input k k' old new Closed h = record {
+  seat = ap (λ (x : BookKeeper U). x.desk.seat) (sym h.1);
+  max = ap (λ (x : BookKeeper U). x.max) (sym h.1);
+  served = (h.0, ap (λ (x : BookKeeper U). x.desk.book) (sym h.1), ap (λ (x : BookKeeper U). x.uplink) (sym h.1), sym h.2);
+}
+served_keeper {U} sends input k k' old new Broken h = record {
+  seat = ap (λ (x : BookKeeper U). x.desk.seat) (sym h.0);
+  max = ap (λ (x : BookKeeper U). x.max) (sym h.0);
+  served = (ap (λ (x : BookKeeper U). x.desk.book) (sym h.0), ap (λ (x : BookKeeper U). x.uplink) (sym h.0), sym h.1);
+}
+served_keeper sends input k k' old new (Replied status written end) h =
+    let c = kept sends h.0 written k k' h.1 end h.3 in
+    record { seat = c.seat; max = c.max; served = (h.0, h.1, h.2, c.one, h.4) }

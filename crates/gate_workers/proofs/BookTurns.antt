@@ -1,0 +1,165 @@
+-- From the calls of a turn to the journal.
+use Rattle.std.proofs.Common.{◌≡◌, ◌≢◌, ℕ, ◌+◌, ◌==◌, ◌&&◌, Bool, true, false, List, [], ◌∷◌, ◌++◌, length, map, Option, Some, None, Result, Ok, Err, refl, sym, ap, subst, ◌∙◌, if◌then◌else◌, append_assoc, append-nil, rules, tests}
+use Rattle.series_id.specs.Identity.{Identity}
+use Rattle.metric_events.specs.History.{History, ◌▸◌}
+use Rattle.metric_events.specs.Choice.{pick, flush_points}
+use Rattle.metric_events.specs.declared.entry.Entry.{Entry}
+use Rattle.metric_events.specs.declared.event.Event.{Event}
+use Rattle.metric_events.specs.declared.event.Event.TheVariants.{Take, GiveBack as GivenBack}
+use Rattle.metric_events.specs.DataPoint.{DataPoint}
+use Rattle.back_answers.specs.Answers.{act_of}
+use Rattle.back_answers.specs.declared.answer.Answer.{Answer}
+use Rattle.back_answers.specs.declared.answer.Answer.TheVariants.{Unknown}
+use Rattle.back_answers.specs.declared.deed.Act.{Act}
+use Rattle.back_answers.specs.declared.deed.Act.TheVariants.{Settle, GiveBack, DropFlush}
+use Rattle.delta_book.specs.Journal.{Journal, journal_of, history, takes, Appends}
+use Rattle.delta_book.specs.Flushes.{is_full, IsTaken}
+use Rattle.delta_book.specs.declared.flush.Flush.{Flush}
+use Rattle.delta_book.specs.declared.faults.NotLive.{NotLive}
+use Rattle.delta_book.specs.declared.faults.TakeFault.{TakeFault}
+use Rattle.delta_book.specs.declared.faults.TakeFault.TheVariants as fault
+use Rattle.gate_workers.specs.declared.desk.Desk.{Desk}
+use Rattle.gate_workers.specs.declared.turn.Turn.{Turn}
+use Rattle.gate_workers.specs.declared.turn.Turn.TheVariants.{Idle, Full, NoMemory, Done}
+use Rattle.gate_workers.specs.Calls.{Call, take}
+use Rattle.gate_workers.specs.Turns.{IsTurn, IsIdleTurn, IsUnsent, IsClosing, closing, Want, Nowhere, ForFlush, ForText, Made, ending, sending, taking, turn_by, turn_of, without_events}
+use Rattle.gate_workers.specs.BookCalls.{BookGives, Adds, Ends, AreSent, IsMade, entry_of}
+use Rattle.out_texts.specs.Request.{request_text}
+
+abbrev pub DeskGives : Desk → Call → Desk → Type 0
+DeskGives k c w = (w.seat ≡ k.seat) × BookGives k.seat k.book c w.book
+
+-- a turn over a journal, where it is that one
+made : {U : Type 0} (sends : U → List ℕ → Answer → U → Type 0) (seat max : ℕ) (J J' : Journal) (u u' : U) (t : Turn) (answer : Answer) (want : Want) (m : Made)
+    → turn_of (history J) max answer want ≡ m → t ≡ m.turn → Adds seat J J' m.events → AreSent sends answer u m.sent u' → IsMade sends seat max J J' u u' t
+made {U} sends seat max J J' u u' t answer want m is turn adds sent =
+    let P : Made → Type 0 = λ (x : Made). (t ≡ x.turn) × Adds seat J J' x.events × AreSent sends answer u x.sent u' in
+    let p = subst P (sym is) (turn, adds, sent) in
+    (answer, want, p.0, p.1, p.2)
+
+pub nothing_added : (seat : ℕ) (J J' : Journal) → J' ≡ J → Adds seat J J' []
+nothing_added seat J J' h = h ∙ ap (journal_of J.opening) (sym (append-nil J.entries))
+
+pub two_added : (seat : ℕ) (J M J' : Journal) (e f : Event) → Appends J M seat e → Appends M J' seat f → Adds seat J J' (e ∷ f ∷ [])
+two_added seat J M J' e f h k =
+    k ∙ ap (λ (x : Journal). journal_of x.opening (x.entries ++ entry_of seat f ∷ [])) h ∙ ap (journal_of J.opening) (append_assoc J.entries (entry_of seat e ∷ []) (entry_of seat f ∷ []))
+
+idle_by : (E : History) (xs : List Identity) (full : Bool) (answer : Answer) (want : Want) → xs ≡ [] → turn_by E xs full answer want ≡ without_events Idle
+idle_by E xs full answer want h = rw h refl
+
+full_by : (E : History) (xs : List Identity) (answer : Answer) (want : Want) → xs ≢ [] → turn_by E xs true answer want ≡ without_events Full
+full_by E [] answer want h = absurd (h refl)
+full_by E (x ∷ xs) answer want h = refl
+
+taken_by : (E : History) (xs : List Identity) (answer : Answer) (want : Want) → xs ≢ [] → turn_by E xs false answer want ≡ taking E (takes E + 1) xs answer want
+taken_by E [] answer want h = absurd (h refl)
+taken_by E (x ∷ xs) answer want h = refl
+
+not_full : (full : Bool) → (if full then Some fault.Full else None) ≡ None → full ≡ false
+not_full true h = cc
+not_full false h = refl
+
+-- what a fault of a take makes of a turn
+abbrev turn_of_fault : TakeFault → Turn
+turn_of_fault fault.Full = Full
+turn_of_fault fault.NoMemory = NoMemory
+
+-- a take was refused
+refused_turn : {U : Type 0} (sends : U → List ℕ → Answer → U → Type 0) (seat max : ℕ) (J J' : Journal) (u u' : U) (e : TakeFault) (full : Bool)
+    → is_full (history J) ≡ full → e ≡ (if full then fault.Full else fault.NoMemory) → pick (history J) max ≢ [] → J' ≡ J → u' ≡ u
+    → IsMade sends seat max J J' u u' (turn_of_fault e)
+refused_turn sends seat max J J' u u' e true is why some same_book same_uplink =
+    made sends seat max J J' u u' (turn_of_fault e) Unknown Nowhere (without_events Full)
+    (rw is (full_by (history J) (pick (history J) max) Unknown Nowhere some)) (ap turn_of_fault why) (nothing_added seat J J' same_book) same_uplink
+refused_turn sends seat max J J' u u' e false is why some same_book same_uplink =
+    made sends seat max J J' u u' (turn_of_fault e) Unknown ForFlush (without_events NoMemory)
+    (rw is (taken_by (history J) (pick (history J) max) Unknown ForFlush some)) (ap turn_of_fault why) (nothing_added seat J J' same_book) same_uplink
+
+-- nothing may be taken
+idle_turn : {U : Type 0} (sends : U → List ℕ → Answer → U → Type 0) (seat max : ℕ) (J J' : Journal) (u u' : U) → pick (history J) max ≡ [] → J' ≡ J → u' ≡ u
+    → IsMade sends seat max J J' u u' Idle
+idle_turn sends seat max J J' u u' none same_book same_uplink =
+    made sends seat max J J' u u' Idle Unknown Nowhere (without_events Idle)
+    (idle_by (history J) (pick (history J) max) (is_full (history J)) Unknown Nowhere none) refl (nothing_added seat J J' same_book) same_uplink
+
+-- the flush that was taken is live
+ended : (seat max : ℕ) (J M J' : Journal) (flush : Flush) (event : Event) (r : Result (Unit {0}) NotLive) → IsTaken J M seat max flush → Ends seat M J' flush.number event r → Appends M J' seat event
+ended seat max J M J' flush event (Ok x) h e = e.1
+ended seat max J M J' flush event (Err x) h e = let no : None ≡ Some x = sym h.live ∙ e.0 in cc
+
+-- the events of a flush that was taken and ended
+both_added : (seat max : ℕ) (J M J' : Journal) (flush : Flush) (event : ℕ → Event) (r : Result (Unit {0}) NotLive) → IsTaken J M seat max flush → Ends seat M J' flush.number (event flush.number) r
+    → Adds seat J J' (Take (takes (history J) + 1) (pick (history J) max) ∷ event (takes (history J) + 1) ∷ [])
+both_added seat max J M J' flush event r h e =
+    two_added seat J M J' (Take flush.number (pick (history J) max)) (event flush.number) h.entry (ended seat max J M J' flush (event flush.number) r h e)
+    ∙ ap (λ n. journal_of J.opening (J.entries ++ map (entry_of seat) (Take n (pick (history J) max) ∷ event n ∷ []))) h.number
+
+-- a flush whose text found no memory was given back
+returned_turn : {U : Type 0} (sends : U → List ℕ → Answer → U → Type 0) (seat max : ℕ) (J M J' : Journal) (u u' : U) (flush : Flush) (r : Result (Unit {0}) NotLive)
+    → IsTaken J M seat max flush → Ends seat M J' flush.number (GivenBack flush.number) r → u' ≡ u → IsMade sends seat max J J' u u' NoMemory
+returned_turn sends seat max J M J' u u' flush r h e same_uplink =
+    made sends seat max J J' u u' NoMemory Unknown ForText (taking (history J) (takes (history J) + 1) (pick (history J) max) Unknown ForText)
+    (rw (not_full (is_full (history J)) h.refused) (taken_by (history J) (pick (history J) max) Unknown ForText h.some)) refl
+    (both_added seat max J M J' flush (λ n. GivenBack n) r h e) same_uplink
+
+-- the points of a flush that was taken
+sent_points : (seat max : ℕ) (J M : Journal) (flush : Flush) → IsTaken J M seat max flush
+    → flush.points.items ≡ flush_points (history J ▸ Take (takes (history J) + 1) (pick (history J) max)) (takes (history J) + 1)
+sent_points seat max J M flush h =
+    h.points ∙ ap (λ E. flush_points E flush.number) h.grows ∙ ap (λ n. flush_points (history J ▸ Take n (pick (history J) max)) n) h.number
+
+-- a flush was sent and ended
+sent_turn : {U : Type 0} (sends : U → List ℕ → Answer → U → Type 0) (seat max : ℕ) (J M J' : Journal) (u u' : U) (flush : Flush) (answer : Answer) (r : Result (Unit {0}) NotLive)
+    → IsTaken J M seat max flush → sends u (request_text flush.points.items) answer u' → Ends seat M J' flush.number (ending (act_of answer) flush.number) r
+    → IsMade sends seat max J J' u u' (Done flush.number (length flush.points.items) answer (act_of answer))
+sent_turn {U} sends seat max J M J' u u' flush answer r h sent e =
+    let f = takes (history J) + 1 in
+    let points = flush_points (history J ▸ Take f (pick (history J) max)) f in
+    let P : List DataPoint → Type 0 = λ ps. sends u (request_text ps) answer u' in
+    let turn : Done flush.number (length flush.points.items) answer (act_of answer) ≡ Done f (length points) answer (act_of answer) =
+    ap (λ n. Done n (length flush.points.items) answer (act_of answer)) h.number ∙ ap (λ ps. Done f (length ps) answer (act_of answer)) (sent_points seat max J M flush h) in
+    made sends seat max J J' u u' (Done flush.number (length flush.points.items) answer (act_of answer)) answer Nowhere (sending f (pick (history J) max) points answer)
+    (rw (not_full (is_full (history J)) h.refused) (taken_by (history J) (pick (history J) max) answer Nowhere h.some)) turn
+    (both_added seat max J M J' flush (ending (act_of answer)) r h e)
+    (u', subst P (sent_points seat max J M flush h) sent, refl)
+
+-- the closing call of a desk
+closed : (k k' : Desk) (act : Act) (flush : ℕ) → IsClosing DeskGives act flush k k' → (k'.seat ≡ k.seat) × ((r : Result (Unit {0}) NotLive) × Ends k.seat k.book k'.book flush (ending act flush) r)
+closed k k' Settle flush h = (h.1.0, (h.0, h.1.1))
+closed k k' GiveBack flush h = (h.1.0, (h.0, h.1.1))
+closed k k' DropFlush flush h = (h.1.0, (h.0, h.1.1))
+
+-- a turn of a desk: its seat stays, and the turn is that of its journal
+abbrev pub IsDeskTurn : {U : Type 0} → (U → List ℕ → Answer → U → Type 0) → ℕ → Desk → Desk → U → U → Turn → Type 0
+IsDeskTurn sends max k k' u u' t = (k'.seat ≡ k.seat) × IsMade sends k.seat max k.book k'.book u u' t
+
+at_seat : (s seat : ℕ) (J J' : Journal) (flush : ℕ) (event : Event) (r : Result (Unit {0}) NotLive) → s ≡ seat → Ends s J J' flush event r → Ends seat J J' flush event r
+at_seat s seat J J' flush event r same h = let P : ℕ → Type 0 = λ n. Ends n J J' flush event r in subst P same h
+
+unsent : {U : Type 0} (sends : U → List ℕ → Answer → U → Type 0) (max : ℕ) (k m k' : Desk) (u u' : U) (t : Turn) (r : Result (Option Flush) TakeFault)
+    → DeskGives k (take max r) m → IsUnsent DeskGives max r m k' t → u ≡ u' → IsDeskTurn sends max k k' u u' t
+unsent sends max k m k' u u' t (Ok None) h e same_uplink =
+    let book : k'.book ≡ k.book = ap (λ (x : Desk). x.book) (sym e.0) ∙ h.1.1 in
+    (ap (λ (x : Desk). x.seat) (sym e.0) ∙ h.0, rw e.1 (idle_turn sends k.seat max k.book k'.book u u' h.1.0 book (sym same_uplink)))
+unsent sends max k m k' u u' t (Ok (Some flush)) h e same_uplink =
+    let c = closed m k' GiveBack flush.number e.0 in
+    (c.0 ∙ h.0, rw e.1 (returned_turn sends k.seat max k.book m.book k'.book u u' flush c.1.0 h.1 (at_seat m.seat k.seat m.book k'.book flush.number (GivenBack flush.number) c.1.0 h.0 c.1.1) (sym same_uplink)))
+unsent sends max k m k' u u' t (Err fault.Full) h e same_uplink =
+    let book : k'.book ≡ k.book = ap (λ (x : Desk). x.book) (sym e.0) ∙ h.1.2 in
+    (ap (λ (x : Desk). x.seat) (sym e.0) ∙ h.0, rw e.1 (refused_turn sends k.seat max k.book k'.book u u' fault.Full (is_full (history k.book)) refl h.1.0 h.1.1 book (sym same_uplink)))
+unsent sends max k m k' u u' t (Err fault.NoMemory) h e same_uplink =
+    let book : k'.book ≡ k.book = ap (λ (x : Desk). x.book) (sym e.0) ∙ h.1.2 in
+    (ap (λ (x : Desk). x.seat) (sym e.0) ∙ h.0, rw e.1 (refused_turn sends k.seat max k.book k'.book u u' fault.NoMemory (is_full (history k.book)) refl h.1.0 h.1.1 book (sym same_uplink)))
+
+idle : {U : Type 0} (sends : U → List ℕ → Answer → U → Type 0) (max : ℕ) (k k' : Desk) (u u' : U) (t : Turn) → IsIdleTurn DeskGives max k k' t → u ≡ u' → IsDeskTurn sends max k k' u u' t
+idle sends max k k' u u' t h same_uplink = unsent sends max k h.1 k' u u' t h.0 h.2 h.3 same_uplink
+
+pub desk_turn : {U : Type 0} (sends : U → List ℕ → Answer → U → Type 0) (max : ℕ) (k k' : Desk) (u u' : U) (t : Turn) → IsTurn DeskGives sends max k k' u u' t → IsDeskTurn sends max k k' u u' t
+desk_turn sends max k k' u u' Idle h = idle sends max k k' u u' Idle h.0 h.1
+desk_turn sends max k k' u u' Full h = idle sends max k k' u u' Full h.0 h.1
+desk_turn sends max k k' u u' NoMemory h = idle sends max k k' u u' NoMemory h.0 h.1
+desk_turn sends max k k' u u' (Done number points answer act) h =
+    let c = closed h.1 k' (act_of answer) h.0.number h.4 in (
+      c.0 ∙ h.2.0,
+      rw (h.5, h.6, h.7) (sent_turn sends k.seat max k.book h.1.book k'.book u u' h.0 answer c.1.0 h.2.1 h.3 (at_seat h.1.seat k.seat h.1.book k'.book h.0.number (ending (act_of answer) h.0.number) c.1.0 h.2.0 c.1.1)),
+    )

@@ -1,0 +1,29 @@
+-- What one exchange with the back end comes to.
+use Rattle.std.specs.Prelude.{◌≡◌, ◌≢◌, ℕ, List, Option, IfSome, Result, Ok, Err, option_map}
+use Rattle.back_answers.specs.Answers.{answer_of}
+use Rattle.back_answers.specs.declared.answer.Answer.{Answer}
+use Rattle.back_answers.specs.declared.answer.Answer.TheVariants.{Unknown}
+use Rattle.http_edge.specs.Reply.{SaysReply}
+use Rattle.http_edge.specs.declared.reply.Reply.{Reply}
+use Rattle.http_edge.specs.declared.fault.HttpFault.{HttpFault}
+use Rattle.http_edge.specs.declared.fault.HttpFault.TheVariants.{Io}
+use Rattle.http_edge.specs.declared.written.Written.{Written}
+use Rattle.http_edge.specs.declared.written.Written.TheVariants.{All, None_, Part}
+
+-- the class of a head that was read; without one it is unknown
+abbrev pub answer_to : Result Reply HttpFault → Answer
+answer_to (Ok r) = answer_of r.status (option_map (λ v. v.items) r.retry_after)
+answer_to (Err e) = Unknown
+
+-- what was read of the reader, whose failed calls are counted, and the answer that it gives
+pub record IsRead (input : Option (List ℕ)) (one_more : ℕ → ℕ) (old new : ℕ) (r : Result Reply HttpFault) (answer : Answer) : Type 0 where
+  pub says : IfSome input (λ bytes. SaysReply bytes r)
+  pub io : r ≡ Err Io → new ≡ one_more old
+  pub well : r ≢ Err Io → new ≡ old
+  pub class : answer ≡ answer_to r
+
+-- where all of the request was written, the answer is that of the head that was read; else it is unknown, and nothing was read
+abbrev pub IsAnswered : Option (List ℕ) → (ℕ → ℕ) → ℕ → ℕ → Written → Answer → Type 0
+IsAnswered input one_more old new All answer = (r : Result Reply HttpFault) × IsRead input one_more old new r answer
+IsAnswered input one_more old new None_ answer = (answer ≡ Unknown) × (new ≡ old)
+IsAnswered input one_more old new (Part n) answer = (answer ≡ Unknown) × (new ≡ old)

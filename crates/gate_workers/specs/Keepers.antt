@@ -1,0 +1,16 @@
+-- What a keeper over a book is made of.
+use Rattle.std.specs.Prelude.{ℕ}
+use Rattle.delta_book.specs.Journal.{Journal}
+use Rattle.gate_workers.specs.declared.desk.BookKeeper.{BookKeeper}
+
+abbrev pub book_of : {U : Type 0} → BookKeeper U → Journal
+book_of k = k.desk.book
+
+abbrev pub seat_of : {U : Type 0} → BookKeeper U → ℕ
+seat_of k = k.desk.seat
+
+abbrev pub uplink_of : {U : Type 0} → BookKeeper U → U
+uplink_of k = k.uplink
+
+abbrev pub max_of : {U : Type 0} → BookKeeper U → ℕ
+max_of k = k.max

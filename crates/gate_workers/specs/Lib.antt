@@ -1,0 +1,15 @@
+pub mod Calls
+pub mod Refusals
+pub mod Asked
+pub mod Shown
+pub mod Naming
+pub mod Asks
+pub mod Heard
+pub mod Responses
+pub mod Conversations
+pub mod Turns
+pub mod BookCalls
+pub mod Keepers
+pub mod Served
+pub mod ServedBook
+pub mod Exchanged

@@ -1,0 +1,34 @@
+-- What serving one request comes to.
+use Rattle.std.specs.Prelude.{◌≡◌, ℕ, List, Option}
+use Rattle.http_edge.specs.Sent.{Failed}
+use Rattle.gate_workers.specs.declared.served.Served.{Served}
+use Rattle.gate_workers.specs.declared.served.Served.TheVariants.{Closed, Broken, Replied}
+use Rattle.gate_workers.specs.declared.replied.Replied.{Replied as Reply}
+use Rattle.gate_workers.specs.Asked.{Asked}
+use Rattle.gate_workers.specs.Asks.{IsHeard, IsEmpty}
+use Rattle.gate_workers.specs.Responses.{Response, IsSaid}
+use Rattle.gate_workers.specs.Conversations.{Giving, IsConversation}
+
+-- the keeper was asked for this, and its answers were said
+abbrev pub IsReplied : {K : Type 0} → Giving K → Asked → K → K → Option (List ℕ) → Option (List ℕ) → Reply → Type 0
+IsReplied gives asked k k' old new reply =
+    (response : Response) × IsConversation gives asked k k' response reply.said.written reply.end × IsSaid old new response reply.said.status reply.said.written
+
+-- nothing was done and nothing written, or what the bytes ask for was done and said
+abbrev pub IsServed : {K : Type 0} → Giving K → Option (List ℕ) → K → K → Option (List ℕ) → Option (List ℕ) → Served → Type 0
+IsServed gives input k k' old new Closed = IsEmpty input × (k ≡ k') × (old ≡ new)
+IsServed gives input k k' old new Broken = (k ≡ k') × (old ≡ new)
+IsServed gives input k k' old new (Replied status written end) =
+    (asked : Asked) × (response : Response) × IsHeard input asked × IsConversation gives asked k k' response written end × IsSaid old new response status written
+
+-- the reader's failed calls at first and at last: one at Broken, and else none
+abbrev pub ReadingFails : (ℕ → ℕ) → ℕ → ℕ → Served → Type 0
+ReadingFails one_more old new Closed = new ≡ old
+ReadingFails one_more old new Broken = new ≡ one_more old
+ReadingFails one_more old new (Replied status written end) = new ≡ old
+
+-- the writer's: none where all of a response was written or there is none, and else one
+abbrev pub WritingFails : (ℕ → ℕ) → ℕ → ℕ → Served → Type 0
+WritingFails one_more old new Closed = new ≡ old
+WritingFails one_more old new Broken = new ≡ old
+WritingFails one_more old new (Replied status written end) = Failed one_more old new written

@@ -1,0 +1,94 @@
+-- One flush turn: over any store, and over a history.
+use Rattle.std.specs.Prelude.{◌≡◌, ℕ, ◌+◌, Bool, true, false, List, [], ◌∷◌, length, Option, Some, None, Result, Ok, Err}
+use Rattle.series_id.specs.Identity.{Identity}
+use Rattle.metric_events.specs.History.{History, ◌▸◌}
+use Rattle.metric_events.specs.Choice.{pick, flush_points}
+use Rattle.metric_events.specs.DataPoint.{DataPoint}
+use Rattle.metric_events.specs.declared.event.Event.{Event}
+use Rattle.metric_events.specs.declared.event.Event.TheVariants.{Take, Settle as Settled, Drop as Dropped, GiveBack as GivenBack}
+use Rattle.back_answers.specs.Answers.{act_of}
+use Rattle.back_answers.specs.declared.answer.Answer.{Answer}
+use Rattle.back_answers.specs.declared.deed.Act.{Act}
+use Rattle.back_answers.specs.declared.deed.Act.TheVariants.{Settle, GiveBack, DropFlush}
+use Rattle.delta_book.specs.Journal.{takes}
+use Rattle.delta_book.specs.Flushes.{is_full}
+use Rattle.delta_book.specs.declared.flush.Flush.{Flush}
+use Rattle.delta_book.specs.declared.faults.NotLive.{NotLive}
+use Rattle.delta_book.specs.declared.faults.TakeFault.{TakeFault}
+use Rattle.delta_book.specs.declared.faults.TakeFault.TheVariants as fault
+use Rattle.out_texts.specs.Request.{request_text}
+use Rattle.gate_workers.specs.declared.turn.Turn.{Turn}
+use Rattle.gate_workers.specs.declared.turn.Turn.TheVariants.{Idle, Full, NoMemory, Done}
+use Rattle.gate_workers.specs.Calls.{Call, take, settle, drop_flush, give_back}
+
+-- the closing call of a flush
+abbrev pub closing : Act → ℕ → Result (Unit {0}) NotLive → Call
+closing Settle flush r = settle flush r
+closing GiveBack flush r = give_back flush r
+closing DropFlush flush r = drop_flush flush r
+
+abbrev pub IsClosing : {K : Type 0} → (K → Call → K → Type 0) → Act → ℕ → K → K → Type 0
+IsClosing gives act flush k k' = (r : Result (Unit {0}) NotLive) × gives k (closing act flush r) k'
+
+-- no flush, or one whose text found no memory and which was given back
+abbrev pub IsUnsent : {K : Type 0} → (K → Call → K → Type 0) → ℕ → Result (Option Flush) TakeFault → K → K → Turn → Type 0
+IsUnsent gives max (Ok None) m k' t = (m ≡ k') × (t ≡ Idle)
+IsUnsent gives max (Ok (Some flush)) m k' t = IsClosing gives GiveBack flush.number m k' × (t ≡ NoMemory)
+IsUnsent gives max (Err fault.Full) m k' t = (m ≡ k') × (t ≡ Full)
+IsUnsent gives max (Err fault.NoMemory) m k' t = (m ≡ k') × (t ≡ NoMemory)
+
+-- the calls of a turn in which nothing was sent
+abbrev pub IsIdleTurn : {K : Type 0} → (K → Call → K → Type 0) → ℕ → K → K → Turn → Type 0
+IsIdleTurn {K} gives max k k' t = (r : Result (Option Flush) TakeFault) × (m : K) × gives k (take max r) m × IsUnsent gives max r m k' t
+
+-- the calls of a turn and what was sent
+abbrev pub IsTurn : {K U : Type 0} → (K → Call → K → Type 0) → (U → List ℕ → Answer → U → Type 0) → ℕ → K → K → U → U → Turn → Type 0
+IsTurn gives sends max k k' u u' Idle = IsIdleTurn gives max k k' Idle × (u ≡ u')
+IsTurn gives sends max k k' u u' Full = IsIdleTurn gives max k k' Full × (u ≡ u')
+IsTurn gives sends max k k' u u' NoMemory = IsIdleTurn gives max k k' NoMemory × (u ≡ u')
+IsTurn {K} {U} gives sends max k k' u u' (Done number points answer act) =
+    (flush : Flush) × (m : K) × gives k (take max (Ok (Some flush))) m × sends u (request_text flush.points.items) answer u' × IsClosing gives (act_of answer) flush.number m k'
+    × (number ≡ flush.number) × (points ≡ length flush.points.items) × (act ≡ act_of answer)
+
+-- where a turn found no memory: nowhere, for its flush, or for the flush's text
+pub data Want : Type 0 where
+  Nowhere : Want
+  ForFlush : Want
+  ForText : Want
+
+-- what a turn comes to
+pub record Made : Type 0 where
+  pub turn : Turn
+  pub events : List Event
+  pub sent : List (List ℕ)
+
+abbrev pub without_events : Turn → Made
+without_events t = record { turn = t; events = []; sent = [] }
+
+-- the event of an act
+abbrev pub ending : Act → ℕ → Event
+ending Settle flush = Settled flush
+ending GiveBack flush = GivenBack flush
+ending DropFlush flush = Dropped flush
+
+abbrev pub sending : ℕ → List Identity → List DataPoint → Answer → Made
+sending f series points answer = record {
+  turn = Done f (length points) answer (act_of answer);
+  events = Take f series ∷ ending (act_of answer) f ∷ [];
+  sent = request_text points ∷ [];
+}
+
+-- a flush f of these series is taken
+abbrev pub taking : History → ℕ → List Identity → Answer → Want → Made
+taking E f series answer Nowhere = sending f series (flush_points (E ▸ Take f series) f) answer
+taking E f series answer ForFlush = without_events NoMemory
+taking E f series answer ForText = record { turn = NoMemory; events = Take f series ∷ GivenBack f ∷ []; sent = [] }
+
+abbrev pub turn_by : History → List Identity → Bool → Answer → Want → Made
+turn_by E [] full answer want = without_events Idle
+turn_by E (x ∷ xs) true answer want = without_events Full
+turn_by E (x ∷ xs) false answer want = taking E (takes E + 1) (x ∷ xs) answer want
+
+-- the turn that takes at most max series after a history, where the back end gives this answer
+abbrev pub turn_of : History → ℕ → Answer → Want → Made
+turn_of E max answer want = turn_by E (pick E max) (is_full E) answer want

@@ -1,0 +1,77 @@
+//! The content of a request.
+ghost use Rattle.std.specs.Prelude.{◌≡◌, codes};
+ghost use Rattle.std.specs.Str.{str_eq_ignore_ascii_case};
+ghost use Rattle.std.specs.List.{list_all};
+ghost use Rattle.http_edge.specs.Framing.{is_named, values_of};
+ghost use Rattle.http_edge.specs.Request.{header_in, headers_in};
+ghost use Rattle.gate_workers.specs.Asked as spec;
+
+use crate::paths::{before, cut};
+use http_edge::{Header, find_in};
+
+fn is_same(a: &[u8], b: &[u8]) -> bool
+    ensures { result ≡ str_eq_ignore_ascii_case a.now b.now }
+{
+    a.eq_ignore_ascii_case(b)
+}
+
+fn are_blanks(bytes: &[u8]) -> bool
+    ensures { result ≡ list_all spec.is_blank bytes.now }
+{
+    bytes.iter().all(|b| *b == b' ' || *b == b'\t')
+}
+
+/// Whether the value is these words in any case, with nothing behind them but blanks.
+fn is_words(words: &[u8], value: &[u8]) -> bool
+    ensures { result ≡ spec.is_words words.now value.now }
+{
+    let (front, behind) = cut(value, words.len());
+    is_same(front, words) && are_blanks(behind)
+}
+
+fn is_coding(header: &Header) -> bool
+    ensures { result ≡ is_named (codes "content-encoding") (header_in header.now) }
+{
+    is_same(&header.name, b"content-encoding")
+}
+
+fn is_identity(coding: &[u8]) -> bool
+    ensures { result ≡ spec.is_identity coding.now }
+{
+    is_same(coding, b"identity")
+}
+
+/// Whether the field names no coding that has to be undone.
+fn is_uncoded(header: &Header) -> bool
+    ensures { result ≡ spec.is_uncoded (header_in header.now) }
+{
+    !is_coding(header) || is_identity(&header.value)
+}
+
+fn are_uncoded(headers: &[Header]) -> bool
+    ensures { result ≡ list_all spec.is_uncoded (headers_in headers.now) }
+{
+    for header in headers {
+        if !is_uncoded(header) {
+            return false;
+        }
+    }
+    true
+}
+
+/// Whether the first content type is JSON's.
+fn is_json(headers: &[Header]) -> bool
+    ensures { result ≡ spec.is_json_type (spec.first (values_of (codes "content-type") (headers_in headers.now))) }
+{
+    match find_in(headers, b"content-type") {
+        None => return false,
+        Some((value, _)) => return is_words(b"application/json", before(b';', value)),
+    }
+}
+
+/// Whether the body is JSON that is not coded (RFC 9110, sections 8.3 and 8.4).
+pub fn is_plain_json(headers: &[Header]) -> bool
+    ensures { result ≡ spec.is_plain_json (headers_in headers.now) }
+{
+    is_json(headers) && are_uncoded(headers)
+}

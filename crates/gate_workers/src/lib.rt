@@ -1,0 +1,46 @@
+//! What a worker does over a store: it serves one request, makes one flush turn, and exchanges one
+//! request with the back end.
+//! `serve` and `flush_turn` are over any store that tells its calls (`Store`, `Keeper`); a `BookKeeper`
+//! is one over a `Book` of its own, and `serve_book` and `book_turn` say what they come to over its journal.
+//! Nothing here opens a connection, waits or tries again.
+#![tactic(auto)]
+
+mod answering;
+mod ask;
+mod asking;
+mod book_keeper;
+mod closing;
+mod content;
+mod desk;
+mod end;
+mod exchanging;
+mod keeper;
+mod listening;
+mod order_fault;
+mod pace;
+mod paths;
+mod refusal;
+mod replied;
+mod said;
+mod saying;
+mod served;
+mod serving;
+mod store;
+mod turn;
+mod turning;
+mod uplink;
+
+pub use book_keeper::{book_turn, serve_book};
+pub use desk::{BookKeeper, Desk};
+pub use end::End;
+pub use exchanging::exchange;
+pub use keeper::Keeper;
+pub use order_fault::OrderFault;
+pub use pace::{NoPace, Pace, Spot};
+pub use refusal::{Allowed, Refusal};
+pub use served::Served;
+pub use serving::serve;
+pub use store::Store;
+pub use turn::Turn;
+pub use turning::flush_turn;
+pub use uplink::Uplink;

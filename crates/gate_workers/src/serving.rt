@@ -1,0 +1,36 @@
+//! One request is served.
+ghost use Rattle.gate_workers.specs.Served.{IsServed, ReadingFails, WritingFails};
+
+use crate::answering::answer;
+use crate::keeper::Keeper;
+use crate::listening::{Heard, listen};
+use crate::pace::Pace;
+use crate::served::Served;
+use byte_ends::{Sink, Source};
+use std::alloc::Global;
+
+/// Serves the request that the reader's bytes begin with.
+pub fn serve<K: Keeper, S: Source, W: Sink, P: Pace>(
+    alloc: Global,
+    keeper: &mut K,
+    reader: &mut S,
+    writer: &mut W,
+    pace: &mut P,
+) -> Served
+    ensures served { IsServed K.gives (S.remaining reader.old) keeper.old keeper.new (W.contents writer.old) (W.contents writer.new) result }
+    ensures read { ReadingFails S.one_more (S.failures reader.old) (S.failures reader.new) result }
+    ensures written { WritingFails W.one_more (W.failures writer.old) (W.failures writer.new) result }
+{
+    match listen(alloc, reader, pace) {
+        Heard::Closed => return Served::Closed,
+        Heard::Broken => return Served::Broken,
+        Heard::Asks(ask) => {
+            let replied = answer(alloc, keeper, writer, ask);
+            return Served::Replied {
+                status: replied.said.status,
+                written: replied.said.written,
+                end: replied.end,
+            };
+        }
+    }
+}

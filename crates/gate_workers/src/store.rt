@@ -1,0 +1,53 @@
+ghost use Rattle.std.specs.Prelude.{◌<◌, ◌≤◌, length, option_map};
+ghost use Rattle.std.specs.Result.{result_ok};
+ghost use Rattle.gate_workers.specs.Calls as call;
+ghost use Rattle.gate_workers.specs.Calls.{Call};
+
+use delta_book::faults::{
+    AdmitFault, NotLive, NotOpen, NotQuarantined, QuarantineFault, TakeFault, UndoFault,
+};
+use delta_book::flush::Flush;
+use delta_book::totals::SeriesTotals;
+use metric_events::batch::Batch;
+use metric_events::sender_name::SenderName;
+use std::alloc::AllocError;
+
+/// What keeps the points: the calls of a `Book`, from one seat.
+pub trait Store {
+    /// What a call with its answer makes of it. Over a store of one's own that is all that the answer
+    /// is and what is stored then; over a shared one, what its seat is told.
+    ghost gives: { Self → Call → Self → Type 0 };
+
+    fn admit(&mut self, body: Batch) -> Result<u64, (AdmitFault, Batch)>
+        requires { 0 < length body.points }
+        ensures { gives self.old (call.admit body result) self.new };
+
+    fn undo(&mut self, batch: u64) -> Result<(), UndoFault>
+        ensures { gives self.old (call.undo batch result) self.new };
+
+    fn confirm(&mut self, batch: u64) -> Result<(), NotOpen>
+        ensures { gives self.old (call.confirm batch result) self.new };
+
+    fn take(&mut self, max: usize) -> Result<Option<Flush>, TakeFault>
+        requires low { 1 ≤ max }
+        requires high { max ≤ 1000 }
+        ensures { gives self.old (call.take max result) self.new };
+
+    fn settle(&mut self, flush: u64) -> Result<(), NotLive>
+        ensures { gives self.old (call.settle flush result) self.new };
+
+    fn drop_flush(&mut self, flush: u64) -> Result<(), NotLive>
+        ensures { gives self.old (call.drop_flush flush result) self.new };
+
+    fn give_back(&mut self, flush: u64) -> Result<(), NotLive>
+        ensures { gives self.old (call.give_back flush result) self.new };
+
+    fn quarantine(&mut self, sender: SenderName) -> Result<(), QuarantineFault>
+        ensures { gives self.old (call.quarantine sender result) self.new };
+
+    fn lift(&mut self, sender: &SenderName) -> Result<(), NotQuarantined>
+        ensures { gives self.old (call.lift sender.now result) self.new };
+
+    fn totals(&mut self) -> Result<Vec<SeriesTotals>, AllocError>
+        ensures { gives self.old (call.totals (option_map (λ v. v.items) (result_ok result))) self.new };
+}
