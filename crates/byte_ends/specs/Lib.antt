@@ -1,3 +1,5 @@
+pub mod Counts
+pub mod Drained
 pub mod Ends
 pub mod Parts
 pub mod Steps

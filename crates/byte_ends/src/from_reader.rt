@@ -1,4 +1,4 @@
-ghost use Rattle.std.specs.Prelude.{◌≡◌, false};
+ghost use Rattle.std.specs.Prelude.{◌≡◌};
 
 use crate::{Failed, Source};
 use std::io::Read;
@@ -7,7 +7,7 @@ use std::io::Read;
 #[derive(Drop)]
 pub struct FromReader<R> {
     reader: R,
-    failed: bool,
+    failures: u64,
 }
 
 impl<R: Read> FromReader<R> {
@@ -17,27 +17,33 @@ impl<R: Read> FromReader<R> {
     pub fn new(reader: R) -> Self
         ensures reader { reader_of result ≡ reader }
         ensures bytes { ⟦<FromReader<R> as Source>⟧.remaining result ≡ R.remaining reader }
-        ensures failed { ⟦<FromReader<R> as Source>⟧.has_failed result ≡ false }
+        ensures failed { ⟦<FromReader<R> as Source>⟧.failures result ≡ 0 }
     {
         FromReader {
             reader,
-            failed: false,
+            failures: 0,
         }
     }
 }
 
 impl<R: Read> Source for FromReader<R> {
+    ghost use Rattle.byte_ends.specs.Counts.{next_count, next_count-differs};
+
     ghost remaining = { λ s. R.remaining s.reader };
 
-    ghost has_failed = { λ s. s.failed };
+    ghost failures = { λ s. s.failures };
+
+    ghost one_more = { next_count };
 
     fn read(&mut self, buf: &mut [u8]) -> Result<usize, Failed> {
         match self.reader.read(buf) {
             Ok(n) => Ok(n),
             Err(_) => {
-                self.failed = true;
+                self.failures = self.failures.wrapping_add(1);
                 Err(Failed)
             }
         }
     }
+
+    ghost tells_one_more = { next_count-differs };
 }

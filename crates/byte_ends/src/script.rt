@@ -1,4 +1,4 @@
-ghost use Rattle.std.specs.Prelude.{◌≡◌, false, Some};
+ghost use Rattle.std.specs.Prelude.{◌≡◌, Some};
 
 use crate::{Failed, Source, Step};
 
@@ -8,7 +8,7 @@ use crate::{Failed, Source, Step};
 pub struct Script<'a> {
     bytes: &'a [u8],
     steps: &'a [Step],
-    failed: bool,
+    failures: u64,
 }
 
 impl<'a> Script<'a> {
@@ -18,12 +18,12 @@ impl<'a> Script<'a> {
     pub fn new(bytes: &'a [u8], steps: &'a [Step]) -> Self
         ensures bytes { script_bytes result ≡ bytes.now }
         ensures steps { script_steps result ≡ steps.now }
-        ensures failed { ⟦<Script<'a> as Source>⟧.has_failed result ≡ false }
+        ensures failed { ⟦<Script<'a> as Source>⟧.failures result ≡ 0 }
     {
         Script {
             bytes,
             steps,
-            failed: false,
+            failures: 0,
         }
     }
 
@@ -36,21 +36,24 @@ impl<'a> Script<'a> {
 }
 
 impl Source for Script<'_> {
-    ghost use Rattle.std.specs.Prelude.{◌≤◌, ◌||◌, min, drop, length, IfOk, is_err};
+    ghost use Rattle.std.specs.Prelude.{◌≤◌, min, drop, length, IfOk, is_err};
     ghost use Rattle.std.specs.Option.{option_map};
     ghost use Rattle.std.specs.Result.{result_ok};
+    ghost use Rattle.byte_ends.specs.Counts.{counted, next_count, next_count-differs};
     ghost use Rattle.byte_ends.specs.Ends.{Gave};
     ghost use Rattle.byte_ends.specs.Parts.{script_bytes, script_steps};
     ghost use Rattle.byte_ends.specs.Steps.{read_limit};
 
     ghost remaining = { λ s. Some (script_bytes s) };
 
-    ghost has_failed = { λ s. s.failed };
+    ghost failures = { λ s. s.failures };
+
+    ghost one_more = { next_count };
 
     fn read(&mut self, buf: &mut [u8]) -> Result<usize, Failed>
         ensures bound { IfOk result (λ n. n ≤ length buf.new) }
         ensures bytes { Gave (⟦<Self as Source>⟧.remaining self.old) (⟦<Self as Source>⟧.remaining self.new) result buf.new }
-        ensures failed { ⟦<Self as Source>⟧.has_failed self.new ≡ (⟦<Self as Source>⟧.has_failed self.old || is_err result) }
+        ensures failed { ⟦<Self as Source>⟧.failures self.new ≡ counted next_count (is_err result) (⟦<Self as Source>⟧.failures self.old) }
         ensures step { result_ok result ≡ option_map (λ most. min most (length (script_bytes self.old))) (read_limit (script_steps self.old) (length buf.old)) }
         ensures steps { script_steps self.new ≡ drop 1 (script_steps self.old) }
     {
@@ -63,7 +66,7 @@ impl Source for Script<'_> {
                     most = most.min((*n).max(1));
                 }
                 Step::Fail => {
-                    self.failed = true;
+                    self.failures = self.failures.wrapping_add(1);
                     return Err(Failed);
                 }
             }
@@ -74,4 +77,6 @@ impl Source for Script<'_> {
         self.bytes = rest;
         Ok(n)
     }
+
+    ghost tells_one_more = { next_count-differs };
 }

@@ -1,5 +1,6 @@
-ghost use Rattle.std.specs.Prelude.{◌≡◌, ◌≤◌, ◌<◌, ◌||◌, Option, List, ℕ, Bool, None, length, IfOk, is_err};
+ghost use Rattle.std.specs.Prelude.{◌≡◌, ◌≢◌, ◌≤◌, ◌<◌, Option, List, ℕ, None, length, IfOk, is_err};
 ghost use Rattle.byte_ends.specs.Ends.{Took};
+ghost use Rattle.byte_ends.specs.Counts.{counted};
 
 use crate::Failed;
 
@@ -8,8 +9,11 @@ pub trait Sink {
     /// The bytes that were taken so far, where they are known: not of a socket.
     ghost contents: { Self → Option (List ℕ) } = { λ _. None };
 
-    /// Whether some call so far has failed.
-    ghost has_failed: { Self → Bool };
+    /// The count of the calls that have failed.
+    ghost failures: { Self → ℕ };
+
+    /// The count after one more. An end whose counter is bounded begins again.
+    ghost one_more: { ℕ → ℕ };
 
     /// Takes some of the bytes, from the front, and tells how many: at least one, where there is one.
     /// To take none of some is a failure. A call that fails takes no byte.
@@ -17,5 +21,8 @@ pub trait Sink {
         ensures bound { IfOk result (λ n. n ≤ length bytes.now) }
         ensures some { 0 < length bytes.now → IfOk result (λ n. 0 < n) }
         ensures bytes { Took (contents self.old) (contents self.new) result bytes.now }
-        ensures failed { has_failed self.new ≡ (has_failed self.old || is_err result) };
+        ensures failed { failures self.new ≡ counted one_more (is_err result) (failures self.old) };
+
+    /// A failed call is always told by the count.
+    ghost tells_one_more: { (n : ℕ) → one_more n ≢ n };
 }

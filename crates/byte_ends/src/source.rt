@@ -1,5 +1,6 @@
-ghost use Rattle.std.specs.Prelude.{◌≡◌, ◌≤◌, ◌||◌, Option, List, ℕ, Bool, None, length, IfOk, is_err};
+ghost use Rattle.std.specs.Prelude.{◌≡◌, ◌≢◌, ◌≤◌, Option, List, ℕ, None, length, IfOk, is_err};
 ghost use Rattle.byte_ends.specs.Ends.{Gave};
+ghost use Rattle.byte_ends.specs.Counts.{counted};
 
 use crate::Failed;
 
@@ -8,13 +9,19 @@ pub trait Source {
     /// The bytes that are still to come, where they are known: not of a socket.
     ghost remaining: { Self → Option (List ℕ) } = { λ _. None };
 
-    /// Whether some call so far has failed.
-    ghost has_failed: { Self → Bool };
+    /// The count of the calls that have failed.
+    ghost failures: { Self → ℕ };
+
+    /// The count after one more. An end whose counter is bounded begins again.
+    ghost one_more: { ℕ → ℕ };
 
     /// Reads some bytes to the front of the buffer, and tells how many. It tells 0 only at the
     /// end of the bytes, or for an empty buffer. A call that fails loses no byte.
     fn read(&mut self, buf: &mut [u8]) -> Result<usize, Failed>
         ensures bound { IfOk result (λ n. n ≤ length buf.new) }
         ensures bytes { Gave (remaining self.old) (remaining self.new) result buf.new }
-        ensures failed { has_failed self.new ≡ (has_failed self.old || is_err result) };
+        ensures failed { failures self.new ≡ counted one_more (is_err result) (failures self.old) };
+
+    /// A failed call is always told by the count.
+    ghost tells_one_more: { (n : ℕ) → one_more n ≢ n };
 }

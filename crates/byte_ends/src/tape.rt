@@ -1,4 +1,4 @@
-ghost use Rattle.std.specs.Prelude.{◌≡◌, [], false, Some};
+ghost use Rattle.std.specs.Prelude.{◌≡◌, [], Some};
 
 use crate::{Failed, Sink, Step};
 use std::alloc::Global;
@@ -9,7 +9,7 @@ use std::alloc::Global;
 pub struct Tape<'a> {
     taken: Vec<u8>,
     steps: &'a [Step],
-    failed: bool,
+    failures: u64,
 }
 
 impl<'a> Tape<'a> {
@@ -19,12 +19,12 @@ impl<'a> Tape<'a> {
     pub fn new(alloc: Global, steps: &'a [Step]) -> Self
         ensures bytes { ⟦<Tape<'a> as Sink>⟧.contents result ≡ Some [] }
         ensures steps { tape_steps result ≡ steps.now }
-        ensures failed { ⟦<Tape<'a> as Sink>⟧.has_failed result ≡ false }
+        ensures failed { ⟦<Tape<'a> as Sink>⟧.failures result ≡ 0 }
     {
         Tape {
             taken: Vec::new(alloc),
             steps,
-            failed: false,
+            failures: 0,
         }
     }
 
@@ -37,20 +37,23 @@ impl<'a> Tape<'a> {
 }
 
 impl Sink for Tape<'_> {
-    ghost use Rattle.std.specs.Prelude.{◌≤◌, ◌<◌, ◌||◌, drop, length, IfOk, is_err};
+    ghost use Rattle.std.specs.Prelude.{◌≤◌, ◌<◌, drop, length, IfOk, is_err};
+    ghost use Rattle.byte_ends.specs.Counts.{counted, next_count, next_count-differs};
     ghost use Rattle.byte_ends.specs.Ends.{Took};
     ghost use Rattle.byte_ends.specs.Parts.{tape_steps};
     ghost use Rattle.byte_ends.specs.Steps.{write_limit};
 
     ghost contents = { λ s. Some s.taken.items };
 
-    ghost has_failed = { λ s. s.failed };
+    ghost failures = { λ s. s.failures };
+
+    ghost one_more = { next_count };
 
     fn write(&mut self, bytes: &[u8]) -> Result<usize, Failed>
         ensures bound { IfOk result (λ n. n ≤ length bytes.now) }
         ensures some { 0 < length bytes.now → IfOk result (λ n. 0 < n) }
         ensures bytes { Took (⟦<Self as Sink>⟧.contents self.old) (⟦<Self as Sink>⟧.contents self.new) result bytes.now }
-        ensures failed { ⟦<Self as Sink>⟧.has_failed self.new ≡ (⟦<Self as Sink>⟧.has_failed self.old || is_err result) }
+        ensures failed { ⟦<Self as Sink>⟧.failures self.new ≡ counted next_count (is_err result) (⟦<Self as Sink>⟧.failures self.old) }
         ensures step { IfOk result (λ n. write_limit (tape_steps self.old) (length bytes.now) ≡ Some n) }
         ensures steps { tape_steps self.new ≡ drop 1 (tape_steps self.old) }
     {
@@ -60,7 +63,7 @@ impl Sink for Tape<'_> {
             match step {
                 Step::AtMost(n) if *n > 0 => most = most.min(*n),
                 _ => {
-                    self.failed = true;
+                    self.failures = self.failures.wrapping_add(1);
                     return Err(Failed);
                 }
             }
@@ -68,9 +71,11 @@ impl Sink for Tape<'_> {
         match self.taken.extend_from_slice(&bytes[..most]) {
             Ok(()) => Ok(most),
             Err(_) => {
-                self.failed = true;
+                self.failures = self.failures.wrapping_add(1);
                 Err(Failed)
             }
         }
     }
+
+    ghost tells_one_more = { next_count-differs };
 }

@@ -1,4 +1,4 @@
-ghost use Rattle.std.specs.Prelude.{◌≡◌, false};
+ghost use Rattle.std.specs.Prelude.{◌≡◌};
 
 use crate::{Failed, Sink};
 use std::io::Write;
@@ -8,7 +8,7 @@ use std::io::Write;
 #[derive(Drop)]
 pub struct ToWriter<W> {
     writer: W,
-    failed: bool,
+    failures: u64,
 }
 
 impl<W: Write> ToWriter<W> {
@@ -18,11 +18,11 @@ impl<W: Write> ToWriter<W> {
     pub fn new(writer: W) -> Self
         ensures writer { writer_of result ≡ writer }
         ensures bytes { ⟦<ToWriter<W> as Sink>⟧.contents result ≡ W.contents writer }
-        ensures failed { ⟦<ToWriter<W> as Sink>⟧.has_failed result ≡ false }
+        ensures failed { ⟦<ToWriter<W> as Sink>⟧.failures result ≡ 0 }
     {
         ToWriter {
             writer,
-            failed: false,
+            failures: 0,
         }
     }
 
@@ -36,17 +36,23 @@ impl<W: Write> ToWriter<W> {
 }
 
 impl<W: Write> Sink for ToWriter<W> {
+    ghost use Rattle.byte_ends.specs.Counts.{next_count, next_count-differs};
+
     ghost contents = { λ s. W.contents s.writer };
 
-    ghost has_failed = { λ s. s.failed };
+    ghost failures = { λ s. s.failures };
+
+    ghost one_more = { next_count };
 
     fn write(&mut self, bytes: &[u8]) -> Result<usize, Failed> {
         match self.writer.write(bytes) {
             Ok(n) if n > 0 || bytes.is_empty() => Ok(n),
             _ => {
-                self.failed = true;
+                self.failures = self.failures.wrapping_add(1);
                 Err(Failed)
             }
         }
     }
+
+    ghost tells_one_more = { next_count-differs };
 }

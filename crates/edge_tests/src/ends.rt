@@ -1,6 +1,6 @@
-ghost use Rattle.std.specs.Prelude.{◌≡◌, false};
+ghost use Rattle.std.specs.Prelude.{◌≡◌};
 
-use byte_ends::{Failed, FromReader, Script, Sink, Source, Step, Tape, ToWriter};
+use byte_ends::{Failed, FromReader, Script, Sink, Source, Step, Tape, ToWriter, drain};
 use std::test::Fail;
 
 const TEXT: &[u8] = b"abcdef";
@@ -52,9 +52,24 @@ fn over_a_reader_and_a_writer(rt: HostRuntime) -> Result<(), Fail> {
     Ok(())
 }
 
+#[test]
+fn drain_throws_away_what_is_left(rt: HostRuntime) -> Result<(), Fail> {
+    let cuts = [Step::AtMost(3), Step::AtMost(9)];
+    let mut source = Script::new(TEXT, &cuts);
+    assert_eq!(rt; drain(&mut source, 4), Ok(()));
+    assert!(rt; source.left() == b"ef".as_slice());
+    assert_eq!(rt; drain(&mut source, 9), Ok(()));
+    assert!(rt; source.left().is_empty());
+    let fails = [Step::AtMost(2), Step::Fail];
+    let mut source = Script::new(TEXT, &fails);
+    assert_eq!(rt; drain(&mut source, 9), Err(Failed));
+    assert!(rt; source.left() == b"cdef".as_slice());
+    Ok(())
+}
+
 // What a caller of an end may ask for: that no call has failed so far.
 fn first_byte<S: Source>(source: &mut S) -> Option<u8>
-    requires { S.has_failed source.old ≡ false }
+    requires { S.failures source.old ≡ 0 }
 {
     let mut buf = [0];
     match source.read(&mut buf) {
@@ -64,7 +79,7 @@ fn first_byte<S: Source>(source: &mut S) -> Option<u8>
 }
 
 fn sends<K: Sink>(sink: &mut K, bytes: &[u8]) -> bool
-    requires { K.has_failed sink.old ≡ false }
+    requires { K.failures sink.old ≡ 0 }
 {
     sink.write(bytes) == Ok(bytes.len())
 }

@@ -1,8 +1,8 @@
 use byte_ends::{Script, Step, Tape};
-use http::StatusCode;
+use http::{Method, StatusCode};
 use http_edge::{
-    Decoder, HttpFault, MAX_BODY, Request, Written, read_message, read_response, write_post,
-    write_response,
+    Decoder, HttpFault, MAX_BODY, Request, Written, find_in, read_message, read_response,
+    write_post, write_response,
 };
 use std::alloc::Global;
 use std::test::Fail;
@@ -12,7 +12,7 @@ const CHUNKED: &[u8] =
 
 /// Whether it is the request that `CHUNKED` is.
 fn is_posted(request: &Request) -> bool {
-    request.method.as_slice() == b"POST".as_slice()
+    request.method == Method::POST
         && request.target.as_slice() == b"/v1/metrics".as_slice()
         && request.headers.len() == 2
         && request.body.as_slice() == b"{}".as_slice()
@@ -145,6 +145,84 @@ fn a_failing_reader(rt: HostRuntime) -> Result<(), Fail> {
     assert!(rt; matches!(read_message(rt.alloc(), &mut source), Err(HttpFault::Io)));
     let mut source = Script::new(b"HTTP/1.1 200 OK\r\n\r\n", &steps);
     assert!(rt; matches!(read_response(rt.alloc(), &mut source), Err(HttpFault::Io)));
+    Ok(())
+}
+
+// A reader whose calls give so many bytes, and that fails when it is asked once more.
+fn gives_and_fails<'a>(bytes: &'a [u8], each: usize, steps: &'a mut [Step]) -> Script<'a> {
+    let calls = bytes.len().div_ceil(each.max(1));
+    for (i, step) in steps.iter_mut().enumerate() {
+        *step = if i < calls {
+            Step::AtMost(each)
+        } else {
+            Step::Fail
+        };
+    }
+    Script::new(bytes, steps)
+}
+
+#[test]
+fn a_reader_is_not_asked_again(rt: HostRuntime) -> Result<(), Fail> {
+    let reply = b"HTTP/1.1 200 OK\r\nContent-Length: 9\r\n\r\n";
+    for each in [1, 2, 7, 4_096] {
+        let mut steps = [Step::Fail; 128];
+        let mut source = gives_and_fails(CHUNKED, each, &mut steps);
+        let Ok(request) = read_message(rt.alloc(), &mut source) else {
+            panic!(rt; "{each} at a time");
+        };
+        assert!(rt; is_posted(&request));
+        let mut source = gives_and_fails(reply, each, &mut steps);
+        assert!(rt;
+            read_response(rt.alloc(), &mut source).is_ok(),
+            "{each} at a time"
+        );
+    }
+    Ok(())
+}
+
+#[test]
+fn methods(rt: HostRuntime) -> Result<(), Fail> {
+    for method in [
+        "GET",
+        "get",
+        "QUERY",
+        "M-SEARCH",
+        "A-LONGER-ONE-THAN-FIFTEEN",
+        "!#$%&'*+-.^_`|~09",
+    ] {
+        let mut decoder = Decoder::new(rt.alloc());
+        assert_eq!(rt; decoder.feed(method.as_bytes()), Ok(false));
+        assert_eq!(rt; decoder.feed(b" / HTTP/1.1\r\n\r\n"), Ok(true));
+        let Ok(request) = decoder.finish() else {
+            panic!(rt; "{method}");
+        };
+        assert_eq!(rt; request.method.as_str(), method);
+    }
+    Ok(())
+}
+
+#[test]
+fn fields_by_name(rt: HostRuntime) -> Result<(), Fail> {
+    let text = b"GET / HTTP/1.1\r\nAccept: a\r\nHost:  h \r\naccept:\r\nACCEPT: c\r\n\r\n";
+    let mut source = Script::new(text, &[]);
+    let Ok(request) = read_message(rt.alloc(), &mut source) else {
+        panic!(rt; "no request");
+    };
+    assert!(rt; request.find(b"Accept-Encoding").is_none());
+    let Some((host, after)) = request.find(b"hOST") else {
+        panic!(rt; "no host");
+    };
+    assert!(rt; host == b"h".as_slice());
+    assert_eq!(rt; after.len(), 2);
+    let mut left = request.headers.as_slice();
+    for value in ["a", "", "c"] {
+        let Some((found, after)) = find_in(left, b"accept") else {
+            panic!(rt; "no {value}");
+        };
+        assert!(rt; found == value.as_bytes());
+        left = after;
+    }
+    assert!(rt; find_in(left, b"accept").is_none());
     Ok(())
 }
 

@@ -1,6 +1,8 @@
 pub mod FieldLemmas
+pub mod HeaderLemmas
 pub mod ListLemmas
 pub mod HeadLemmas
+pub mod MethodLemmas
 pub mod ChunkLemmas
 pub mod BodyLemmas
 pub mod FaultLemmas

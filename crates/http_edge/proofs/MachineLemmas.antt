@@ -1,7 +1,7 @@
 -- What a machine holds, step by step.
 use Rattle.std.proofs.Common.{◌≡◌, ◌≢◌, ℕ, ◌-◌, ◌<◌, ◌≤◌, Bool, true, false, List, [], ◌∷◌, ◌++◌, length, map, drop, take, min, Option, Some, None, Ok, Err, refl, sym, ap, subst, ◌∙◌, arith, append_assoc}
 use Rattle.std.specs.Prelude.{Result, IfOk, IfErr}
-use Rattle.std.proofs.lemmas.List.{length-append, length-take, append-nil, take_at, nil_from_length}
+use Rattle.std.proofs.lemmas.List.{length-append, length-take, length-drop, append-nil, take-append-drop, take_at, take_all, nil_from_length}
 use Rattle.httparse.specs.Grammar.{RequestHead, print_request, ReadsRequest, HasNoRequest}
 use Rattle.httparse.specs.declared.spans.HeaderSpan.{HeaderSpan}
 use Rattle.httparse.specs.declared.spans.RequestSpans.{RequestSpans}
@@ -13,24 +13,19 @@ use Rattle.http_edge.specs.declared.framing.Framing.{Framing}
 use Rattle.http_edge.specs.declared.framing.Framing.TheVariants.{Sized, Chunked}
 use Rattle.http_edge.specs.declared.phase.Phase.{Phase}
 use Rattle.http_edge.specs.declared.phase.Phase.TheVariants.{Counted, Line, Content, Return, LineFeed, Trailer, Whole}
-use Rattle.http_edge.specs.declared.stage.Stage.{Stage}
-use Rattle.http_edge.specs.declared.stage.Stage.TheVariants.{InHead, InBody, Failed}
-use Rattle.http_edge.specs.Message.{IsHeadAt}
+use Rattle.http_edge.specs.Message.{Message, IsHeadAt}
 use Rattle.http_edge.specs.Framing.{framing_by}
 use Rattle.http_edge.specs.Framed.{Frames}
 use Rattle.http_edge.specs.Chunks.{HasTrailer, HasChunks}
 use Rattle.http_edge.specs.Head.{FindsHead}
 use Rattle.http_edge.specs.Reading.{HasBody, framing_in, message_of, Reads, BeginsWith, NotYet}
 use Rattle.http_edge.specs.Body.{Stand, Becomes, IsOpen, is_whole, Reaches, Refuses}
-use Rattle.http_edge.specs.Answer.{Tells}
-use Rattle.http_edge.specs.Holds.{Progress, unread, start, IsBehind, HoldsAt, Holds, SoundAt, IsSound, IsFramed, Starts, TakesHead, Advances, Stops, is_failed_at, is_failed, is_done_at, is_done}
+use Rattle.http_edge.specs.Answer.{Fails, Tells}
+use Rattle.http_edge.specs.Holds.{Progress, in_head, in_body, failed, start, IsBehind, Holds, IsSound, IsFramed, Starts, EndsHead, TakesHead, Advances, Stops, fault_in, is_done}
 use Rattle.http_edge.proofs.ListLemmas.{text_taken, EndsIn}
 use Rattle.http_edge.proofs.ChunkLemmas.{no_chunks}
 use Rattle.http_edge.proofs.BodyLemmas.{at, no_line_yet}
 use Rattle.http_edge.proofs.FaultLemmas.{IsHeadAt-append}
-
-abbrev pub on : Stand → List ℕ → Progress
-on body head = record { stage = InBody; head = head; body = body }
 
 -- ---- how a body begins
 
@@ -63,50 +58,43 @@ pub head_ends : (part piece buf : List ℕ) (had n : ℕ) (spans : List HeaderSp
 head_ends part piece buf had n spans r k had_is within none is found =
     text_taken part piece (print_request k) (drop r.len buf) had n r.len had_is found.at.len within (sym is ∙ found.at.reads.1) (λ after e. none k after (found.at.reads.0, e))
 
-pub starts_at : (w : Framing) (phase : Phase) (b : Stand) → b ≡ unread → Starts w (at phase [] []) → Starts w (at phase b.content b.part)
-starts_at w phase b is starts = let P : Stand → Type 0 = λ s. Starts w (at phase s.content s.part) in subst P (sym is) starts
-
-pub head_whole : (part piece buf text : List ℕ) (had n : ℕ) (spans : List HeaderSpan) (r : RequestSpans) (k : RequestHead) (w : Framing) (old body : Stand) → had ≡ length part → n ≤ length piece → length part < 16384 → HasNoRequest part
-    → buf ≡ part ++ take n piece → FindsHead buf spans r k → text ≡ take r.len buf → framing_in k ≡ Some w → Starts w body
-    → TakesHead (record { stage = InHead; head = part; body = old }) (on body text) piece (r.len - had)
-head_whole part piece buf text had n spans r k w old body had_is within short none is found text_is framed starts =
+pub head_whole : (part piece buf text : List ℕ) (had n : ℕ) (spans : List HeaderSpan) (r : RequestSpans) (k : RequestHead) (w : Framing) → had ≡ length part → n ≤ length piece → HasNoRequest part
+    → buf ≡ part ++ take n piece → FindsHead buf spans r k → text ≡ take r.len buf → framing_in k ≡ Some w → IsFramed w → EndsHead part text piece (r.len - had) w
+head_whole part piece buf text had n spans r k w had_is within none is found text_is framed fits =
     let ends = head_ends part piece buf had n spans r k had_is within none is found in
     let whole : text ≡ print_request k = text_is ∙ ap (take r.len) found.at.reads.1 ∙ take_at (print_request k) (drop r.len buf) r.len (sym found.at.len) in
     let P : List ℕ → Type 0 = λ s. IsHeadAt s k [] in
     let head : IsHeadAt (print_request k) k [] = record { reads = (found.at.reads.0, sym (append-nil (print_request k))); few = found.few; short = found.short } in
-    let Q : Option Framing → List ℕ → Option (List ℕ) → Type 0 = HasBody in
     record {
       within = omega (arith, ends.within, within);
-      sound = (omega (arith, ap length whole, found.short), starts.opened);
-      fine = refl;
-      rest = λ e. absurd cc;
-      holds = (
-        k,
-        [],
-        record {
-          at = subst P (sym whole) head;
-          bytes_are = ends.front ∙ sym whole ∙ sym (append-nil text);
-          framed = λ e. let x : Some w ≡ None = sym framed ∙ e in cc;
-          forward = λ more o h. starts.forward more o (subst (λ (f : Option Framing). HasBody f more o) framed h);
-          backward = λ more o h. subst (λ (f : Option Framing). HasBody f more o) (sym framed) (starts.backward more o h);
-        },
-      );
-      less = omega (arith, starts.less, ends.some, had_is, found.at.len, found.short, short);
+      front = ends.front ∙ sym whole;
+      head = k;
+      at = subst P (sym whole) head;
+      short = omega (arith, ap length whole, found.short);
+      framed = framed;
+      fits = fits;
     }
 
 take_len : (n : ℕ) (piece : List ℕ) → length (take n piece) ≡ min n (length piece)
 take_len n piece = length-take n piece
 
-pub head_more : (part piece buf : List ℕ) (n : ℕ) → n ≡ min (length piece) (16384 - length part) → buf ≡ part ++ take n piece → HasNoRequest buf → length buf < 16384
-    → TakesHead (record { stage = InHead; head = part; body = unread }) (record { stage = InHead; head = buf; body = unread }) piece n
+-- where the head isn't whole, all of the piece is of it
+pub head_more : (part piece buf : List ℕ) (n : ℕ) → n ≡ min (length piece) (16384 - length part) → buf ≡ part ++ take n piece → HasNoRequest buf → length buf < 16384 → TakesHead part buf piece None
 head_more part piece buf n n_is is none short =
-    let all : n ≡ length piece = omega (arith, ap length is, length-append part (take n piece), n_is, short, take_len n piece) in record {
-      within = omega (arith, all);
-      sound = (short, none, refl);
-      fine = refl;
-      rest = λ e. all;
-      holds = sym is;
-      less = omega (arith, ap length is, length-append part (take n piece), all, take_len n piece, short);
+    let all : n ≡ length piece = omega (arith, ap length is, length-append part (take n piece), n_is, short, take_len n piece) in
+    (is ∙ ap (λ s. part ++ s) (take_all n piece (omega (arith, all))), short, none)
+
+-- ---- at the end of a head
+
+unread : (head bytes : List ℕ) (k : RequestHead) (w : Framing) (body : Stand) → bytes ≡ head → IsHeadAt head k [] → framing_in k ≡ Some w → Starts w body → IsBehind head body bytes k []
+unread head bytes k w body is at framed starts =
+    let Q : Option Framing → List ℕ → Option (List ℕ) → Type 0 = HasBody in
+    record {
+      at = at;
+      bytes_are = is ∙ sym (append-nil head);
+      framed = λ e. let x : Some w ≡ None = sym framed ∙ e in cc;
+      forward = λ more o h. starts.forward more o (subst (λ (f : Option Framing). HasBody f more o) framed h);
+      backward = λ more o h. subst (λ (f : Option Framing). HasBody f more o) (sym framed) (starts.backward more o h);
     }
 
 -- ---- behind a head
@@ -129,7 +117,7 @@ reads_ahead head bytes fed more body k o is has =
 pub head_behind : (head bytes fed : List ℕ) (body : Stand) (k : RequestHead) → IsBehind head body bytes k fed → IsHeadAt bytes k fed
 head_behind head bytes fed body k is = let P : List ℕ → Type 0 = λ s. IsHeadAt s k fed in subst P (sym is.bytes_are) (IsHeadAt-append head fed k [] is.at)
 
-pub stops_body : (e : HttpFault) (head : List ℕ) (old : Stand) (piece : List ℕ) → Refuses e old piece → Stops (on old head) piece e
+pub stops_body : (e : HttpFault) (head : List ℕ) (old : Stand) (piece : List ℕ) → Refuses e old piece → Stops (in_body head old) piece e
 stops_body BadChunk head old piece refuses bytes h =
     let k = h.0 in
     let fed = h.1 in
@@ -160,7 +148,7 @@ stops_body BadLength head old piece refuses bytes h = absurd refuses
 stops_body Truncated head old piece refuses bytes h = absurd refuses
 stops_body Io head old piece refuses bytes h = absurd refuses
 
-pub goes_on_behind : (head : List ℕ) (old new : Stand) (piece : List ℕ) → length head ≤ 16384 → Reaches old new piece → Advances (on old head) (on new head) piece (is_whole new.phase)
+pub goes_on_behind : (head : List ℕ) (old new : Stand) (piece : List ℕ) → length head ≤ 16384 → Reaches old new piece → Advances (in_body head old) (in_body head new) piece (is_whole new.phase)
 goes_on_behind head old new piece short reaches = record {
   sound = (short, reaches.opened);
   fine = refl;
@@ -231,20 +219,83 @@ told_in_body head bytes fed body k true e opened is =
     (message_of k body.content, whole_in_body head bytes fed body.content body.part k (subst P whole is))
 told_in_body head bytes fed body k false e opened is = not_yet_in_body head bytes fed body k opened (sym e) is
 
-told_at : (stage : Stage) (head : List ℕ) (body : Stand) (bytes : List ℕ) → SoundAt stage head body → is_failed_at stage ≡ false → HoldsAt stage head body bytes → Tells bytes (Ok (is_done_at stage body.phase))
-told_at InHead head body bytes sound fine h = not_yet_in_head head bytes sound.1 h
-told_at InBody head body bytes sound fine h = told_in_body head bytes h.1 body h.0 (is_whole body.phase) refl sound.1 h.2
-told_at (Failed e) head body bytes sound fine h = absurd cc
+pub told : (p : Progress) (bytes : List ℕ) → IsSound p → fault_in p ≡ None → Holds p bytes → Tells bytes (Ok (is_done p))
+told (in_head head) bytes sound fine h = not_yet_in_head head bytes sound.1 h
+told (in_body head body) bytes sound fine h = told_in_body head bytes h.1 body h.0 (is_whole body.phase) refl sound.1 h.2
+told (failed e) bytes sound fine h = absurd cc
 
-pub told : (p : Progress) (bytes : List ℕ) → IsSound p → is_failed p ≡ false → Holds p bytes → Tells bytes (Ok (is_done p))
-told p bytes sound fine h = told_at p.stage p.head p.body bytes sound fine h
+-- ---- from a head on
+
+-- the piece is the rest of the head, and what stands behind it
+split : (part text piece bytes : List ℕ) (n : ℕ) → part ++ take n piece ≡ text → bytes ≡ part → text ++ drop n piece ≡ bytes ++ piece
+split part text piece bytes n front is =
+    ap (λ s. s ++ drop n piece) (sym front) ∙ append_assoc part (take n piece) (drop n piece) ∙ ap (λ s. part ++ s) (take-append-drop n piece) ∙ ap (λ s. s ++ piece) (sym is)
+
+pub in_head_still : (part text piece : List ℕ) → TakesHead part text piece None → Advances (in_head part) (in_head text) piece false
+in_head_still part text piece takes = record {
+  sound = (takes.1, takes.2);
+  fine = refl;
+  done_is = refl;
+  holds = λ bytes h. ap (λ s. s ++ piece) h ∙ sym takes.0;
+  less = λ e. omega (arith, ap length takes.0, length-append part piece, takes.1);
+}
+
+pub into_body : (part text piece : List ℕ) (n : ℕ) (w : Framing) (first new : Stand) → EndsHead part text piece n w → Starts w first → Reaches first new (drop n piece)
+    → Advances (in_head part) (in_body text new) piece (is_whole new.phase)
+into_body part text piece n w first new ends starts reaches =
+    let goes = goes_on_behind text first new (drop n piece) ends.short reaches in
+    let P : List ℕ → Type 0 = λ s. Holds (in_body text new) s in
+    record {
+      sound = goes.sound;
+      fine = refl;
+      done_is = refl;
+      holds = λ bytes h. subst P (split part text piece bytes n ends.front h) (goes.holds text (ends.head, [], unread text text ends.head w first refl ends.at ends.framed starts));
+      less = λ e. omega (arith, reaches.less e, starts.less, ap length ends.front, length-append part (take n piece), take_len n piece, length-drop n piece, ends.within, ends.short);
+    }
+
+pub stops_behind : (e : HttpFault) (part text piece : List ℕ) (n : ℕ) (w : Framing) (first : Stand) → EndsHead part text piece n w → Starts w first → Refuses e first (drop n piece) → Stops (in_head part) piece e
+stops_behind e part text piece n w first ends starts refuses bytes h =
+    let P : List ℕ → Type 0 = λ s. Fails e s in
+    subst P (split part text piece bytes n ends.front h) (stops_body e text first (drop n piece) refuses text (ends.head, [], unread text text ends.head w first refl ends.at ends.framed starts))
+
+pub stops_in_head : (e : HttpFault) (part piece : List ℕ) → Fails e (part ++ piece) → Stops (in_head part) piece e
+stops_in_head e part piece fails bytes h = let P : List ℕ → Type 0 = λ s. Fails e (s ++ piece) in subst P (sym h) fails
 
 -- ---- at first, and at an answer
 
 pub start_is_sound : IsSound start
-start_is_sound = (omega arith, λ k rest r. omega (arith, ap length r.1, length-append (print_request k) rest, no_bytes k), refl)
+start_is_sound = (omega arith, λ k rest r. omega (arith, ap length r.1, length-append (print_request k) rest, no_bytes k))
 
 pub tells_of : (r : Result Bool HttpFault) (old new : Progress) (piece bytes : List ℕ) → IfOk r (Advances old new piece) → IfErr r (Stops old piece) → Holds old bytes → Tells (bytes ++ piece) r
 tells_of (Err e) old new piece bytes ok err h = err bytes h
 tells_of (Ok done) old new piece bytes ok err h =
     let P : Bool → Type 0 = λ b. Tells (bytes ++ piece) (Ok b) in subst P (sym ok.done_is) (told new (bytes ++ piece) ok.sound ok.fine (ok.holds bytes h))
+
+-- ---- a decoder by the bytes that it was fed
+
+-- a message that was fed is whole
+pub whole_there : (p : Progress) (bytes : List ℕ) (m : Message) → IsSound p → fault_in p ≡ None → Holds p bytes → BeginsWith bytes m → is_done p ≡ true
+whole_there p bytes m sound fine h b = by_answer (is_done p) refl (told p bytes sound fine h)
+  where
+    by_answer : (done : Bool) → is_done p ≡ done → Tells bytes (Ok done) → is_done p ≡ true
+    by_answer true is t = is
+    by_answer false is t = absurd (t b.0 (Some b.1) b.2)
+
+-- ---- a body by what its feeding answered
+
+advanced_at : (head : List ℕ) (old new : Stand) (piece : List ℕ) (done : Bool) → length head ≤ 16384 → Reaches old new piece → done ≡ is_whole new.phase → Advances (in_body head old) (in_body head new) piece done
+advanced_at head old new piece done short reaches is = let P : Bool → Type 0 = λ b. Advances (in_body head old) (in_body head new) piece b in subst P (sym is) (goes_on_behind head old new piece short reaches)
+
+pub advanced : (r : Result Bool HttpFault) (head : List ℕ) (old new : Stand) (piece : List ℕ) → length head ≤ 16384 → IfOk r (λ done. Reaches old new piece × (done ≡ is_whole new.phase)) → IfOk r (Advances (in_body head old) (in_body head new) piece)
+advanced (Ok done) head old new piece short ok = advanced_at head old new piece done short ok.0 ok.1
+advanced (Err e) head old new piece short ok = tt
+
+pub stopped : (r : Result Bool HttpFault) (head : List ℕ) (old : Stand) (piece : List ℕ) → IfErr r (λ e. Refuses e old piece) → IfErr r (Stops (in_body head old) piece)
+stopped (Ok done) head old piece refuses = tt
+stopped (Err e) head old piece refuses = stops_body e head old piece refuses
+
+pub begun : (part text piece : List ℕ) (n : ℕ) (w : Framing) (first new : Stand) (done : Bool) → EndsHead part text piece n w → Starts w first → Reaches first new (drop n piece) → done ≡ is_whole new.phase → Advances (in_head part) (in_body text new) piece done
+begun part text piece n w first new done ends starts reaches is = let P : Bool → Type 0 = λ b. Advances (in_head part) (in_body text new) piece b in subst P (sym is) (into_body part text piece n w first new ends starts reaches)
+
+pub some_fed : (head : List ℕ) (body : Stand) → ¬ (Holds (in_body head body) [])
+some_fed head body h = some_bytes [] h.1 h.0 (head_behind head [] h.1 body h.0 h.2) refl

@@ -1,43 +1,47 @@
 -- What a decoder was fed of what a source gives.
-use Rattle.std.proofs.Common.{◌≡◌, ℕ, ◌<◌, List, [], ◌++◌, length, Option, Some, None, Err, refl, sym, ap, subst, ◌∙◌, arith, append_assoc}
-use Rattle.std.specs.Prelude.{Result, IfSome, IsSomeAnd, ◌⊎◌}
-use Rattle.std.proofs.Common.{inl, inr}
+use Rattle.std.proofs.Common.{◌≡◌, ◌≢◌, ℕ, ◌<◌, ◌≤◌, List, [], ◌++◌, length, Option, Some, None, Err, refl, sym, ap, subst, ◌∙◌, arith, append_assoc}
+use Rattle.std.specs.Prelude.{Result, IfSome, ◌⊎◌}
+use Rattle.std.proofs.Common.{Ok, inl, inr}
 use Rattle.std.proofs.lemmas.List.{length-append, append-nil, nil_from_length}
 use Rattle.std.specs.Io.KnownBytes.{Consumes, IsAtEnd}
 use Rattle.http_edge.specs.declared.fault.HttpFault.{HttpFault}
-use Rattle.http_edge.specs.declared.fault.HttpFault.TheVariants.{Closed, Io}
+use Rattle.http_edge.specs.declared.fault.HttpFault.TheVariants.{Closed, BadHead, TooManyHeaders, HeadTooLong, BadLength, BodyTooLong, BadChunk, Truncated, Io, NoMemory}
 use Rattle.http_edge.specs.declared.request.Request.{Request}
 use Rattle.http_edge.specs.Message.{Message}
-use Rattle.http_edge.specs.Reading.{BeginsWith}
+use Rattle.http_edge.specs.Reading.{BeginsWith, NotYet}
 use Rattle.http_edge.specs.Answer.{Answers, Explains, Fails}
-use Rattle.http_edge.specs.Delivery.{Delivers, TellsSize, IsClosed}
-use Rattle.http_edge.specs.Holds.{Progress, start, Holds}
+use Rattle.http_edge.specs.Delivery.{SaysFault, Says, StopsReading, IsClosed}
+use Rattle.http_edge.specs.Holds.{Progress, Holds, fault_in}
 use Rattle.http_edge.proofs.FaultLemmas.{fails_more}
-use Rattle.http_edge.proofs.AnswerLemmas.{gives, tells_too_long, answers_later}
+use Rattle.http_edge.proofs.MachineLemmas.{not_yet_in_head, start_is_sound}
+use Rattle.http_edge.proofs.AnswerLemmas.{silent, answers_later}
 
 -- the bytes at first are those that were fed and those that are left
 pub record Fed (old now : Option (List ℕ)) (p : Progress) (fed : List ℕ) : Type 0 where
   pub holds : Holds p fed
-  pub known : IfSome old (λ bytes. IsSomeAnd now (λ left. bytes ≡ fed ++ left))
-  pub fresh : fed ≡ [] → p ≡ start
+  pub known : Consumes old now fed
+  pub fine : fault_in p ≡ None
+  pub open_ : NotYet fed
 
-pub begins : (old : Option (List ℕ)) → Fed old old start []
-begins None = record { holds = refl; known = tt; fresh = λ _. refl }
-begins (Some bytes) = record { holds = refl; known = refl; fresh = λ _. refl }
+nothing_yet : NotYet []
+nothing_yet = not_yet_in_head [] [] start_is_sound.1 refl
 
-known_more : (old now next : Option (List ℕ)) (fed piece : List ℕ) → IfSome old (λ bytes. IsSomeAnd now (λ left. bytes ≡ fed ++ left)) → Consumes now next piece
-    → IfSome old (λ bytes. IsSomeAnd next (λ left. bytes ≡ (fed ++ piece) ++ left))
+unclosed : (e : HttpFault) (bytes : List ℕ) → (bytes ≡ [] → IsClosed (Err e)) → e ≢ Closed → e ≢ Io → bytes ≢ []
+unclosed e bytes closed not_closed not_io h = elim (closed h) [ inl is ↦ not_closed cc | inr is ↦ not_io cc ]
+
+pub begins : (old : Option (List ℕ)) (p : Progress) → Holds p [] → fault_in p ≡ None → Fed old old p []
+begins None p holds fine = record { holds = holds; known = tt; fine = fine; open_ = nothing_yet }
+begins (Some bytes) p holds fine = record { holds = holds; known = refl; fine = fine; open_ = nothing_yet }
+
+pub known_more : (old now next : Option (List ℕ)) (fed piece : List ℕ) → Consumes old now fed → Consumes now next piece
+    → Consumes old next (fed ++ piece)
 known_more None now next fed piece known took = tt
 known_more (Some bytes) None next fed piece known took = absurd known
 known_more (Some bytes) (Some left) None fed piece known took = absurd took
 known_more (Some bytes) (Some left) (Some more) fed piece known took = known ∙ ap (λ x. fed ++ x) took ∙ sym (append_assoc fed piece more)
 
-pub goes_on : (old now next : Option (List ℕ)) (p q : Progress) (fed piece : List ℕ) → Fed old now p fed → Consumes now next piece → 0 < length piece → Holds q (fed ++ piece) → Fed old next q (fed ++ piece)
-goes_on old now next p q fed piece so took some holds = record {
-  holds = holds;
-  known = known_more old now next fed piece so.known took;
-  fresh = λ e. absurd (omega (arith, ap length e, length-append fed piece, some));
-}
+pub goes_on : (old now next : Option (List ℕ)) (p q : Progress) (fed piece : List ℕ) → Fed old now p fed → Consumes now next piece → Holds q (fed ++ piece) → fault_in q ≡ None → NotYet (fed ++ piece) → Fed old next q (fed ++ piece)
+goes_on old now next p q fed piece so took holds fine none = record { holds = holds; known = known_more old now next fed piece so.known took; fine = fine; open_ = none }
 
 abbrev Said : Option (List ℕ) → Result Request HttpFault → Type 0
 Said old r = IfSome old (λ bytes. (r ≡ Err Io) ⊎ Answers bytes r)
@@ -51,10 +55,10 @@ at_end (Some bytes) (Some left) p fed r so ended x =
     inr (subst (λ (s : List ℕ). Answers s r) (sym e) x)
 
 -- once a message was fed
-pub at_message : (old now : Option (List ℕ)) (p : Progress) (fed : List ℕ) (r : Result Request HttpFault) (m : Message) → Fed old now p fed → BeginsWith fed m → Answers fed r → Said old r
-at_message None now p fed r m so b x = tt
-at_message (Some bytes) None p fed r m so b x = absurd so.known
-at_message (Some bytes) (Some left) p fed r m so b x = inr (subst (λ (s : List ℕ). Answers s r) (sym so.known) (answers_later r fed left m b x))
+pub at_message : (old now : Option (List ℕ)) (fed : List ℕ) (r : Result Request HttpFault) (m : Message) → Consumes old now fed → BeginsWith fed m → Answers fed r → Said old r
+at_message None now fed r m known b x = tt
+at_message (Some bytes) None fed r m known b x = absurd known
+at_message (Some bytes) (Some left) fed r m known b x = inr (subst (λ (s : List ℕ). Answers s r) (sym known) (answers_later r fed left m b x))
 
 -- once a fault was fed
 pub at_fault : (old now next : Option (List ℕ)) (p : Progress) (fed piece : List ℕ) (e : HttpFault) → Fed old now p fed → Consumes now next piece → Fails e (fed ++ piece) → Said old (Err e)
@@ -65,29 +69,41 @@ at_fault (Some bytes) (Some left) (Some more) p fed piece e so took f =
     let is : bytes ≡ (fed ++ piece) ++ more = known_more (Some bytes) (Some left) (Some more) fed piece so.known took in
     inr (subst (λ (s : List ℕ). Explains e s) (sym is) (fails_more e (fed ++ piece) more f).1)
 
-delivers_of : (bytes : List ℕ) (r : Result Request HttpFault) → (r ≡ Err Io) ⊎ Answers bytes r → Delivers bytes r
-delivers_of bytes r (inl io) m b = inl io
-delivers_of bytes r (inr x) m b = inr (gives r bytes m x b)
+-- ---- what is said
 
-tells_of : (bytes : List ℕ) (r : Result Request HttpFault) → (r ≡ Err Io) ⊎ Answers bytes r → TellsSize bytes r
-tells_of bytes r (inl io) t = inl io
-tells_of bytes r (inr x) t = inr (tells_too_long r bytes x t)
+says_fault : (e : HttpFault) (bytes : List ℕ) → (bytes ≡ [] → IsClosed (Err e)) → Explains e bytes → SaysFault e bytes
+says_fault Closed bytes closed x = x
+says_fault BodyTooLong bytes closed x = x
+says_fault NoMemory bytes closed x = unclosed NoMemory bytes closed (λ h. cc) (λ h. cc)
+says_fault Io bytes closed x = tt
+says_fault BadHead bytes closed x = ((unclosed BadHead bytes closed (λ h. cc) (λ h. cc), silent BadHead bytes tt x), x)
+says_fault TooManyHeaders bytes closed x = ((unclosed TooManyHeaders bytes closed (λ h. cc) (λ h. cc), silent TooManyHeaders bytes tt x), x)
+says_fault HeadTooLong bytes closed x = ((unclosed HeadTooLong bytes closed (λ h. cc) (λ h. cc), silent HeadTooLong bytes tt x), x)
+says_fault BadLength bytes closed x = ((unclosed BadLength bytes closed (λ h. cc) (λ h. cc), silent BadLength bytes tt x), x)
+says_fault BadChunk bytes closed x = ((unclosed BadChunk bytes closed (λ h. cc) (λ h. cc), silent BadChunk bytes tt x), x)
+says_fault Truncated bytes closed x = ((unclosed Truncated bytes closed (λ h. cc) (λ h. cc), silent Truncated bytes tt x), x)
 
-pub delivers : (old : Option (List ℕ)) (r : Result Request HttpFault) → Said old r → IfSome old (λ bytes. Delivers bytes r)
-delivers None r x = tt
-delivers (Some bytes) r x = delivers_of bytes r x
+says_of : (r : Result Request HttpFault) (bytes : List ℕ) → (bytes ≡ [] → IsClosed r) → (r ≡ Err Io) ⊎ Answers bytes r → Says bytes r
+says_of r bytes closed (inl io) = subst (Says bytes) (sym io) tt
+says_of (Ok r) bytes closed (inr x) = x
+says_of (Err e) bytes closed (inr x) = says_fault e bytes closed x
 
-pub tells_size : (old : Option (List ℕ)) (r : Result Request HttpFault) → Said old r → IfSome old (λ bytes. TellsSize bytes r)
-tells_size None r x = tt
-tells_size (Some bytes) r x = tells_of bytes r x
+pub says : (old : Option (List ℕ)) (r : Result Request HttpFault) → Said old r → IfSome old (λ bytes. bytes ≡ [] → IsClosed r) → IfSome old (λ bytes. Says bytes r)
+says None r x closed = tt
+says (Some bytes) r x closed = says_of r bytes closed x
+
+-- ---- how far it is read
+
+pub stops_after : (old now next : Option (List ℕ)) (p : Progress) (fed piece : List ℕ) → Fed old now p fed → Consumes now next piece → length piece ≤ 4096 → StopsReading NotYet old next
+stops_after old now next p fed piece so took short = (fed, piece, known_more old now next fed piece so.known took, short, so.open_)
 
 -- where there is no byte, nothing was fed
-pub closed_at_end : (old now : Option (List ℕ)) (p : Progress) (fed : List ℕ) (r : Result Request HttpFault) → Fed old now p fed → (p ≡ start → r ≡ Err Closed) → IfSome old (λ bytes. bytes ≡ [] → IsClosed r)
+pub closed_at_end : (old now : Option (List ℕ)) (p : Progress) (fed : List ℕ) (r : Result Request HttpFault) → Fed old now p fed → (Holds p [] → fault_in p ≡ None → r ≡ Err Closed) → IfSome old (λ bytes. bytes ≡ [] → IsClosed r)
 closed_at_end None now p fed r so closed = tt
 closed_at_end (Some bytes) None p fed r so closed = absurd so.known
 closed_at_end (Some bytes) (Some left) p fed r so closed = λ e.
     let none : length fed ≡ 0 = omega (arith, ap length so.known, ap length e, length-append fed left) in
-    inl (closed (so.fresh (nil_from_length fed none)))
+    inl (closed (subst (Holds p) (nil_from_length fed none) so.holds) so.fine)
 
 -- where a piece came, there is a byte
 pub not_closed : (old now next : Option (List ℕ)) (p : Progress) (fed piece : List ℕ) (r : Result Request HttpFault) → Fed old now p fed → Consumes now next piece → 0 < length piece → IfSome old (λ bytes. bytes ≡ [] → IsClosed r)

@@ -1,6 +1,6 @@
 -- What was kept of a response, and what it tells.
-use Rattle.std.proofs.Common.{◌≡◌, ℕ, ◌+◌, ◌<◌, ◌≤◌, true, false, List, [], ◌∷◌, ◌++◌, length, map, take, drop, get_or, Option, Some, None, Ok, Err, refl, sym, ap, subst, ◌∙◌, arith, append_assoc, inl, inr}
-use Rattle.std.specs.Prelude.{Result, IfSome, IsSomeAnd, ◌⊎◌, codes}
+use Rattle.std.proofs.Common.{◌≡◌, ◌≢◌, ℕ, ◌+◌, ◌<◌, ◌≤◌, true, false, List, [], ◌∷◌, ◌++◌, length, map, take, drop, get_or, Option, Some, None, Ok, Err, refl, sym, ap, subst, ◌∙◌, arith, append_assoc, inl, inr}
+use Rattle.std.specs.Prelude.{Result, IfSome, ◌⊎◌, codes}
 use Rattle.std.proofs.lemmas.List.{length-append, length-take, length-map, append-nil, take-append-drop, map-append}
 use Rattle.std.specs.Io.KnownBytes.{Consumes, IsAtEnd}
 use Rattle.httparse.specs.Grammar.{ResponseHead, print_response, ReadsResponse, HasNoResponse, status_code}
@@ -13,7 +13,8 @@ use Rattle.http_edge.specs.declared.fault.HttpFault.TheVariants.{Closed, BadHead
 use Rattle.http_edge.specs.declared.reply.Reply.{Reply}
 use Rattle.http_edge.specs.Message.{Header}
 use Rattle.http_edge.specs.Framing.{is_named, values_of}
-use Rattle.http_edge.specs.Reply.{Told, first, told_by, told_in, BeginsSaying, ExplainsReply, AnswersReply, LastsFor, GivesReply, DeliversReply, IsClosedReply}
+use Rattle.http_edge.specs.Reply.{Told, first, told_by, told_in, BeginsSaying, NoReply, ExplainsReply, AnswersReply, LastsFor, SaysReplyFault, SaysReply, DeliversReply, IsClosedReply}
+use Rattle.http_edge.specs.Delivery.{StopsReading}
 use Rattle.httparse.specs.Spans as parsed
 use Rattle.http_edge.proofs.FieldLemmas.{values_of-append, values_of_more}
 use Rattle.http_edge.proofs.ListLemmas.{front_of}
@@ -100,37 +101,96 @@ explains_more Io bytes more lasts is = absurd lasts
 pub one_reply : (buf : List ℕ) (t u : Told) → BeginsSaying buf t → BeginsSaying buf u → t ≡ u
 one_reply buf t u x y = let same = response_unique buf x.0 y.0 x.1 y.1 x.2.reads y.2.reads in x.3 ∙ ap told_by same.0 ∙ sym y.3
 
-never : (bytes : List ℕ) (t : Told) → ((k : ResponseHead) (after : List ℕ) → ReadsResponse (bytes ++ []) k after → length k.fields ≤ 64 → length (print_response k) ≤ 16384 → ⊥) → BeginsSaying bytes t → ⊥
-never bytes t none b = let P : List ℕ → Type 0 = λ s. ReadsResponse s b.0 b.1 in none b.0 b.1 (subst P (sym (append-nil bytes)) b.2.reads) b.2.few b.2.short
+never : (bytes : List ℕ) → ((k : ResponseHead) (after : List ℕ) → ReadsResponse (bytes ++ []) k after → length k.fields ≤ 64 → length (print_response k) ≤ 16384 → ⊥) → NoReply bytes
+never bytes none k after b = let P : List ℕ → Type 0 = λ s. ReadsResponse s k after in none k after (subst P (sym (append-nil bytes)) b.reads) b.few b.short
 
-pub gives : (r : Result Reply HttpFault) (bytes : List ℕ) (t : Told) → AnswersReply bytes r → BeginsSaying bytes t → GivesReply t r
-gives (Ok r) bytes t x b = one_reply bytes (told_in r) t x b
-gives (Err NoMemory) bytes t x b = tt
-gives (Err Closed) bytes t x b = omega (arith, some_bytes bytes b.1 b.0 b.2.reads, ap length x)
-gives (Err BadHead) bytes t x b = never bytes t (λ k after r few short. x [] k after r) b
-gives (Err TooManyHeaders) bytes t x b = never bytes t (λ k after r few short. omega (arith, x.0 [] k after r, few)) b
-gives (Err HeadTooLong) bytes t x b = never bytes t (λ k after r few short. omega (arith, x.1 [] k after r, short)) b
-gives (Err Truncated) bytes t x b = x.1 b.0 b.1 b.2
-gives (Err BadLength) bytes t x b = x
-gives (Err BodyTooLong) bytes t x b = x
-gives (Err BadChunk) bytes t x b = x
-gives (Err Io) bytes t x b = x
+unread : (e : HttpFault) (bytes : List ℕ) → e ≢ NoMemory → ExplainsReply e bytes → NoReply bytes
+unread NoMemory bytes not x k after b = absurd (not refl)
+unread Closed bytes not x k after b = omega (arith, some_bytes bytes after k b.reads, ap length x)
+unread BadHead bytes not x k after b = never bytes (λ j rest r few short. x [] j rest r) k after b
+unread TooManyHeaders bytes not x k after b = never bytes (λ j rest r few short. omega (arith, x.0 [] j rest r, few)) k after b
+unread HeadTooLong bytes not x k after b = never bytes (λ j rest r few short. omega (arith, x.1 [] j rest r, short)) k after b
+unread Truncated bytes not x k after b = x.1 k after b
+unread BadLength bytes not x k after b = x
+unread BodyTooLong bytes not x k after b = x
+unread BadChunk bytes not x k after b = x
+unread Io bytes not x k after b = x
+
+gives_fault : (e : HttpFault) (bytes : List ℕ) (t : Told) → ExplainsReply e bytes → BeginsSaying bytes t → e ≡ NoMemory
+gives_fault NoMemory bytes t x b = refl
+gives_fault Closed bytes t x b = absurd (unread Closed bytes (λ h. cc) x b.0 b.1 b.2)
+gives_fault BadHead bytes t x b = absurd (unread BadHead bytes (λ h. cc) x b.0 b.1 b.2)
+gives_fault TooManyHeaders bytes t x b = absurd (unread TooManyHeaders bytes (λ h. cc) x b.0 b.1 b.2)
+gives_fault HeadTooLong bytes t x b = absurd (unread HeadTooLong bytes (λ h. cc) x b.0 b.1 b.2)
+gives_fault Truncated bytes t x b = absurd (unread Truncated bytes (λ h. cc) x b.0 b.1 b.2)
+gives_fault BadLength bytes t x b = absurd x
+gives_fault BodyTooLong bytes t x b = absurd x
+gives_fault BadChunk bytes t x b = absurd x
+gives_fault Io bytes t x b = absurd x
 
 abbrev Said : Option (List ℕ) → Result Reply HttpFault → Type 0
 Said old r = IfSome old (λ bytes. (r ≡ Err Io) ⊎ AnswersReply bytes r)
 
-delivers_of : (bytes : List ℕ) (r : Result Reply HttpFault) → (r ≡ Err Io) ⊎ AnswersReply bytes r → DeliversReply bytes r
-delivers_of bytes r (inl io) t b = inl io
-delivers_of bytes r (inr x) t b = inr (gives r bytes t x b)
+unclosed : (e : HttpFault) (bytes : List ℕ) → (bytes ≡ [] → IsClosedReply (Err e)) → e ≢ Closed → e ≢ Io → bytes ≢ []
+unclosed e bytes closed not_closed not_io h = elim (closed h) [ inl is ↦ not_closed cc | inr is ↦ not_io cc ]
 
-pub delivers : (old : Option (List ℕ)) (r : Result Reply HttpFault) → Said old r → IfSome old (λ bytes. DeliversReply bytes r)
-delivers None r x = tt
-delivers (Some bytes) r x = delivers_of bytes r x
+says_fault : (e : HttpFault) (bytes : List ℕ) → (bytes ≡ [] → IsClosedReply (Err e)) → ExplainsReply e bytes → SaysReplyFault e bytes
+says_fault Closed bytes closed x = x
+says_fault NoMemory bytes closed x = unclosed NoMemory bytes closed (λ h. cc) (λ h. cc)
+says_fault Io bytes closed x = tt
+says_fault BadHead bytes closed x = ((unclosed BadHead bytes closed (λ h. cc) (λ h. cc), unread BadHead bytes (λ h. cc) x), x)
+says_fault TooManyHeaders bytes closed x = ((unclosed TooManyHeaders bytes closed (λ h. cc) (λ h. cc), unread TooManyHeaders bytes (λ h. cc) x), x)
+says_fault HeadTooLong bytes closed x = ((unclosed HeadTooLong bytes closed (λ h. cc) (λ h. cc), unread HeadTooLong bytes (λ h. cc) x), x)
+says_fault Truncated bytes closed x = ((unclosed Truncated bytes closed (λ h. cc) (λ h. cc), unread Truncated bytes (λ h. cc) x), x)
+says_fault BadLength bytes closed x = absurd x
+says_fault BodyTooLong bytes closed x = absurd x
+says_fault BadChunk bytes closed x = absurd x
+
+says_of : (r : Result Reply HttpFault) (bytes : List ℕ) → (bytes ≡ [] → IsClosedReply r) → (r ≡ Err Io) ⊎ AnswersReply bytes r → SaysReply bytes r
+says_of r bytes closed (inl io) = subst (SaysReply bytes) (sym io) tt
+says_of (Ok r) bytes closed (inr x) = x
+says_of (Err e) bytes closed (inr x) = says_fault e bytes closed x
+
+pub says : (old : Option (List ℕ)) (r : Result Reply HttpFault) → Said old r → IfSome old (λ bytes. bytes ≡ [] → IsClosedReply r) → IfSome old (λ bytes. SaysReply bytes r)
+says None r x closed = tt
+says (Some bytes) r x closed = says_of r bytes closed x
+
+said_fault : (e : HttpFault) (bytes : List ℕ) → SaysReplyFault e bytes → (e ≡ Io) ⊎ ExplainsReply e bytes
+said_fault Closed bytes x = inr x
+said_fault NoMemory bytes x = inr tt
+said_fault Io bytes x = inl refl
+said_fault BadHead bytes x = inr x.1
+said_fault TooManyHeaders bytes x = inr x.1
+said_fault HeadTooLong bytes x = inr x.1
+said_fault Truncated bytes x = inr x.1
+said_fault BadLength bytes x = inr x.1
+said_fault BodyTooLong bytes x = inr x.1
+said_fault BadChunk bytes x = inr x.1
+
+pub delivers : (r : Result Reply HttpFault) (bytes : List ℕ) → SaysReply bytes r → DeliversReply bytes r
+delivers (Ok r) bytes x t b = inr (one_reply bytes (told_in r) t x b)
+delivers (Err e) bytes x t b = elim (said_fault e bytes x) [ inl io ↦ inl (ap (λ (f : HttpFault). Err f) io) | inr a ↦ inr (gives_fault e bytes t a b) ]
+
+closed_fault : (e : HttpFault) → SaysReplyFault e [] → (e ≡ Closed) ⊎ (e ≡ Io)
+closed_fault Closed x = inl refl
+closed_fault Io x = inr refl
+closed_fault NoMemory x = absurd (x refl)
+closed_fault BadHead x = absurd (x.0.0 refl)
+closed_fault TooManyHeaders x = absurd (x.0.0 refl)
+closed_fault HeadTooLong x = absurd (x.0.0 refl)
+closed_fault Truncated x = absurd (x.0.0 refl)
+closed_fault BadLength x = absurd (x.0.0 refl)
+closed_fault BodyTooLong x = absurd (x.0.0 refl)
+closed_fault BadChunk x = absurd (x.0.0 refl)
+
+pub closed_at_no_byte : (r : Result Reply HttpFault) → SaysReply [] r → IsClosedReply r
+closed_at_no_byte (Ok r) x = absurd (omega (arith, some_bytes [] x.1 x.0 x.2.reads))
+closed_at_no_byte (Err e) x = elim (closed_fault e x) [ inl is ↦ inl (ap (λ (f : HttpFault). Err f) is) | inr is ↦ inr (ap (λ (f : HttpFault). Err f) is) ]
 
 -- ---- what was kept
 
 pub record Kept (old now : Option (List ℕ)) (kept : List ℕ) : Type 0 where
-  pub known : IfSome old (λ bytes. IsSomeAnd now (λ left. bytes ≡ kept ++ left))
+  pub known : Consumes old now kept
   pub none : HasNoResponse kept
   pub short : length kept < 16384
 
@@ -138,8 +198,8 @@ pub begins : (old : Option (List ℕ)) → Kept old old []
 begins None = record { known = tt; none = none_at_first; short = omega arith }
 begins (Some bytes) = record { known = refl; none = none_at_first; short = omega arith }
 
-known_more : (old now next : Option (List ℕ)) (kept piece : List ℕ) → IfSome old (λ bytes. IsSomeAnd now (λ left. bytes ≡ kept ++ left)) → Consumes now next piece
-    → IfSome old (λ bytes. IsSomeAnd next (λ left. bytes ≡ (kept ++ piece) ++ left))
+known_more : (old now next : Option (List ℕ)) (kept piece : List ℕ) → Consumes old now kept → Consumes now next piece
+    → Consumes old next (kept ++ piece)
 known_more None now next kept piece known took = tt
 known_more (Some bytes) None next kept piece known took = absurd known
 known_more (Some bytes) (Some left) None kept piece known took = absurd took
@@ -161,8 +221,11 @@ grows (Some bytes) (Some left) (Some more) kept piece front back new so took cut
 
 pub keeps : (old now next : Option (List ℕ)) (kept piece new : List ℕ) → Kept old now kept → Consumes now next piece → new ≡ kept ++ piece → HasNoResponse new → length new < 16384 → Kept old next new
 keeps old now next kept piece new so took is none short =
-    let P : List ℕ → Type 0 = λ s. IfSome old (λ bytes. IsSomeAnd next (λ left. bytes ≡ s ++ left)) in
+    let P : List ℕ → Type 0 = λ s. Consumes old next s in
     record { known = subst P (sym is) (known_more old now next kept piece so.known took); none = none; short = short }
+
+pub stops_after : (old now next : Option (List ℕ)) (kept piece : List ℕ) → Kept old now kept → Consumes now next piece → length piece ≤ 4096 → StopsReading NoReply old next
+stops_after old now next kept piece so took short = (kept, piece, known_more old now next kept piece so.known took, short, λ k after b. so.none k after b.reads)
 
 pub said : (old : Option (List ℕ)) (new : List ℕ) (r : Reply) → Grows old new → BeginsSaying new (told_in r) → Said old (Ok r)
 said None new r g b = tt

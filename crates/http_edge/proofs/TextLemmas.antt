@@ -16,19 +16,19 @@ same_allowing a b p q k l z y m n body e f g h i =
     ap (λ x. allowing_response x p k z m body) e ∙ ap (λ x. allowing_response b x k z m body) f ∙ ap (λ x. allowing_response b q x z m body) g ∙ ap (λ x. allowing_response b q l x m body) h
     ∙ ap (λ x. allowing_response b q l y x body) i
 
-pub sent_plain : (old new : Option (List ℕ)) (failed : Bool) (w : Written) (a p k z digits phrase kind size body : List ℕ) → a ≡ digits → p ≡ phrase → k ≡ kind → z ≡ size
-    → Sent old new failed (plain_response a p k z body) w → Sent old new failed (plain_response digits phrase kind size body) w
-sent_plain old new failed w a p k z digits phrase kind size body e f g h s =
-    let P : List ℕ → Type 0 = λ x. Sent old new failed x w in subst P (same_plain a digits p phrase k kind z size body e f g h) s
+pub sent_plain : (old new : Option (List ℕ)) (w : Written) (a p k z digits phrase kind size body : List ℕ) → a ≡ digits → p ≡ phrase → k ≡ kind → z ≡ size
+    → Sent old new (plain_response a p k z body) w → Sent old new (plain_response digits phrase kind size body) w
+sent_plain old new w a p k z digits phrase kind size body e f g h s =
+    let P : List ℕ → Type 0 = λ x. Sent old new x w in subst P (same_plain a digits p phrase k kind z size body e f g h) s
 
-pub sent_allowing : (old new : Option (List ℕ)) (failed : Bool) (w : Written) (a p k z m digits phrase kind size methods body : List ℕ) → a ≡ digits → p ≡ phrase → k ≡ kind → z ≡ size → m ≡ methods
-    → Sent old new failed (allowing_response a p k z m body) w → Sent old new failed (allowing_response digits phrase kind size methods body) w
-sent_allowing old new failed w a p k z m digits phrase kind size methods body e f g h i s =
-    let P : List ℕ → Type 0 = λ x. Sent old new failed x w in subst P (same_allowing a digits p phrase k kind z size m methods body e f g h i) s
+pub sent_allowing : (old new : Option (List ℕ)) (w : Written) (a p k z m digits phrase kind size methods body : List ℕ) → a ≡ digits → p ≡ phrase → k ≡ kind → z ≡ size → m ≡ methods
+    → Sent old new (allowing_response a p k z m body) w → Sent old new (allowing_response digits phrase kind size methods body) w
+sent_allowing old new w a p k z m digits phrase kind size methods body e f g h i s =
+    let P : List ℕ → Type 0 = λ x. Sent old new x w in subst P (same_allowing a digits p phrase k kind z size m methods body e f g h i) s
 
-pub sent_post : (old new : Option (List ℕ)) (failed : Bool) (w : Written) (h z host size body : List ℕ) → h ≡ host → z ≡ size → Sent old new failed (post_request h z (body ++ [])) w → Sent old new failed (post_request host size body) w
-sent_post old new failed w h z host size body e f s =
-    let P : List ℕ → Type 0 = λ x. Sent old new failed x w in
+pub sent_post : (old new : Option (List ℕ)) (w : Written) (h z host size body : List ℕ) → h ≡ host → z ≡ size → Sent old new (post_request h z (body ++ [])) w → Sent old new (post_request host size body) w
+sent_post old new w h z host size body e f s =
+    let P : List ℕ → Type 0 = λ x. Sent old new x w in
     subst P (ap (λ x. post_request x z (body ++ [])) e ∙ ap (λ x. post_request host x (body ++ [])) f ∙ ap (λ x. post_request host size x) (append-nil body)) s
 
 -- ---- the phrase of a status

@@ -1,5 +1,5 @@
 -- What is answered of the bytes of a message.
-use Rattle.std.specs.Prelude.{◌≡◌, ◌≢◌, ℕ, List, [], Bool, true, false, None, Result, Ok, Err, ⊤}
+use Rattle.std.specs.Prelude.{◌≡◌, ◌≢◌, ◌⊎◌, ℕ, List, [], Bool, true, false, None, Result, Ok, Err, ⊤}
 use Rattle.httparse.specs.Grammar.{RequestHead, NeverHasRequest}
 use Rattle.http_edge.specs.declared.fault.HttpFault.{HttpFault}
 use Rattle.http_edge.specs.declared.fault.HttpFault.TheVariants.{Closed, BadHead, TooManyHeaders, HeadTooLong, BadLength, BodyTooLong, BadChunk, Truncated, Io, NoMemory}
@@ -37,16 +37,10 @@ Answers bytes (Err e) = Explains e bytes
 
 -- a fault that more bytes do not mend
 abbrev pub IsLasting : HttpFault → Type 0
-IsLasting BadHead = ⊤
-IsLasting TooManyHeaders = ⊤
-IsLasting HeadTooLong = ⊤
-IsLasting BadLength = ⊤
-IsLasting BodyTooLong = ⊤
-IsLasting BadChunk = ⊤
-IsLasting NoMemory = ⊤
 IsLasting Closed = ⊥
 IsLasting Truncated = ⊥
 IsLasting Io = ⊥
+IsLasting e = ⊤
 
 abbrev pub Fails : HttpFault → List ℕ → Type 0
 Fails e bytes = IsLasting e × Explains e bytes
@@ -60,27 +54,9 @@ Tells bytes (Err e) = Fails e bytes
 -- where a message stands at the front, it is answered, unless memory ran out
 abbrev pub Gives : Message → Result Request HttpFault → Type 0
 Gives m (Ok r) = message_in r ≡ m
-Gives m (Err NoMemory) = ⊤
-Gives m (Err Closed) = ⊥
-Gives m (Err BadHead) = ⊥
-Gives m (Err TooManyHeaders) = ⊥
-Gives m (Err HeadTooLong) = ⊥
-Gives m (Err BadLength) = ⊥
-Gives m (Err BodyTooLong) = ⊥
-Gives m (Err BadChunk) = ⊥
-Gives m (Err Truncated) = ⊥
-Gives m (Err Io) = ⊥
+Gives m (Err e) = e ≡ NoMemory
 
 -- where the size is the first thing that is wrong, BodyTooLong is answered, unless memory ran out
 abbrev pub TellsTooLong : Result Request HttpFault → Type 0
 TellsTooLong (Ok r) = ⊥
-TellsTooLong (Err BodyTooLong) = ⊤
-TellsTooLong (Err NoMemory) = ⊤
-TellsTooLong (Err Closed) = ⊥
-TellsTooLong (Err BadHead) = ⊥
-TellsTooLong (Err TooManyHeaders) = ⊥
-TellsTooLong (Err HeadTooLong) = ⊥
-TellsTooLong (Err BadLength) = ⊥
-TellsTooLong (Err BadChunk) = ⊥
-TellsTooLong (Err Truncated) = ⊥
-TellsTooLong (Err Io) = ⊥
+TellsTooLong (Err e) = (e ≡ BodyTooLong) ⊎ (e ≡ NoMemory)

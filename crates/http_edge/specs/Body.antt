@@ -2,7 +2,7 @@
 use Rattle.std.specs.Prelude.{◌≡◌, ℕ, ◌+◌, ◌-◌, ◌*◌, ◌<◌, ◌≤◌, Bool, true, false, List, [], ◌∷◌, ◌++◌, length, Option, Some, None, ⊤}
 use Rattle.httparse.specs.Grammar.{HasNoChunkLine, HasNoSection}
 use Rattle.http_edge.specs.declared.fault.HttpFault.{HttpFault}
-use Rattle.http_edge.specs.declared.fault.HttpFault.TheVariants.{Closed, BadHead, TooManyHeaders, HeadTooLong, BadLength, BodyTooLong, BadChunk, Truncated, Io, NoMemory}
+use Rattle.http_edge.specs.declared.fault.HttpFault.TheVariants.{BodyTooLong, BadChunk, NoMemory}
 use Rattle.http_edge.specs.declared.phase.Phase.{Phase}
 use Rattle.http_edge.specs.declared.phase.Phase.TheVariants.{Counted, Line, Content, Return, LineFeed, Trailer, Whole}
 use Rattle.http_edge.specs.declared.body.Body.{Body}
@@ -90,10 +90,4 @@ abbrev pub Refuses : HttpFault → Stand → List ℕ → Type 0
 Refuses BadChunk old bytes = (more : List ℕ) (body : Option (List ℕ)) → ¬ (Becomes old (bytes ++ more) body)
 Refuses BodyTooLong old bytes = (more : List ℕ) → Becomes old (bytes ++ more) None
 Refuses NoMemory old bytes = ⊤
-Refuses Closed old bytes = ⊥
-Refuses BadHead old bytes = ⊥
-Refuses TooManyHeaders old bytes = ⊥
-Refuses HeadTooLong old bytes = ⊥
-Refuses BadLength old bytes = ⊥
-Refuses Truncated old bytes = ⊥
-Refuses Io old bytes = ⊥
+Refuses e old bytes = ⊥

@@ -1,7 +1,7 @@
 -- What the head's framing is answered as.
 use Rattle.std.specs.Prelude.{◌≡◌, ℕ, ◌<◌, ◌≤◌, Option, Some, None, Result, Ok, Err}
 use Rattle.http_edge.specs.declared.fault.HttpFault.{HttpFault}
-use Rattle.http_edge.specs.declared.fault.HttpFault.TheVariants.{Closed, BadHead, TooManyHeaders, HeadTooLong, BadLength, BodyTooLong, BadChunk, Truncated, Io, NoMemory}
+use Rattle.http_edge.specs.declared.fault.HttpFault.TheVariants.{BadLength, BodyTooLong}
 use Rattle.http_edge.specs.declared.framing.Framing.{Framing}
 use Rattle.http_edge.specs.declared.framing.Framing.TheVariants.{Sized, Chunked}
 use Rattle.http_edge.specs.declared.limits.TheConstants.{MAX_BODY}
@@ -12,11 +12,4 @@ Frames framing (Ok (Sized n)) = (framing ≡ Some (Sized n)) × (n ≤ MAX_BODY)
 Frames framing (Ok Chunked) = framing ≡ Some Chunked
 Frames framing (Err BadLength) = framing ≡ None
 Frames framing (Err BodyTooLong) = (n : ℕ) × (framing ≡ Some (Sized n)) × (MAX_BODY < n)
-Frames framing (Err Closed) = ⊥
-Frames framing (Err BadHead) = ⊥
-Frames framing (Err TooManyHeaders) = ⊥
-Frames framing (Err HeadTooLong) = ⊥
-Frames framing (Err BadChunk) = ⊥
-Frames framing (Err Truncated) = ⊥
-Frames framing (Err Io) = ⊥
-Frames framing (Err NoMemory) = ⊥
+Frames framing (Err e) = ⊥

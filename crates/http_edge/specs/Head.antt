@@ -5,7 +5,7 @@ use Rattle.httparse.specs.declared.spans.RequestSpans.{RequestSpans}
 use Rattle.httparse.specs.Grammar.{RequestHead, print_request, ReadsRequest, HasNoRequest, NeverHasRequest}
 use Rattle.httparse.specs.Spans.{IsRequestAt, IsRequestWithin, RequestOverflows, RequestExceeds}
 use Rattle.http_edge.specs.declared.fault.HttpFault.{HttpFault}
-use Rattle.http_edge.specs.declared.fault.HttpFault.TheVariants.{Closed, BadHead, TooManyHeaders, HeadTooLong, BadLength, BodyTooLong, BadChunk, Truncated, Io, NoMemory}
+use Rattle.http_edge.specs.declared.fault.HttpFault.TheVariants.{BadHead, TooManyHeaders, HeadTooLong}
 use Rattle.http_edge.specs.declared.limits.TheConstants.{MAX_FIELDS, MAX_HEAD}
 
 -- the spans cover a head within the limits
@@ -29,10 +29,4 @@ LooksForHead buf spans (Ok None) = HasNoRequest buf × (length buf < MAX_HEAD)
 LooksForHead buf spans (Err BadHead) = NeverHasRequest buf
 LooksForHead buf spans (Err TooManyHeaders) = HasTooManyFields buf
 LooksForHead buf spans (Err HeadTooLong) = HasLongHead buf
-LooksForHead buf spans (Err Closed) = ⊥
-LooksForHead buf spans (Err BadLength) = ⊥
-LooksForHead buf spans (Err BodyTooLong) = ⊥
-LooksForHead buf spans (Err BadChunk) = ⊥
-LooksForHead buf spans (Err Truncated) = ⊥
-LooksForHead buf spans (Err Io) = ⊥
-LooksForHead buf spans (Err NoMemory) = ⊥
+LooksForHead buf spans (Err e) = ⊥

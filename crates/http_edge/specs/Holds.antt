@@ -1,49 +1,37 @@
 -- What a decoder holds of the bytes that it was fed.
-use Rattle.std.specs.Prelude.{◌≡◌, ◌≢◌, ℕ, ◌+◌, ◌-◌, ◌<◌, ◌≤◌, Bool, true, false, List, [], ◌++◌, length, take, Option, Some, None, ⊤}
+use Rattle.std.specs.Prelude.{◌≡◌, ◌≢◌, ℕ, ◌+◌, ◌-◌, ◌<◌, ◌≤◌, Bool, false, List, [], ◌++◌, length, take, Option, Some, None, ⊤}
 use Rattle.httparse.specs.Grammar.{RequestHead, HasNoRequest}
 use Rattle.http_edge.specs.declared.fault.HttpFault.{HttpFault}
 use Rattle.http_edge.specs.declared.framing.Framing.{Framing}
 use Rattle.http_edge.specs.declared.framing.Framing.TheVariants.{Sized, Chunked}
-use Rattle.http_edge.specs.declared.phase.Phase.{Phase}
-use Rattle.http_edge.specs.declared.phase.Phase.TheVariants.{Whole}
-use Rattle.http_edge.specs.declared.stage.Stage.{Stage}
-use Rattle.http_edge.specs.declared.stage.Stage.TheVariants.{InHead, InBody, Failed}
 use Rattle.http_edge.specs.declared.machine.Machine.{Machine}
+use Rattle.http_edge.specs.declared.machine.Machine.TheVariants.{InHead, InBody, Failed}
 use Rattle.http_edge.specs.declared.limits.TheConstants.{MAX_BODY, MAX_HEAD}
 use Rattle.http_edge.specs.Message.{IsHeadAt}
 use Rattle.http_edge.specs.Reading.{HasBody, framing_in}
 use Rattle.http_edge.specs.Body.{Stand, stand_of, Becomes, IsOpen, is_whole, most_left, most_of_chunks}
 use Rattle.http_edge.specs.Answer.{Fails}
 
--- how far the reading of a message has come: the bytes of the head so far, and where its body stands
-pub record Progress : Type 0 where
-  pub stage : Stage
-  pub head : List ℕ
-  pub body : Stand
+-- how far the reading of a message has come: the bytes of the head so far; or the head, and where its body stands; or a fault
+pub data Progress : Type 0 where
+  in_head : List ℕ → Progress
+  in_body : List ℕ → Stand → Progress
+  failed : HttpFault → Progress
 
 abbrev pub progress_of : Machine → Progress
-progress_of m = record { stage = m.stage; head = m.head.items; body = stand_of m.body }
-
--- nothing of a body
-abbrev pub unread : Stand
-unread = record { phase = Whole; content = []; part = [] }
+progress_of (InHead head) = in_head head.items
+progress_of (InBody head body) = in_body head.items (stand_of body)
+progress_of (Failed e) = failed e
 
 -- before the first byte
 abbrev pub start : Progress
-start = record { stage = InHead; head = []; body = unread }
+start = in_head []
 
--- nothing is kept behind a fault
-abbrev pub failed : HttpFault → Progress
-failed e = record { stage = Failed e; head = []; body = unread }
-
--- what is kept in each stage
-abbrev pub SoundAt : Stage → List ℕ → Stand → Type 0
-SoundAt InHead head body = (length head < MAX_HEAD) × HasNoRequest head × (body ≡ unread)
-SoundAt InBody head body = (length head ≤ MAX_HEAD) × IsOpen body
-SoundAt (Failed e) head body = (head ≡ []) × (body ≡ unread)
-
+-- a head that may still come, and a body that is being read
 abbrev pub IsSound : Progress → Type 0
-IsSound p = SoundAt p.stage p.head p.body
+IsSound (in_head head) = (length head < MAX_HEAD) × HasNoRequest head
+IsSound (in_body head body) = (length head ≤ MAX_HEAD) × IsOpen body
+IsSound (failed e) = ⊤
 
 -- the head and its bytes, and what stands behind them and then any others comes to what these come to from here
 pub record IsBehind (head : List ℕ) (body : Stand) (bytes : List ℕ) (k : RequestHead) (fed : List ℕ) : Type 0 where
@@ -53,44 +41,41 @@ pub record IsBehind (head : List ℕ) (body : Stand) (bytes : List ℕ) (k : Req
   pub forward : (more : List ℕ) (o : Option (List ℕ)) → HasBody (framing_in k) (fed ++ more) o → Becomes body more o
   pub backward : (more : List ℕ) (o : Option (List ℕ)) → Becomes body more o → HasBody (framing_in k) (fed ++ more) o
 
-abbrev pub HoldsAt : Stage → List ℕ → Stand → List ℕ → Type 0
-HoldsAt InHead head body bytes = bytes ≡ head
-HoldsAt InBody head body bytes = (k : RequestHead) × (fed : List ℕ) × IsBehind head body bytes k fed
-HoldsAt (Failed e) head body bytes = Fails e bytes
-
 -- where these bytes lead, however they were cut
 abbrev pub Holds : Progress → List ℕ → Type 0
-Holds p bytes = HoldsAt p.stage p.head p.body bytes
+Holds (in_head head) bytes = bytes ≡ head
+Holds (in_body head body) bytes = (k : RequestHead) × (fed : List ℕ) × IsBehind head body bytes k fed
+Holds (failed e) bytes = Fails e bytes
 
-abbrev pub is_done_at : Stage → Phase → Bool
-is_done_at InHead phase = false
-is_done_at InBody phase = is_whole phase
-is_done_at (Failed e) phase = false
+-- the fault that was told, if one was
+abbrev pub fault_in : Progress → Option HttpFault
+fault_in (in_head head) = None
+fault_in (in_body head body) = None
+fault_in (failed e) = Some e
+
+-- the decoded body so far
+abbrev pub content_in : Progress → List ℕ
+content_in (in_head head) = []
+content_in (in_body head body) = body.content
+content_in (failed e) = []
+
+-- the lengths of what is kept: the head, the body so far, and the part so far of a size line or of the trailers
+abbrev pub kept : Progress → ℕ
+kept (in_head head) = length head
+kept (in_body head body) = length head + length body.content + length body.part
+kept (failed e) = 0
 
 -- the message is whole
 abbrev pub is_done : Progress → Bool
-is_done p = is_done_at p.stage p.body.phase
-
-abbrev pub is_failed_at : Stage → Bool
-is_failed_at InHead = false
-is_failed_at InBody = false
-is_failed_at (Failed e) = true
-
-abbrev pub is_failed : Progress → Bool
-is_failed p = is_failed_at p.stage
-
--- the lengths of what is kept
-abbrev pub kept : Progress → ℕ
-kept p = length p.head + length p.body.content + length p.body.part
+is_done (in_head head) = false
+is_done (in_body head body) = is_whole body.phase
+is_done (failed e) = false
 
 -- the most bytes that may still come before the message is whole or fails
-abbrev pub most_to_come_at : Stage → List ℕ → Stand → ℕ
-most_to_come_at InHead head body = MAX_HEAD - length head + most_of_chunks MAX_BODY
-most_to_come_at InBody head body = most_left body
-most_to_come_at (Failed e) head body = 0
-
 abbrev pub most_to_come : Progress → ℕ
-most_to_come p = most_to_come_at p.stage p.head p.body
+most_to_come (in_head head) = MAX_HEAD - length head + most_of_chunks MAX_BODY
+most_to_come (in_body head body) = most_left body
+most_to_come (failed e) = 0
 
 -- a body within the limit
 abbrev pub IsFramed : Framing → Type 0
@@ -104,19 +89,25 @@ pub record Starts (framing : Framing) (body : Stand) : Type 0 where
   pub backward : (more : List ℕ) (o : Option (List ℕ)) → Becomes body more o → HasBody (Some framing) more o
   pub less : most_left body ≤ most_of_chunks MAX_BODY
 
--- from old, n bytes of the piece are of the head, and all of it where the head isn't whole
-pub record TakesHead (old new : Progress) (piece : List ℕ) (n : ℕ) : Type 0 where
+-- the head ends in the piece, n bytes of which are of it, and frames the body so
+pub record EndsHead (old new piece : List ℕ) (n : ℕ) (framing : Framing) : Type 0 where
   pub within : n ≤ length piece
-  pub sound : IsSound new
-  pub fine : is_failed new ≡ false
-  pub rest : new.stage ≡ InHead → n ≡ length piece
-  pub holds : Holds new (old.head ++ take n piece)
-  pub less : most_to_come new + n ≤ most_to_come old
+  pub front : old ++ take n piece ≡ new
+  pub head : RequestHead
+  pub at : IsHeadAt new head []
+  pub short : length new ≤ MAX_HEAD
+  pub framed : framing_in head ≡ Some framing
+  pub fits : IsFramed framing
+
+-- from the part of a head so far, the piece leads to more of it, or to its end
+abbrev pub TakesHead : List ℕ → List ℕ → List ℕ → Option (ℕ × Framing) → Type 0
+TakesHead old new piece None = (new ≡ old ++ piece) × (length new < MAX_HEAD) × HasNoRequest new
+TakesHead old new piece (Some found) = EndsHead old new piece found.0 found.1
 
 -- from old, the piece leads to new, where done says whether the message is whole
 pub record Advances (old new : Progress) (piece : List ℕ) (done : Bool) : Type 0 where
   pub sound : IsSound new
-  pub fine : is_failed new ≡ false
+  pub fine : fault_in new ≡ None
   pub done_is : done ≡ is_done new
   pub holds : (bytes : List ℕ) → Holds old bytes → Holds new (bytes ++ piece)
   pub less : done ≡ false → most_to_come new + length piece ≤ most_to_come old

@@ -8,6 +8,7 @@ pub mod Head
 pub mod Answer
 pub mod Holds
 pub mod Request
+pub mod Find
 pub mod Finish
 pub mod Delivery
 pub mod Sent

@@ -3,7 +3,7 @@ use Rattle.std.specs.Prelude.{◌≡◌, ◌≢◌, ◌⊎◌, ℕ, ◌<◌, ◌
 use Rattle.httparse.specs.Grammar.{ResponseHead, print_response, ReadsResponse, HasNoResponse, NeverHasResponse, status_code}
 use Rattle.httparse.specs.Spans.{name_and_value, ResponseOverflows, ResponseExceeds}
 use Rattle.http_edge.specs.declared.fault.HttpFault.{HttpFault}
-use Rattle.http_edge.specs.declared.fault.HttpFault.TheVariants.{Closed, BadHead, TooManyHeaders, HeadTooLong, BadLength, BodyTooLong, BadChunk, Truncated, Io, NoMemory}
+use Rattle.http_edge.specs.declared.fault.HttpFault.TheVariants.{Closed, BadHead, TooManyHeaders, HeadTooLong, Truncated, Io, NoMemory}
 use Rattle.http_edge.specs.declared.reply.Reply.{Reply}
 use Rattle.http_edge.specs.declared.limits.TheConstants.{MAX_FIELDS, MAX_HEAD}
 use Rattle.http_edge.specs.Framing.{values_of}
@@ -44,10 +44,7 @@ ExplainsReply TooManyHeaders bytes = ResponseOverflows MAX_FIELDS bytes × Respo
 ExplainsReply HeadTooLong bytes = (MAX_HEAD ≤ length bytes) × ((more : List ℕ) (k : ResponseHead) (after : List ℕ) → ReadsResponse (bytes ++ more) k after → MAX_HEAD < length (print_response k))
 ExplainsReply Truncated bytes = (bytes ≢ []) × NoReply bytes
 ExplainsReply NoMemory bytes = ⊤
-ExplainsReply BadLength bytes = ⊥
-ExplainsReply BodyTooLong bytes = ⊥
-ExplainsReply BadChunk bytes = ⊥
-ExplainsReply Io bytes = ⊥
+ExplainsReply e bytes = ⊥
 
 -- of bytes that end here
 abbrev pub AnswersReply : List ℕ → Result Reply HttpFault → Type 0
@@ -60,12 +57,7 @@ LastsFor BadHead = ⊤
 LastsFor TooManyHeaders = ⊤
 LastsFor HeadTooLong = ⊤
 LastsFor NoMemory = ⊤
-LastsFor Closed = ⊥
-LastsFor BadLength = ⊥
-LastsFor BodyTooLong = ⊥
-LastsFor BadChunk = ⊥
-LastsFor Truncated = ⊥
-LastsFor Io = ⊥
+LastsFor e = ⊥
 
 -- what a look for a reply answers
 abbrev pub LooksForReply : List ℕ → Result (Option Reply) HttpFault → Type 0
@@ -73,19 +65,26 @@ LooksForReply buf (Ok (Some r)) = BeginsSaying buf (told_in r)
 LooksForReply buf (Ok None) = HasNoResponse buf × (length buf < MAX_HEAD)
 LooksForReply buf (Err e) = LastsFor e × ExplainsReply e buf
 
+-- there is a byte, and no head stands at the front
+abbrev pub IsNoReply : List ℕ → Type 0
+IsNoReply bytes = (bytes ≢ []) × NoReply bytes
+
+-- what a fault says of all the bytes of a source; of a call that failed it says nothing
+abbrev pub SaysReplyFault : HttpFault → List ℕ → Type 0
+SaysReplyFault Closed bytes = bytes ≡ []
+SaysReplyFault NoMemory bytes = bytes ≢ []
+SaysReplyFault Io bytes = ⊤
+SaysReplyFault e bytes = IsNoReply bytes × ExplainsReply e bytes
+
+-- what an answer says of all the bytes of a source
+abbrev pub SaysReply : List ℕ → Result Reply HttpFault → Type 0
+SaysReply bytes (Ok r) = BeginsSaying bytes (told_in r)
+SaysReply bytes (Err e) = SaysReplyFault e bytes
+
 -- where a head is at the front, what it says is answered, unless memory ran out
 abbrev pub GivesReply : Told → Result Reply HttpFault → Type 0
 GivesReply t (Ok r) = told_in r ≡ t
-GivesReply t (Err NoMemory) = ⊤
-GivesReply t (Err Closed) = ⊥
-GivesReply t (Err BadHead) = ⊥
-GivesReply t (Err TooManyHeaders) = ⊥
-GivesReply t (Err HeadTooLong) = ⊥
-GivesReply t (Err BadLength) = ⊥
-GivesReply t (Err BodyTooLong) = ⊥
-GivesReply t (Err BadChunk) = ⊥
-GivesReply t (Err Truncated) = ⊥
-GivesReply t (Err Io) = ⊥
+GivesReply t (Err e) = e ≡ NoMemory
 
 -- the same, unless a call failed
 abbrev pub DeliversReply : List ℕ → Result Reply HttpFault → Type 0

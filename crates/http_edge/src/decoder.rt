@@ -1,9 +1,13 @@
 //! A decoder of messages that come in pieces.
-ghost use Rattle.std.specs.Prelude.{◌≡◌, ◌+◌, ◌≤◌, ◌++◌, List, ℕ, length, true, false, Ok, Err, IfOk, IfErr};
+ghost use Rattle.std.specs.Prelude.{◌≡◌, ◌+◌, ◌≤◌, ◌++◌, List, ℕ, Some, None, [], length, true, false, Ok, Err};
+ghost use Rattle.std.specs.Result.{result_err};
+ghost use Rattle.http_edge.specs.Message.{Message};
+ghost use Rattle.http_edge.specs.Reading.{BeginsWith};
 ghost use Rattle.http_edge.specs.Answer.{Answers, Tells};
-ghost use Rattle.http_edge.specs.Holds.{start, failed, is_done, kept, most_to_come, Holds};
+ghost use Rattle.http_edge.specs.Holds.{fault_in, content_in, kept, most_to_come, Holds};
 
 use crate::fault::HttpFault;
+use crate::limits::{MAX_HEAD, MAX_TRAILER};
 use crate::machine::Machine;
 use crate::request::Request;
 use std::alloc::Global;
@@ -31,7 +35,8 @@ impl Model for Decoder {
 impl Decoder {
     /// A decoder that was fed nothing. It takes no memory.
     pub fn new(alloc: Global) -> Self
-        ensures { result ≡ start }
+        ensures nothing { Holds result [] }
+        ensures fine { fault_in result ≡ None }
     {
         Decoder {
             alloc,
@@ -41,23 +46,26 @@ impl Decoder {
 
     /// Feeds the next piece, and tells whether the message is whole; bytes behind it are thrown away.
     /// An error other than NoMemory comes where no bytes that begin with those that were fed have a
-    /// message. After an error each later call answers it again.
+    /// message. NoMemory comes where the memory for what is to be kept was refused, and the bytes are
+    /// lost; once the message is whole, no call takes memory. After an error each later call answers
+    /// it again.
     pub fn feed(&mut self, piece: &[u8]) -> Result<bool, HttpFault>
         ensures holds { (bytes : List ℕ) → Holds self.old bytes → Holds self.new (bytes ++ piece.now) }
         ensures tells { (bytes : List ℕ) → Holds self.old bytes → Tells (bytes ++ piece.now) result }
-        ensures done { IfOk result (λ whole. whole ≡ is_done self.new) }
-        ensures failed { IfErr result (λ e. self.new ≡ failed e) }
-        ensures again { (e : HttpFault) → self.old ≡ failed e → result ≡ Err e }
+        ensures fault { fault_in self.new ≡ result_err result }
+        ensures again { (e : HttpFault) → fault_in self.old ≡ Some e → result ≡ Err e }
+        // Once the message is whole, it stays as it is.
+        ensures whole { (bytes : List ℕ) (m : Message) → Holds self.old bytes → fault_in self.old ≡ None → BeginsWith bytes m → (result ≡ Ok true) × (self.new ≡ self.old) }
         // However long the pieces go on, they come to an end.
         ensures less { result ≡ Ok false → most_to_come self.new + length piece.now ≤ most_to_come self.old }
     {
-        self.machine.feed(piece)
+        self.machine.feed(self.alloc, piece)
     }
 
-    /// How many bytes it keeps, at most 32,768 more than the content of the body. It takes no memory.
+    /// How many bytes it keeps, at most 32,768 more than the decoded body so far. It takes no memory.
     pub fn held(&self) -> usize
         ensures all { result ≡ kept self.now }
-        ensures small { result ≤ length self.now.body.content + 32768 }
+        ensures small { result ≤ length (content_in self.now) + (MAX_HEAD + MAX_TRAILER) }
     {
         self.machine.held()
     }
@@ -67,8 +75,8 @@ impl Decoder {
     /// memory is refused.
     pub fn finish(self) -> Result<Request, HttpFault>
         ensures answers { (bytes : List ℕ) → Holds self bytes → Answers bytes result }
-        ensures closed { self ≡ start → result ≡ Err HttpFault.Closed }
-        ensures again { (e : HttpFault) → self ≡ failed e → result ≡ Err e }
+        ensures closed { Holds self [] → fault_in self ≡ None → result ≡ Err HttpFault.Closed }
+        ensures again { (e : HttpFault) → fault_in self ≡ Some e → result ≡ Err e }
     {
         let Decoder { alloc, machine } = self;
         machine.finish(alloc)

@@ -1,16 +1,20 @@
 //! Laws of messages and of what is answered of them.
-ghost use Rattle.std.specs.Prelude.{◌≡◌, ◌++◌, List, ℕ, Result};
+ghost use Rattle.std.specs.Prelude.{◌≡◌, ◌≢◌, ◌++◌, List, ℕ, [], Result};
 ghost use Rattle.http_edge.specs.declared.fault.HttpFault.{HttpFault};
 ghost use Rattle.http_edge.specs.declared.request.Request.{Request};
 ghost use Rattle.http_edge.specs.Message.{Message};
 ghost use Rattle.http_edge.specs.Reading.{BeginsWith, IsTooLong};
 ghost use Rattle.http_edge.specs.Answer.{Answers, Fails, Gives, TellsTooLong};
-ghost use Rattle.http_edge.specs.Reply.{Told, BeginsSaying};
+ghost use Rattle.http_edge.specs.declared.reply.Reply.{Reply};
+ghost use Rattle.http_edge.specs.Delivery.{Says, Delivers, TellsSize, IsClosed};
+ghost use Rattle.http_edge.specs.Reply.{Told, BeginsSaying, SaysReply, DeliversReply, IsClosedReply};
 
-/// Bytes begin with at most one message, and not also with one that is too long.
+/// Bytes begin with at most one message, and not also with one that is too long; either has a byte.
 pub fn one_message()
     ensures unique { (buf : List ℕ) (m n : Message) → BeginsWith buf m → BeginsWith buf n → m ≡ n }
     ensures exclusive { (buf : List ℕ) (m : Message) → BeginsWith buf m → ¬ (IsTooLong buf) }
+    ensures some { (buf : List ℕ) (m : Message) → BeginsWith buf m → buf ≢ [] }
+    ensures some_too_long { (buf : List ℕ) → IsTooLong buf → buf ≢ [] }
 {}
 
 /// A message that bytes begin with is what is answered of them, and where a size is the first thing
@@ -20,13 +24,25 @@ pub fn one_answer()
     ensures too_long { (bytes : List ℕ) (r : Result Request HttpFault) → Answers bytes r → IsTooLong bytes → TellsTooLong r }
 {}
 
+/// What a reading of all the bytes of a source says: unless a call failed or memory ran out, the message
+/// where they begin with one, BodyTooLong where the size is the first thing that is wrong, and Closed where
+/// there is no byte.
+pub fn one_reading()
+    ensures message { (bytes : List ℕ) (r : Result Request HttpFault) → Says bytes r → Delivers bytes r }
+    ensures too_long { (bytes : List ℕ) (r : Result Request HttpFault) → Says bytes r → TellsSize bytes r }
+    ensures closed { (r : Result Request HttpFault) → Says [] r → IsClosed r }
+{}
+
 /// Where a feed has told a fault, no bytes that begin with those that were fed have a message, unless
 /// memory ran out.
 pub fn fault_lasts()
     ensures { (e : HttpFault) (bytes more : List ℕ) (m : Message) → Fails e bytes → BeginsWith (bytes ++ more) m → e ≡ HttpFault.NoMemory }
 {}
 
-/// Bytes begin with at most one head of a response.
+/// Bytes begin with at most one head of a response. What it says is what a reading of all the bytes of a
+/// source says, unless a call failed or memory ran out.
 pub fn one_reply()
-    ensures { (buf : List ℕ) (t u : Told) → BeginsSaying buf t → BeginsSaying buf u → t ≡ u }
+    ensures unique { (buf : List ℕ) (t u : Told) → BeginsSaying buf t → BeginsSaying buf u → t ≡ u }
+    ensures reading { (bytes : List ℕ) (r : Result Reply HttpFault) → SaysReply bytes r → DeliversReply bytes r }
+    ensures closed { (r : Result Reply HttpFault) → SaysReply [] r → IsClosedReply r }
 {}

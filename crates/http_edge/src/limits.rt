@@ -14,3 +14,6 @@ pub const MAX_LINE: usize = 1_024;
 
 /// The most bytes of a trailer section, with its empty line.
 pub const MAX_TRAILER: usize = 16_384;
+
+/// The most bytes that one call asks a source for.
+pub const MAX_PIECE: usize = 4_096;

@@ -1,10 +1,12 @@
 //! Reads a message from its source.
-ghost use Rattle.std.specs.Prelude.{◌≡◌, ◌↔◌, ◌⊎◌, [], Err, false, true, IfSome};
+ghost use Rattle.std.specs.Prelude.{◌≡◌, ◌≢◌, ◌⊎◌, [], Err, IfSome};
+ghost use Rattle.http_edge.specs.Reading.{NotYet};
 ghost use Rattle.http_edge.specs.Answer.{Answers};
-ghost use Rattle.http_edge.specs.Delivery.{Delivers, TellsSize, IsClosed};
+ghost use Rattle.http_edge.specs.Delivery.{Says, StopsReading, IsClosed};
 
 use crate::decoder::Decoder;
 use crate::fault::HttpFault;
+use crate::limits::MAX_PIECE;
 use crate::request::Request;
 use byte_ends::Source;
 use std::alloc::Global;
@@ -13,11 +15,12 @@ use std::alloc::Global;
 fn read_pieces<S: Source>(alloc: Global, source: &mut S) -> Result<Request, HttpFault>
     ensures answer { IfSome (S.remaining source.old) (λ bytes. (result ≡ Err HttpFault.Io) ⊎ Answers bytes result) }
     ensures closed { IfSome (S.remaining source.old) (λ bytes. bytes ≡ [] → IsClosed result) }
-    ensures io { result ≡ Err HttpFault.Io → S.has_failed source.new ≡ true }
-    ensures failed { S.has_failed source.old ≡ false → ((result ≡ Err HttpFault.Io) ↔ (S.has_failed source.new ≡ true)) }
+    ensures stops { StopsReading NotYet (S.remaining source.old) (S.remaining source.new) }
+    ensures io { result ≡ Err HttpFault.Io → S.failures source.new ≡ S.one_more (S.failures source.old) }
+    ensures well { result ≢ Err HttpFault.Io → S.failures source.new ≡ S.failures source.old }
 {
     let mut decoder = Decoder::new(alloc);
-    let mut piece = [0u8; 4_096];
+    let mut piece = [0u8; MAX_PIECE];
     'pieces: loop {
         let Ok(n) = source.read(&mut piece) else {
             return Err(HttpFault::Io);
@@ -31,23 +34,24 @@ fn read_pieces<S: Source>(alloc: Global, source: &mut S) -> Result<Request, Http
     }
 }
 
-/// Reads the request that the source's bytes begin with. Bytes behind it may have been read, and are
-/// thrown away. A source that never ends is cut off by the limits. What is answered of the bytes of a
-/// source that is known:
+/// Reads the request that the source's bytes begin with. Of the bytes of a source that is known each
+/// answer says one thing:
 ///
-/// - a request, where they begin with one and no call failed and no memory was refused;
-/// - Closed exactly where there is no byte, and BodyTooLong exactly where the head is whole and the size
-///   of the body is the first thing that is wrong, in both cases but for a failed call or refused memory;
-/// - BadHead, TooManyHeaders, HeadTooLong, BadLength, BadChunk and Truncated only where they begin with none.
+/// - a request, that they begin with it;
+/// - Closed, that there is none, and NoMemory, that there is one, but memory for the message was refused;
+/// - BodyTooLong, that the head is whole and the size of the body is the first thing that is wrong;
+/// - Io, that a call failed, and of the bytes nothing;
+/// - each other fault, that there is a byte, that they begin with no message, and why.
 ///
-/// Io comes exactly where a call failed, NoMemory only where memory was refused.
+/// Exactly one call failed at Io, and none at any other answer. The source is not read again once a
+/// message is there, or a size that is too long: what was read before the last call, which asks for
+/// 4,096 bytes, begins with neither. Bytes behind the message that were read with it are thrown away.
+/// A source that never ends is cut off by the limits.
 pub fn read_message<S: Source>(alloc: Global, source: &mut S) -> Result<Request, HttpFault>
-    ensures answer { IfSome (S.remaining source.old) (λ bytes. (result ≡ Err HttpFault.Io) ⊎ Answers bytes result) }
-    ensures message { IfSome (S.remaining source.old) (λ bytes. Delivers bytes result) }
-    ensures too_long { IfSome (S.remaining source.old) (λ bytes. TellsSize bytes result) }
-    ensures closed { IfSome (S.remaining source.old) (λ bytes. bytes ≡ [] → IsClosed result) }
-    ensures io { result ≡ Err HttpFault.Io → S.has_failed source.new ≡ true }
-    ensures failed { S.has_failed source.old ≡ false → ((result ≡ Err HttpFault.Io) ↔ (S.has_failed source.new ≡ true)) }
+    ensures says { IfSome (S.remaining source.old) (λ bytes. Says bytes result) }
+    ensures stops { StopsReading NotYet (S.remaining source.old) (S.remaining source.new) }
+    ensures io { result ≡ Err HttpFault.Io → S.failures source.new ≡ S.one_more (S.failures source.old) }
+    ensures well { result ≢ Err HttpFault.Io → S.failures source.new ≡ S.failures source.old }
 {
     read_pieces(alloc, source)
 }

@@ -1,12 +1,13 @@
 //! Reads the head of a response (RFC 9112, section 4).
-ghost use Rattle.std.specs.Prelude.{◌≡◌, ◌↔◌, ◌≤◌, ◌⊎◌, [], length, map, All, Err, false, true, IfOk, IfSome, option_map};
+ghost use Rattle.std.specs.Prelude.{◌≡◌, ◌≢◌, ◌≤◌, ◌⊎◌, [], length, map, All, Err, IfOk, IfSome, option_map};
 ghost use Rattle.httparse.specs.Spans.{header_bytes, IsHeaderWithin};
 ghost use Rattle.http_edge.specs.Framing.{values_of};
-ghost use Rattle.http_edge.specs.Reply.{first, AnswersReply, LooksForReply, DeliversReply, IsClosedReply};
+ghost use Rattle.http_edge.specs.Delivery.{StopsReading};
+ghost use Rattle.http_edge.specs.Reply.{first, NoReply, AnswersReply, LooksForReply, SaysReply, IsClosedReply};
 
 use crate::fault::HttpFault;
 use crate::framing::is_named;
-use crate::limits::{MAX_FIELDS, MAX_HEAD};
+use crate::limits::{MAX_FIELDS, MAX_HEAD, MAX_PIECE};
 use crate::reply::Reply;
 use byte_ends::Source;
 use httparse::spans::{EMPTY_HEADER_SPAN, HeaderSpan, parse_response};
@@ -67,11 +68,12 @@ fn look_for_reply(alloc: Global, buf: &[u8]) -> Result<Option<Reply>, HttpFault>
 fn read_head<S: Source>(alloc: Global, source: &mut S) -> Result<Reply, HttpFault>
     ensures answer { IfSome (S.remaining source.old) (λ bytes. (result ≡ Err HttpFault.Io) ⊎ AnswersReply bytes result) }
     ensures closed { IfSome (S.remaining source.old) (λ bytes. bytes ≡ [] → IsClosedReply result) }
-    ensures io { result ≡ Err HttpFault.Io → S.has_failed source.new ≡ true }
-    ensures failed { S.has_failed source.old ≡ false → ((result ≡ Err HttpFault.Io) ↔ (S.has_failed source.new ≡ true)) }
+    ensures stops { StopsReading NoReply (S.remaining source.old) (S.remaining source.new) }
+    ensures io { result ≡ Err HttpFault.Io → S.failures source.new ≡ S.one_more (S.failures source.old) }
+    ensures well { result ≢ Err HttpFault.Io → S.failures source.new ≡ S.failures source.old }
 {
     let mut kept = Vec::new(alloc);
-    let mut piece = [0u8; 4_096];
+    let mut piece = [0u8; MAX_PIECE];
     'pieces: loop {
         let Ok(n) = source.read(&mut piece) else {
             return Err(HttpFault::Io);
@@ -92,19 +94,24 @@ fn read_head<S: Source>(alloc: Global, source: &mut S) -> Result<Reply, HttpFaul
     }
 }
 
-/// Reads the head of the response that the source's bytes begin with; its body is not read. Bytes behind
-/// the head may have been read, and are thrown away. A source that never ends is cut off by the limits.
+/// Reads the head of the response that the source's bytes begin with; its body is not read. Of the bytes
+/// of a source that is known each answer says one thing:
 ///
-/// Of the bytes of a source that is known it answers what their head says, where they begin with one and no
-/// call failed and no memory was refused; Closed exactly where there is no byte, but for a failed call; and
-/// BadHead, TooManyHeaders, HeadTooLong and Truncated only where they begin with no head. Io comes exactly
-/// where a call failed, NoMemory only where memory was refused, and no other fault comes.
+/// - a reply, that they begin with a head that says it;
+/// - Closed, that there is none, and NoMemory, that there is one, but memory for the head was refused;
+/// - Io, that a call failed, and of the bytes nothing;
+/// - BadHead, TooManyHeaders, HeadTooLong and Truncated, that there is a byte, that they begin with no
+///   head, and why. No other fault comes.
+///
+/// Exactly one call failed at Io, and none at any other answer. The source is not read again once a head
+/// is there: what was read before the last call, which asks for 4,096 bytes, begins with none. Bytes
+/// behind the head that were read with it are thrown away. A source that never ends is cut off by the
+/// limits.
 pub fn read_response<S: Source>(alloc: Global, source: &mut S) -> Result<Reply, HttpFault>
-    ensures answer { IfSome (S.remaining source.old) (λ bytes. (result ≡ Err HttpFault.Io) ⊎ AnswersReply bytes result) }
-    ensures reply { IfSome (S.remaining source.old) (λ bytes. DeliversReply bytes result) }
-    ensures closed { IfSome (S.remaining source.old) (λ bytes. bytes ≡ [] → IsClosedReply result) }
-    ensures io { result ≡ Err HttpFault.Io → S.has_failed source.new ≡ true }
-    ensures failed { S.has_failed source.old ≡ false → ((result ≡ Err HttpFault.Io) ↔ (S.has_failed source.new ≡ true)) }
+    ensures says { IfSome (S.remaining source.old) (λ bytes. SaysReply bytes result) }
+    ensures stops { StopsReading NoReply (S.remaining source.old) (S.remaining source.new) }
+    ensures io { result ≡ Err HttpFault.Io → S.failures source.new ≡ S.one_more (S.failures source.old) }
+    ensures well { result ≢ Err HttpFault.Io → S.failures source.new ≡ S.failures source.old }
 {
     read_head(alloc, source)
 }

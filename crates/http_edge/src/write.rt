@@ -1,9 +1,9 @@
 //! Writes messages (RFC 9112, sections 3 to 6).
-ghost use Rattle.std.specs.Prelude.{◌≡◌, ◌≤◌, ◌<◌, ◌+◌, ◌^◌, length, take, true, [], IfSome, option_map, unwrap_or};
+ghost use Rattle.std.specs.Prelude.{◌≡◌, ◌≤◌, ◌<◌, ◌+◌, ◌^◌, length, take, [], IfSome, option_map, unwrap_or};
 ghost use Rattle.std.specs.List.{flat_map};
 ghost use Rattle.http.specs.StatusCode.{reason_phrase};
 ghost use Rattle.std.specs.Io.KnownBytes.{Appends};
-ghost use Rattle.http_edge.specs.Sent.{Sent};
+ghost use Rattle.http_edge.specs.Sent.{Sent, Failed};
 ghost use Rattle.http_edge.specs.Texts.{plain_response, allowing_response, response_text, post_text};
 
 use crate::written::Written;
@@ -15,7 +15,8 @@ use itoa::Buffer;
 fn write_bytes<K: Sink>(sink: &mut K, bytes: &[u8]) -> usize
     ensures within { result ≤ length bytes.now }
     ensures taken { Appends (K.contents sink.old) (K.contents sink.new) (take result bytes.now) }
-    ensures failed { result < length bytes.now → K.has_failed sink.new ≡ true }
+    ensures failed { result < length bytes.now → K.failures sink.new ≡ K.one_more (K.failures sink.old) }
+    ensures well { result ≡ length bytes.now → K.failures sink.new ≡ K.failures sink.old }
 {
     let mut at = 0;
     while at < bytes.len() {
@@ -30,7 +31,8 @@ fn write_bytes<K: Sink>(sink: &mut K, bytes: &[u8]) -> usize
 /// Writes the parts, one behind the other.
 fn write_parts<K: Sink>(sink: &mut K, parts: &[&[u8]]) -> Written
     requires { length (flat_map (λ p. p.now) parts.now) < 2 ^ 64 }
-    ensures { Sent (K.contents sink.old) (K.contents sink.new) (K.has_failed sink.new) (flat_map (λ p. p.now) parts.now) result }
+    ensures text { Sent (K.contents sink.old) (K.contents sink.new) (flat_map (λ p. p.now) parts.now) result }
+    ensures failed { Failed K.one_more (K.failures sink.old) (K.failures sink.new) result }
 {
     let mut sent = 0usize;
     for part in parts {
@@ -66,8 +68,9 @@ fn write_head<'a, K: Sink>(
 ) -> Written
     requires head { length status.now + length phrase.now + length content_type.now + length size.now < 2 ^ 40 }
     requires body { length body.now < 2 ^ 63 }
-    ensures { Sent (K.contents writer.old) (K.contents writer.new) (K.has_failed writer.new)
+    ensures text { Sent (K.contents writer.old) (K.contents writer.new)
         (plain_response status.now phrase.now content_type.now size.now body.now) result }
+    ensures failed { Failed K.one_more (K.failures writer.old) (K.failures writer.new) result }
 {
     write_parts(
         writer,
@@ -98,8 +101,9 @@ fn write_allowing<'a, K: Sink>(
 ) -> Written
     requires head { length status.now + length phrase.now + length content_type.now + length size.now + length methods.now < 2 ^ 40 }
     requires body { length body.now < 2 ^ 63 }
-    ensures { Sent (K.contents writer.old) (K.contents writer.new) (K.has_failed writer.new)
+    ensures text { Sent (K.contents writer.old) (K.contents writer.new)
         (allowing_response status.now phrase.now content_type.now size.now methods.now body.now) result }
+    ensures failed { Failed K.one_more (K.failures writer.old) (K.failures writer.new) result }
 {
     write_parts(
         writer,
@@ -133,8 +137,9 @@ pub fn write_response<K: Sink>(
     requires content_type { length content_type.now < 2 ^ 32 }
     requires allow { IfSome allow (λ m. length m.now < 2 ^ 32) }
     requires body { length body.now < 2 ^ 63 }
-    ensures { Sent (K.contents writer.old) (K.contents writer.new) (K.has_failed writer.new)
+    ensures text { Sent (K.contents writer.old) (K.contents writer.new)
         (response_text status content_type.now (option_map (λ m. m.now) allow.entry) body.now) result }
+    ensures failed { Failed K.one_more (K.failures writer.old) (K.failures writer.new) result }
 {
     let mut digits = Buffer::new();
     let phrase = phrase_of(status).as_bytes();
@@ -159,7 +164,8 @@ pub fn write_response<K: Sink>(
 pub fn write_post<K: Sink>(writer: &mut K, host: &str, body: &[u8]) -> Written
     requires host { length host.now < 2 ^ 32 }
     requires body { length body.now < 2 ^ 63 }
-    ensures { Sent (K.contents writer.old) (K.contents writer.new) (K.has_failed writer.new) (post_text host.now body.now) result }
+    ensures text { Sent (K.contents writer.old) (K.contents writer.new) (post_text host.now body.now) result }
+    ensures failed { Failed K.one_more (K.failures writer.old) (K.failures writer.new) result }
 {
     let mut digits = Buffer::new();
     let parts: [&[u8]; 6] = [

@@ -1,14 +1,12 @@
 -- Which answer a call of the book gives.
 use Rattle.std.proofs.Common.{◌≡◌, ◌≢◌, ℕ, ◌+◌, Bool, true, false, ◌==◌, length, List, [], ◌∷◌, Option, Some, None, Ok, Err, codes, decimal, refl, sym, ap, ◌∙◌, inl, inr, ◌⊎◌}
 use Rattle.std.specs.Option.{unwrap_or}
-use Rattle.std.proofs.lemmas.List.Sums.{fold_push}
 use Rattle.series_id.specs.Identity.{Identity}
-use Rattle.metric_events.specs.History.{History, Start, ◌▸◌}
+use Rattle.metric_events.specs.History.{History, ◌▸◌}
 use Rattle.metric_events.specs.Choice.{pick, flush_points}
-use Rattle.metric_events.specs.declared.entry.Entry.{Entry}
 use Rattle.metric_events.specs.declared.event.Event.{Event}
 use Rattle.metric_events.specs.declared.event.Event.TheVariants.{Take}
-use Rattle.delta_book.specs.Journal.{history, and_then, Appends, takes}
+use Rattle.delta_book.specs.Journal.{Journal, history, takes}
 use Rattle.delta_book.specs.Flushes.{IsTaken}
 use Rattle.delta_book.specs.declared.flush.Flush.{Flush}
 use Rattle.delta_book.specs.declared.faults.TakeFault.{TakeFault}
@@ -33,23 +31,20 @@ use Rattle.play_script.specs.Answered.{Answers}
 use Rattle.play_script.specs.declared.refusal.Refusal.{Refusal}
 use Rattle.play_script.specs.declared.refusal.Refusal.TheVariants.{NotJson, WrongShape, NoMemory}
 
-pub history_more : (old new : List Entry) (seat : ℕ) (event : Event) → Appends old new seat event → history new ≡ history old ▸ event
-history_more old new seat event h = ap history h ∙ fold_push and_then Start old (record { seat = seat; event = event })
-
 -- the event happened
-pub happened : (asked : Asked) (old new : List Entry) (seat : ℕ) (event : Event) (word what : List ℕ) → Appends old new seat event
+pub happened : (asked : Asked) (old new : Journal) (event : Event) (word what : List ℕ) → history new ≡ history old ▸ event
     → answer (history old) asked ≡ happens (history old) event word what → Answers (history old) asked (said word what) (history new)
-happened asked old new seat event word what h is = (
+happened asked old new event word what h is = (
   false,
   record {
     allowed = refl;
     text_is = ap (λ a. a.text) (sym is);
-    after_is = history_more old new seat event h ∙ ap (λ a. a.after) (sym is);
+    after_is = h ∙ ap (λ a. a.after) (sym is);
   },
 )
 
 -- nothing happened, and the reply says why
-pub refused_as : (asked : Asked) (old new : List Entry) (why : Refusal) → new ≡ old
+pub refused_as : (asked : Asked) (old new : Journal) (why : Refusal) → new ≡ old
     → answer (history old) asked ≡ refused (history old) why → Answers (history old) asked (said (codes "refused ") (refusal_text why)) (history new)
 refused_as asked old new why h is = (
   false,
@@ -61,7 +56,7 @@ refused_as asked old new why h is = (
 )
 
 -- nothing happened, and the reply says something
-pub says : (asked : Asked) (old new : List Entry) (text : List ℕ) → new ≡ old
+pub says : (asked : Asked) (old new : Journal) (text : List ℕ) → new ≡ old
     → answer (history old) asked ≡ only_says (history old) text → Answers (history old) asked text (history new)
 says asked old new text h is = (
   false,
@@ -73,7 +68,7 @@ says asked old new text h is = (
 )
 
 -- there was no memory
-pub without_memory : (asked : Asked) (old new : List Entry) → takes_memory asked ≡ true → new ≡ old
+pub without_memory : (asked : Asked) (old new : Journal) → takes_memory asked ≡ true → new ≡ old
     → Answers (history old) asked (said (codes "refused ") (refusal_text NoMemory)) (history new)
 without_memory asked old new may h = (
   true,
@@ -85,7 +80,7 @@ without_memory asked old new may h = (
 )
 
 -- the refusal that a fault is, where there is one, else want of memory
-pub refused_or : {F : Type 0} (asked : Asked) (old new : List Entry) (refusal_of : F → Refusal) (none fault : F) (refusal : Option F) → takes_memory asked ≡ true → new ≡ old
+pub refused_or : {F : Type 0} (asked : Asked) (old new : Journal) (refusal_of : F → Refusal) (none fault : F) (refusal : Option F) → takes_memory asked ≡ true → new ≡ old
     → refusal_of none ≡ NoMemory → fault ≡ unwrap_or refusal none → ((f : F) → refusal ≡ Some f → answer (history old) asked ≡ refused (history old) (refusal_of f))
     → Answers (history old) asked (said (codes "refused ") (refusal_text (refusal_of fault))) (history new)
 refused_or asked old new refusal_of none fault None may h is e k = rw (e, is) (without_memory asked old new may h)
@@ -100,12 +95,12 @@ taken_full E [] fault h = absurd (h refl)
 taken_full E (x ∷ xs) fault h = refl
 
 -- a flush was taken
-pub flush_taken : (old new : List Entry) (seat max : ℕ) (flush : Flush) → IsTaken old new seat max flush
-    → Answers (history old) (TakeLine max) (flush_text flush.number flush.points) (history new)
+pub flush_taken : (old new : Journal) (seat max : ℕ) (flush : Flush) → IsTaken old new seat max flush
+    → Answers (history old) (TakeLine max) (flush_text flush.number flush.points.items) (history new)
 flush_taken old new seat max flush h =
     let E = history old in
     let is : answer E (TakeLine max) ≡ flushed E (takes E + 1) (E ▸ Take (takes E + 1) (pick E max)) = rw h.refused (taken_some E (pick E max) h.some) in
-    let grown : history new ≡ E ▸ Take flush.number (pick E max) = history_more old new seat (Take flush.number (pick E max)) h.entry in
+    let grown : history new ≡ E ▸ Take flush.number (pick E max) = h.grows in
     let after : history new ≡ E ▸ Take (takes E + 1) (pick E max) = grown ∙ ap (λ n. E ▸ Take n (pick E max)) h.number in (
       false,
       record {
@@ -116,36 +111,36 @@ flush_taken old new seat max flush h =
     )
 
 -- a point could not be made
-pub point_refused : (sender : List ℕ) (points : List PointWords) (old : List Entry) (fault : PointFault) → (fault ≡ point.NoMemory) ⊎ (first_fault points ≡ Some fault)
+pub point_refused : (sender : List ℕ) (points : List PointWords) (old : Journal) (fault : PointFault) → (fault ≡ point.NoMemory) ⊎ (first_fault points ≡ Some fault)
     → Answers (history old) (AdmitLine sender points) (said (codes "refused ") (refusal_text (of_point fault))) (history old)
 point_refused sender points old fault (inl e) = rw e (without_memory (AdmitLine sender points) old old refl refl)
 point_refused sender points old fault (inr e) = refused_as (AdmitLine sender points) old old (of_point fault) refl (rw e refl)
 
 -- the book did not admit the batch
-pub batch_refused : (sender : List ℕ) (points : List PointWords) (old new : List Entry) (fault : AdmitFault) → first_fault points ≡ None → new ≡ old
-    → fault ≡ unwrap_or (admit_refusal (history old) (admits (history old) + 1) (body_of sender points)) admit.NoMemory
+pub batch_refused : (sender : List ℕ) (points : List PointWords) (old new : Journal) (fault : AdmitFault) → first_fault points ≡ None → new ≡ old
+    → fault ≡ unwrap_or (admit_refusal (history old) (body_of sender points)) admit.NoMemory
     → Answers (history old) (AdmitLine sender points) (said (codes "refused ") (refusal_text (of_admit fault))) (history new)
 batch_refused sender points old new fault made h is =
-    refused_or (AdmitLine sender points) old new of_admit admit.NoMemory fault (admit_refusal (history old) (admits (history old) + 1) (body_of sender points)) refl h refl is
+    refused_or (AdmitLine sender points) old new of_admit admit.NoMemory fault (admit_refusal (history old) (body_of sender points)) refl h refl is
     (λ f e. rw (made, e) refl)
 
 -- the book admitted the batch
-pub batch_admitted : (sender : List ℕ) (points : List PointWords) (old new : List Entry) (seat batch : ℕ) → first_fault points ≡ None
-    → batch ≡ admits (history old) + 1 → Appends old new seat (Admit batch (body_of sender points))
-    → admit_refusal (history old) (admits (history old) + 1) (body_of sender points) ≡ None
+pub batch_admitted : (sender : List ℕ) (points : List PointWords) (old new : Journal) (batch : ℕ) → first_fault points ≡ None
+    → batch ≡ admits (history old) + 1 → history new ≡ history old ▸ Admit batch (body_of sender points)
+    → admit_refusal (history old) (body_of sender points) ≡ None
     → Answers (history old) (AdmitLine sender points) (said (codes "batch ") (decimal batch)) (history new)
-batch_admitted sender points old new seat batch made number entry none =
-    happened (AdmitLine sender points) old new seat (Admit batch (body_of sender points)) (codes "batch ") (decimal batch) entry (rw (made, none, number) refl)
+batch_admitted sender points old new batch made number entry none =
+    happened (AdmitLine sender points) old new (Admit batch (body_of sender points)) (codes "batch ") (decimal batch) entry (rw (made, none, number) refl)
 
 -- a body could not be read
-pub body_refused : (sender body : List ℕ) (old : List Entry) (fault : ReadFault) → Reads body (Err fault)
+pub body_refused : (sender body : List ℕ) (old : Journal) (fault : ReadFault) → Reads body (Err fault)
     → Answers (history old) (PostLine sender body) (said (codes "refused ") (refusal_text (of_read fault))) (history old)
 body_refused sender body old read.NoMemory h = without_memory (PostLine sender body) old old refl refl
 body_refused sender body old read.NotJson h = refused_as (PostLine sender body) old old NotJson refl (rw h refl)
 body_refused sender body old (read.WrongShape place) h = refused_as (PostLine sender body) old old WrongShape refl (rw h refl)
 
 -- a body has no point of the profile
-pub only_foreign : (sender body : List ℕ) (old : List Entry) (t : Tally) → text_reading body ≡ Some (Ok t) → t.points ≡ []
+pub only_foreign : (sender body : List ℕ) (old : Journal) (t : Tally) → text_reading body ≡ Some (Ok t) → t.points ≡ []
     → Answers (history old) (PostLine sender body) (said (codes "nothing foreign ") (decimal t.foreign)) (history old)
 only_foreign sender body old t h none = says (PostLine sender body) old old (said (codes "nothing foreign ") (decimal t.foreign)) refl (rw (h, none) refl)
 
@@ -154,27 +149,27 @@ not_empty [] empty is false_is = λ _. cc
 not_empty (p ∷ ps) empty is false_is = λ e. cc
 
 posted_some : (E : History) (sender : List ℕ) (points : List DataPoint) (foreign : ℕ) → points ≢ []
-    → posted E sender points foreign ≡ admitted_or E (admits E + 1) (posted_batch sender points) (batch_and_foreign (admits E + 1) foreign) (admit_refusal E (admits E + 1) (posted_batch sender points))
+    → posted E sender points foreign ≡ admitted_or E (admits E + 1) (posted_batch sender points) (batch_and_foreign (admits E + 1) foreign) (admit_refusal E (posted_batch sender points))
 posted_some E sender [] foreign h = absurd (h refl)
 posted_some E sender (p ∷ ps) foreign h = refl
 
 answer_posted : (E : History) (sender body : List ℕ) (t : Tally) → text_reading body ≡ Some (Ok t) → t.points ≢ []
-    → answer E (PostLine sender body) ≡ admitted_or E (admits E + 1) (posted_batch sender t.points) (batch_and_foreign (admits E + 1) t.foreign) (admit_refusal E (admits E + 1) (posted_batch sender t.points))
+    → answer E (PostLine sender body) ≡ admitted_or E (admits E + 1) (posted_batch sender t.points) (batch_and_foreign (admits E + 1) t.foreign) (admit_refusal E (posted_batch sender t.points))
 answer_posted E sender body t h some = rw h (posted_some E sender t.points t.foreign some)
 
 -- the book did not admit a body's points
-pub post_refused : (sender body : List ℕ) (old new : List Entry) (t : Tally) (fault : AdmitFault) → text_reading body ≡ Some (Ok t) → t.points ≢ [] → new ≡ old
-    → fault ≡ unwrap_or (admit_refusal (history old) (admits (history old) + 1) (posted_batch sender t.points)) admit.NoMemory
+pub post_refused : (sender body : List ℕ) (old new : Journal) (t : Tally) (fault : AdmitFault) → text_reading body ≡ Some (Ok t) → t.points ≢ [] → new ≡ old
+    → fault ≡ unwrap_or (admit_refusal (history old) (posted_batch sender t.points)) admit.NoMemory
     → Answers (history old) (PostLine sender body) (said (codes "refused ") (refusal_text (of_admit fault))) (history new)
 post_refused sender body old new t fault h some same is =
-    refused_or (PostLine sender body) old new of_admit admit.NoMemory fault (admit_refusal (history old) (admits (history old) + 1) (posted_batch sender t.points)) refl same refl is
+    refused_or (PostLine sender body) old new of_admit admit.NoMemory fault (admit_refusal (history old) (posted_batch sender t.points)) refl same refl is
     (λ f e. answer_posted (history old) sender body t h some ∙ rw e refl)
 
 -- the book admitted them
-pub post_admitted : (sender body : List ℕ) (old new : List Entry) (t : Tally) (seat batch : ℕ) → text_reading body ≡ Some (Ok t) → t.points ≢ []
-    → batch ≡ admits (history old) + 1 → Appends old new seat (Admit batch (posted_batch sender t.points))
-    → admit_refusal (history old) (admits (history old) + 1) (posted_batch sender t.points) ≡ None
+pub post_admitted : (sender body : List ℕ) (old new : Journal) (t : Tally) (batch : ℕ) → text_reading body ≡ Some (Ok t) → t.points ≢ []
+    → batch ≡ admits (history old) + 1 → history new ≡ history old ▸ Admit batch (posted_batch sender t.points)
+    → admit_refusal (history old) (posted_batch sender t.points) ≡ None
     → Answers (history old) (PostLine sender body) (said (codes "batch ") (batch_and_foreign batch t.foreign)) (history new)
-post_admitted sender body old new t seat batch h some number entry none =
-    happened (PostLine sender body) old new seat (Admit batch (posted_batch sender t.points)) (codes "batch ") (batch_and_foreign batch t.foreign) entry
+post_admitted sender body old new t batch h some number entry none =
+    happened (PostLine sender body) old new (Admit batch (posted_batch sender t.points)) (codes "batch ") (batch_and_foreign batch t.foreign) entry
     (answer_posted (history old) sender body t h some ∙ rw (none, number) refl)

@@ -1,8 +1,9 @@
 -- What was read of a source and written to a sink, call by call.
-use Rattle.std.proofs.Common.{◌≡◌, ℕ, ◌+◌, ◌-◌, ◌<◌, Bool, true, false, ◌||◌, take, drop, List, ◌++◌, length, Option, Some, None, ap, ◌∙◌, append_assoc, length-append, arith}
+use Rattle.std.proofs.Common.{◌≡◌, ℕ, ◌+◌, ◌-◌, ◌<◌, take, drop, List, ◌++◌, length, Option, Some, None, ap, ◌∙◌, append_assoc, length-append, arith}
 use Rattle.std.specs.Io.KnownBytes.{Consumes, IsAtEnd, Appends}
 use Rattle.std.proofs.lemmas.List.{append-nil, take-append-drop, take_rest}
-use Rattle.play_script.specs.Ends.{AreAll, HasMore}
+use Rattle.byte_ends.specs.Ends.{AreAll}
+use Rattle.play_script.specs.Ends.{HasMore}
 
 pub consumed : (old mid new : Option (List ℕ)) (xs ys : List ℕ) → Consumes old mid xs → Consumes mid new ys → Consumes old new (xs ++ ys)
 consumed None mid new xs ys h k = tt
@@ -31,7 +32,3 @@ appended (Some a) (Some b) (Some c) xs ys h k = k ∙ ap (λ m. m ++ ys) h ∙ s
 pub rest_written : (text done rest : List ℕ) (n : ℕ) → done ++ rest ≡ text → (done ++ take n rest) ++ take (length rest - n) (drop n rest) ≡ text
 rest_written text done rest n h =
     ap (λ m. (done ++ take n rest) ++ m) (take_rest rest n) ∙ append_assoc done (take n rest) (drop n rest) ∙ ap (λ m. done ++ m) (take-append-drop n rest) ∙ h
-
-pub still_unfailed : (new old start : Bool) → new ≡ (old || false) → old ≡ start → new ≡ start
-still_unfailed new true start h k = h ∙ k
-still_unfailed new false start h k = h ∙ k

@@ -14,3 +14,7 @@ put_two (Err e) old a b middle new first second = tt
 pub put_three : {T E : Type 0} (r : Result T E) (old a b c one two new : List ℕ) → one ≡ old ++ a → two ≡ one ++ b → OnOk r (new ≡ two ++ c) → OnOk r (new ≡ old ++ (a ++ b ++ c))
 put_three (Ok x) old a b c one two new first second third = third ∙ ap (λ m. m ++ c) (second ∙ ap (λ m. m ++ b) first) ∙ simp append_assoc
 put_three (Err e) old a b c one two new first second third = tt
+
+pub put_four : {T E : Type 0} (r : Result T E) (old a b c d one two three new : List ℕ) → one ≡ old ++ a → two ≡ one ++ b → three ≡ two ++ c → OnOk r (new ≡ three ++ d) → OnOk r (new ≡ old ++ (a ++ b ++ c ++ d))
+put_four (Ok x) old a b c d one two three new first second third fourth = fourth ∙ ap (λ m. m ++ d) (third ∙ ap (λ m. m ++ c) (second ∙ ap (λ m. m ++ b) first)) ∙ simp append_assoc
+put_four (Err e) old a b c d one two three new first second third fourth = tt

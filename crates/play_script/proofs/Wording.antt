@@ -1,13 +1,13 @@
 -- A line that has more words than its command.
-use Rattle.std.proofs.Common.{◌≡◌, ℕ, ◌<◌, Bool, true, false, Option, sym, ap, ◌∙◌, List, [], ◌∷◌, length, Some, None, refl, arith}
+use Rattle.std.proofs.Common.{◌≡◌, ℕ, ◌<◌, true, Option, sym, ap, ◌∙◌, List, [], ◌∷◌, length, Some, None, refl, arith}
 use Rattle.std.specs.List.{join_with_byte}
 use Rattle.std.proofs.lemmas.List.Splits.{length-slice_split, join_with_byte-slice_split}
 use Rattle.std.proofs.Common.{eqb}
 use Rattle.std.specs.Option.{is_some}
 use Rattle.play_script.specs.Pieces.{words}
-use Rattle.play_script.specs.PointLines.{PointWords, point_words, name_of, point_of_words, with_point, or_nothing, points_in}
+use Rattle.play_script.specs.PointLines.{PointWords, point_words, name_of, point_of_words, with_point}
 use Rattle.metric_events.specs.Senders.{is_sender_name}
-use Rattle.play_script.specs.Told.{ArePoints}
+use Rattle.play_script.specs.Run.{takes_memory}
 use Rattle.play_script.specs.Commands as spec
 
 pub some_words : (line : List ℕ) → 0 < length (words line)
@@ -21,9 +21,9 @@ no_name : (word : List ℕ) (more : List (List ℕ)) → 0 < length more → Non
 no_name word [] h = absurd (omega arith)
 no_name word (next ∷ more) h = refl
 
-no_report : (more : List (List ℕ)) → 0 < length more → spec.BadLine ≡ spec.nothing_more spec.ReportLine more
-no_report [] h = absurd (omega arith)
-no_report (next ∷ more) h = refl
+none_more : (line : spec.Asked) (more : List (List ℕ)) → 0 < length more → spec.BadLine ≡ spec.nothing_more line more
+none_more line [] h = absurd (omega arith)
+none_more line (next ∷ more) h = refl
 
 pub only_number_more : (all : List (List ℕ)) (word rest : List ℕ) → all ≡ word ∷ words rest → None ≡ spec.only_number all
 only_number_more all word rest h = rw h (no_number word (words rest) (some_words rest))
@@ -31,40 +31,35 @@ only_number_more all word rest h = rw h (no_number word (words rest) (some_words
 pub only_name_more : (all : List (List ℕ)) (word rest : List ℕ) → all ≡ word ∷ words rest → None ≡ spec.only_name all
 only_name_more all word rest h = rw h (no_name word (words rest) (some_words rest))
 
-pub report_more : (rest : List ℕ) → spec.BadLine ≡ spec.nothing_more spec.ReportLine (words rest)
-report_more rest = no_report (words rest) (some_words rest)
+pub nothing_more : (line : spec.Asked) (rest : List ℕ) → spec.BadLine ≡ spec.nothing_more line (words rest)
+nothing_more line rest = none_more line (words rest) (some_words rest)
 
-no_points : (sender : Option (List ℕ)) (points : Option (List PointWords)) → is_some points ≡ false → spec.BadLine ≡ spec.admit_line sender points
-no_points None points h = refl
-no_points (Some sender) None h = refl
-no_points (Some sender) (Some points) h = cc
+good_words : (sender : List ℕ) (points : List PointWords) → is_sender_name sender ≡ true → 0 < length points → spec.AdmitLine sender points ≡ spec.admit_line (name_of sender) (Some points)
+good_words sender [] named some = absurd (omega arith)
+good_words sender (p ∷ ps) named some = rw named refl
 
-pub bad_points : (all : List (List ℕ)) (sender : List ℕ) (points : List (List ℕ)) → all ≡ sender ∷ points → is_some (point_words points) ≡ false → spec.BadLine ≡ spec.admit_words all
-bad_points all sender points h none = rw h (no_points (name_of sender) (point_words points) none)
+good_points : (all : List (List ℕ)) (sender : List ℕ) (words : List (List ℕ)) (points : List PointWords) → all ≡ sender ∷ words → is_sender_name sender ≡ true → point_words words ≡ Some points → 0 < length points
+    → spec.AdmitLine sender points ≡ spec.admit_words all
+good_points all sender words points h named are some = rw h (rw are (good_words sender points named some))
 
 -- words that are points are at least one
-some_points : (ws : List (List ℕ)) → 0 < length ws → is_some (point_words ws) ≡ true → 0 < length (or_nothing (point_words ws))
+some_points : (ws : List (List ℕ)) → 0 < length ws → is_some (point_words ws) ≡ true → (p : PointWords) × (ps : List PointWords) × (point_words ws ≡ Some (p ∷ ps))
 some_points [] h some = absurd (omega arith)
 some_points (a ∷ []) h some = cc
 some_points (a ∷ b ∷ []) h some = cc
 some_points (a ∷ b ∷ c ∷ []) h some = cc
 some_points (a ∷ b ∷ c ∷ d ∷ ws) h some = at_least_one (point_of_words a b c d) (point_words ws) some
   where
-    at_least_one : (p : Option PointWords) (ps : Option (List PointWords)) → is_some (with_point p ps) ≡ true → 0 < length (or_nothing (with_point p ps))
+    at_least_one : (p : Option PointWords) (ps : Option (List PointWords)) → is_some (with_point p ps) ≡ true → (q : PointWords) × (qs : List PointWords) × (with_point p ps ≡ Some (q ∷ qs))
     at_least_one None ps h = cc
     at_least_one (Some p) None h = cc
-    at_least_one (Some p) (Some ps) h = omega arith
+    at_least_one (Some p) (Some ps) h = (p, ps, refl)
 
-pub are_points_some : (text : List ℕ) (result : Bool) → result ≡ is_some (point_words (words text)) → result ≡ true → ArePoints text
-are_points_some text result h e = let read : is_some (point_words (words text)) ≡ true = sym h ∙ e in record { read = read; some = some_points (words text) (some_words text) read }
-
-good_words : (sender : List ℕ) (points : Option (List PointWords)) → is_sender_name sender ≡ true → 0 < length (or_nothing points) → spec.AdmitLine sender (or_nothing points) ≡ spec.admit_line (name_of sender) points
-good_words sender None h some = absurd (omega arith)
-good_words sender (Some []) h some = absurd (omega arith)
-good_words sender (Some (p ∷ ps)) h some = rw h refl
-
-pub good_points : (all : List (List ℕ)) (sender : List ℕ) (points : List ℕ) → all ≡ sender ∷ words points → is_sender_name sender ≡ true → 0 < length (points_in points) → spec.AdmitLine sender (points_in points) ≡ spec.admit_words all
-good_points all sender points h named some = rw h (good_words sender (point_words (words points)) named some)
+-- a line of points may find no memory
+pub points_take_memory : (all : List (List ℕ)) (sender points : List ℕ) → all ≡ sender ∷ words points → is_sender_name sender ≡ true → is_some (point_words (words points)) ≡ true → takes_memory (spec.admit_words all) ≡ true
+points_take_memory all sender points h named some =
+    let (p, ps, is) = some_points (words points) (some_words points) some in
+    ap takes_memory (sym (good_points all sender (words points) (p ∷ ps) h named is (omega arith)))
 
 -- the words of a text, with their spaces, are the text
 words_joined : (text : List ℕ) → join_with_byte 32 (words text) ≡ text

@@ -1,12 +1,13 @@
 -- What the program's replies say, and which reply a line may get.
-use Rattle.std.specs.Prelude.{◌≡◌, ℕ, Bool, true, not, ◌||◌, List, codes, decimal}
+use Rattle.std.specs.Prelude.{◌≡◌, ℕ, Bool, true, not, ◌||◌, List, map, codes, decimal}
 use Rattle.metric_events.specs.History.{History}
+use Rattle.delta_book.specs.PastRows.{told as past_told}
 use Rattle.play_script.specs.Commands.{Asked}
 use Rattle.play_script.specs.Refused.{refusal_text}
-use Rattle.play_script.specs.Replies.{said, batch_and_foreign, flush_text, report_text}
+use Rattle.play_script.specs.Replies.{said, batch_and_foreign, flush_text, report_text, past_text}
 use Rattle.play_script.specs.Run.{marked_answer, takes_memory}
 use Rattle.play_script.specs.declared.reply.Reply.{Reply}
-use Rattle.play_script.specs.declared.reply.Reply.TheVariants.{BadCommand, Refused, Nothing, Batch, Posted, OnlyForeign, Flushed, Settled, Returned, Undone, Confirmed, Dropped, Held, Lifted, Report}
+use Rattle.play_script.specs.declared.reply.Reply.TheVariants.{BadCommand, Refused, Nothing, Batch, Posted, OnlyForeign, Flushed, Settled, Returned, Undone, Confirmed, Dropped, Held, Lifted, Report, Round, Past}
 
 -- the text of a reply
 abbrev pub reply_text : Reply → List ℕ
@@ -16,7 +17,7 @@ reply_text Nothing = codes "nothing\n"
 reply_text (Batch b) = said (codes "batch ") (decimal b)
 reply_text (Posted b foreign) = said (codes "batch ") (batch_and_foreign b foreign)
 reply_text (OnlyForeign foreign) = said (codes "nothing foreign ") (decimal foreign)
-reply_text (Flushed flush) = flush_text flush.number flush.points
+reply_text (Flushed flush) = flush_text flush.number flush.points.items
 reply_text (Settled f) = said (codes "settled ") (decimal f)
 reply_text (Returned f) = said (codes "returned ") (decimal f)
 reply_text (Undone b) = said (codes "undone ") (decimal b)
@@ -25,6 +26,8 @@ reply_text (Dropped f) = said (codes "dropped ") (decimal f)
 reply_text (Held s) = said (codes "held ") s.now
 reply_text (Lifted s) = said (codes "lifted ") s.now
 reply_text (Report rows) = report_text rows.items
+reply_text (Round n) = said (codes "round ") (decimal n)
+reply_text (Past rows) = past_text (map past_told rows.items)
 
 -- this text and this history are the command's answer, for this mark
 pub record IsAnswer (E : History) (asked : Asked) (text : List ℕ) (F : History) (mark : Bool) : Type 0 where

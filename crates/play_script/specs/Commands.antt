@@ -9,7 +9,7 @@ use Rattle.play_script.specs.PointLines.{PointWords, point_words, name_of}
 use Rattle.play_script.specs.declared.pieces.TheConstants.{SPACE}
 use Rattle.play_script.specs.declared.numbers.TheConstants.{MAX_TAKEN}
 use Rattle.play_script.specs.declared.verb.Verb.{Verb}
-use Rattle.play_script.specs.declared.verb.Verb.TheVariants.{Admit, Take, Settle, GiveBack, Report, Undo, Confirm, Discard, Hold, Lift, Post}
+use Rattle.play_script.specs.declared.verb.Verb.TheVariants.{Admit, Take, Settle, GiveBack, Report, Undo, Confirm, Discard, Hold, Lift, Post, Round, Past}
 
 pub data Asked : Type 0 where
   AdmitLine : (sender : List ℕ) (points : List PointWords) → Asked
@@ -23,6 +23,8 @@ pub data Asked : Type 0 where
   HoldLine : (sender : List ℕ) → Asked
   LiftLine : (sender : List ℕ) → Asked
   PostLine : (sender : List ℕ) (body : List ℕ) → Asked
+  RoundLine : Asked
+  PastLine : Asked
   BadLine : Asked
 
 -- the first word of a command
@@ -38,7 +40,9 @@ verb word =
     else (if bytes_eq word (codes "drop") then Some Discard
     else (if bytes_eq word (codes "hold") then Some Hold
     else (if bytes_eq word (codes "lift") then Some Lift
-    else (if bytes_eq word (codes "post") then Some Post else None))))))))))
+    else (if bytes_eq word (codes "post") then Some Post
+    else (if bytes_eq word (codes "round") then Some Round
+    else (if bytes_eq word (codes "past") then Some Past else None))))))))))))
 
 -- a number that is the one word
 abbrev pub only_number : List (List ℕ) → Option ℕ
@@ -101,6 +105,8 @@ command_by (Some Discard) rest = numbered DropLine (only_number rest)
 command_by (Some Hold) rest = named HoldLine (only_name rest)
 command_by (Some Lift) rest = named LiftLine (only_name rest)
 command_by (Some Post) rest = post_words rest
+command_by (Some Round) rest = nothing_more RoundLine rest
+command_by (Some Past) rest = nothing_more PastLine rest
 
 abbrev pub command_of : List (List ℕ) → Asked
 command_of [] = BadLine

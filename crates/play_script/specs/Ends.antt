@@ -6,11 +6,6 @@ use Rattle.std.specs.Io.KnownBytes.{Appends}
 use Rattle.play_script.specs.declared.fault.PlayFault.{PlayFault}
 use Rattle.play_script.specs.declared.fault.PlayFault.TheVariants.{CannotRead, TooLong, CannotWrite, NoMemory}
 
--- these are all the bytes that were to come, where those are known
-abbrev pub AreAll : Option (List ℕ) → List ℕ → Type 0
-AreAll None bytes = ⊤
-AreAll (Some xs) bytes = xs ≡ bytes
-
 -- more bytes were to come, where those are known
 abbrev pub HasMore : Option (List ℕ) → ℕ → Type 0
 HasMore None most = ⊤

@@ -41,10 +41,10 @@ LinesArePlayed old new lines (Err TooLong) = ⊥
 LinesArePlayed old new lines (Err CannotWrite) = WritesPart old new lines
 LinesArePlayed old new lines (Err NoMemory) = WritesBefore old new lines
 
--- what a script left written, by how it ended: an input over the limit gives TooLong, and no other
+-- what a script left written, by how it ended: of an input over the limit nothing is answered
 abbrev pub IsPlayed : Option (List ℕ) → Option (List ℕ) → List ℕ → Result (Unit {0}) PlayFault → Type 0
 IsPlayed old new input (Ok x) = (length input ≤ MAX_INPUT) × WritesAll old new (lines input)
 IsPlayed old new input (Err CannotRead) = Keeps old new
 IsPlayed old new input (Err TooLong) = (MAX_INPUT < length input) × Keeps old new
 IsPlayed old new input (Err CannotWrite) = (length input ≤ MAX_INPUT) × WritesPart old new (lines input)
-IsPlayed old new input (Err NoMemory) = WritesBefore old new (lines input)
+IsPlayed old new input (Err NoMemory) = (MAX_INPUT < length input → Keeps old new) × WritesBefore old new (lines input)

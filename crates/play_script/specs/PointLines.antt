@@ -8,7 +8,6 @@ use Rattle.metric_events.specs.DataPoint.{DataPoint}
 use Rattle.metric_events.specs.Rows.{sum_row}
 use Rattle.metric_events.specs.PointFaults.{sum_fault}
 use Rattle.metric_events.specs.declared.point.PointFault.{PointFault}
-use Rattle.play_script.specs.Pieces.{words}
 use Rattle.play_script.specs.Numbers.{number, value}
 
 -- a point as a script writes it
@@ -60,11 +59,3 @@ or_else None other = other
 abbrev pub first_fault : List PointWords → Option PointFault
 first_fault [] = None
 first_fault (p ∷ ps) = or_else (fault_of p) (first_fault ps)
-
-abbrev pub or_nothing : Option (List PointWords) → List PointWords
-or_nothing None = []
-or_nothing (Some points) = points
-
--- the points of a text's words, where they are points
-abbrev pub points_in : List ℕ → List PointWords
-points_in text = or_nothing (point_words (words text))

@@ -8,12 +8,14 @@ use Rattle.delta_book.specs.declared.faults.TakeFault.{TakeFault}
 use Rattle.delta_book.specs.declared.faults.TakeFault.TheVariants as take
 use Rattle.delta_book.specs.declared.faults.QuarantineFault.{QuarantineFault}
 use Rattle.delta_book.specs.declared.faults.QuarantineFault.TheVariants as hold
+use Rattle.delta_book.specs.declared.faults.RoundFault.{RoundFault}
+use Rattle.delta_book.specs.declared.faults.RoundFault.TheVariants as round
 use Rattle.otlp_read.specs.declared.fault.ReadFault.{ReadFault}
 use Rattle.otlp_read.specs.declared.fault.ReadFault.TheVariants as read
 use Rattle.metric_events.specs.declared.point.PointFault.{PointFault}
 use Rattle.metric_events.specs.declared.point.PointFault.TheVariants as point
 use Rattle.play_script.specs.declared.refusal.Refusal.{Refusal}
-use Rattle.play_script.specs.declared.refusal.Refusal.TheVariants.{BadSpan, PointTooLarge, Quarantined, Full, OtherWriter, OutOfOrder, TooManySeries, TooLarge, NotOpen, Taken, NotLive, Already, NotHeld, NotJson, WrongShape, NoMemory}
+use Rattle.play_script.specs.declared.refusal.Refusal.TheVariants.{BadSpan, PointTooLarge, Quarantined, Full, OtherWriter, OutOfOrder, TooManySeries, TooLarge, NotOpen, Taken, NotLive, Already, NotHeld, NotJson, WrongShape, BatchOpen, FlushLive, LastRound, NoMemory}
 
 -- a point's place, and the frontier of its series
 abbrev pub place_text : ℕ → ℕ → List ℕ
@@ -36,6 +38,9 @@ refusal_text Already = codes "already"
 refusal_text NotHeld = codes "not-held"
 refusal_text NotJson = codes "not-json"
 refusal_text WrongShape = codes "wrong-shape"
+refusal_text BatchOpen = codes "batch-open"
+refusal_text FlushLive = codes "flush-live"
+refusal_text LastRound = codes "last-round"
 refusal_text NoMemory = codes "no-memory"
 
 -- the refusal that a fault is: of a plain sum's point only these three can be
@@ -67,6 +72,12 @@ abbrev pub of_hold : QuarantineFault → Refusal
 of_hold hold.Already = Already
 of_hold hold.Full = Full
 of_hold hold.NoMemory = NoMemory
+
+abbrev pub of_round : RoundFault → Refusal
+of_round round.BatchOpen = BatchOpen
+of_round round.FlushLive = FlushLive
+of_round round.LastRound = LastRound
+of_round round.NoMemory = NoMemory
 
 abbrev pub of_read : ReadFault → Refusal
 of_read read.NotJson = NotJson

@@ -1,9 +1,11 @@
 -- The texts of replies.
 use Rattle.std.specs.Prelude.{ℕ, List, [], ◌∷◌, ◌++◌, codes, decimal, length}
 use Rattle.std.specs.List.{flat_map}
+use Rattle.series_id.specs.Identity.{Identity}
 use Rattle.metric_events.specs.DataPoint.{DataPoint}
 use Rattle.metric_events.specs.Interval.{Interval}
 use Rattle.delta_book.specs.declared.totals.SeriesTotals.{SeriesTotals}
+use Rattle.delta_book.specs.PastRows.{PastRow}
 use Rattle.play_script.specs.Rows.{row_text}
 use Rattle.play_script.specs.SeriesNames.{series_name, kind_text}
 
@@ -49,3 +51,14 @@ series_line t = series_head t ++ ended_rows t ++ kept_rows t ++ codes "\n"
 -- a line for each series, and the end
 unfoldable pub report_text : List SeriesTotals → List ℕ
 report_text rows = flat_map series_line rows ++ codes "end\n"
+
+unfoldable pub past_head : Identity → List ℕ
+past_head x = codes "past " ++ series_name x ++ codes " " ++ kind_text x.kind
+
+-- what earlier rounds brought of a series
+unfoldable pub past_line : PastRow → List ℕ
+past_line p = past_head p.series ++ place_row (codes " acknowledged ") p.acknowledged ++ place_row (codes " dropped ") p.dropped ++ codes "\n"
+
+-- a line for each series that a round began with, and the end
+unfoldable pub past_text : List PastRow → List ℕ
+past_text rows = flat_map past_line rows ++ codes "end\n"

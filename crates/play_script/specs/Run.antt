@@ -3,9 +3,8 @@ use Rattle.std.specs.Prelude.{ℕ, ◌+◌, Bool, true, false, not, ◌||◌, �
 use Rattle.std.specs.declared.option.Option.{Option}
 use Rattle.std.specs.declared.result.Result.{Result}
 use Rattle.series_id.specs.Identity.{Identity}
-use Rattle.metric_events.specs.History.{History, Start, ◌▸◌}
-use Rattle.metric_events.specs.Running.{open_batches, live_flushes, held_senders}
-use Rattle.metric_events.specs.Legal.{is_open, is_live, is_held}
+use Rattle.metric_events.specs.History.{History, Start, Opened, ◌▸◌}
+use Rattle.metric_events.specs.Close.{close}
 use Rattle.metric_events.specs.Choice.{pick, flush_points}
 use Rattle.metric_events.specs.declared.batch.Batch.{Batch}
 use Rattle.metric_events.specs.declared.event.Event.{Event}
@@ -20,13 +19,16 @@ use Rattle.delta_book.specs.declared.faults.TakeFault.{TakeFault}
 use Rattle.delta_book.specs.declared.faults.UndoFault.{UndoFault}
 use Rattle.delta_book.specs.declared.faults.QuarantineFault.{QuarantineFault}
 use Rattle.delta_book.specs.Journal.{admits, takes}
-use Rattle.delta_book.specs.Refusals.{admit_refusal, undo_refusal, quarantine_refusal}
+use Rattle.delta_book.specs.declared.faults.RoundFault.{RoundFault}
+use Rattle.delta_book.specs.Refusals.{admit_refusal, undo_refusal, flush_refusal, confirm_refusal, quarantine_refusal, lift_refusal}
 use Rattle.delta_book.specs.Flushes.{take_refusal}
 use Rattle.delta_book.specs.Totals.{totals_rows}
+use Rattle.delta_book.specs.Rounds.{round_refusal}
+use Rattle.delta_book.specs.PastRows.{past_rows}
 use Rattle.play_script.specs.PointLines.{PointWords, point_of, first_fault}
-use Rattle.play_script.specs.Commands.{Asked, AdmitLine, TakeLine, OkLine, BackLine, ReportLine, UndoLine, ConfirmLine, DropLine, HoldLine, LiftLine, PostLine, BadLine, command}
-use Rattle.play_script.specs.Refused.{refusal_text, of_point, of_admit, of_take, of_undo, of_hold}
-use Rattle.play_script.specs.Replies.{said, batch_and_foreign, flush_text, report_text}
+use Rattle.play_script.specs.Commands.{Asked, AdmitLine, TakeLine, OkLine, BackLine, ReportLine, UndoLine, ConfirmLine, DropLine, HoldLine, LiftLine, PostLine, RoundLine, PastLine, BadLine, command}
+use Rattle.play_script.specs.Refused.{refusal_text, of_point, of_admit, of_take, of_undo, of_hold, of_round}
+use Rattle.play_script.specs.Replies.{said, batch_and_foreign, flush_text, report_text, past_text}
 use Rattle.play_script.specs.declared.refusal.Refusal.{Refusal}
 use Rattle.play_script.specs.declared.refusal.Refusal.TheVariants.{NotOpen, NotLive, NotHeld, NotJson, WrongShape, NoMemory}
 
@@ -57,7 +59,7 @@ admitted_or E b body named None = happens E (Admit b body) (codes "batch ") name
 -- a point that can't be made is refused before the book is asked
 abbrev pub made_or : History → Batch → Option PointFault → Answer
 made_or E body (Some fault) = refused E (of_point fault)
-made_or E body None = admitted_or E (admits E + 1) body (decimal (admits E + 1)) (admit_refusal E (admits E + 1) body)
+made_or E body None = admitted_or E (admits E + 1) body (decimal (admits E + 1)) (admit_refusal E body)
 
 abbrev pub posted_batch : List ℕ → List DataPoint → Batch
 posted_batch sender points = record { sender = sender; points = points }
@@ -65,7 +67,7 @@ posted_batch sender points = record { sender = sender; points = points }
 -- the points of the profile are one batch; without any the book is not asked
 abbrev pub posted : History → List ℕ → List DataPoint → ℕ → Answer
 posted E sender [] foreign = only_says E (said (codes "nothing foreign ") (decimal foreign))
-posted E sender (p ∷ ps) foreign = admitted_or E (admits E + 1) (posted_batch sender (p ∷ ps)) (batch_and_foreign (admits E + 1) foreign) (admit_refusal E (admits E + 1) (posted_batch sender (p ∷ ps)))
+posted E sender (p ∷ ps) foreign = admitted_or E (admits E + 1) (posted_batch sender (p ∷ ps)) (batch_and_foreign (admits E + 1) foreign) (admit_refusal E (posted_batch sender (p ∷ ps)))
 
 -- a body that can't be read is refused before the book is asked
 abbrev pub read_or : History → List ℕ → Option (Result Tally Place) → Answer
@@ -82,9 +84,10 @@ taken_or E [] refusal = only_says E (codes "nothing\n")
 taken_or E (x ∷ xs) (Some fault) = refused E (of_take fault)
 taken_or E (x ∷ xs) None = flushed E (takes E + 1) (E ▸ Take (takes E + 1) (x ∷ xs))
 
--- the end of a live flush
-abbrev pub ended : History → Bool → Event → List ℕ → ℕ → Answer
-ended E live event word f = if live then happens E event word (decimal f) else refused E NotLive
+-- the end of what is open, live or held, where it is
+abbrev pub ended : {F : Type 0} → History → Refusal → Option F → Event → List ℕ → List ℕ → Answer
+ended E why (Some fault) event word what = refused E why
+ended E why None event word what = happens E event word what
 
 abbrev pub undone_or : History → ℕ → Option UndoFault → Answer
 undone_or E b (Some fault) = refused E (of_undo fault)
@@ -94,19 +97,26 @@ abbrev pub held_or : History → List ℕ → Option QuarantineFault → Answer
 held_or E s (Some fault) = refused E (of_hold fault)
 held_or E s None = happens E (Quarantine s) (codes "held ") s
 
+-- a round that may be closed is, and the next one begins
+abbrev pub closed_or : History → Option RoundFault → Answer
+closed_or E (Some fault) = refused E (of_round fault)
+closed_or E None = record { text = said (codes "round ") (decimal (close E).round); after = Opened (close E) }
+
 -- what a command answers after a history
 abbrev pub answer : History → Asked → Answer
 answer E (AdmitLine sender points) = made_or E (body_of sender points) (first_fault points)
 answer E (TakeLine max) = taken_or E (pick E max) (take_refusal E)
-answer E (OkLine f) = ended E (is_live f (live_flushes E)) (Settle f) (codes "settled ") f
-answer E (BackLine f) = ended E (is_live f (live_flushes E)) (GiveBack f) (codes "returned ") f
+answer E (OkLine f) = ended E NotLive (flush_refusal E f) (Settle f) (codes "settled ") (decimal f)
+answer E (BackLine f) = ended E NotLive (flush_refusal E f) (GiveBack f) (codes "returned ") (decimal f)
 answer E ReportLine = only_says E (report_text (totals_rows E))
 answer E (UndoLine b) = undone_or E b (undo_refusal E b)
-answer E (ConfirmLine b) = if is_open b (open_batches E) then happens E (Confirm b) (codes "confirmed ") (decimal b) else refused E NotOpen
-answer E (DropLine f) = ended E (is_live f (live_flushes E)) (Drop f) (codes "dropped ") f
+answer E (ConfirmLine b) = ended E NotOpen (confirm_refusal E b) (Confirm b) (codes "confirmed ") (decimal b)
+answer E (DropLine f) = ended E NotLive (flush_refusal E f) (Drop f) (codes "dropped ") (decimal f)
 answer E (HoldLine s) = held_or E s (quarantine_refusal E s)
-answer E (LiftLine s) = if is_held s (held_senders E) then happens E (Lift s) (codes "lifted ") s else refused E NotHeld
+answer E (LiftLine s) = ended E NotHeld (lift_refusal E s) (Lift s) (codes "lifted ") s
 answer E (PostLine sender body) = read_or E sender (text_reading body)
+answer E RoundLine = closed_or E (round_refusal E)
+answer E PastLine = only_says E (past_text (past_rows E))
 answer E BadLine = only_says E (codes "bad command\n")
 
 -- a mark says that a line found no memory
@@ -126,6 +136,8 @@ takes_memory (DropLine f) = false
 takes_memory (HoldLine s) = true
 takes_memory (LiftLine s) = true
 takes_memory (PostLine sender body) = true
+takes_memory RoundLine = true
+takes_memory PastLine = true
 takes_memory BadLine = false
 
 -- a line and its mark

@@ -1,19 +1,27 @@
 -- What the values of the program tell.
-use Rattle.std.specs.Prelude.{◌≡◌, ℕ, ◌<◌, ◌≤◌, List, [], Some, None, true, length, ⊤}
-use Rattle.std.specs.Option.{is_some}
+use Rattle.std.specs.Prelude.{◌≡◌, ℕ, ◌<◌, ◌≤◌, List, [], map, Some, None, true, Vec, vec_len, ⊤}
 use Rattle.metric_events.specs.Senders.{is_sender_name}
 use Rattle.std.specs.declared.option.Option.{Option}
+use Rattle.std.specs.declared.alloc.Global.{Global}
 use denote.Ref.{Bor}
 use Rattle.play_script.specs.Pieces.{words}
-use Rattle.play_script.specs.PointLines.{PointWords, point_words, points_in}
-use Rattle.play_script.specs.Commands.{Asked, AdmitLine, TakeLine, OkLine, BackLine, ReportLine, UndoLine, ConfirmLine, DropLine, HoldLine, LiftLine, PostLine, BadLine}
+use Rattle.play_script.specs.PointLines.{PointWords, point_words}
+use Rattle.play_script.specs.Commands.{Asked, AdmitLine, TakeLine, OkLine, BackLine, ReportLine, UndoLine, ConfirmLine, DropLine, HoldLine, LiftLine, PostLine, RoundLine, PastLine, BadLine}
 use Rattle.play_script.specs.declared.numbers.TheConstants.{MAX_TAKEN}
 use Rattle.play_script.specs.declared.point_line.PointLine.{PointLine}
 use Rattle.play_script.specs.declared.command.Command.{Command}
-use Rattle.play_script.specs.declared.command.Command.TheVariants.{Admit, Take, Settle, GiveBack, Report, Undo, Confirm, Discard, Hold, Lift, Post}
+use Rattle.play_script.specs.declared.command.Command.TheVariants.{Admit, Take, Settle, GiveBack, Report, Undo, Confirm, Discard, Hold, Lift, Post, Round, Past}
 
 abbrev pub told_point : PointLine → PointWords
 told_point p = record { name = p.name.now; start = p.start; end = p.end; value = p.value }
+
+abbrev pub told_points : List PointLine → List PointWords
+told_points points = map told_point points
+
+-- these are the points that were asked for, at least one
+abbrev pub AreRead : Option (Vec PointLine Global) → Option (List PointWords) → Type 0
+AreRead None asked = asked ≡ None
+AreRead (Some points) asked = (asked ≡ Some (told_points points.items)) × (0 < vec_len points)
 
 -- the words of the rest of a line, where there is one
 abbrev pub rest_words : Option (Bor (List ℕ)) → List (List ℕ)
@@ -27,7 +35,7 @@ points_after rest = point_words (rest_words rest)
 -- what a command asks for
 abbrev pub told : Option Command → Asked
 told None = BadLine
-told (Some (Admit sender points)) = AdmitLine sender.now (points_in points.now)
+told (Some (Admit sender points)) = AdmitLine sender.now (told_points points.items)
 told (Some (Take max)) = TakeLine max
 told (Some (Settle flush)) = OkLine flush
 told (Some (GiveBack flush)) = BackLine flush
@@ -38,16 +46,13 @@ told (Some (Discard flush)) = DropLine flush
 told (Some (Hold sender)) = HoldLine sender.now
 told (Some (Lift sender)) = LiftLine sender.now
 told (Some (Post sender body)) = PostLine sender.now body.now
-
--- these words are points, and there is one
-pub record ArePoints (text : List ℕ) : Type 0 where
-  pub read : is_some (point_words (words text)) ≡ true
-  pub some : 0 < length (points_in text)
+told (Some Round) = RoundLine
+told (Some Past) = PastLine
 
 -- the parts of a command are in their ranges
 abbrev pub IsReady : Option Command → Type 0
 IsReady None = ⊤
-IsReady (Some (Admit sender points)) = (is_sender_name sender.now ≡ true) × ArePoints points.now
+IsReady (Some (Admit sender points)) = (is_sender_name sender.now ≡ true) × (0 < vec_len points)
 IsReady (Some (Take max)) = (1 ≤ max) × (max ≤ MAX_TAKEN)
 IsReady (Some (Settle flush)) = ⊤
 IsReady (Some (GiveBack flush)) = ⊤
@@ -58,3 +63,5 @@ IsReady (Some (Discard flush)) = ⊤
 IsReady (Some (Hold sender)) = is_sender_name sender.now ≡ true
 IsReady (Some (Lift sender)) = is_sender_name sender.now ≡ true
 IsReady (Some (Post sender body)) = is_sender_name sender.now ≡ true
+IsReady (Some Round) = ⊤
+IsReady (Some Past) = ⊤

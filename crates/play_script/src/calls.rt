@@ -1,17 +1,17 @@
 //! Commands asked of a book, and what it replies.
 
-ghost use Rattle.std.specs.Prelude.{◌≡◌, ◌≤◌, Some, true};
+ghost use Rattle.std.specs.Prelude.{◌≡◌, ◌≤◌, ◌<◌, Some, true, length};
 ghost use Rattle.metric_events.specs.Senders.{is_sender_name};
 ghost use Rattle.delta_book.specs.Journal.{history};
 ghost use Rattle.play_script.specs.Answered.{Answers, reply_text};
 ghost use Rattle.play_script.specs.Commands as asked;
-ghost use Rattle.play_script.specs.PointLines.{points_in};
-ghost use Rattle.play_script.specs.Told.{told, IsReady, ArePoints};
+ghost use Rattle.play_script.specs.Told.{told, told_points, IsReady};
 
 use crate::command::Command;
 use crate::making::make_points;
 use crate::numbers::MAX_TAKEN;
-use crate::refusal::{Refusal, of_admit, of_hold, of_point, of_read, of_take, of_undo};
+use crate::point_line::PointLine;
+use crate::refusal::{Refusal, of_admit, of_hold, of_point, of_read, of_round, of_take, of_undo};
 use crate::reply::Reply;
 use delta_book::book::Book;
 use metric_events::batch::Batch;
@@ -22,15 +22,15 @@ use std::alloc::Global;
 /// The seat from which a script's events come.
 const SEAT: u16 = 0;
 
-fn admit(alloc: Global, book: &mut Book, sender: &[u8], points: &[u8]) -> Reply<'static>
+fn admit(alloc: Global, book: &mut Book, sender: &[u8], lines: &[PointLine<'_>]) -> Reply<'static>
     requires named { is_sender_name sender.now ≡ true }
-    requires points { ArePoints points.now }
-    ensures { Answers (history book.old) (asked.AdmitLine sender.now (points_in points.now)) (reply_text result) (history book.new) }
+    requires some { 0 < length lines.now }
+    ensures { Answers (history book.old) (asked.AdmitLine sender.now (told_points lines.now)) (reply_text result) (history book.new) }
 {
     let Ok(sender) = SenderName::new(alloc, sender) else {
         return Reply::Refused(Refusal::NoMemory);
     };
-    let points = match make_points(alloc, points) {
+    let points = match make_points(alloc, lines) {
         Ok(points) => points,
         Err(fault) => return Reply::Refused(of_point(fault)),
     };
@@ -154,13 +154,31 @@ fn report(book: &Book) -> Reply<'static>
     }
 }
 
+fn round(book: &mut Book) -> Reply<'static>
+    ensures { Answers (history book.old) asked.RoundLine (reply_text result) (history book.new) }
+{
+    match book.close_round() {
+        Ok(round) => Reply::Round(round),
+        Err(fault) => Reply::Refused(of_round(fault)),
+    }
+}
+
+fn past(book: &Book) -> Reply<'static>
+    ensures { Answers (history book.now) asked.PastLine (reply_text result) (history book.now) }
+{
+    match book.past() {
+        Ok(rows) => Reply::Past(rows),
+        Err(_) => Reply::Refused(Refusal::NoMemory),
+    }
+}
+
 /// Asks the book what the command says, and makes the reply.
 pub fn reply_to<'a>(alloc: Global, book: &mut Book, command: Command<'a>) -> Reply<'a>
     requires { IsReady (Some command) }
     ensures { Answers (history book.old) (told (Some command.entry)) (reply_text result) (history book.new) }
 {
     match command {
-        Command::Admit { sender, points } => admit(alloc, book, sender, points),
+        Command::Admit { sender, points } => admit(alloc, book, sender, points.as_slice()),
         Command::Take(max) => take(book, max),
         Command::Settle(flush) => settle(book, flush),
         Command::GiveBack(flush) => give_back(book, flush),
@@ -171,5 +189,7 @@ pub fn reply_to<'a>(alloc: Global, book: &mut Book, command: Command<'a>) -> Rep
         Command::Hold(sender) => hold(alloc, book, sender),
         Command::Lift(sender) => lift(alloc, book, sender),
         Command::Post { sender, body } => post(alloc, book, sender, body),
+        Command::Round => round(book),
+        Command::Past => past(book),
     }
 }

@@ -1,21 +1,27 @@
 //! What a line of a script asks for.
 
-ghost use Rattle.std.specs.Prelude.{◌≡◌, true, option_copied, IfSome};
+ghost use Rattle.std.specs.Prelude.{◌≡◌, ◌≢◌, true, option_copied, IfSome, IfOk, OnErr};
 ghost use Rattle.play_script.specs.Commands as spec;
+ghost use Rattle.play_script.specs.Run.{takes_memory};
 ghost use Rattle.play_script.specs.Told.{told, rest_words, IsReady};
-ghost use Rattle.metric_events.specs.Senders.{is_sender_name};
+ghost use Rattle.metric_events.specs.Senders as senders;
 
-use crate::names::is_name;
+use crate::line_points::read_points;
 use crate::numbers::{MAX_TAKEN, number};
 use crate::pieces::cut_word;
-use crate::point_line::are_points;
+use crate::point_line::PointLine;
 use crate::verb::{Verb, verb_of};
+use metric_events::sender_name::is_sender_name;
+use std::alloc::{AllocError, Global};
 
 /// A command, with the bytes of its line that name senders and points.
-#[derive(Clone, Copy)]
+#[derive(Drop)]
 pub enum Command<'a> {
-    /// Admit the points, which are four words each, of this sender.
-    Admit { sender: &'a [u8], points: &'a [u8] },
+    /// Admit the points of this sender.
+    Admit {
+        sender: &'a [u8],
+        points: Vec<PointLine<'a>>,
+    },
     /// Take a flush of at most so many series.
     Take(u64),
     Settle(u64),
@@ -27,7 +33,14 @@ pub enum Command<'a> {
     Hold(&'a [u8]),
     Lift(&'a [u8]),
     /// Admit the points of a request's body, which is the rest of the line.
-    Post { sender: &'a [u8], body: &'a [u8] },
+    Post {
+        sender: &'a [u8],
+        body: &'a [u8],
+    },
+    /// Close the round and begin the next one.
+    Round,
+    /// Tell what earlier rounds brought.
+    Past,
 }
 
 /// The number that is the one word of the rest.
@@ -44,33 +57,39 @@ fn only_number(rest: Option<&[u8]>) -> Option<u64>
 /// The name that is the one word of the rest.
 fn only_name<'a>(rest: Option<&'a [u8]>) -> Option<&'a [u8]>
     ensures name { option_copied result ≡ spec.only_name (rest_words rest.entry) }
-    ensures ready { IfSome result (λ name. is_sender_name name.now ≡ true) }
+    ensures ready { IfSome result (λ name. senders.is_sender_name name.now ≡ true) }
 {
     let word = cut_word(rest?);
     match word.rest {
-        None if is_name(word.first) => Some(word.first),
+        None if is_sender_name(word.first) => Some(word.first),
         None => None,
         Some(_) => None,
     }
 }
 
-/// The command of a sender and its points.
-fn admit(rest: Option<&[u8]>) -> Option<Command<'_>>
-    ensures told { told result ≡ spec.admit_words (rest_words rest.entry) }
-    ensures ready { IsReady result }
+/// The command of a sender and its points, which memory is taken for.
+fn admit<'a>(alloc: Global, rest: Option<&'a [u8]>) -> Result<Option<Command<'a>>, AllocError>
+    ensures told { IfOk result (λ command. told command ≡ spec.admit_words (rest_words rest.entry)) }
+    ensures ready { IfOk result IsReady }
+    ensures memory { OnErr result (takes_memory (spec.admit_words (rest_words rest.entry)) ≡ true) }
 {
-    let sender = cut_word(rest?);
-    let points = sender.rest?;
-    if !is_name(sender.first) {
-        return None;
+    let Some(rest) = rest else {
+        return Ok(None);
+    };
+    let sender = cut_word(rest);
+    let Some(words) = sender.rest else {
+        return Ok(None);
+    };
+    if !is_sender_name(sender.first) {
+        return Ok(None);
     }
-    if !are_points(points) {
-        return None;
-    }
-    Some(Command::Admit {
+    let Some(points) = read_points(alloc, words)? else {
+        return Ok(None);
+    };
+    Ok(Some(Command::Admit {
         sender: sender.first,
         points,
-    })
+    }))
 }
 
 /// The command to take at most so many series.
@@ -96,6 +115,28 @@ fn report(rest: Option<&[u8]>) -> Option<Command<'_>>
     }
 }
 
+/// The command to close the round, of which nothing more is said.
+fn round(rest: Option<&[u8]>) -> Option<Command<'_>>
+    ensures told { told result ≡ spec.nothing_more spec.RoundLine (rest_words rest.entry) }
+    ensures ready { IsReady result }
+{
+    match rest {
+        None => Some(Command::Round),
+        Some(_) => None,
+    }
+}
+
+/// The command to tell of earlier rounds, of which nothing more is said.
+fn past(rest: Option<&[u8]>) -> Option<Command<'_>>
+    ensures told { told result ≡ spec.nothing_more spec.PastLine (rest_words rest.entry) }
+    ensures ready { IsReady result }
+{
+    match rest {
+        None => Some(Command::Past),
+        Some(_) => None,
+    }
+}
+
 /// The command to read a body, which is the rest of the line after the sender.
 fn post(rest: Option<&[u8]>) -> Option<Command<'_>>
     ensures told { told result ≡ spec.post_words (rest_words rest.entry) }
@@ -103,7 +144,7 @@ fn post(rest: Option<&[u8]>) -> Option<Command<'_>>
 {
     let sender = cut_word(rest?);
     let body = sender.rest?;
-    if !is_name(sender.first) {
+    if !is_sender_name(sender.first) {
         return None;
     }
     Some(Command::Post {
@@ -112,13 +153,14 @@ fn post(rest: Option<&[u8]>) -> Option<Command<'_>>
     })
 }
 
-/// The command of a verb and the rest of its line.
+/// The command of a verb and the rest of its line, which takes no memory.
 fn command_by(verb: Verb, rest: Option<&[u8]>) -> Option<Command<'_>>
+    requires { verb ≢ Verb.Admit }
     ensures told { told result ≡ spec.command_by (Some verb) (rest_words rest.entry) }
     ensures ready { IsReady result }
 {
     match verb {
-        Verb::Admit => admit(rest),
+        Verb::Admit => unreachable!(),
         Verb::Take => take(rest),
         Verb::Settle => Some(Command::Settle(only_number(rest)?)),
         Verb::GiveBack => Some(Command::GiveBack(only_number(rest)?)),
@@ -129,15 +171,23 @@ fn command_by(verb: Verb, rest: Option<&[u8]>) -> Option<Command<'_>>
         Verb::Hold => Some(Command::Hold(only_name(rest)?)),
         Verb::Lift => Some(Command::Lift(only_name(rest)?)),
         Verb::Post => post(rest),
+        Verb::Round => round(rest),
+        Verb::Past => past(rest),
     }
 }
 
 /// The command of a line, where it is one: the words stand apart by one space each, numbers are
 /// decimal digits of a number in its range, names are those that a sender may have.
-pub fn command_of(line: &[u8]) -> Option<Command<'_>>
-    ensures told { told result ≡ spec.command line.now }
-    ensures ready { IsReady result }
+/// Memory is taken for the points of an `admit` line alone.
+pub fn command_of<'a>(alloc: Global, line: &'a [u8]) -> Result<Option<Command<'a>>, AllocError>
+    ensures told { IfOk result (λ command. told command ≡ spec.command line.now) }
+    ensures ready { IfOk result IsReady }
+    ensures memory { OnErr result (takes_memory (spec.command line.now) ≡ true) }
 {
     let word = cut_word(line);
-    command_by(verb_of(word.first)?, word.rest)
+    match verb_of(word.first) {
+        None => Ok(None),
+        Some(Verb::Admit) => admit(alloc, word.rest),
+        Some(verb) => Ok(command_by(verb, word.rest)),
+    }
 }

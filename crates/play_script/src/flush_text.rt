@@ -6,7 +6,7 @@ ghost use Rattle.play_script.specs.Replies as spec;
 use crate::series_name::put_series_name;
 use crate::texts::{put_number, put_row};
 use delta_book::flush::Flush;
-use metric_events::point::Point;
+use delta_book::flush_point::FlushPoint;
 use metric_events::span::Span;
 use std::alloc::AllocError;
 
@@ -22,7 +22,7 @@ fn put_span(out: &mut Vec<u8>, span: Span) -> Result<(), AllocError>
 }
 
 #[tactic(auto, unfolding(crate::specs::Replies::point_line))]
-fn put_point(out: &mut Vec<u8>, point: &Point) -> Result<(), AllocError>
+fn put_point(out: &mut Vec<u8>, point: &FlushPoint) -> Result<(), AllocError>
     ensures { OnOk result (out.new.items ≡ out.old.items ++ spec.point_line point.now) }
 {
     out.extend_from_slice(b"point ")?;
@@ -35,7 +35,7 @@ fn put_point(out: &mut Vec<u8>, point: &Point) -> Result<(), AllocError>
 /// Puts the flush's number and how many points it has, and a line for each point.
 #[tactic(auto, unfolding(crate::specs::Replies::flush_text))]
 pub fn put_flush(out: &mut Vec<u8>, flush: &Flush) -> Result<(), AllocError>
-    ensures { OnOk result (out.new.items ≡ out.old.items ++ spec.flush_text flush.now.number flush.now.points) }
+    ensures { OnOk result (out.new.items ≡ out.old.items ++ spec.flush_text flush.now.number flush.now.points.items) }
 {
     let points = flush.points.as_slice();
     out.extend_from_slice(b"flush ")?;

@@ -1,7 +1,9 @@
 //! The whole input of a script.
 
-ghost use Rattle.std.specs.Prelude.{◌≡◌, ◌≤◌, ◌||◌, IfOk, IfErr, length, vec_len};
-ghost use Rattle.play_script.specs.Ends.{AreAll, IsReadFault, cannot_read};
+ghost use Rattle.std.specs.Prelude.{◌≡◌, ◌≤◌, IfOk, IfErr, length, vec_len};
+ghost use Rattle.byte_ends.specs.Counts.{counted};
+ghost use Rattle.byte_ends.specs.Ends.{AreAll};
+ghost use Rattle.play_script.specs.Ends.{IsReadFault, cannot_read};
 
 use crate::fault::PlayFault;
 use byte_ends::Source;
@@ -18,7 +20,7 @@ pub fn read_all<R: Source>(alloc: Global, reader: &mut R) -> Result<Vec<u8>, Pla
     ensures all { IfOk result (λ input. AreAll (R.remaining reader.old) input.items) }
     ensures short { IfOk result (λ input. vec_len input ≤ MAX_INPUT) }
     ensures fault { IfErr result (λ fault. IsReadFault (R.remaining reader.old) MAX_INPUT fault) }
-    ensures failed { R.has_failed reader.new ≡ (R.has_failed reader.old || cannot_read result) }
+    ensures failed { R.failures reader.new ≡ counted R.one_more (cannot_read result) (R.failures reader.old) }
 {
     let mut input = Vec::new(alloc);
     let mut piece = [0; PIECE];

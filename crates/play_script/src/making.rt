@@ -2,12 +2,11 @@
 
 ghost use Rattle.std.specs.Prelude.{◌≡◌, ◌⊎◌, true, map, None, Some, IfOk, IfErr, OnOk, is_some};
 ghost use Rattle.metric_events.specs.Senders.{is_sender_name};
-ghost use Rattle.play_script.specs.Pieces.{words};
 ghost use Rattle.play_script.specs.PointLines as spec;
-ghost use Rattle.play_script.specs.PointLines.{fault_of, first_fault, point_of, point_words, points_in};
-ghost use Rattle.play_script.specs.Told.{told_point, ArePoints};
+ghost use Rattle.play_script.specs.PointLines.{fault_of, first_fault, point_of};
+ghost use Rattle.play_script.specs.Told.{told_point, told_points};
 
-use crate::point_line::{PointLine, next_point};
+use crate::point_line::PointLine;
 use metric_events::point::{Point, PointFault};
 use metric_events::points::Points;
 use series_id::{AttrSet, Kind, SeriesId, Text};
@@ -51,7 +50,6 @@ fn series_named(alloc: Global, name: &[u8]) -> Result<SeriesId, AllocError>
 
 /// The point that a script writes.
 fn make_point(alloc: Global, line: PointLine<'_>) -> Result<Point, PointFault>
-    requires { is_sender_name line.name.now ≡ true }
     ensures value { IfOk result (λ point. point ≡ point_of (told_point line.entry)) }
     ensures none { OnOk result (fault_of (told_point line.entry) ≡ None) }
     ensures fault { IfErr result (λ fault. (fault ≡ PointFault.NoMemory) ⊎ (fault_of (told_point line.entry) ≡ Some fault)) }
@@ -62,26 +60,18 @@ fn make_point(alloc: Global, line: PointLine<'_>) -> Result<Point, PointFault>
     }
 }
 
-/// The points of the words, or the fault of the first that can't be made.
-pub fn make_points(alloc: Global, text: &[u8]) -> Result<Points, PointFault>
-    requires { ArePoints text.now }
-    ensures value { IfOk result (λ points. points ≡ map point_of (points_in text.now)) }
-    ensures none { OnOk result (first_fault (points_in text.now) ≡ None) }
-    ensures fault { IfErr result (λ fault. (fault ≡ PointFault.NoMemory) ⊎ (first_fault (points_in text.now) ≡ Some fault)) }
+/// The points of the lines, or the fault of the first that can't be made.
+pub fn make_points(alloc: Global, lines: &[PointLine<'_>]) -> Result<Points, PointFault>
+    ensures value { IfOk result (λ points. points ≡ map point_of (told_points lines.now)) }
+    ensures none { OnOk result (first_fault (told_points lines.now) ≡ None) }
+    ensures fault { IfErr result (λ fault. (fault ≡ PointFault.NoMemory) ⊎ (first_fault (told_points lines.now) ≡ Some fault)) }
 {
     let mut points = Points::new(alloc);
-    let mut left = text;
-    loop {
-        let Some(next) = next_point(left) else {
-            unreachable!()
-        };
-        let point = make_point(alloc, next.point)?;
+    for line in lines {
+        let point = make_point(alloc, *line)?;
         let Ok(()) = points.push(point) else {
             return Err(PointFault::NoMemory);
         };
-        match next.rest {
-            None => return Ok(points),
-            Some(rest) => left = rest,
-        }
     }
+    Ok(points)
 }

@@ -1,7 +1,8 @@
 //! Texts that are written.
 
-ghost use Rattle.std.specs.Prelude.{◌≡◌, ◌||◌, OnOk, OnErr, is_err};
+ghost use Rattle.std.specs.Prelude.{◌≡◌, OnOk, OnErr, is_err};
 ghost use Rattle.std.specs.Io.KnownBytes.{Appends};
+ghost use Rattle.byte_ends.specs.Counts.{counted};
 ghost use Rattle.play_script.specs.Ends.{AppendsPart};
 
 use byte_ends::{Failed, Sink};
@@ -10,7 +11,7 @@ use byte_ends::{Failed, Sink};
 pub fn write_all<W: Sink>(writer: &mut W, text: &[u8]) -> Result<(), Failed>
     ensures ok { OnOk result (Appends (W.contents writer.old) (W.contents writer.new) text.now) }
     ensures err { OnErr result (AppendsPart (W.contents writer.old) (W.contents writer.new) text.now) }
-    ensures failed { W.has_failed writer.new ≡ (W.has_failed writer.old || is_err result) }
+    ensures failed { W.failures writer.new ≡ counted W.one_more (is_err result) (W.failures writer.old) }
 {
     let mut rest = text;
     while !rest.is_empty() {

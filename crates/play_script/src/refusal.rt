@@ -4,7 +4,7 @@ ghost use Rattle.std.specs.Prelude.{◌≡◌, ◌++◌, OnOk};
 ghost use Rattle.play_script.specs.Refused as spec;
 
 use crate::texts::put_number;
-use delta_book::faults::{AdmitFault, QuarantineFault, TakeFault, UndoFault};
+use delta_book::faults::{AdmitFault, QuarantineFault, RoundFault, TakeFault, UndoFault};
 use metric_events::point::PointFault;
 use otlp_read::ReadFault;
 use std::alloc::AllocError;
@@ -41,6 +41,12 @@ pub enum Refusal {
     NotJson,
     /// A container of the body has another type.
     WrongShape,
+    /// A batch is open.
+    BatchOpen,
+    /// A flush is live.
+    FlushLive,
+    /// No round may follow.
+    LastRound,
     NoMemory,
 }
 
@@ -80,6 +86,9 @@ pub fn put_refusal(out: &mut Vec<u8>, refusal: Refusal) -> Result<(), AllocError
         Refusal::NotHeld => out.extend_from_slice(b"not-held"),
         Refusal::NotJson => out.extend_from_slice(b"not-json"),
         Refusal::WrongShape => out.extend_from_slice(b"wrong-shape"),
+        Refusal::BatchOpen => out.extend_from_slice(b"batch-open"),
+        Refusal::FlushLive => out.extend_from_slice(b"flush-live"),
+        Refusal::LastRound => out.extend_from_slice(b"last-round"),
         Refusal::NoMemory => out.extend_from_slice(b"no-memory"),
     }
 }
@@ -136,6 +145,17 @@ pub fn of_hold(fault: QuarantineFault) -> Refusal
         QuarantineFault::Already => Refusal::Already,
         QuarantineFault::Full => Refusal::Full,
         QuarantineFault::NoMemory => Refusal::NoMemory,
+    }
+}
+
+pub fn of_round(fault: RoundFault) -> Refusal
+    ensures { result ≡ spec.of_round fault }
+{
+    match fault {
+        RoundFault::BatchOpen => Refusal::BatchOpen,
+        RoundFault::FlushLive => Refusal::FlushLive,
+        RoundFault::LastRound => Refusal::LastRound,
+        RoundFault::NoMemory => Refusal::NoMemory,
     }
 }
 

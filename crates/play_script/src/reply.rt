@@ -6,10 +6,12 @@ ghost use Rattle.play_script.specs.Refused.{refusal_text};
 ghost use Rattle.play_script.specs.Replies.{said, batch_and_foreign};
 
 use crate::flush_text::put_flush;
+use crate::past::put_past;
 use crate::refusal::{Refusal, put_refusal};
 use crate::report::put_report;
 use crate::texts::put_number;
 use delta_book::flush::Flush;
+use delta_book::past_totals::PastTotals;
 use delta_book::totals::SeriesTotals;
 use std::alloc::AllocError;
 
@@ -36,6 +38,9 @@ pub enum Reply<'a> {
     Held(&'a [u8]),
     Lifted(&'a [u8]),
     Report(Vec<SeriesTotals>),
+    /// The round of this number has begun.
+    Round(u64),
+    Past(Vec<PastTotals>),
 }
 
 /// Puts a word and a text on a line.
@@ -100,5 +105,7 @@ pub fn put_reply(out: &mut Vec<u8>, reply: &Reply<'_>) -> Result<(), AllocError>
         Reply::Held(sender) => put_said(out, b"held ", sender),
         Reply::Lifted(sender) => put_said(out, b"lifted ", sender),
         Reply::Report(rows) => put_report(out, rows.as_slice()),
+        Reply::Round(round) => put_numbered(out, b"round ", *round),
+        Reply::Past(rows) => put_past(out, rows.as_slice()),
     }
 }

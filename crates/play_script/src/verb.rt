@@ -18,6 +18,8 @@ pub enum Verb {
     Hold,
     Lift,
     Post,
+    Round,
+    Past,
 }
 
 fn is(word: &[u8], text: &[u8]) -> bool
@@ -62,6 +64,12 @@ pub fn verb_of(word: &[u8]) -> Option<Verb>
     }
     if is(word, b"post") {
         return Some(Verb::Post);
+    }
+    if is(word, b"round") {
+        return Some(Verb::Round);
+    }
+    if is(word, b"past") {
+        return Some(Verb::Past);
     }
     None
 }

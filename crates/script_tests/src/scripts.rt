@@ -82,6 +82,28 @@ fn reversals(rt: HostRuntime) {
     }
 }
 
+const ROUNDS: [(&str, &str); 3] = [
+    (
+        "admit A req 10 20 5\ntake 10\nok 1\nreport\nround\nconfirm 1\nround\nreport\npast\nadmit A req 10 20 5\nadmit A req 20 30 7\nconfirm 2\ntake 10\nround\nback 2\nhold A\nround\nlift A\nundo 2\nadmit A req 30 40 2\ntake 10\n",
+        "batch 1\nflush 1 points 1\npoint req (10,20] 1,5,0\nsettled 1\nseries req sum owner A frontier 20 accepted 1,5,0 acknowledged 1,5,0 dropped 0,0,0 in-flight 0,0,0 stored 0,0,0 quarantined 0,0,0\nend\nrefused batch-open\nconfirmed 1\nround 2\nseries req sum owner A frontier 20 accepted 0,0,0 acknowledged 0,0,0 dropped 0,0,0 in-flight 0,0,0 stored 0,0,0 quarantined 0,0,0\nend\npast req sum acknowledged 1,5,0 dropped 0,0,0\nend\nrefused out-of-order 0 20\nbatch 2\nconfirmed 2\nflush 2 points 1\npoint req (20,30] 1,7,0\nrefused flush-live\nreturned 2\nheld A\nround 3\nlifted A\nrefused not-open\nbatch 3\nflush 3 points 1\npoint req (20,40] 2,9,0\n",
+    ),
+    (
+        "admit A x 10 20 1\nconfirm 1\nround\nadmit B x 20 30 2\nadmit A x 20 30 2\nundo 2\nreport\npast\ntake 1\ndrop 1\nround\npast\nreport\n",
+        "batch 1\nconfirmed 1\nround 2\nrefused other-writer 0\nbatch 2\nundone 2\nseries x sum owner A frontier 20 accepted 1,1,0 acknowledged 0,0,0 dropped 0,0,0 in-flight 0,0,0 stored 1,1,0 quarantined 0,0,0\nend\npast x sum acknowledged 0,0,0 dropped 0,0,0\nend\nflush 1 points 1\npoint x (10,20] 1,1,0\ndropped 1\nround 3\npast x sum acknowledged 0,0,0 dropped 1,1,0\nend\nseries x sum owner A frontier 20 accepted 0,0,0 acknowledged 0,0,0 dropped 0,0,0 in-flight 0,0,0 stored 0,0,0 quarantined 0,0,0\nend\n",
+    ),
+    (
+        "past\nround\nround\npast\nround 3\npast x\nround \n",
+        "end\nround 2\nround 3\nend\nbad command\nbad command\nbad command\n",
+    ),
+];
+
+#[test]
+fn rounds(rt: HostRuntime) {
+    for (script, text) in ROUNDS {
+        replies(&rt, rt.alloc(), script, text);
+    }
+}
+
 const POSTS: [(&str, &str); 7] = [
     (
         "post A {}\npost A [1\npost A []\npost A \npost A\npost\npost A/B {}\npost  A {}\npost A  { \"resourceMetrics\" : [ ] } \npost A {}\r\nreport\n",

@@ -4,8 +4,9 @@ ghost use Rattle.std.specs.Prelude.{◌≡◌, ◌<◌, length, IfOk};
 
 use delta_book::book::Book;
 use delta_book::faults::{
-    AdmitFault, NotLive, NotOpen, NotQuarantined, QuarantineFault, TakeFault, UndoFault,
+    AdmitFault, NotLive, NotOpen, NotQuarantined, QuarantineFault, RoundFault, TakeFault, UndoFault,
 };
+use delta_book::flush_point::FlushPoint;
 use metric_events::batch::Batch;
 use metric_events::point::Point;
 use metric_events::points::Points;
@@ -83,7 +84,7 @@ fn mixed(alloc: Global) -> Result<Batch, Fail> {
 }
 
 // The point has this row, and covers 10 to this end.
-fn expect_point(rt: &impl Abort, point: &Point, row: &[u64], end: u64) {
+fn expect_point(rt: &impl Abort, point: &FlushPoint, row: &[u64], end: u64) {
     assert!(rt; point.row() == row);
     assert_eq!(rt; (point.span().start(), point.span().end()), (10, end));
 }
@@ -286,5 +287,158 @@ fn held_senders_have_a_limit(rt: HostRuntime) -> Result<(), Fail> {
         book.quarantine(7, sender(alloc, 1000)?),
         Err(QuarantineFault::Full)
     );
+    Ok(())
+}
+
+// A batch of one point of series 1 over ten nanoseconds.
+fn single(alloc: Global, sent_by: usize, start: u64, value: i64) -> Result<Batch, Fail> {
+    let mut points = Points::new(alloc);
+    points.push(counted(alloc, 1, start, value)?)?;
+    let sender = sender(alloc, sent_by)?;
+    Ok(Batch { sender, points })
+}
+
+// Batch 1 is admitted and settled; the round can't be closed before the batch is confirmed.
+fn first_round(rt: &impl Abort, alloc: Global, book: &mut Book) -> Result<(), Fail> {
+    assert_eq!(rt; book.round(), 1);
+    assert_eq!(rt; admitted(rt, book, single(alloc, 0, 10, 5)?), Ok(1));
+    assert_eq!(rt; taken(book), Ok(Some(1)));
+    assert_eq!(rt; book.settle(7, 1), Ok(()));
+    assert_eq!(rt; book.close_round(), Err(RoundFault::BatchOpen));
+    assert_eq!(rt; book.confirm(7, 1), Ok(()));
+    assert_eq!(rt; book.close_round(), Ok(2));
+    assert_eq!(rt; book.journal().len(), 0);
+    Ok(())
+}
+
+// What was acknowledged is past, and the series keeps its owner and its frontier.
+fn expect_past(rt: &impl Abort, alloc: Global, book: &Book) -> Result<(), Fail> {
+    let totals = book.totals()?;
+    assert_eq!(rt; totals.len(), 1);
+    assert!(rt; totals[0].accepted.as_slice() == [0, 0, 0].as_slice());
+    assert!(rt; totals[0].owner.is_same(&sender(alloc, 0)?));
+    assert_eq!(rt; totals[0].frontier, 20);
+    let past = book.past()?;
+    assert_eq!(rt; past.len(), 1);
+    assert!(rt; past[0].acknowledged.as_slice() == [1, 5, 0].as_slice());
+    assert!(rt; past[0].dropped.as_slice() == [0, 0, 0].as_slice());
+    Ok(())
+}
+
+// The second round begins where the first ended; a live flush keeps it open.
+fn second_round(rt: &impl Abort, alloc: Global, book: &mut Book) -> Result<(), Fail> {
+    assert_eq!(rt;
+        admitted(rt, book, single(alloc, 0, 10, 5)?),
+        Err(AdmitFault::OutOfOrder(0, 20))
+    );
+    assert_eq!(rt; admitted(rt, book, single(alloc, 0, 20, 7)?), Ok(2));
+    assert_eq!(rt; book.confirm(7, 2), Ok(()));
+    assert_eq!(rt; taken(book), Ok(Some(2)));
+    assert_eq!(rt; book.close_round(), Err(RoundFault::FlushLive));
+    assert_eq!(rt; book.give_back(7, 2), Ok(()));
+    assert_eq!(rt; book.quarantine(7, sender(alloc, 0)?), Ok(()));
+    assert_eq!(rt; book.close_round(), Ok(3));
+    Ok(())
+}
+
+// The sender is held until it is lifted, and what was at home goes out with what comes.
+fn third_round(rt: &impl Abort, alloc: Global, book: &mut Book) -> Result<(), Fail> {
+    assert_eq!(rt; taken(book), Ok(None));
+    assert_eq!(rt; book.lift(7, &sender(alloc, 0)?), Ok(()));
+    assert_eq!(rt; book.undo(7, 2), Err(UndoFault::NotOpen));
+    assert_eq!(rt; admitted(rt, book, single(alloc, 0, 30, 2)?), Ok(3));
+    let flush = book.take(7, 10)?.ok_or("nothing was taken")?;
+    assert_eq!(rt; flush.number, 3);
+    let sent = flush.points.as_slice();
+    assert_eq!(rt; sent.len(), 1);
+    assert!(rt; sent[0].row() == [2, 9, 0].as_slice());
+    assert_eq!(rt; (sent[0].span().start(), sent[0].span().end()), (20, 40));
+    Ok(())
+}
+
+#[test]
+fn rounds_follow_one_another(rt: HostRuntime) -> Result<(), Fail> {
+    let alloc = rt.alloc();
+    let mut book = Book::new(alloc)?;
+    first_round(&rt, alloc, &mut book)?;
+    expect_past(&rt, alloc, &book)?;
+    second_round(&rt, alloc, &mut book)?;
+    third_round(&rt, alloc, &mut book)
+}
+
+// A series of the opening is listed without a point of the round, and no other sender may write it.
+#[test]
+fn a_series_of_the_opening_stays(rt: HostRuntime) -> Result<(), Fail> {
+    let alloc = rt.alloc();
+    let mut book = Book::new(alloc)?;
+    first_round(&rt, alloc, &mut book)?;
+    assert_eq!(rt; admitted(&rt, &mut book, single(alloc, 0, 20, 7)?), Ok(2));
+    assert_eq!(rt; book.undo(7, 2), Ok(()));
+    expect_past(&rt, alloc, &book)?;
+    assert_eq!(rt;
+        admitted(&rt, &mut book, single(alloc, 1, 20, 7)?),
+        Err(AdmitFault::OtherWriter(0))
+    );
+    assert_eq!(rt; admitted(&rt, &mut book, single(alloc, 0, 20, 7)?), Ok(3));
+    Ok(())
+}
+
+// The series of the opening count among the 10,000.
+#[test]
+fn series_of_the_opening_have_the_limit(rt: HostRuntime) -> Result<(), Fail> {
+    let alloc = rt.alloc();
+    let mut book = Book::new(alloc)?;
+    let many = batch(alloc, 0, 10000, 1)?;
+    assert_eq!(rt; admitted(&rt, &mut book, many), Ok(1));
+    assert_eq!(rt; book.confirm(7, 1), Ok(()));
+    assert_eq!(rt; book.close_round(), Ok(2));
+    assert_eq!(rt;
+        admitted(&rt, &mut book, batch(alloc, 10000, 10001, 1)?),
+        Err(AdmitFault::TooManySeries)
+    );
+    assert_eq!(rt; admitted(&rt, &mut book, batch(alloc, 0, 1, 2)?), Ok(2));
+    Ok(())
+}
+
+// A journal that is filled to its last entry is closed, and the next has all its room.
+#[test]
+fn a_full_journal_is_closed(rt: HostRuntime) -> Result<(), Fail> {
+    let alloc = rt.alloc();
+    let mut book = Book::new(alloc)?;
+    assert_eq!(rt; admitted(&rt, &mut book, batch(alloc, 0, 1, 1)?), Ok(1));
+    assert_eq!(rt; book.confirm(7, 1), Ok(()));
+    assert_eq!(rt; taken(&mut book), Ok(Some(1)));
+    fill_up(&rt, alloc, &mut book)?;
+    assert_eq!(rt; book.give_back(7, 1), Ok(()));
+    assert_eq!(rt; book.journal().len(), 65536);
+    assert_eq!(rt; book.close_round(), Ok(2));
+    assert_eq!(rt; book.journal().len(), 0);
+    assert_eq!(rt; taken(&mut book), Ok(Some(2)));
+    assert_eq!(rt; book.settle(7, 2), Ok(()));
+    assert_eq!(rt; admitted(&rt, &mut book, batch(alloc, 1, 2, 1)?), Ok(2));
+    Ok(())
+}
+
+// A batch of one point of this series, with the value 1.
+fn batch_of(alloc: Global, series: SeriesId, start: u64) -> Result<Batch, Fail> {
+    let mut points = Points::new(alloc);
+    points.push(Point::sum(alloc, series, start, start.saturating_add(1), 1)?)?;
+    let sender = sender(alloc, 0)?;
+    Ok(Batch { sender, points })
+}
+
+// What is kept of a second batch shares the identity of the first: its entry and its accepted point.
+#[test]
+fn known_series_are_kept_once(rt: HostRuntime) -> Result<(), Fail> {
+    let alloc = rt.alloc();
+    let mut book = Book::new(alloc)?;
+    let series_1 = series(alloc, 1, Kind::Sum { monotonic: false })?;
+    let shared = series_1.share(alloc).expect(&rt, "memory");
+    let first = batch_of(alloc, shared.copy(alloc)?, 1)?;
+    assert_eq!(rt; admitted(&rt, &mut book, first), Ok(1));
+    assert_eq!(rt; shared.owners(), 3);
+    let own = series(alloc, 1, Kind::Sum { monotonic: false })?;
+    assert_eq!(rt; admitted(&rt, &mut book, batch_of(alloc, own, 2)?), Ok(2));
+    assert_eq!(rt; shared.owners(), 5);
     Ok(())
 }

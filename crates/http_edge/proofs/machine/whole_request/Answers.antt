@@ -1,6 +1,12 @@
 use Rattle.std.proofs.Common.{◌∙◌}
 use Rattle.http_edge.proofs.FinishLemmas.{shown_is}
+use Rattle.http_edge.proofs.MethodLemmas.{method_is_token}
 use Rattle.http_edge.proofs.machine.whole_request.Goals as goal
+
+pub request_of-requires-clause-method : goal.request_of-requires-clause-method
+request_of-requires-clause-method c =
+    let found = rw c.in-Ok-Some.field-0-is at c.in-Ok-Some.ensures in
+    method_is_token c.args.head.now c.look_for_head.new.spans c.in-Ok-Some.found found.0 found.1
 
 pub returns-in-Ok : goal.returns-in-Ok
 returns-in-Ok c = λ k is.

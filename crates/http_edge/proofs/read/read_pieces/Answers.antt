@@ -1,10 +1,13 @@
-use Rattle.std.proofs.Common.{◌<◌, ◌++◌, length, take, arith, true, Ok}
+use Rattle.std.proofs.Common.{◌<◌, ◌≤◌, [], refl, ◌++◌, length, take, arith, true, false, Ok}
 use Rattle.std.specs.Io.KnownBytes.{Consumes}
 use Rattle.std.proofs.lemmas.List.{length-take-le}
 use Rattle.std.proofs.lemmas.Result.{err_from_is_err_and}
 use Rattle.http_edge.specs.Answer.{Tells}
-use Rattle.http_edge.proofs.ReadLemmas.{goes_on, at_message, at_fault, closed_at_end, not_closed}
+use Rattle.http_edge.proofs.ReadLemmas.{begins, goes_on, known_more, at_message, at_fault, closed_at_end, not_closed, stops_after}
 use Rattle.http_edge.proofs.read.read_pieces.Goals as goal
+
+pub pieces-init : goal.pieces-init
+pieces-init g c = record { so_far = ([], begins (g.S.Source.remaining c.args.source.now) c.new-decoder.result c.new-decoder.ensures.nothing c.new-decoder.ensures.fine); well = refl }
 
 pub returns-then-n-eq0-clause-closed : goal.returns-then-n-eq0-clause-closed
 returns-then-n-eq0-clause-closed g c =
@@ -64,7 +67,7 @@ returns-then-branch-clause-answer g c =
     let some : 0 < length piece = omega (arith, length-take-le c.in-Ok.n c.read.new.buf c.in-Ok.ensures.bound, c.if-n-eq0.false) in
     let holds = c.feed.ensures.holds fed so.holds in
     let told : Tells (fed ++ piece) (Ok true) = rw c.if-branch.true at (c.in_ok-feed.ensures.tells fed so.holds) in
-    at_message r0 r2 c.feed.new.self (fed ++ piece) c.finish-then-branch.result told.0 (goes_on r0 r1 r2 c.pieces.decoder c.feed.new.self fed piece so took some holds) told.1 (c.finish-then-branch.ensures.answers (fed ++ piece) holds)
+    at_message r0 r2 (fed ++ piece) c.finish-then-branch.result told.0 (known_more r0 r1 r2 fed piece so.known took) told.1 (c.finish-then-branch.ensures.answers (fed ++ piece) holds)
 
 pub pieces-preserved : goal.pieces-preserved
 pieces-preserved g c =
@@ -77,4 +80,29 @@ pieces-preserved g c =
     let took : Consumes r1 r2 piece = c.in-Ok.ensures.bytes.0 in
     let some : 0 < length piece = omega (arith, length-take-le c.in-Ok.n c.read.new.buf c.in-Ok.ensures.bound, c.if-n-eq0.false) in
     let holds = c.feed.ensures.holds fed so.holds in
-    record { so_far = (fed ++ piece, goes_on r0 r1 r2 c.pieces.decoder c.feed.new.self fed piece so took some holds); failed = λ e. let x = c.pieces.invariant.failed e in rw x at c.in-Ok.ensures.failed }
+    let told : Tells (fed ++ piece) (Ok false) = rw c.if-branch.false at (c.in_ok-feed.ensures.tells fed so.holds) in
+    record { so_far = (fed ++ piece, goes_on r0 r1 r2 c.pieces.decoder c.feed.new.self fed piece so took holds c.in_ok-feed.ensures.fault told); well = rw c.in-Ok.ensures.failed c.pieces.invariant.well }
+
+pub returns-then-n-eq0-clause-stops : goal.returns-then-n-eq0-clause-stops
+returns-then-n-eq0-clause-stops g c =
+    let r0 = g.S.Source.remaining c.args.source.now in
+    let r1 = g.S.Source.remaining c.pieces.source in
+    let r2 = g.S.Source.remaining c.read.new.self in
+    let short : length (take c.in-Ok.n c.read.new.buf) ≤ 4096 = omega (arith, length-take-le c.in-Ok.n c.read.new.buf c.in-Ok.ensures.bound, c.in-Ok.ensures.bound, c.read.auto.buf) in
+    stops_after r0 r1 r2 c.pieces.decoder c.pieces.invariant.so_far.0 (take c.in-Ok.n c.read.new.buf) c.pieces.invariant.so_far.1 c.in-Ok.ensures.bytes.0 short
+
+pub returns-in_err-feed-clause-stops : goal.returns-in_err-feed-clause-stops
+returns-in_err-feed-clause-stops g c =
+    let r0 = g.S.Source.remaining c.args.source.now in
+    let r1 = g.S.Source.remaining c.pieces.source in
+    let r2 = g.S.Source.remaining c.read.new.self in
+    let short : length (take c.in-Ok.n c.read.new.buf) ≤ 4096 = omega (arith, length-take-le c.in-Ok.n c.read.new.buf c.in-Ok.ensures.bound, c.in-Ok.ensures.bound, c.read.auto.buf) in
+    stops_after r0 r1 r2 c.pieces.decoder c.pieces.invariant.so_far.0 (take c.in-Ok.n c.read.new.buf) c.pieces.invariant.so_far.1 c.in-Ok.ensures.bytes.0 short
+
+pub returns-then-branch-clause-stops : goal.returns-then-branch-clause-stops
+returns-then-branch-clause-stops g c =
+    let r0 = g.S.Source.remaining c.args.source.now in
+    let r1 = g.S.Source.remaining c.pieces.source in
+    let r2 = g.S.Source.remaining c.read.new.self in
+    let short : length (take c.in-Ok.n c.read.new.buf) ≤ 4096 = omega (arith, length-take-le c.in-Ok.n c.read.new.buf c.in-Ok.ensures.bound, c.in-Ok.ensures.bound, c.read.auto.buf) in
+    stops_after r0 r1 r2 c.pieces.decoder c.pieces.invariant.so_far.0 (take c.in-Ok.n c.read.new.buf) c.pieces.invariant.so_far.1 c.in-Ok.ensures.bytes.0 short

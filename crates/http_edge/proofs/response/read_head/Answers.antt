@@ -1,13 +1,13 @@
-use Rattle.std.proofs.Common.{◌≡◌, ◌<◌, ◌≤◌, ◌++◌, ℕ, List, length, take, drop, ap, arith, subst, sym, ◌∙◌}
+use Rattle.std.proofs.Common.{◌≡◌, ◌<◌, ◌≤◌, ◌++◌, ℕ, List, length, take, drop, ap, arith, subst, sym, refl, ◌∙◌}
 use Rattle.std.proofs.lemmas.List.{length-take-le, take-append-drop, take-take}
 use Rattle.std.proofs.lemmas.Result.{err_from_is_err_and}
 use Rattle.http_edge.specs.Reply.{LastsFor, ExplainsReply}
 use Rattle.http_edge.proofs.ListLemmas.{grown}
-use Rattle.http_edge.proofs.ReplyLemmas.{begins, grows, refused, said}
+use Rattle.http_edge.proofs.ReplyLemmas.{begins, grows, refused, said, stops_after}
 use Rattle.http_edge.proofs.response.read_head.Goals as goal
 
 pub pieces-init : goal.pieces-init
-pieces-init g c = record { so_far = rw c.new-kept.ensures.items (begins (g.S.Source.remaining c.args.source.now)); failed = λ e. e }
+pieces-init g c = record { so_far = rw c.new-kept.ensures.items (begins (g.S.Source.remaining c.args.source.now)); well = refl }
 
 pub returns-in_err-reply-clause-answer : goal.returns-in_err-reply-clause-answer
 returns-in_err-reply-clause-answer g c =
@@ -49,3 +49,27 @@ returns-in-Some-clause-answer g c =
     let all = grows r0 r1 r2 kept piece front (drop n piece) new so c.in-Ok.ensures.bytes.0 cut some is in
     let looks = rw (c.in-Some.is, c.deref.ensures.value) at c.in_ok-reply.ensures in
     said r0 new c.in-Some.reply all looks
+
+pub returns-then-is_err-clause-stops : goal.returns-then-is_err-clause-stops
+returns-then-is_err-clause-stops g c =
+    let r0 = g.S.Source.remaining c.args.source.now in
+    let r1 = g.S.Source.remaining c.pieces.source in
+    let r2 = g.S.Source.remaining c.read.new.self in
+    let short : length (take c.in-Ok.n c.read.new.buf) ≤ 4096 = omega (arith, length-take-le c.in-Ok.n c.read.new.buf c.in-Ok.ensures.bound, c.in-Ok.ensures.bound, c.read.auto.buf) in
+    stops_after r0 r1 r2 c.pieces.kept.items (take c.in-Ok.n c.read.new.buf) c.pieces.invariant.so_far c.in-Ok.ensures.bytes.0 short
+
+pub returns-in_err-reply-clause-stops : goal.returns-in_err-reply-clause-stops
+returns-in_err-reply-clause-stops g c =
+    let r0 = g.S.Source.remaining c.args.source.now in
+    let r1 = g.S.Source.remaining c.pieces.source in
+    let r2 = g.S.Source.remaining c.read.new.self in
+    let short : length (take c.in-Ok.n c.read.new.buf) ≤ 4096 = omega (arith, length-take-le c.in-Ok.n c.read.new.buf c.in-Ok.ensures.bound, c.in-Ok.ensures.bound, c.read.auto.buf) in
+    stops_after r0 r1 r2 c.pieces.kept.items (take c.in-Ok.n c.read.new.buf) c.pieces.invariant.so_far c.in-Ok.ensures.bytes.0 short
+
+pub returns-in-Some-clause-stops : goal.returns-in-Some-clause-stops
+returns-in-Some-clause-stops g c =
+    let r0 = g.S.Source.remaining c.args.source.now in
+    let r1 = g.S.Source.remaining c.pieces.source in
+    let r2 = g.S.Source.remaining c.read.new.self in
+    let short : length (take c.in-Ok.n c.read.new.buf) ≤ 4096 = omega (arith, length-take-le c.in-Ok.n c.read.new.buf c.in-Ok.ensures.bound, c.in-Ok.ensures.bound, c.read.auto.buf) in
+    stops_after r0 r1 r2 c.pieces.kept.items (take c.in-Ok.n c.read.new.buf) c.pieces.invariant.so_far c.in-Ok.ensures.bytes.0 short

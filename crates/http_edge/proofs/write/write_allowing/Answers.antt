@@ -5,5 +5,5 @@ use Rattle.http_edge.proofs.write.write_allowing.Goals as goal
 pub write_parts-requires : goal.write_parts-requires
 write_parts-requires g c = simp length-append (omega arith)
 
-pub returns : goal.returns
-returns g c = simp append-nil at c.write_parts.ensures
+pub returns-clause-text : goal.returns-clause-text
+returns-clause-text g c = simp append-nil at c.write_parts.ensures.text

@@ -9,4 +9,5 @@ loop-at-preserved g c =
     record {
       within = omega (arith, length-drop c.loop-at.at c.args.bytes.now, bound);
       taken = more_taken (g.K.Sink.contents c.args.sink.now) (g.K.Sink.contents c.loop-at.sink) (g.K.Sink.contents c.write.new.self) c.args.bytes.now c.loop-at.at c.in-Ok.n c.loop-at.invariant.taken (simp take_rest at c.in-Ok.ensures.bytes);
+      well = rw c.in-Ok.ensures.failed c.loop-at.invariant.well;
     }

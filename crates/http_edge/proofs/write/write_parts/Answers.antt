@@ -27,9 +27,9 @@ pub overflow_add-sent : goal.overflow_add-sent
 overflow_add-sent g c =
     omega (arith, fits c.args.parts.now c.loop-part.part-index c.loop-part.sent c.write_bytes-n.result c.loop-part-test.true c.loop-part.invariant.sent c.write_bytes-n.ensures.within, c.requires)
 
-pub returns-else-sent-eq0 : goal.returns-else-sent-eq0
-returns-else-sent-eq0 g c =
+pub returns-else-sent-eq0-clause-text : goal.returns-else-sent-eq0-clause-text
+returns-else-sent-eq0-clause-text g c =
     let all = fits c.args.parts.now c.loop-part.part-index c.loop-part.sent (c.write_bytes-n.result + 1) c.loop-part-test.true c.loop-part.invariant.sent (omega arith) in
     let here = cut c.args.parts.now c.loop-part.part-index c.loop-part.sent c.write_bytes-n.result c.loop-part-test.true c.loop-part.invariant.sent c.write_bytes-n.ensures.within in
     let both = Appends-then (g.K.Sink.contents c.args.sink.now) (g.K.Sink.contents c.loop-part.sink) (g.K.Sink.contents c.write_bytes-n.new.sink) _ _ c.loop-part.invariant.taken c.write_bytes-n.ensures.taken in
-    (subst (Appends (g.K.Sink.contents c.args.sink.now) (g.K.Sink.contents c.write_bytes-n.new.sink)) (sym here) both, omega arith, omega (arith, all), c.write_bytes-n.ensures.failed c.if-n-part.true)
+    (subst (Appends (g.K.Sink.contents c.args.sink.now) (g.K.Sink.contents c.write_bytes-n.new.sink)) (sym here) both, omega arith, omega (arith, all))

@@ -7,4 +7,5 @@ abbrev pub invariant-loop-part : goal.invariant-loop-part
 invariant-loop-part g l = record {
   sent : l.sent ≡ length (flat_map (λ p. p.now) (take l.part-index l.parts));
   taken : Appends (g.K.Sink.contents l.fn.sink) (g.K.Sink.contents l.sink) (flat_map (λ p. p.now) (take l.part-index l.parts));
+  well : g.K.Sink.failures l.sink ≡ g.K.Sink.failures l.fn.sink;
 }

@@ -1,0 +1,15 @@
+use Rattle.std.proofs.Common.{ap, ◌∙◌}
+use Rattle.std.proofs.lemmas.List.{take_rest}
+use Rattle.out_texts.specs.declared.level.Level.TheVariants as level
+use Rattle.out_texts.specs.Request.{metric_value}
+use Rattle.out_texts.specs.Sharing.{same}
+use Rattle.out_texts.proofs.Loops.{group_more, groups_done}
+use Rattle.out_texts.proofs.request.metric_values.Goals as goal
+
+pub loop-left-preserved : goal.loop-left-preserved
+loop-left-preserved c =
+    group_more (same level.Metric) (λ p ps. metric_value p.series ps) _ c.loop-left.left.now c.first-item.result _ c.run.result _ _ c.loop-left.values.items c.in_ok-metric_value.field-0 _
+    c.in-len1-up.len_at_least c.first-item.is (take_rest c.loop-left.left.now 1) c.run.ensures.value c.run.ensures.few c.split_at.ensures.back c.split_at-in-len1-up.ensures.front c.in_ok-push.ensures.items (c.in_ok-metric_value.ensures ∙ ap (λ s. metric_value s c.split_at-in-len1-up.result.0.now) c.series.ensures) c.loop-left.invariant
+
+pub returns : goal.returns
+returns c = groups_done (same level.Metric) (λ p ps. metric_value p.series ps) _ c.loop-left.left.now c.loop-left.values.items c.in_default.len_below c.loop-left.invariant

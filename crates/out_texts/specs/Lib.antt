@@ -1,0 +1,11 @@
+pub mod Escaped
+pub mod Rows
+pub mod SeriesNames
+pub mod Report
+pub mod Past
+pub mod Answers
+pub mod Groups
+pub mod Sharing
+pub mod Attributes
+pub mod Points
+pub mod Request

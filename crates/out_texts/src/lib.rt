@@ -1,0 +1,31 @@
+//! The texts that the gateway writes: the request that forwards a flush, the bodies that answer
+//! senders and flush orders, the report of a store, and what earlier rounds brought. Each is the
+//! bytes of its definition, and only want of memory keeps one from being written.
+#![tactic(auto)]
+
+mod attributes;
+mod escaped;
+mod histogram_points;
+mod json_text;
+mod level;
+mod past;
+mod points;
+mod report;
+mod request;
+mod runs;
+mod series_name;
+mod status;
+mod success;
+mod sum_points;
+mod turn;
+mod wide_words;
+mod words;
+
+pub use past::{past_text, put_past};
+pub use report::{put_report, report_text};
+pub use request::request_text;
+pub use series_name::put_series_name;
+pub use status::{no_memory_text, status_text};
+pub use success::success_text;
+pub use turn::turn_text;
+pub use words::{put_number, put_row};

@@ -1,0 +1,130 @@
+//! The request that forwards the points of a flush.
+
+ghost use Rattle.std.specs.Prelude.{◌≡◌, map, IfOk};
+ghost use Rattle.serde_json.specs.View.{view, items_view, items_of};
+ghost use Rattle.out_texts.specs.declared.level.Level.TheVariants as level;
+ghost use Rattle.out_texts.specs.Groups.{groups, members};
+ghost use Rattle.out_texts.specs.Sharing.{same};
+ghost use Rattle.out_texts.specs.Request as spec;
+
+use crate::attributes::attributes_value;
+use crate::json_text::text_of;
+use crate::level::Level;
+use crate::points::point_values;
+use crate::runs::run;
+use delta_book::flush::Flush;
+use delta_book::flush_point::FlushPoint;
+use serde_json::{Value, json};
+use series_id::{Kind, SeriesId};
+use std::alloc::{AllocError, Global};
+
+/// The metric of a series, with these points.
+#[tactic(auto, unfolding(crate::specs::Request::metric_value))]
+fn metric_value(
+    alloc: Global,
+    series: &SeriesId,
+    points: &[FlushPoint],
+) -> Result<Value, AllocError>
+    ensures { IfOk result (λ v. view v ≡ spec.metric_value series.now points.now) }
+{
+    let values = point_values(alloc, points)?;
+    let name = series.name().as_str();
+    let unit = series.unit().as_str();
+    match series.kind() {
+        Kind::Sum { monotonic } => {
+            return json!(in alloc; {"name": name, "sum": {"aggregationTemporality": 1u64, "dataPoints": values, "isMonotonic": *monotonic}, "unit": unit});
+        }
+        Kind::Histogram { .. } => {
+            return json!(in alloc; {"histogram": {"aggregationTemporality": 1u64, "dataPoints": values}, "name": name, "unit": unit});
+        }
+    }
+}
+
+/// The metrics of these points, neighbours of one metric together.
+fn metric_values(alloc: Global, points: &[FlushPoint]) -> Result<Vec<Value>, AllocError>
+    ensures { IfOk result (λ vs. items_view vs.items ≡ items_of (map (λ g. spec.metric_value g.0.series (members g)) (groups (same level.Metric) points.now))) }
+{
+    let mut values = Vec::new(alloc);
+    let mut left = points;
+    while let [first, others @ ..] = left {
+        let (_, after) = others.split_at(run(Level::Metric, first, others));
+        let (group, _) = left.split_at(left.len() - after.len());
+        values.push(metric_value(alloc, first.series(), group)?)?;
+        left = after;
+    }
+    Ok(values)
+}
+
+/// The scope of a series, with the metrics of these points.
+#[tactic(auto, unfolding(crate::specs::Request::scope_value))]
+fn scope_value(alloc: Global, series: &SeriesId, points: &[FlushPoint]) -> Result<Value, AllocError>
+    ensures { IfOk result (λ v. view v ≡ spec.scope_value series.now points.now) }
+{
+    let metrics = metric_values(alloc, points)?;
+    let attributes = attributes_value(alloc, series.scope_attrs())?;
+    json!(in alloc; {"metrics": metrics, "scope": {"attributes": attributes, "name": series.scope_name().as_str(), "version": series.scope_version().as_str()}})
+}
+
+/// The scopes of these points, neighbours of one scope together.
+fn scope_values(alloc: Global, points: &[FlushPoint]) -> Result<Vec<Value>, AllocError>
+    ensures { IfOk result (λ vs. items_view vs.items ≡ items_of (map (λ g. spec.scope_value g.0.series (members g)) (groups (same level.Scope) points.now))) }
+{
+    let mut values = Vec::new(alloc);
+    let mut left = points;
+    while let [first, others @ ..] = left {
+        let (_, after) = others.split_at(run(Level::Scope, first, others));
+        let (group, _) = left.split_at(left.len() - after.len());
+        values.push(scope_value(alloc, first.series(), group)?)?;
+        left = after;
+    }
+    Ok(values)
+}
+
+/// The resource of a series, with the scopes of these points.
+#[tactic(auto, unfolding(crate::specs::Request::resource_value))]
+fn resource_value(
+    alloc: Global,
+    series: &SeriesId,
+    points: &[FlushPoint],
+) -> Result<Value, AllocError>
+    ensures { IfOk result (λ v. view v ≡ spec.resource_value series.now points.now) }
+{
+    let scopes = scope_values(alloc, points)?;
+    let attributes = attributes_value(alloc, series.resource())?;
+    json!(in alloc; {"resource": {"attributes": attributes}, "scopeMetrics": scopes})
+}
+
+/// The resources of these points, neighbours of one resource together.
+fn resource_values(alloc: Global, points: &[FlushPoint]) -> Result<Vec<Value>, AllocError>
+    ensures { IfOk result (λ vs. items_view vs.items ≡ items_of (map (λ g. spec.resource_value g.0.series (members g)) (groups (same level.Resource) points.now))) }
+{
+    let mut values = Vec::new(alloc);
+    let mut left = points;
+    while let [first, others @ ..] = left {
+        let (_, after) = others.split_at(run(Level::Resource, first, others));
+        let (group, _) = left.split_at(left.len() - after.len());
+        values.push(resource_value(alloc, first.series(), group)?)?;
+        left = after;
+    }
+    Ok(values)
+}
+
+/// The resources of these points.
+#[tactic(auto, unfolding(crate::specs::Request::request_value))]
+fn request_value(alloc: Global, points: &[FlushPoint]) -> Result<Value, AllocError>
+    ensures { IfOk result (λ v. view v ≡ spec.request_value points.now) }
+{
+    let resources = resource_values(alloc, points)?;
+    json!(in alloc; {"resourceMetrics": resources})
+}
+
+/// The body that forwards the points of a flush (OTLP metrics, `ExportMetricsServiceRequest`).
+/// Neighbours of one resource stand in one element of `resourceMetrics`, of these neighbours of one
+/// scope in one of `scopeMetrics`, and of these neighbours of one name, unit and kind in one metric.
+#[tactic(auto, unfolding(crate::specs::Request::request_text))]
+pub fn request_text(alloc: Global, flush: &Flush) -> Result<Vec<u8>, AllocError>
+    ensures text { IfOk result (λ text. text.items ≡ spec.request_text flush.now.points.items) }
+{
+    let value = request_value(alloc, flush.points.as_slice())?;
+    text_of(alloc, value)
+}

@@ -1,0 +1,25 @@
+//! Runs of points that share an element.
+
+ghost use Rattle.std.specs.Prelude.{◌≡◌, ◌≤◌, length};
+ghost use Rattle.out_texts.specs.Groups.{run};
+ghost use Rattle.out_texts.specs.Sharing.{same};
+
+use crate::level::Level;
+use delta_book::flush_point::FlushPoint;
+
+/// How many of the others go on with the element that the first point begins.
+pub(crate) fn run(level: Level, first: &FlushPoint, others: &[FlushPoint]) -> usize
+    ensures few { result ≤ length others.now }
+    ensures value { result ≡ run (same level) first.now others.now }
+{
+    let mut last = first;
+    let mut count = 0;
+    for point in others {
+        if !level.is_shared(last.series(), point.series()) {
+            return count;
+        }
+        last = point;
+        count += 1;
+    }
+    count
+}

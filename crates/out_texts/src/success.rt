@@ -1,0 +1,29 @@
+//! The body of an answer to points that were taken.
+
+ghost use Rattle.std.specs.Prelude.{◌≡◌, IfOk};
+ghost use Rattle.serde_json.specs.View.{view};
+ghost use Rattle.out_texts.specs.Answers as spec;
+
+use crate::json_text::text_of;
+use serde_json::{Value, json};
+use std::alloc::{AllocError, Global};
+
+#[tactic(auto, unfolding(crate::specs::Answers::success_value))]
+fn success_value(alloc: Global, foreign: u64) -> Result<Value, AllocError>
+    ensures { IfOk result (λ v. view v ≡ spec.success_value foreign) }
+{
+    if foreign == 0 {
+        return json!(in alloc; {});
+    }
+    let count = foreign.to_string(alloc)?;
+    json!(in alloc; {"partialSuccess": {"errorMessage": "points outside the profile", "rejectedDataPoints": count}})
+}
+
+/// The body of an answer to a request that was taken, but for so many points outside the profile
+/// (OTLP/HTTP, "Full Success" and "Partial Success").
+pub fn success_text(alloc: Global, foreign: u64) -> Result<Vec<u8>, AllocError>
+    ensures { IfOk result (λ text. text.items ≡ spec.success_text foreign) }
+{
+    let value = success_value(alloc, foreign)?;
+    text_of(alloc, value)
+}

@@ -1,0 +1,34 @@
+//! The points of sums as JSON.
+
+ghost use Rattle.std.specs.Prelude.{◌≡◌, ◌≤◌, length, slice_index, IfOk};
+ghost use Rattle.serde_json.specs.View.{view};
+ghost use Rattle.metric_events.specs.declared.limits.TheConstants.{MAX_AMOUNT};
+ghost use Rattle.metric_events.specs.PointFaults.{IsSum};
+ghost use Rattle.out_texts.specs.Points as spec;
+
+use crate::attributes::attributes_value;
+use delta_book::flush_point::FlushPoint;
+use serde_json::{Value, json};
+use std::alloc::{AllocError, Global};
+
+/// What a sum's row adds up to: what was added less what was taken away.
+fn sum_of(row: &[u64]) -> i64
+    requires up { slice_index row.now 1 ≤ MAX_AMOUNT }
+    requires down { slice_index row.now 2 ≤ MAX_AMOUNT }
+    requires long { 3 ≤ length row.now }
+    ensures { result ≡ spec.sum_of row.now }
+{
+    row[1] as i64 - row[2] as i64
+}
+
+/// The point of a sum.
+pub(crate) fn sum_point_value(alloc: Global, point: &FlushPoint) -> Result<Value, AllocError>
+    requires { IsSum point.now.series.kind }
+    ensures { IfOk result (λ v. view v ≡ spec.sum_point_value point.now) }
+{
+    let value = sum_of(point.row()).to_string(alloc)?;
+    let attributes = attributes_value(alloc, point.series().attrs())?;
+    let start = point.span().start().to_string(alloc)?;
+    let end = point.span().end().to_string(alloc)?;
+    json!(in alloc; {"asInt": value, "attributes": attributes, "startTimeUnixNano": start, "timeUnixNano": end})
+}

@@ -1,0 +1,46 @@
+//! Numbers and rows of words, put after a text.
+
+ghost use Rattle.std.specs.Prelude.{◌≡◌, ◌++◌, ◌∷◌, decimal, OnOk};
+ghost use Rattle.std.specs.Fmt.{signed_decimal};
+ghost use Rattle.std.specs.List.{flat_map};
+ghost use Rattle.out_texts.specs.Rows.{row_text};
+
+use std::alloc::AllocError;
+
+/// Puts the number in decimal.
+pub fn put_number(out: &mut Vec<u8>, number: u64) -> Result<(), AllocError>
+    ensures { OnOk result (out.new.items ≡ out.old.items ++ decimal number) }
+{
+    let mut buffer = itoa::Buffer::new();
+    out.extend_from_slice(buffer.format(number).as_bytes())
+}
+
+/// Puts the number in decimal, with `-` before it where it is below zero.
+pub(crate) fn put_signed(out: &mut Vec<u8>, number: i64) -> Result<(), AllocError>
+    ensures { OnOk result (out.new.items ≡ out.old.items ++ signed_decimal number) }
+{
+    let mut buffer = itoa::Buffer::new();
+    out.extend_from_slice(buffer.format(number).as_bytes())
+}
+
+fn put_more_words(out: &mut Vec<u8>, words: &[u64]) -> Result<(), AllocError>
+    ensures { OnOk result (out.new.items ≡ out.old.items ++ flat_map (λ n. 44 ∷ decimal n) words.now) }
+{
+    for word in words {
+        out.push(b',')?;
+        put_number(out, *word)?;
+    }
+    Ok(())
+}
+
+/// Puts the words in decimal with commas between them.
+#[tactic(auto, unfolding(crate::specs::Rows::row_text))]
+pub fn put_row(out: &mut Vec<u8>, words: &[u64]) -> Result<(), AllocError>
+    ensures { OnOk result (out.new.items ≡ out.old.items ++ row_text words.now) }
+{
+    let Some((first, more)) = words.split_first() else {
+        return Ok(());
+    };
+    put_number(out, *first)?;
+    put_more_words(out, more)
+}
