@@ -1,21 +1,18 @@
 -- From the calls of a request to the journal.
-use Rattle.std.proofs.Common.{◌≡◌, ◌≢◌, ℕ, ◌+◌, Bool, true, false, List, [], ◌∷◌, ◌++◌, map, codes, Option, Some, None, Result, Ok, Err, refl, sym, ap, subst, ◌∙◌}
+use Rattle.std.proofs.Common.{◌≡◌, ℕ, ◌+◌, Bool, true, false, List, [], ◌∷◌, ◌++◌, map, codes, Option, Some, None, Result, Ok, Err, refl, sym, ap, subst, ◌∙◌}
 use Rattle.std.specs.Option.{unwrap_or}
 use Rattle.metric_events.specs.DataPoint.{DataPoint}
-use Rattle.metric_events.specs.History.{History, ◌▸◌}
 use Rattle.metric_events.specs.declared.batch.Batch.{Batch}
-use Rattle.metric_events.specs.declared.event.Event.{Event}
-use Rattle.metric_events.specs.declared.event.Event.TheVariants.{Admit, Undo, Confirm, Quarantine, Lift}
+use Rattle.metric_events.specs.declared.event.Event.TheVariants.{Admit, Confirm, Quarantine, Lift}
 use Rattle.back_answers.specs.declared.answer.Answer.{Answer}
 use Rattle.back_answers.specs.declared.answer.Answer.TheVariants.{Unknown}
 use Rattle.delta_book.specs.Journal.{Journal, journal_of, appended, history, admits, Appends}
-use Rattle.delta_book.specs.Refusals.{admit_refusal, undo_refusal, confirm_refusal, quarantine_refusal, lift_refusal}
+use Rattle.delta_book.specs.Refusals.{admit_refusal, undo_refusal, confirm_refusal, quarantine_refusal}
 use Rattle.delta_book.specs.Totals.{totals_rows}
 use Rattle.delta_book.specs.declared.totals.SeriesTotals.{SeriesTotals}
 use Rattle.delta_book.specs.declared.faults.AdmitFault.{AdmitFault}
 use Rattle.delta_book.specs.declared.faults.AdmitFault.TheVariants as admission
 use Rattle.delta_book.specs.declared.faults.UndoFault.{UndoFault}
-use Rattle.delta_book.specs.declared.faults.UndoFault.TheVariants.{Taken, NotOpen as not_open}
 use Rattle.delta_book.specs.declared.faults.NotOpen.{NotOpen}
 use Rattle.delta_book.specs.declared.faults.QuarantineFault.{QuarantineFault}
 use Rattle.delta_book.specs.declared.faults.QuarantineFault.TheVariants as holding
@@ -23,7 +20,7 @@ use Rattle.delta_book.specs.declared.faults.NotQuarantined.{NotQuarantined}
 use Rattle.http_edge.specs.declared.written.Written.{Written}
 use Rattle.http_edge.specs.declared.written.Written.TheVariants.{All, None_, Part}
 use Rattle.gate_workers.specs.declared.end.End.{End}
-use Rattle.gate_workers.specs.declared.end.End.TheVariants.{NoBatch, Confirmed, Undone}
+use Rattle.gate_workers.specs.declared.end.End.TheVariants.{NoBatch}
 use Rattle.gate_workers.specs.declared.desk.BookKeeper.{BookKeeper}
 use Rattle.gate_workers.specs.declared.order_fault.OrderFault.{OrderFault}
 use Rattle.gate_workers.specs.declared.refusal.Refusal.{Refusal}
@@ -31,11 +28,11 @@ use Rattle.gate_workers.specs.declared.refusal.Refusal.TheVariants.{NotQuarantin
 use Rattle.gate_workers.specs.declared.turn.Turn.{Turn}
 use Rattle.gate_workers.specs.Calls.{Call, admit, undo, confirm, quarantine, lift, totals, order}
 use Rattle.gate_workers.specs.Refusals.{of_admit, of_hold}
-use Rattle.gate_workers.specs.Responses.{Response, done, refused, marked, turned, reported, ordered}
+use Rattle.gate_workers.specs.Responses.{Response, done, refused, marked, turned, reported}
 use Rattle.gate_workers.specs.Asked.{Asked, Metrics, Hold, LetGo, FlushNow, Report, Turned}
-use Rattle.gate_workers.specs.Conversations.{IsConversation, IsPosted, IsAdmitted, IsClosed, IsUndone, IsMarked, SaysHeld, SaysLifted, SaysOrdered, SaysReport}
+use Rattle.gate_workers.specs.Conversations.{IsConversation, IsPosted, IsAdmitted, IsClosed, IsUndone, SaysHeld, SaysLifted, SaysOrdered, SaysReport}
 use Rattle.gate_workers.specs.Turns.{Want, Nowhere, turn_of}
-use Rattle.gate_workers.specs.BookCalls.{BookGives, KeeperGives, Adds, AreSent, IsMade, entry_of}
+use Rattle.gate_workers.specs.BookCalls.{KeeperGives, Adds, AreSent, entry_of}
 use Rattle.gate_workers.specs.declared.served.Served.{Served}
 use Rattle.gate_workers.specs.declared.served.Served.TheVariants.{Closed, Broken, Replied}
 use Rattle.gate_workers.specs.Served.{IsServed}

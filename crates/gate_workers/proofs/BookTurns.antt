@@ -1,9 +1,8 @@
 -- From the calls of a turn to the journal.
-use Rattle.std.proofs.Common.{◌≡◌, ◌≢◌, ℕ, ◌+◌, ◌==◌, ◌&&◌, Bool, true, false, List, [], ◌∷◌, ◌++◌, length, map, Option, Some, None, Result, Ok, Err, refl, sym, ap, subst, ◌∙◌, if◌then◌else◌, append_assoc, append-nil, rules, tests}
+use Rattle.std.proofs.Common.{◌≡◌, ◌≢◌, ℕ, ◌+◌, Bool, true, false, List, [], ◌∷◌, ◌++◌, length, map, Option, Some, None, Result, Ok, Err, refl, sym, ap, subst, ◌∙◌, if◌then◌else◌, append_assoc, append-nil}
 use Rattle.series_id.specs.Identity.{Identity}
 use Rattle.metric_events.specs.History.{History, ◌▸◌}
 use Rattle.metric_events.specs.Choice.{pick, flush_points}
-use Rattle.metric_events.specs.declared.entry.Entry.{Entry}
 use Rattle.metric_events.specs.declared.event.Event.{Event}
 use Rattle.metric_events.specs.declared.event.Event.TheVariants.{Take, GiveBack as GivenBack}
 use Rattle.metric_events.specs.DataPoint.{DataPoint}
@@ -22,7 +21,7 @@ use Rattle.gate_workers.specs.declared.desk.Desk.{Desk}
 use Rattle.gate_workers.specs.declared.turn.Turn.{Turn}
 use Rattle.gate_workers.specs.declared.turn.Turn.TheVariants.{Idle, Full, NoMemory, Done}
 use Rattle.gate_workers.specs.Calls.{Call, take}
-use Rattle.gate_workers.specs.Turns.{IsTurn, IsIdleTurn, IsUnsent, IsClosing, closing, Want, Nowhere, ForFlush, ForText, Made, ending, sending, taking, turn_by, turn_of, without_events}
+use Rattle.gate_workers.specs.Turns.{IsTurn, IsIdleTurn, IsUnsent, IsClosing, Want, Nowhere, ForFlush, ForText, Made, ending, sending, taking, turn_by, turn_of, without_events}
 use Rattle.gate_workers.specs.BookCalls.{BookGives, Adds, Ends, AreSent, IsMade, entry_of}
 use Rattle.out_texts.specs.Request.{request_text}
 

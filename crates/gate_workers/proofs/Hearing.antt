@@ -1,5 +1,5 @@
 -- What was heard of a reader.
-use Rattle.std.proofs.Common.{◌≡◌, ◌≢◌, ℕ, List, [], Option, Some, None, refl, inl, inr}
+use Rattle.std.proofs.Common.{◌≡◌, ℕ, List, Option, Some, None, refl, inl, inr}
 use Rattle.std.specs.Prelude.{IfSome}
 use Rattle.http_edge.proofs.AnswerLemmas.{message_has_bytes, size_has_bytes}
 use Rattle.http_edge.specs.Delivery.{SaysFault, IsMalformed}

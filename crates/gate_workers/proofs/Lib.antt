@@ -1,3 +1,4 @@
 pub mod Hearing
 pub mod BookTurns
 pub mod BookServes
+pub mod OneRequest

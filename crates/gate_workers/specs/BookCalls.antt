@@ -1,31 +1,22 @@
 -- What calls make of a book of one's own, and of a keeper over it.
-use Rattle.std.specs.Prelude.{◌≡◌, ◌≢◌, ℕ, ◌+◌, if◌then◌else◌, List, [], ◌∷◌, ◌++◌, map, Option, Some, None, Result, Ok, Err, unwrap_or}
+use Rattle.std.specs.Prelude.{◌≡◌, ◌≢◌, ℕ, ◌+◌, if◌then◌else◌, List, [], ◌∷◌, ◌++◌, map, Some, None, Result, Ok, Err, unwrap_or}
 use Rattle.metric_events.specs.Choice.{pick}
 use Rattle.metric_events.specs.declared.batch.Batch.{Batch}
 use Rattle.metric_events.specs.declared.entry.Entry.{Entry}
 use Rattle.metric_events.specs.declared.event.Event.{Event}
-use Rattle.metric_events.specs.declared.event.Event.TheVariants.{Admit, Undo, Confirm, Take, Settle, Drop, GiveBack, Quarantine, Lift}
+use Rattle.metric_events.specs.declared.event.Event.TheVariants.{Admit, Undo, Confirm, Settle, Drop, GiveBack, Quarantine, Lift}
 use Rattle.delta_book.specs.Journal.{Journal, journal_of, history, admits, Appends}
 use Rattle.delta_book.specs.Refusals.{admit_refusal, undo_refusal, confirm_refusal, flush_refusal, quarantine_refusal, lift_refusal}
 use Rattle.delta_book.specs.Flushes.{is_full, IsTaken}
 use Rattle.delta_book.specs.Totals.{totals_rows}
-use Rattle.delta_book.specs.declared.flush.Flush.{Flush}
-use Rattle.delta_book.specs.declared.totals.SeriesTotals.{SeriesTotals}
-use Rattle.delta_book.specs.declared.faults.AdmitFault.{AdmitFault}
 use Rattle.delta_book.specs.declared.faults.AdmitFault.TheVariants as admission
-use Rattle.delta_book.specs.declared.faults.UndoFault.{UndoFault}
-use Rattle.delta_book.specs.declared.faults.NotOpen.{NotOpen}
 use Rattle.delta_book.specs.declared.faults.NotLive.{NotLive}
-use Rattle.delta_book.specs.declared.faults.TakeFault.{TakeFault}
 use Rattle.delta_book.specs.declared.faults.TakeFault.TheVariants as taking
-use Rattle.delta_book.specs.declared.faults.QuarantineFault.{QuarantineFault}
 use Rattle.delta_book.specs.declared.faults.QuarantineFault.TheVariants as holding
-use Rattle.delta_book.specs.declared.faults.NotQuarantined.{NotQuarantined}
 use Rattle.back_answers.specs.declared.answer.Answer.{Answer}
-use Rattle.gate_workers.specs.declared.order_fault.OrderFault.{OrderFault}
 use Rattle.gate_workers.specs.declared.turn.Turn.{Turn}
 use Rattle.gate_workers.specs.Calls.{Call, admit, undo, confirm, take, settle, drop_flush, give_back, quarantine, lift, totals, order}
-use Rattle.gate_workers.specs.Turns.{Want, Made, turn_of}
+use Rattle.gate_workers.specs.Turns.{Want, turn_of}
 
 abbrev pub entry_of : ℕ → Event → Entry
 entry_of seat event = record { seat = seat; event = event }

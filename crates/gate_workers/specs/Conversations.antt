@@ -1,5 +1,5 @@
 -- What a keeper is asked for a request, and what is said of its answers. Where a keeper is shared, other calls may come between.
-use Rattle.std.specs.Prelude.{◌≡◌, ◌⊎◌, ℕ, Bool, List, [], ◌∷◌, Option, Result, Ok, Err, codes}
+use Rattle.std.specs.Prelude.{◌≡◌, ℕ, Bool, List, [], ◌∷◌, Option, Result, Ok, Err, codes}
 use Rattle.metric_events.specs.DataPoint.{DataPoint}
 use Rattle.metric_events.specs.declared.batch.Batch.{Batch}
 use Rattle.delta_book.specs.declared.totals.SeriesTotals.{SeriesTotals}

@@ -16,7 +16,6 @@ use Rattle.http_edge.specs.declared.written.Written.{Written}
 use Rattle.http_edge.specs.declared.written.Written.TheVariants.{All, None_, Part}
 use Rattle.gate_workers.specs.declared.end.End.{End}
 use Rattle.gate_workers.specs.declared.end.End.TheVariants.{NoBatch, Confirmed, Undone}
-use Rattle.gate_workers.specs.declared.refusal.Refusal.{Refusal}
 use Rattle.gate_workers.specs.declared.refusal.Refusal.TheVariants.{NotQuarantined as not_quarantined, NoMemory}
 use Rattle.gate_workers.specs.declared.served.Served.{Served}
 use Rattle.gate_workers.specs.declared.served.Served.TheVariants.{Closed, Broken, Replied}

@@ -1,0 +1,13 @@
+//! Tests of one connection: requests with their responses over a book, flush turns by order, and the
+//! exchange with the back end. They run what no clause says: worked bytes, writers that fail, and the
+//! refusals in their order.
+#![tactic(auto)]
+
+#[cfg(test)]
+mod desk;
+#[cfg(test)]
+mod exchanges;
+#[cfg(test)]
+mod refusals;
+#[cfg(test)]
+mod requests;

@@ -1,0 +1,199 @@
+//! Requests that are served, with their whole responses.
+use crate::desk::{ACCEPTED, LATER, POSTED, ask, done, keeper, refused};
+use back_answers::Answer;
+use byte_ends::{Script, Step, Tape};
+use gate_workers::{End, NoPace, Served, serve_book};
+use http_edge::Written;
+use std::test::Fail;
+
+const CHUNKED: &[u8] =
+    b"POST /v1/metrics HTTP/1.1\r\nContent-Type: application/json\r\nTransfer-Encoding: chunked\r\n\r\n2\r\n{}\r\n0\r\n\r\n";
+
+#[test]
+fn a_body_without_points_asks_nothing(rt: HostRuntime) -> Result<(), Fail> {
+    let alloc = rt.alloc();
+    let mut keeper = keeper(alloc, Answer::Success)?;
+    let bodies: [&[u8]; 2] = [
+        b"POST /v1/metrics HTTP/1.1\r\nContent-Type: application/json\r\nContent-Length: 2\r\n\r\n{}",
+        b"POST /v1/metrics HTTP/1.1\r\nContent-Type: application/json\r\nContent-Length: 22\r\n\r\n{\"resourceMetrics\":[]}",
+    ];
+    for body in bodies {
+        ask(&rt, alloc, &mut keeper, body, done(End::NoBatch), ACCEPTED)?;
+    }
+    Ok(())
+}
+
+#[test]
+fn foreign_points_are_told(rt: HostRuntime) -> Result<(), Fail> {
+    let alloc = rt.alloc();
+    let mut keeper = keeper(alloc, Answer::Success)?;
+    ask(
+        &rt,
+        alloc,
+        &mut keeper,
+        b"POST /v1/metrics HTTP/1.1\r\nContent-Type: application/json\r\nContent-Length: 242\r\n\r\n{\"resourceMetrics\":[{\"scopeMetrics\":[{\"metrics\":[{\"name\":\"a\",\"sum\":{\"aggregationTemporality\":1,\"isMonotonic\":true,\"dataPoints\":[{\"asInt\":\"5\",\"startTimeUnixNano\":\"10\",\"timeUnixNano\":\"20\"}]}},{\"name\":\"g\",\"gauge\":{\"dataPoints\":[{},{},{}]}}]}]}]}",
+        done(End::Confirmed),
+        b"HTTP/1.1 200 OK\r\nContent-Type: application/json\r\nContent-Length: 89\r\nConnection: close\r\n\r\n{\"partialSuccess\":{\"errorMessage\":\"points outside the profile\",\"rejectedDataPoints\":\"3\"}}",
+    )
+}
+
+#[test]
+fn a_repeat_is_refused_and_later_points_are_not(rt: HostRuntime) -> Result<(), Fail> {
+    let alloc = rt.alloc();
+    let mut keeper = keeper(alloc, Answer::Success)?;
+    ask(
+        &rt,
+        alloc,
+        &mut keeper,
+        POSTED,
+        done(End::Confirmed),
+        ACCEPTED,
+    )?;
+    ask(
+        &rt,
+        alloc,
+        &mut keeper,
+        POSTED,
+        refused(400),
+        b"HTTP/1.1 400 Bad Request\r\nContent-Type: application/json\r\nContent-Length: 48\r\nConnection: close\r\n\r\n{\"message\":\"out of order: point 0, frontier 20\"}",
+    )?;
+    ask(
+        &rt,
+        alloc,
+        &mut keeper,
+        LATER,
+        done(End::Confirmed),
+        ACCEPTED,
+    )
+}
+
+#[test]
+fn sums_over_a_limit_are_refused(rt: HostRuntime) -> Result<(), Fail> {
+    let alloc = rt.alloc();
+    let mut keeper = keeper(alloc, Answer::Success)?;
+    ask(
+        &rt,
+        alloc,
+        &mut keeper,
+        POSTED,
+        done(End::Confirmed),
+        ACCEPTED,
+    )?;
+    ask(
+        &rt,
+        alloc,
+        &mut keeper,
+        b"POST /v1/metrics HTTP/1.1\r\nContent-Type: application/json\r\nContent-Length: 213\r\n\r\n{\"resourceMetrics\":[{\"scopeMetrics\":[{\"metrics\":[{\"name\":\"a\",\"sum\":{\"aggregationTemporality\":1,\"isMonotonic\":true,\"dataPoints\":[{\"asInt\":\"9223372036854775807\",\"startTimeUnixNano\":\"20\",\"timeUnixNano\":\"30\"}]}}]}]}]}",
+        refused(503),
+        b"HTTP/1.1 503 Service Unavailable\r\nContent-Type: application/json\r\nContent-Length: 23\r\nConnection: close\r\n\r\n{\"message\":\"too large\"}",
+    )
+}
+
+/// What is served where the writer follows these steps.
+fn written_by(rt: &HostRuntime, steps: &[Step]) -> Result<Served, Fail> {
+    let alloc = rt.alloc();
+    let mut keeper = keeper(alloc, Answer::Success)?;
+    let mut reader = Script::new(POSTED, &[]);
+    let mut writer = Tape::new(alloc, steps);
+    Ok(serve_book(alloc, &mut keeper, &mut reader, &mut writer, &mut NoPace))
+}
+
+#[test]
+fn a_batch_ends_by_what_was_written(rt: HostRuntime) -> Result<(), Fail> {
+    let cases: [(&[Step], Written, End); 3] = [
+        (&[], Written::All, End::Confirmed),
+        (&[Step::AtMost(0)], Written::None_, End::Undone),
+        (
+            &[Step::AtMost(1), Step::Fail],
+            Written::Part(1),
+            End::Confirmed,
+        ),
+    ];
+    for (steps, written, end) in cases {
+        let served = written_by(&rt, steps)?;
+        assert_eq!(rt;
+            served,
+            Served::Replied {
+                status: 200,
+                written,
+                end
+            }
+        );
+    }
+    Ok(())
+}
+
+#[test]
+fn a_chunked_body_for_every_cut(rt: HostRuntime) -> Result<(), Fail> {
+    let alloc = rt.alloc();
+    let mut keeper = keeper(alloc, Answer::Success)?;
+    for cut in 1..CHUNKED.len() {
+        let steps = [Step::AtMost(cut)];
+        let mut reader = Script::new(CHUNKED, &steps);
+        let mut writer = Tape::new(alloc, &[]);
+        let got = serve_book(alloc, &mut keeper, &mut reader, &mut writer, &mut NoPace);
+        assert_eq!(rt; got, done(End::NoBatch));
+        assert_eq!(rt; writer.taken(), ACCEPTED);
+    }
+    Ok(())
+}
+
+#[test]
+fn a_reader_that_ends_or_fails(rt: HostRuntime) -> Result<(), Fail> {
+    let alloc = rt.alloc();
+    let mut keeper = keeper(alloc, Answer::Success)?;
+    ask(&rt, alloc, &mut keeper, b"", Served::Closed, b"")?;
+    ask(
+        &rt,
+        alloc,
+        &mut keeper,
+        b"POST /v1/metrics HTTP/1.1\r\nContent-Type: application/json\r\nTransfer-Encoding: chunked\r\n\r\n2\r\n{",
+        refused(400),
+        b"HTTP/1.1 400 Bad Request\r\nContent-Type: application/json\r\nContent-Length: 31\r\nConnection: close\r\n\r\n{\"message\":\"malformed request\"}",
+    )?;
+    let steps = [Step::AtMost(7), Step::Fail];
+    let mut reader = Script::new(POSTED, &steps);
+    let mut writer = Tape::new(alloc, &[]);
+    let got = serve_book(alloc, &mut keeper, &mut reader, &mut writer, &mut NoPace);
+    assert_eq!(rt; got, Served::Broken);
+    assert_eq!(rt; writer.taken(), b"".as_slice());
+    Ok(())
+}
+
+#[test]
+fn a_flush_by_order(rt: HostRuntime) -> Result<(), Fail> {
+    let alloc = rt.alloc();
+    let mut keeper = keeper(alloc, Answer::Retryable { after: Some(2) })?;
+    ask(
+        &rt,
+        alloc,
+        &mut keeper,
+        b"POST /flush HTTP/1.1\r\n\r\n",
+        done(End::NoBatch),
+        b"HTTP/1.1 200 OK\r\nContent-Type: application/json\r\nContent-Length: 17\r\nConnection: close\r\n\r\n{\"act\":\"nothing\"}",
+    )?;
+    ask(
+        &rt,
+        alloc,
+        &mut keeper,
+        POSTED,
+        done(End::Confirmed),
+        ACCEPTED,
+    )?;
+    ask(
+        &rt,
+        alloc,
+        &mut keeper,
+        b"POST /flush HTTP/1.1\r\n\r\n",
+        done(End::NoBatch),
+        b"HTTP/1.1 200 OK\r\nContent-Type: application/json\r\nContent-Length: 60\r\nConnection: close\r\n\r\n{\"act\":\"returned\",\"flush\":\"1\",\"points\":\"1\",\"retryAfter\":\"2\"}",
+    )?;
+    ask(
+        &rt,
+        alloc,
+        &mut keeper,
+        b"GET /report?all HTTP/1.1\r\n\r\n",
+        done(End::NoBatch),
+        b"HTTP/1.1 200 OK\r\nContent-Type: text/plain\r\nContent-Length: 138\r\nConnection: close\r\n\r\nseries a monotonic owner - frontier 20 accepted 1,5,0 acknowledged 0,0,0 dropped 0,0,0 in-flight 0,0,0 stored 1,5,0 quarantined 0,0,0\nend\n",
+    )
+}
