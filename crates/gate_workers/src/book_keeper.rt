@@ -23,6 +23,7 @@ use delta_book::faults::{
 use delta_book::flush::Flush;
 use delta_book::totals::SeriesTotals;
 use metric_events::batch::Batch;
+use metric_events::limits::MAX_TAKEN;
 use metric_events::sender_name::SenderName;
 use std::alloc::{AllocError, Global};
 
@@ -110,7 +111,7 @@ pub fn book_turn<U: Uplink, P: Pace>(
     max: usize,
 ) -> Turn
     requires low { 1 ≤ max }
-    requires high { max ≤ 1000 }
+    requires high { max ≤ MAX_TAKEN }
     ensures seat { desk.new.seat ≡ desk.old.seat }
     ensures made { IsMade U.sends desk.old.seat max desk.old.book desk.new.book uplink.old uplink.new result }
 {
@@ -121,7 +122,7 @@ impl<U: Uplink + Drop> BookKeeper<U> {
     /// A keeper over a book, which works from this seat and takes so many series a flush.
     pub fn new(alloc: Global, book: Book, seat: u16, uplink: U, max: usize) -> BookKeeper<U>
         requires low { 1 ≤ max }
-        requires high { max ≤ 1000 }
+        requires high { max ≤ MAX_TAKEN }
         ensures book { book_of result ≡ book }
         ensures seat { seat_of result ≡ seat }
         ensures uplink { uplink_of result ≡ uplink }

@@ -1,6 +1,7 @@
 ghost use Rattle.std.specs.Prelude.{◌≤◌};
 
 use delta_book::book::Book;
+use metric_events::limits::MAX_TAKEN;
 use std::alloc::Global;
 
 /// A book, and the seat that works on it.
@@ -17,5 +18,5 @@ pub struct BookKeeper<U> {
     pub(crate) uplink: U,
     pub(crate) max: usize,
     pub(crate) alloc: Global,
-    ghost few: { (1 ≤ max) × (max ≤ 1000) },
+    ghost few: { (1 ≤ max) × (max ≤ MAX_TAKEN) },
 }

@@ -9,6 +9,7 @@ use delta_book::faults::{
 use delta_book::flush::Flush;
 use delta_book::totals::SeriesTotals;
 use metric_events::batch::Batch;
+use metric_events::limits::MAX_TAKEN;
 use metric_events::sender_name::SenderName;
 use std::alloc::AllocError;
 
@@ -30,7 +31,7 @@ pub trait Store {
 
     fn take(&mut self, max: usize) -> Result<Option<Flush>, TakeFault>
         requires low { 1 ≤ max }
-        requires high { max ≤ 1000 }
+        requires high { max ≤ MAX_TAKEN }
         ensures { gives self.old (call.take max result) self.new };
 
     fn settle(&mut self, flush: u64) -> Result<(), NotLive>

@@ -8,6 +8,7 @@ use crate::turn::Turn;
 use crate::uplink::Uplink;
 use back_answers::{Act, act};
 use delta_book::faults::TakeFault;
+use metric_events::limits::MAX_TAKEN;
 use out_texts::request_text;
 use std::alloc::Global;
 
@@ -40,7 +41,7 @@ pub fn flush_turn<K: Store, U: Uplink, P: Pace>(
     max: usize,
 ) -> Turn
     requires low { 1 ≤ max }
-    requires high { max ≤ 1000 }
+    requires high { max ≤ MAX_TAKEN }
     ensures { IsTurn K.gives U.sends max keeper.old keeper.new uplink.old uplink.new result }
 {
     let flush = match keeper.take(max) {
