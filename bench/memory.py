@@ -16,6 +16,7 @@ import os
 import subprocess
 import sys
 import tempfile
+import time
 
 SERIES = 200
 COUNTS = [2_000, 20_000]
@@ -74,36 +75,55 @@ def script(points, flushes):
     return "\n".join(lines) + "\n" if lines else ""
 
 
+def peak_of(child):
+    """The most memory of a process so far, in bytes; 0 where it has ended."""
+    with open(f"/proc/{child.pid}/status") as status:
+        for line in status:
+            if line.startswith("VmHWM:"):
+                return int(line.split()[1]) * 1024
+    return 0
+
+
 def run(program, text):
     """Peak memory in bytes and processor time in seconds of a run over the text."""
     with tempfile.TemporaryFile() as stdin:
         stdin.write(text.encode())
         stdin.seek(0)
         child = subprocess.Popen([program], stdin=stdin, stdout=subprocess.DEVNULL)
-        _, status, usage = os.wait4(child.pid, 0)
+        # What wait4 tells of memory counts this process too, before it became the program.
+        peak = 0
+        while True:
+            peak = max(peak, peak_of(child))
+            done, status, usage = os.wait4(child.pid, os.WNOHANG)
+            if done:
+                break
+            time.sleep(0.002)
     if status != 0:
         sys.exit(f"{program} ended with status {status}")
-    return usage.ru_maxrss * 1024, usage.ru_utime + usage.ru_stime
+    return peak, usage.ru_utime + usage.ru_stime
 
 
 def main():
     program = sys.argv[1] if len(sys.argv) > 1 else "bin/play"
     counts = [int(word) for word in sys.argv[2:]] or COUNTS
     empty, _ = run(program, "")
+    last = (0, empty)
     for points in counts:
         posts = script(points, 0)
-        peak, time = run(program, posts)
+        peak, seconds = run(program, posts)
         print(
             f"{points} points: {(peak - empty) // points} bytes a point at the peak"
             f" (of them {len(posts) // points} the script itself),"
-            f" post {time / points * 1e6:.1f} us a point"
+            f" {(peak - last[1]) // (points - last[0])} for each after {last[0]} points,"
+            f" post {seconds / points * 1e6:.1f} us a point"
         )
+        last = (points, peak)
     points = counts[0]
-    _, time = run(program, script(points, 0))
+    _, seconds = run(program, script(points, 0))
     _, longer = run(program, script(points, FLUSHES))
     print(
         f"{points} points: take and back"
-        f" {(longer - time) / FLUSHES * 1e3:.1f} ms a flush of {SERIES} series"
+        f" {(longer - seconds) / FLUSHES * 1e3:.1f} ms a flush of {SERIES} series"
     )
 
 
