@@ -1,7 +1,7 @@
 ghost use Rattle.std.specs.Prelude.{◌≤◌};
+ghost use Rattle.metric_events.specs.declared.limits.TheConstants.{MAX_TAKEN};
 
 use delta_book::book::Book;
-use metric_events::limits::MAX_TAKEN;
 use std::alloc::Global;
 
 /// A book, and the seat that works on it.
