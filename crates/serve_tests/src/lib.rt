@@ -1,6 +1,6 @@
-//! Tests of one connection: requests with their responses over a book, flush turns by order, and the
-//! exchange with the back end. They run what no clause says: worked bytes, writers that fail, and the
-//! refusals in their order.
+//! Tests of one connection: requests with their responses over a book, flush turns by order, the
+//! exchange with the back end, and connections over loopback. They run what no clause says: worked
+//! bytes, writers that fail, and the refusals in their order.
 #![tactic(auto)]
 
 #[cfg(test)]
@@ -11,3 +11,5 @@ mod exchanges;
 mod refusals;
 #[cfg(test)]
 mod requests;
+#[cfg(test)]
+mod sockets;

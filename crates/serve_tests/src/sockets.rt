@@ -1,0 +1,80 @@
+//! Connections over loopback, in one thread: the client sends before the gateway accepts.
+use crate::desk::{ACCEPTED, Fixed, POSTED, done, keeper, refused};
+use back_answers::Answer;
+use delta_book::book::Book;
+use gate_workers::{BookKeeper, End, Served, Uplink};
+use gateway::{Backend, serve_connection};
+use std::io::{Read, Write};
+use std::net::{Shutdown, TcpListener, TcpStream};
+use std::process::Abort;
+use std::test::Fail;
+
+/// Sends the request on a connection, has it served, and gives what the client reads.
+fn answer_to<R: Abort, U: Uplink + Drop>(
+    rt: &R,
+    net: &HostRuntime,
+    keeper: &mut BookKeeper<U>,
+    request: &[u8],
+    served: Served,
+) -> Result<Vec<u8>, Fail> {
+    let listener = TcpListener::bind(net, "127.0.0.1:0")?;
+    let mut client = TcpStream::connect(net, listener.local_addr()?)?;
+    client.write_all(request)?;
+    client.shutdown(Shutdown::Write)?;
+    let (stream, _) = listener.accept()?;
+    let got = serve_connection(net.alloc(), keeper, &stream);
+    drop(stream);
+    assert_eq!(rt; got, served);
+    let mut text = Vec::new(net.alloc());
+    client.read_to_end(&mut text)?;
+    Ok(text)
+}
+
+#[test]
+fn a_post_is_answered(rt: HostRuntime) -> Result<(), Fail> {
+    let mut keeper = keeper(rt.alloc(), Answer::Success)?;
+    let text = answer_to(&rt, &rt, &mut keeper, POSTED, done(End::Confirmed))?;
+    assert_eq!(rt; text.as_slice(), ACCEPTED);
+    Ok(())
+}
+
+#[test]
+fn a_body_that_is_too_long_and_still_comes_is_answered(rt: HostRuntime) -> Result<(), Fail> {
+    let alloc = rt.alloc();
+    let mut keeper: BookKeeper<Fixed> = keeper(alloc, Answer::Success)?;
+    let mut request = Vec::new(alloc);
+    request.extend_from_slice(
+        b"POST /v1/metrics HTTP/1.1\r\nContent-Type: application/json\r\nContent-Length: 4194305\r\n\r\n",
+    )?;
+    request.resize(60_000, b' ')?;
+    let text = answer_to(&rt, &rt, &mut keeper, request.as_slice(), refused(413))?;
+    assert!(rt;
+        text.as_slice()
+            .starts_with(b"HTTP/1.1 413 Payload Too Large\r\n")
+    );
+    assert!(rt;
+        text.as_slice()
+            .ends_with(b"{\"message\":\"body too long\"}")
+    );
+    Ok(())
+}
+
+#[test]
+fn a_flush_to_nobody_is_returned(rt: HostRuntime) -> Result<(), Fail> {
+    let alloc = rt.alloc();
+    let backend = Backend::new(&rt, alloc, "127.0.0.1:9");
+    let mut keeper = BookKeeper::new(alloc, Book::new(alloc)?, 0, backend, 1000);
+    let _ = answer_to(&rt, &rt, &mut keeper, POSTED, done(End::Confirmed))?;
+    let text = answer_to(
+        &rt,
+        &rt,
+        &mut keeper,
+        b"POST /flush HTTP/1.1\r\n\r\n",
+        done(End::NoBatch),
+    )?;
+    assert!(rt;
+        text.as_slice()
+            .ends_with(b"{\"act\":\"returned\",\"flush\":\"1\",\"points\":\"1\"}")
+    );
+    Ok(())
+}
