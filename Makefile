@@ -12,9 +12,11 @@ build:
 	cd crates/play && mkdir -p out && rt run < /dev/null > out/build.log 2>&1 || { cat out/build.log; exit 1; }
 	mkdir -p bin && cp crates/play/out/play bin/
 
-# The gate: every proof from nothing, the must-fail edits, the tests and the programs.
+# The gate: every proof from nothing, the must-fail edits, the tests and the programs; and then what
+# the prover can't see, with the program that the gate has built.
 test:
 	rt ci
+	tests/play_ends.sh crates/play/out/play
 
 # Tries all edits, those too that the gate leaves out: make edits, or make edits NAME=delta_book.
 edits:
