@@ -1,4 +1,6 @@
 //! A connection of a sender.
+ghost use Rattle.std.specs.Prelude.{None};
+ghost use Rattle.gate_workers.specs.Served.{IsServed};
 
 use byte_ends::{FromReader, ToWriter, drain};
 use gate_workers::{Keeper, NoPace, Served, serve};
@@ -41,8 +43,11 @@ fn end_softly(stream: &TcpStream, reader: &mut FromReader<&TcpStream>) {
     let _ = drain(reader, MOST_REFUSED);
 }
 
-/// Serves the one request of a connection.
-pub fn serve_connection<K: Keeper>(alloc: Global, keeper: &mut K, stream: &TcpStream) -> Served {
+/// Serves the one request of a connection. Its bytes are not known; the keeper's calls are those of one
+/// request, and its answers lead to the status and to the end of the batch.
+pub fn serve_connection<K: Keeper>(alloc: Global, keeper: &mut K, stream: &TcpStream) -> Served
+    ensures { IsServed K.gives None keeper.old keeper.new None None result }
+{
     let mut reader = FromReader::new(stream);
     let mut writer = ToWriter::new(stream);
     let served = serve(alloc, keeper, &mut reader, &mut writer, &mut NoPace);
