@@ -3,7 +3,7 @@ use Rattle.std.specs.Prelude.{ℕ, List, [], ◌∷◌, ◌==◌, codes, if◌th
 use Rattle.std.specs.declared.option.Option.{Option}
 use Rattle.std.specs.List.{join_with_byte}
 use Rattle.std.specs.Str.{bytes_eq}
-use Rattle.std.specs.Option.{option_map}
+use Rattle.std.specs.Option.{option_map, option_and_then}
 use Rattle.back_answers.specs.Answers.{answer_of}
 use Rattle.back_answers.specs.declared.answer.Answer.{Answer}
 use Rattle.back_answers.specs.declared.answer.Answer.TheVariants.{Unknown}
@@ -73,8 +73,12 @@ named line None = BadLine
 named line (Some name) = line name
 
 -- at least one series, and not too many
-abbrev pub at_most_taken : (ℕ → Asked) → ℕ → Asked
-at_most_taken line max = if max == 0 then BadLine else (if nat_le max MAX_TAKEN then line max else BadLine)
+abbrev pub within_taken : ℕ → Option ℕ
+within_taken max = if max == 0 then None else (if nat_le max MAX_TAKEN then Some max else None)
+
+-- how many series may be taken, which is the one word
+abbrev pub only_taken : List (List ℕ) → Option ℕ
+only_taken rest = option_and_then within_taken (only_number rest)
 
 -- a sender with at least one point
 abbrev pub admit_line : Option (List ℕ) → Option (List PointWords) → Asked
@@ -125,7 +129,7 @@ nothing_more line (word ∷ more) = BadLine
 abbrev pub command_by : Option Verb → List (List ℕ) → Asked
 command_by None rest = BadLine
 command_by (Some Admit) rest = admit_words rest
-command_by (Some Take) rest = numbered (at_most_taken TakeLine) (only_number rest)
+command_by (Some Take) rest = numbered TakeLine (only_taken rest)
 command_by (Some Settle) rest = numbered OkLine (only_number rest)
 command_by (Some GiveBack) rest = numbered BackLine (only_number rest)
 command_by (Some Report) rest = nothing_more ReportLine rest
@@ -137,7 +141,7 @@ command_by (Some Lift) rest = named LiftLine (only_name rest)
 command_by (Some Post) rest = post_words rest
 command_by (Some Round) rest = nothing_more RoundLine rest
 command_by (Some Past) rest = nothing_more PastLine rest
-command_by (Some Wire) rest = numbered (at_most_taken WireLine) (only_number rest)
+command_by (Some Wire) rest = numbered WireLine (only_taken rest)
 command_by (Some Answered) rest = answer_words rest
 
 abbrev pub command_of : List (List ℕ) → Asked

@@ -208,12 +208,12 @@ fn forward(alloc: Global, book: &mut Book, flush: &Flush) -> Reply<'static>
     }
 }
 
-fn wire(alloc: Global, book: &mut Book, max: u64) -> Reply<'static>
-    requires low { 1 ≤ max }
-    requires high { max ≤ MAX_TAKEN }
-    ensures { Answers (history book.old) (asked.WireLine max) (reply_text result) (history book.new) }
+fn wire(alloc: Global, book: &mut Book, most: u64) -> Reply<'static>
+    requires low { 1 ≤ most }
+    requires high { most ≤ MAX_TAKEN }
+    ensures { Answers (history book.old) (asked.WireLine most) (reply_text result) (history book.new) }
 {
-    match book.take(SEAT, max as usize) {
+    match book.take(SEAT, most as usize) {
         Ok(None) => Reply::Nothing,
         Ok(Some(flush)) => forward(alloc, book, &flush),
         Err(fault) => Reply::Refused(of_take(fault)),

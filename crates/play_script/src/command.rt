@@ -1,6 +1,6 @@
 //! What a line of a script asks for.
 
-ghost use Rattle.std.specs.Prelude.{◌≡◌, ◌≢◌, ◌∷◌, true, option_copied, IfSome, IfOk, OnErr};
+ghost use Rattle.std.specs.Prelude.{◌≡◌, ◌≢◌, ◌≤◌, ◌∷◌, true, option_copied, IfSome, IfOk, OnErr};
 ghost use Rattle.play_script.specs.Commands as spec;
 ghost use Rattle.play_script.specs.Pieces.{words};
 ghost use Rattle.play_script.specs.Run.{takes_memory};
@@ -101,28 +101,17 @@ fn admit<'a>(alloc: Global, rest: Option<&'a [u8]>) -> Result<Option<Command<'a>
     }))
 }
 
-/// The command to take at most so many series.
-fn take(rest: Option<&[u8]>) -> Option<Command<'_>>
-    ensures told { told result ≡ spec.numbered (spec.at_most_taken spec.TakeLine) (spec.only_number (rest_words rest.entry)) }
-    ensures ready { IsReady result }
+/// How many series may be taken, which is the one word of the rest.
+fn only_taken(rest: Option<&[u8]>) -> Option<u64>
+    ensures value { result ≡ spec.only_taken (rest_words rest.entry) }
+    ensures low { IfSome result (λ max. 1 ≤ max) }
+    ensures high { IfSome result (λ max. max ≤ MAX_TAKEN) }
 {
     let max = only_number(rest)?;
     if max == 0 || max > MAX_TAKEN {
         return None;
     }
-    Some(Command::Take(max))
-}
-
-/// The command to take at most so many series, and to tell their request.
-fn wire(rest: Option<&[u8]>) -> Option<Command<'_>>
-    ensures told { told result ≡ spec.numbered (spec.at_most_taken spec.WireLine) (spec.only_number (rest_words rest.entry)) }
-    ensures ready { IsReady result }
-{
-    let max = only_number(rest)?;
-    if max == 0 || max > MAX_TAKEN {
-        return None;
-    }
-    Some(Command::Wire(max))
+    Some(max)
 }
 
 /// The answer of this status, with the one word of the rest as its `Retry-After`.
@@ -217,7 +206,7 @@ fn command_by(verb: Verb, rest: Option<&[u8]>) -> Option<Command<'_>>
 {
     match verb {
         Verb::Admit => unreachable!(),
-        Verb::Take => take(rest),
+        Verb::Take => Some(Command::Take(only_taken(rest)?)),
         Verb::Settle => Some(Command::Settle(only_number(rest)?)),
         Verb::GiveBack => Some(Command::GiveBack(only_number(rest)?)),
         Verb::Report => report(rest),
@@ -229,7 +218,7 @@ fn command_by(verb: Verb, rest: Option<&[u8]>) -> Option<Command<'_>>
         Verb::Post => post(rest),
         Verb::Round => round(rest),
         Verb::Past => past(rest),
-        Verb::Wire => wire(rest),
+        Verb::Wire => Some(Command::Wire(only_taken(rest)?)),
         Verb::Answered => answered(rest),
     }
 }
