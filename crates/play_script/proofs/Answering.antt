@@ -5,14 +5,14 @@ use Rattle.series_id.specs.Identity.{Identity}
 use Rattle.metric_events.specs.History.{History, ◌▸◌}
 use Rattle.metric_events.specs.Choice.{pick, flush_points}
 use Rattle.metric_events.specs.declared.event.Event.{Event}
-use Rattle.metric_events.specs.declared.event.Event.TheVariants.{Take}
+use Rattle.metric_events.specs.declared.event.Event.TheVariants.{Take, GiveBack}
 use Rattle.delta_book.specs.Journal.{Journal, history, takes}
 use Rattle.delta_book.specs.Flushes.{IsTaken}
 use Rattle.delta_book.specs.declared.flush.Flush.{Flush}
 use Rattle.delta_book.specs.declared.faults.TakeFault.{TakeFault}
 use Rattle.metric_events.specs.declared.point.PointFault.{PointFault}
 use Rattle.metric_events.specs.declared.point.PointFault.TheVariants as point
-use Rattle.delta_book.specs.Refusals.{admit_refusal}
+use Rattle.delta_book.specs.Refusals.{admit_refusal, flush_refusal}
 use Rattle.delta_book.specs.Journal.{admits}
 use Rattle.delta_book.specs.declared.faults.AdmitFault.{AdmitFault}
 use Rattle.delta_book.specs.declared.faults.AdmitFault.TheVariants as admit
@@ -23,10 +23,13 @@ use Rattle.otlp_read.specs.Reading.{text_reading, Answers as Reads}
 use Rattle.otlp_read.specs.Tallies.{Tally}
 use Rattle.otlp_read.specs.declared.fault.ReadFault.{ReadFault}
 use Rattle.otlp_read.specs.declared.fault.ReadFault.TheVariants as read
-use Rattle.play_script.specs.Commands.{Asked, TakeLine, AdmitLine, PostLine}
+use Rattle.play_script.specs.Commands.{Asked, TakeLine, AdmitLine, PostLine, WireLine, AnswerLine}
 use Rattle.play_script.specs.Refused.{refusal_text, of_take, of_point, of_admit, of_read}
-use Rattle.play_script.specs.Replies.{said, batch_and_foreign, flush_text}
-use Rattle.play_script.specs.Run.{answer, takes_memory, happens, refused, only_says, taken_or, flushed, body_of, admitted_or, posted, posted_batch}
+use Rattle.play_script.specs.Replies.{said, batch_and_foreign, flush_text, wired_text}
+use Rattle.out_texts.specs.Request.{request_text}
+use Rattle.back_answers.specs.Answers.{act_of}
+use Rattle.back_answers.specs.declared.answer.Answer.{Answer as BackAnswer}
+use Rattle.play_script.specs.Run.{answer, Found, Missed, MissedText, takes_memory, happens, refused, only_says, taken_or, flushed, body_of, admitted_or, posted, posted_batch, wired, wired_or, unwired_or, without_text, IsForwarded, event_of, act_text, wait_told}
 use Rattle.play_script.specs.Answered.{Answers}
 use Rattle.play_script.specs.declared.refusal.Refusal.{Refusal}
 use Rattle.play_script.specs.declared.refusal.Refusal.TheVariants.{NotJson, WrongShape, NoMemory}
@@ -35,7 +38,7 @@ use Rattle.play_script.specs.declared.refusal.Refusal.TheVariants.{NotJson, Wron
 pub happened : (asked : Asked) (old new : Journal) (event : Event) (word what : List ℕ) → history new ≡ history old ▸ event
     → answer (history old) asked ≡ happens (history old) event word what → Answers (history old) asked (said word what) (history new)
 happened asked old new event word what h is = (
-  false,
+  Found,
   record {
     allowed = refl;
     text_is = ap (λ a. a.text) (sym is);
@@ -47,7 +50,7 @@ happened asked old new event word what h is = (
 pub refused_as : (asked : Asked) (old new : Journal) (why : Refusal) → new ≡ old
     → answer (history old) asked ≡ refused (history old) why → Answers (history old) asked (said (codes "refused ") (refusal_text why)) (history new)
 refused_as asked old new why h is = (
-  false,
+  Found,
   record {
     allowed = refl;
     text_is = ap (λ a. a.text) (sym is);
@@ -59,7 +62,7 @@ refused_as asked old new why h is = (
 pub says : (asked : Asked) (old new : Journal) (text : List ℕ) → new ≡ old
     → answer (history old) asked ≡ only_says (history old) text → Answers (history old) asked text (history new)
 says asked old new text h is = (
-  false,
+  Found,
   record {
     allowed = refl;
     text_is = ap (λ a. a.text) (sym is);
@@ -71,7 +74,7 @@ says asked old new text h is = (
 pub without_memory : (asked : Asked) (old new : Journal) → takes_memory asked ≡ true → new ≡ old
     → Answers (history old) asked (said (codes "refused ") (refusal_text NoMemory)) (history new)
 without_memory asked old new may h = (
-  true,
+  Missed,
   record {
     allowed = may;
     text_is = refl;
@@ -102,7 +105,7 @@ flush_taken old new seat max flush h =
     let is : answer E (TakeLine max) ≡ flushed E (takes E + 1) (E ▸ Take (takes E + 1) (pick E max)) = rw h.refused (taken_some E (pick E max) h.some) in
     let grown : history new ≡ E ▸ Take flush.number (pick E max) = h.grows in
     let after : history new ≡ E ▸ Take (takes E + 1) (pick E max) = grown ∙ ap (λ n. E ▸ Take n (pick E max)) h.number in (
-      false,
+      Found,
       record {
         allowed = refl;
         text_is = ap (λ ps. flush_text flush.number ps) h.points ∙ ap (λ n. flush_text n (flush_points (history new) n)) h.number ∙ ap (λ F. flush_text (takes E + 1) (flush_points F (takes E + 1))) after ∙ ap (λ a. a.text) (sym is);
@@ -173,3 +176,52 @@ pub post_admitted : (sender body : List ℕ) (old new : Journal) (t : Tally) (ba
 post_admitted sender body old new t batch h some number entry none =
     happened (PostLine sender body) old new (Admit batch (posted_batch sender t.points)) (codes "batch ") (batch_and_foreign batch t.foreign) entry
     (answer_posted (history old) sender body t h some ∙ rw (none, number) refl)
+
+wired_some : (E : History) (xs : List Identity) → xs ≢ [] → wired_or E xs None ≡ wired (takes E + 1) (E ▸ Take (takes E + 1) xs)
+wired_some E [] h = absurd (h refl)
+wired_some E (x ∷ xs) h = refl
+
+unwired_some : (E : History) (xs : List Identity) → xs ≢ [] → unwired_or E xs None ≡ refused (E ▸ Take (takes E + 1) xs ▸ GiveBack (takes E + 1)) NoMemory
+unwired_some E [] h = absurd (h refl)
+unwired_some E (x ∷ xs) h = refl
+
+-- the request of a flush that was taken was told, or the flush was given back
+pub flush_wired : (old new : Journal) (seat max : ℕ) (flush : Flush) (F : History) (text : List ℕ) → IsTaken old new seat max flush
+    → IsForwarded (history new) F flush.number flush.points.items text → Answers (history old) (WireLine max) text F
+flush_wired old new seat max flush F text h (inl (said_is, same)) =
+    let E = history old in
+    let is : answer E (WireLine max) ≡ wired (takes E + 1) (E ▸ Take (takes E + 1) (pick E max)) = rw h.refused (wired_some E (pick E max) h.some) in
+    let grown : history new ≡ E ▸ Take flush.number (pick E max) = h.grows in
+    let after : history new ≡ E ▸ Take (takes E + 1) (pick E max) = grown ∙ ap (λ n. E ▸ Take n (pick E max)) h.number in (
+      Found,
+      record {
+        allowed = refl;
+        text_is = said_is ∙ ap (λ ps. wired_text flush.number (request_text ps)) h.points ∙ ap (λ n. wired_text n (request_text (flush_points (history new) n))) h.number ∙ ap (λ H. wired_text (takes E + 1) (request_text (flush_points H (takes E + 1)))) after ∙ ap (λ a. a.text) (sym is);
+        after_is = same ∙ after ∙ ap (λ a. a.after) (sym is);
+      },
+    )
+flush_wired old new seat max flush F text h (inr (said_is, home)) =
+    let E = history old in
+    let is : without_text E (WireLine max) ≡ refused (E ▸ Take (takes E + 1) (pick E max) ▸ GiveBack (takes E + 1)) NoMemory = rw h.refused (unwired_some E (pick E max) h.some) in
+    let grown : history new ≡ E ▸ Take flush.number (pick E max) = h.grows in
+    let after : history new ≡ E ▸ Take (takes E + 1) (pick E max) = grown ∙ ap (λ n. E ▸ Take n (pick E max)) h.number in (
+      MissedText,
+      record {
+        allowed = refl;
+        text_is = said_is ∙ ap (λ a. a.text) (sym is);
+        after_is = home ∙ ap (λ n. history new ▸ GiveBack n) h.number ∙ ap (λ H. H ▸ GiveBack (takes E + 1)) after ∙ ap (λ a. a.after) (sym is);
+      },
+    )
+
+-- the flush ended as the back end's answer says
+pub flush_answered : (old new : Journal) (f : ℕ) (back : BackAnswer) → flush_refusal (history old) f ≡ None → history new ≡ history old ▸ event_of (act_of back) f
+    → Answers (history old) (AnswerLine f back) (act_text (act_of back) (wait_told back) f) (history new)
+flush_answered old new f back none grows =
+    let is : answer (history old) (AnswerLine f back) ≡ record { text = act_text (act_of back) (wait_told back) f; after = history old ▸ event_of (act_of back) f } = rw none refl in (
+      Found,
+      record {
+        allowed = refl;
+        text_is = ap (λ a. a.text) (sym is);
+        after_is = grows ∙ ap (λ a. a.after) (sym is);
+      },
+    )

@@ -1,12 +1,12 @@
 -- Replies line by line.
-use Rattle.std.proofs.Common.{◌≡◌, ℕ, Bool, true, false, not, ◌||◌, List, [], ◌∷◌, ◌++◌, Option, Some, None, Err, refl, sym, ap, ◌∙◌, append_assoc, subst}
+use Rattle.std.proofs.Common.{◌≡◌, ℕ, true, List, [], ◌∷◌, ◌++◌, Option, Some, None, Err, refl, sym, ap, ◌∙◌, append_assoc, subst}
 use Rattle.std.specs.Io.KnownBytes.{Keeps, Appends}
 use Rattle.std.proofs.lemmas.Bool.{and_parts, and_from}
 use Rattle.std.proofs.lemmas.List.{append-nil}
 use Rattle.metric_events.specs.History.{History, Start}
 use Rattle.play_script.specs.Commands.{command}
 use Rattle.play_script.specs.Ends.{AppendsPart}
-use Rattle.play_script.specs.Run.{line_answer, replies, history_after, are_marks, takes_memory, run}
+use Rattle.play_script.specs.Run.{line_answer, replies, history_after, are_marks, may_stand, run, Mark, Found}
 use Rattle.play_script.specs.Answered.{Answers}
 use Rattle.play_script.specs.Played.{WritesAll, WritesPart, WritesBefore, LineIsAnswered, LinesArePlayed}
 use Rattle.play_script.specs.declared.fault.PlayFault.{PlayFault}
@@ -14,23 +14,23 @@ use Rattle.play_script.specs.declared.fault.PlayFault.TheVariants.{CannotRead, T
 use Rattle.play_script.proofs.Ended.{appended}
 
 -- the marks of lines that found memory
-pub unmarked : List (List ℕ) → List Bool
+pub unmarked : List (List ℕ) → List Mark
 unmarked [] = []
-unmarked (line ∷ lines) = false ∷ unmarked lines
+unmarked (line ∷ lines) = Found ∷ unmarked lines
 
 pub unmarked_are : (lines : List (List ℕ)) → are_marks lines (unmarked lines) ≡ true
 unfolding unmarked
 unmarked_are [] = refl
 unmarked_are (line ∷ lines) = unmarked_are lines
 
-pub marks_follow : (done later : List (List ℕ)) (marks more : List Bool) → are_marks done marks ≡ true → are_marks later more ≡ true → are_marks (done ++ later) (marks ++ more) ≡ true
+pub marks_follow : (done later : List (List ℕ)) (marks more : List Mark) → are_marks done marks ≡ true → are_marks later more ≡ true → are_marks (done ++ later) (marks ++ more) ≡ true
 marks_follow [] later [] more h k = k
 marks_follow [] later (mark ∷ marks) more h k = cc
 marks_follow (line ∷ done) later [] more h k = cc
 marks_follow (line ∷ done) later (mark ∷ marks) more h k =
     let parts = and_parts _ _ h in and_from _ _ parts.0 (marks_follow done later marks more parts.1 k)
 
-pub replies_follow : (E : History) (done later : List (List ℕ)) (marks more : List Bool) → are_marks done marks ≡ true
+pub replies_follow : (E : History) (done later : List (List ℕ)) (marks more : List Mark) → are_marks done marks ≡ true
     → replies E (done ++ later) (marks ++ more) ≡ replies E done marks ++ replies (history_after E done marks) later more
 replies_follow E [] later [] more h = refl
 replies_follow E [] later (mark ∷ marks) more h = cc
@@ -40,7 +40,7 @@ replies_follow E (line ∷ done) later (mark ∷ marks) more h =
     let a = line_answer E line mark in
     ap (λ t. a.text ++ t) (replies_follow a.after done later marks more parts.1) ∙ sym (append_assoc a.text (replies a.after done marks) (replies (history_after a.after done marks) later more))
 
-pub history_follows : (E : History) (done later : List (List ℕ)) (marks more : List Bool) → are_marks done marks ≡ true
+pub history_follows : (E : History) (done later : List (List ℕ)) (marks more : List Mark) → are_marks done marks ≡ true
     → history_after E (done ++ later) (marks ++ more) ≡ history_after (history_after E done marks) later more
 history_follows E [] later [] more h = refl
 history_follows E [] later (mark ∷ marks) more h = cc
@@ -49,14 +49,14 @@ history_follows E (line ∷ done) later (mark ∷ marks) more h =
     let parts = and_parts _ _ h in history_follows (line_answer E line mark).after done later marks more parts.1
 
 -- these lines are answered, with these marks: what was written, and the history
-pub record AreDone (old new : Option (List ℕ)) (F : History) (all rest : List (List ℕ)) (done : List (List ℕ)) (marks : List Bool) : Type 0 where
+pub record AreDone (old new : Option (List ℕ)) (F : History) (all rest : List (List ℕ)) (done : List (List ℕ)) (marks : List Mark) : Type 0 where
   pub whole : done ++ rest ≡ all
   pub marked : are_marks done marks ≡ true
   pub written : Appends old new (run done marks)
   pub history : F ≡ history_after Start done marks
 
 abbrev pub SoFar : Option (List ℕ) → Option (List ℕ) → History → List (List ℕ) → List (List ℕ) → Type 0
-SoFar old new F all rest = (done : List (List ℕ)) × (marks : List Bool) × AreDone old new F all rest done marks
+SoFar old new F all rest = (done : List (List ℕ)) × (marks : List Mark) × AreDone old new F all rest done marks
 
 kept : (old : Option (List ℕ)) → Appends old old []
 kept None = tt
@@ -65,7 +65,7 @@ kept (Some xs) = sym (append-nil xs)
 pub nothing_done : (old : Option (List ℕ)) (F : History) (all : List (List ℕ)) → F ≡ Start → SoFar old old F all all
 nothing_done old F all h = ([], [], record { whole = refl; marked = refl; written = kept old; history = h })
 
-one_mark : (line : List ℕ) (mark : Bool) → (not mark || takes_memory (command line)) ≡ true → are_marks (line ∷ []) (mark ∷ []) ≡ true
+one_mark : (line : List ℕ) (mark : Mark) → may_stand mark (command line) ≡ true → are_marks (line ∷ []) (mark ∷ []) ≡ true
 one_mark line mark h = and_from _ _ h refl
 
 -- one more line
@@ -82,7 +82,7 @@ line_done old mid new E F all rest after line text (done, marks, h) first (mark,
   },
 )
   where
-    one_reply : (E H : History) (line : List ℕ) (mark : Bool) → E ≡ H → replies H (line ∷ []) (mark ∷ []) ≡ (line_answer E line mark).text
+    one_reply : (E H : History) (line : List ℕ) (mark : Mark) → E ≡ H → replies H (line ∷ []) (mark ∷ []) ≡ (line_answer E line mark).text
     one_reply E H line mark h = append-nil _ ∙ ap (λ K. (line_answer K line mark).text) (sym h)
 
 pub all_done : (old new : Option (List ℕ)) (F : History) (all : List (List ℕ)) → SoFar old new F all [] → WritesAll old new all

@@ -1,15 +1,15 @@
 -- What the program's replies say, and which reply a line may get.
-use Rattle.std.specs.Prelude.{◌≡◌, ℕ, Bool, true, not, ◌||◌, List, map, codes, decimal}
+use Rattle.std.specs.Prelude.{◌≡◌, ℕ, true, List, map, codes, decimal}
 use Rattle.metric_events.specs.History.{History}
 use Rattle.delta_book.specs.PastRows.{told as past_told}
 use Rattle.play_script.specs.Commands.{Asked}
 use Rattle.play_script.specs.Refused.{refusal_text}
-use Rattle.play_script.specs.Replies.{said, batch_and_foreign, flush_text}
+use Rattle.play_script.specs.Replies.{said, batch_and_foreign, flush_text, wired_text, flush_and_wait}
 use Rattle.out_texts.specs.Report.{report_text}
 use Rattle.out_texts.specs.Past.{past_text}
-use Rattle.play_script.specs.Run.{marked_answer, takes_memory}
+use Rattle.play_script.specs.Run.{Mark, marked_answer, may_stand}
 use Rattle.play_script.specs.declared.reply.Reply.{Reply}
-use Rattle.play_script.specs.declared.reply.Reply.TheVariants.{BadCommand, Refused, Nothing, Batch, Posted, OnlyForeign, Flushed, Settled, Returned, Undone, Confirmed, Dropped, Held, Lifted, Report, Round, Past}
+use Rattle.play_script.specs.declared.reply.Reply.TheVariants.{BadCommand, Refused, Nothing, Batch, Posted, OnlyForeign, Flushed, Settled, Returned, Undone, Confirmed, Dropped, Held, Lifted, Report, Round, Past, Wired, Waits}
 
 -- the text of a reply
 abbrev pub reply_text : Reply → List ℕ
@@ -30,13 +30,15 @@ reply_text (Lifted s) = said (codes "lifted ") s.now
 reply_text (Report rows) = report_text rows.items
 reply_text (Round n) = said (codes "round ") (decimal n)
 reply_text (Past rows) = past_text (map past_told rows.items)
+reply_text (Wired f request) = wired_text f request.items
+reply_text (Waits f seconds) = said (codes "returned ") (flush_and_wait f seconds)
 
 -- this text and this history are the command's answer, for this mark
-pub record IsAnswer (E : History) (asked : Asked) (text : List ℕ) (F : History) (mark : Bool) : Type 0 where
-  pub allowed : (not mark || takes_memory asked) ≡ true
+pub record IsAnswer (E : History) (asked : Asked) (text : List ℕ) (F : History) (mark : Mark) : Type 0 where
+  pub allowed : may_stand mark asked ≡ true
   pub text_is : text ≡ (marked_answer E asked mark).text
   pub after_is : F ≡ (marked_answer E asked mark).after
 
 -- for some mark
 abbrev pub Answers : History → Asked → List ℕ → History → Type 0
-Answers E asked text F = (mark : Bool) × IsAnswer E asked text F mark
+Answers E asked text F = (mark : Mark) × IsAnswer E asked text F mark

@@ -3,13 +3,17 @@ use Rattle.std.specs.Prelude.{ℕ, List, [], ◌∷◌, ◌==◌, codes, if◌th
 use Rattle.std.specs.declared.option.Option.{Option}
 use Rattle.std.specs.List.{join_with_byte}
 use Rattle.std.specs.Str.{bytes_eq}
+use Rattle.std.specs.Option.{option_map, option_and_then}
+use Rattle.back_answers.specs.Answers.{answer_of}
+use Rattle.back_answers.specs.declared.answer.Answer.{Answer}
+use Rattle.back_answers.specs.declared.answer.Answer.TheVariants.{Unknown}
 use Rattle.play_script.specs.Pieces.{words}
-use Rattle.play_script.specs.Numbers.{number}
+use Rattle.play_script.specs.Numbers.{number, status}
 use Rattle.play_script.specs.PointLines.{PointWords, point_words, name_of}
 use Rattle.play_script.specs.declared.pieces.TheConstants.{SPACE}
-use Rattle.play_script.specs.declared.numbers.TheConstants.{MAX_TAKEN}
+use Rattle.metric_events.specs.declared.limits.TheConstants.{MAX_TAKEN}
 use Rattle.play_script.specs.declared.verb.Verb.{Verb}
-use Rattle.play_script.specs.declared.verb.Verb.TheVariants.{Admit, Take, Settle, GiveBack, Report, Undo, Confirm, Discard, Hold, Lift, Post, Round, Past}
+use Rattle.play_script.specs.declared.verb.Verb.TheVariants.{Admit, Take, Settle, GiveBack, Report, Undo, Confirm, Discard, Hold, Lift, Post, Round, Past, Wire, Answered}
 
 pub data Asked : Type 0 where
   AdmitLine : (sender : List ℕ) (points : List PointWords) → Asked
@@ -25,6 +29,8 @@ pub data Asked : Type 0 where
   PostLine : (sender : List ℕ) (body : List ℕ) → Asked
   RoundLine : Asked
   PastLine : Asked
+  WireLine : (max : ℕ) → Asked
+  AnswerLine : (flush : ℕ) (answer : Answer) → Asked
   BadLine : Asked
 
 -- the first word of a command
@@ -42,7 +48,9 @@ verb word =
     else (if bytes_eq word (codes "lift") then Some Lift
     else (if bytes_eq word (codes "post") then Some Post
     else (if bytes_eq word (codes "round") then Some Round
-    else (if bytes_eq word (codes "past") then Some Past else None))))))))))))
+    else (if bytes_eq word (codes "past") then Some Past
+    else (if bytes_eq word (codes "wire") then Some Wire
+    else (if bytes_eq word (codes "answer") then Some Answered else None))))))))))))))
 
 -- a number that is the one word
 abbrev pub only_number : List (List ℕ) → Option ℕ
@@ -65,8 +73,12 @@ named line None = BadLine
 named line (Some name) = line name
 
 -- at least one series, and not too many
-abbrev pub take_line : ℕ → Asked
-take_line max = if max == 0 then BadLine else (if nat_le max MAX_TAKEN then TakeLine max else BadLine)
+abbrev pub within_taken : ℕ → Option ℕ
+within_taken max = if max == 0 then None else (if nat_le max MAX_TAKEN then Some max else None)
+
+-- how many series may be taken, which is the one word
+abbrev pub only_taken : List (List ℕ) → Option ℕ
+only_taken rest = option_and_then within_taken (only_number rest)
 
 -- a sender with at least one point
 abbrev pub admit_line : Option (List ℕ) → Option (List PointWords) → Asked
@@ -87,6 +99,28 @@ post_words [] = BadLine
 post_words (sender ∷ []) = BadLine
 post_words (sender ∷ word ∷ more) = post_line (name_of sender) (join_with_byte SPACE (word ∷ more))
 
+-- an answer with this status, where it is one, and this value of `Retry-After`
+abbrev pub with_status : Option ℕ → Option (List ℕ) → Option Answer
+with_status code retry_after = option_map (λ s. answer_of s retry_after) code
+
+-- what the back end answered: none that is known, a status, or a status and a word for `Retry-After`
+abbrev pub told_answer : List (List ℕ) → Option Answer
+told_answer [] = None
+told_answer (word ∷ []) = if bytes_eq word (codes "none") then Some Unknown else with_status (status word) None
+told_answer (word ∷ [] ∷ []) = None
+told_answer (word ∷ (b ∷ bs) ∷ []) = with_status (status word) (Some (b ∷ bs))
+told_answer (word ∷ next ∷ more ∷ others) = None
+
+abbrev pub answer_line : Option ℕ → Option Answer → Asked
+answer_line None answer = BadLine
+answer_line (Some flush) None = BadLine
+answer_line (Some flush) (Some answer) = AnswerLine flush answer
+
+-- a flush, and what the back end answered to it
+abbrev pub answer_words : List (List ℕ) → Asked
+answer_words [] = BadLine
+answer_words (flush ∷ answer) = answer_line (number flush) (told_answer answer)
+
 abbrev pub nothing_more : Asked → List (List ℕ) → Asked
 nothing_more line [] = line
 nothing_more line (word ∷ more) = BadLine
@@ -95,7 +129,7 @@ nothing_more line (word ∷ more) = BadLine
 abbrev pub command_by : Option Verb → List (List ℕ) → Asked
 command_by None rest = BadLine
 command_by (Some Admit) rest = admit_words rest
-command_by (Some Take) rest = numbered take_line (only_number rest)
+command_by (Some Take) rest = numbered TakeLine (only_taken rest)
 command_by (Some Settle) rest = numbered OkLine (only_number rest)
 command_by (Some GiveBack) rest = numbered BackLine (only_number rest)
 command_by (Some Report) rest = nothing_more ReportLine rest
@@ -107,6 +141,8 @@ command_by (Some Lift) rest = named LiftLine (only_name rest)
 command_by (Some Post) rest = post_words rest
 command_by (Some Round) rest = nothing_more RoundLine rest
 command_by (Some Past) rest = nothing_more PastLine rest
+command_by (Some Wire) rest = numbered WireLine (only_taken rest)
+command_by (Some Answered) rest = answer_words rest
 
 abbrev pub command_of : List (List ℕ) → Asked
 command_of [] = BadLine

@@ -1,5 +1,5 @@
 -- What a run of a script writes.
-use Rattle.std.specs.Prelude.{◌≡◌, ℕ, ◌<◌, ◌≤◌, Bool, true, List, [], ◌++◌, length, Ok, Err}
+use Rattle.std.specs.Prelude.{◌≡◌, ℕ, ◌<◌, ◌≤◌, true, List, [], ◌++◌, length, Ok, Err}
 use Rattle.std.specs.declared.option.Option.{Option}
 use Rattle.std.specs.declared.result.Result.{Result}
 use Rattle.std.specs.Io.KnownBytes.{Keeps, Appends}
@@ -7,7 +7,7 @@ use Rattle.metric_events.specs.History.{History}
 use Rattle.play_script.specs.Pieces.{lines}
 use Rattle.play_script.specs.Commands.{Asked}
 use Rattle.play_script.specs.Ends.{AppendsPart}
-use Rattle.play_script.specs.Run.{are_marks, run}
+use Rattle.play_script.specs.Run.{Mark, are_marks, run}
 use Rattle.play_script.specs.Answered.{Answers}
 use Rattle.play_script.specs.declared.fault.PlayFault.{PlayFault}
 use Rattle.play_script.specs.declared.fault.PlayFault.TheVariants.{CannotRead, TooLong, CannotWrite, NoMemory}
@@ -23,11 +23,11 @@ LineIsAnswered E asked F old new (Err NoMemory) = Keeps old new
 
 -- for some marks all replies were written
 abbrev pub WritesAll : Option (List ℕ) → Option (List ℕ) → List (List ℕ) → Type 0
-WritesAll old new lines = (marks : List Bool) × (are_marks lines marks ≡ true) × Appends old new (run lines marks)
+WritesAll old new lines = (marks : List Mark) × (are_marks lines marks ≡ true) × Appends old new (run lines marks)
 
 -- for some marks a front part of the replies was written
 abbrev pub WritesPart : Option (List ℕ) → Option (List ℕ) → List (List ℕ) → Type 0
-WritesPart old new lines = (marks : List Bool) × (are_marks lines marks ≡ true) × AppendsPart old new (run lines marks)
+WritesPart old new lines = (marks : List Mark) × (are_marks lines marks ≡ true) × AppendsPart old new (run lines marks)
 
 -- all replies were written to the lines before one that failed
 abbrev pub WritesBefore : Option (List ℕ) → Option (List ℕ) → List (List ℕ) → Type 0

@@ -25,3 +25,11 @@ point_line p = codes "point " ++ series_name p.series ++ span_text p.span ++ row
 -- a flush with its points
 unfoldable pub flush_text : ℕ → List DataPoint → List ℕ
 flush_text number points = codes "flush " ++ decimal number ++ codes " points " ++ decimal (length points) ++ codes "\n" ++ flat_map point_line points
+
+-- the number of a flush on a line, and on the next the request that forwards it
+unfoldable pub wired_text : ℕ → List ℕ → List ℕ
+wired_text number request = said (codes "flush ") (decimal number) ++ request ++ codes "\n"
+
+-- a flush that went home, and how many seconds the back end asks to wait
+unfoldable pub flush_and_wait : ℕ → ℕ → List ℕ
+flush_and_wait flush seconds = decimal flush ++ codes " after " ++ decimal seconds

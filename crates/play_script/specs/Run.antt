@@ -1,8 +1,13 @@
 -- The run of a script: a reply for each line, by the rules over the history so far.
-use Rattle.std.specs.Prelude.{ℕ, ◌+◌, Bool, true, false, not, ◌||◌, ◌&&◌, List, [], ◌∷◌, ◌++◌, map, codes, decimal, if◌then◌else◌, Some, None, Ok, Err}
+use Rattle.std.specs.Prelude.{◌≡◌, ◌⊎◌, ℕ, ◌+◌, Bool, true, false, ◌&&◌, List, [], ◌∷◌, ◌++◌, map, codes, decimal, Some, None, Ok, Err}
 use Rattle.std.specs.declared.option.Option.{Option}
 use Rattle.std.specs.declared.result.Result.{Result}
 use Rattle.series_id.specs.Identity.{Identity}
+use Rattle.back_answers.specs.Answers.{act_of}
+use Rattle.back_answers.specs.declared.answer.Answer.{Answer as BackAnswer}
+use Rattle.back_answers.specs.declared.answer.Answer.TheVariants.{Success, Retryable, Final, Unknown}
+use Rattle.back_answers.specs.declared.deed.Act.{Act}
+use Rattle.back_answers.specs.declared.deed.Act.TheVariants as act
 use Rattle.metric_events.specs.History.{History, Start, Opened, ◌▸◌}
 use Rattle.metric_events.specs.Close.{close}
 use Rattle.metric_events.specs.Choice.{pick, flush_points}
@@ -26,11 +31,12 @@ use Rattle.delta_book.specs.Totals.{totals_rows}
 use Rattle.delta_book.specs.Rounds.{round_refusal}
 use Rattle.delta_book.specs.PastRows.{past_rows}
 use Rattle.play_script.specs.PointLines.{PointWords, point_of, first_fault}
-use Rattle.play_script.specs.Commands.{Asked, AdmitLine, TakeLine, OkLine, BackLine, ReportLine, UndoLine, ConfirmLine, DropLine, HoldLine, LiftLine, PostLine, RoundLine, PastLine, BadLine, command}
+use Rattle.play_script.specs.Commands.{Asked, AdmitLine, TakeLine, OkLine, BackLine, ReportLine, UndoLine, ConfirmLine, DropLine, HoldLine, LiftLine, PostLine, RoundLine, PastLine, WireLine, AnswerLine, BadLine, command}
 use Rattle.play_script.specs.Refused.{refusal_text, of_point, of_admit, of_take, of_undo, of_hold, of_round}
-use Rattle.play_script.specs.Replies.{said, batch_and_foreign, flush_text}
+use Rattle.play_script.specs.Replies.{said, batch_and_foreign, flush_text, wired_text, flush_and_wait}
 use Rattle.out_texts.specs.Report.{report_text}
 use Rattle.out_texts.specs.Past.{past_text}
+use Rattle.out_texts.specs.Request.{request_text}
 use Rattle.play_script.specs.declared.refusal.Refusal.{Refusal}
 use Rattle.play_script.specs.declared.refusal.Refusal.TheVariants.{NotOpen, NotLive, NotHeld, NotJson, WrongShape, NoMemory}
 
@@ -86,6 +92,51 @@ taken_or E [] refusal = only_says E (codes "nothing\n")
 taken_or E (x ∷ xs) (Some fault) = refused E (of_take fault)
 taken_or E (x ∷ xs) None = flushed E (takes E + 1) (E ▸ Take (takes E + 1) (x ∷ xs))
 
+-- the request of a flush is told, or it found no memory and the flush is given back
+abbrev pub IsForwarded : History → History → ℕ → List DataPoint → List ℕ → Type 0
+IsForwarded E F f points text =
+    ((text ≡ wired_text f (request_text points)) × (F ≡ E)) ⊎ ((text ≡ said (codes "refused ") (refusal_text NoMemory)) × (F ≡ E ▸ GiveBack f))
+
+-- the request that forwards the flush of these series
+abbrev pub wired : ℕ → History → Answer
+wired f F = record { text = wired_text f (request_text (flush_points F f)); after = F }
+
+abbrev pub wired_or : History → List Identity → Option TakeFault → Answer
+wired_or E [] refusal = only_says E (codes "nothing\n")
+wired_or E (x ∷ xs) (Some fault) = refused E (of_take fault)
+wired_or E (x ∷ xs) None = wired (takes E + 1) (E ▸ Take (takes E + 1) (x ∷ xs))
+
+-- a flush that was taken and whose request found no memory goes home
+abbrev pub unwired_or : History → List Identity → Option TakeFault → Answer
+unwired_or E [] refusal = wired_or E [] refusal
+unwired_or E (x ∷ xs) (Some fault) = wired_or E (x ∷ xs) (Some fault)
+unwired_or E (x ∷ xs) None = refused (E ▸ Take (takes E + 1) (x ∷ xs) ▸ GiveBack (takes E + 1)) NoMemory
+
+-- the event of an act
+abbrev pub event_of : Act → ℕ → Event
+event_of act.Settle f = Settle f
+event_of act.GiveBack f = GiveBack f
+event_of act.DropFlush f = Drop f
+
+-- the seconds that the back end's answer asks to wait
+abbrev pub wait_told : BackAnswer → Option ℕ
+wait_told Success = None
+wait_told (Retryable after) = after
+wait_told Final = None
+wait_told Unknown = None
+
+-- how a flush ended, and the wait where it went home
+abbrev pub act_text : Act → Option ℕ → ℕ → List ℕ
+act_text act.Settle wait f = said (codes "settled ") (decimal f)
+act_text act.GiveBack None f = said (codes "returned ") (decimal f)
+act_text act.GiveBack (Some seconds) f = said (codes "returned ") (flush_and_wait f seconds)
+act_text act.DropFlush wait f = said (codes "dropped ") (decimal f)
+
+-- a flush that is live ends as the back end's answer says
+abbrev pub answered_or : {F : Type 0} → History → Option F → ℕ → BackAnswer → Answer
+answered_or E (Some fault) f answer = refused E NotLive
+answered_or E None f answer = record { text = act_text (act_of answer) (wait_told answer) f; after = E ▸ event_of (act_of answer) f }
+
 -- the end of what is open, live or held, where it is
 abbrev pub ended : {F : Type 0} → History → Refusal → Option F → Event → List ℕ → List ℕ → Answer
 ended E why (Some fault) event word what = refused E why
@@ -119,11 +170,26 @@ answer E (LiftLine s) = ended E NotHeld (lift_refusal E s) (Lift s) (codes "lift
 answer E (PostLine sender body) = read_or E sender (text_reading body)
 answer E RoundLine = closed_or E (round_refusal E)
 answer E PastLine = only_says E (past_text (past_rows E))
+answer E (WireLine max) = wired_or E (pick E max) (take_refusal E)
+answer E (AnswerLine f back) = answered_or E (flush_refusal E f) f back
 answer E BadLine = only_says E (codes "bad command\n")
 
--- a mark says that a line found no memory
-abbrev pub marked_answer : History → Asked → Bool → Answer
-marked_answer E asked mark = if mark then refused E NoMemory else answer E asked
+-- what memory a line found: all that it took, none, or none for the request of a flush that was taken
+pub data Mark : Type 0 where
+  Found : Mark
+  Missed : Mark
+  MissedText : Mark
+
+-- without memory for its request a flush that was taken is given back; else all is as ever
+abbrev pub without_text : History → Asked → Answer
+without_text E (WireLine max) = unwired_or E (pick E max) (take_refusal E)
+without_text E asked = answer E asked
+
+-- what a command answers, with the memory that it found
+abbrev pub marked_answer : History → Asked → Mark → Answer
+marked_answer E asked Found = answer E asked
+marked_answer E asked Missed = refused E NoMemory
+marked_answer E asked MissedText = without_text E asked
 
 -- the commands that may find no memory
 abbrev pub takes_memory : Asked → Bool
@@ -140,31 +206,44 @@ takes_memory (LiftLine s) = true
 takes_memory (PostLine sender body) = true
 takes_memory RoundLine = true
 takes_memory PastLine = true
+takes_memory (WireLine max) = true
+takes_memory (AnswerLine f back) = false
 takes_memory BadLine = false
 
+-- the commands that send a text
+abbrev pub sends_text : Asked → Bool
+sends_text (WireLine max) = true
+sends_text asked = false
+
+-- a mark stands only where the command may find no memory
+abbrev pub may_stand : Mark → Asked → Bool
+may_stand Found asked = true
+may_stand Missed asked = takes_memory asked
+may_stand MissedText asked = sends_text asked
+
 -- a line and its mark
-abbrev pub line_answer : History → List ℕ → Bool → Answer
+abbrev pub line_answer : History → List ℕ → Mark → Answer
 line_answer E line mark = marked_answer E (command line) mark
 
--- each line has a mark, which stands only where the line may find no memory
-abbrev pub are_marks : List (List ℕ) → List Bool → Bool
+-- each line has a mark that may stand there
+abbrev pub are_marks : List (List ℕ) → List Mark → Bool
 are_marks [] [] = true
 are_marks [] (mark ∷ marks) = false
 are_marks (line ∷ lines) [] = false
-are_marks (line ∷ lines) (mark ∷ marks) = (not mark || takes_memory (command line)) && are_marks lines marks
+are_marks (line ∷ lines) (mark ∷ marks) = may_stand mark (command line) && are_marks lines marks
 
 -- the replies to lines with their marks, after a history
-abbrev pub replies : History → List (List ℕ) → List Bool → List ℕ
+abbrev pub replies : History → List (List ℕ) → List Mark → List ℕ
 replies E [] marks = []
 replies E (line ∷ lines) [] = []
 replies E (line ∷ lines) (mark ∷ marks) = (line_answer E line mark).text ++ replies (line_answer E line mark).after lines marks
 
 -- the history after them
-abbrev pub history_after : History → List (List ℕ) → List Bool → History
+abbrev pub history_after : History → List (List ℕ) → List Mark → History
 history_after E [] marks = E
 history_after E (line ∷ lines) [] = E
 history_after E (line ∷ lines) (mark ∷ marks) = history_after (line_answer E line mark).after lines marks
 
 -- the replies of a script
-abbrev pub run : List (List ℕ) → List Bool → List ℕ
+abbrev pub run : List (List ℕ) → List Mark → List ℕ
 run lines marks = replies Start lines marks

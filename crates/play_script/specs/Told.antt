@@ -6,11 +6,11 @@ use Rattle.std.specs.declared.alloc.Global.{Global}
 use denote.Ref.{Bor}
 use Rattle.play_script.specs.Pieces.{words}
 use Rattle.play_script.specs.PointLines.{PointWords, point_words}
-use Rattle.play_script.specs.Commands.{Asked, AdmitLine, TakeLine, OkLine, BackLine, ReportLine, UndoLine, ConfirmLine, DropLine, HoldLine, LiftLine, PostLine, RoundLine, PastLine, BadLine}
-use Rattle.play_script.specs.declared.numbers.TheConstants.{MAX_TAKEN}
+use Rattle.play_script.specs.Commands.{Asked, AdmitLine, TakeLine, OkLine, BackLine, ReportLine, UndoLine, ConfirmLine, DropLine, HoldLine, LiftLine, PostLine, RoundLine, PastLine, WireLine, AnswerLine, BadLine}
+use Rattle.metric_events.specs.declared.limits.TheConstants.{MAX_TAKEN}
 use Rattle.play_script.specs.declared.point_line.PointLine.{PointLine}
 use Rattle.play_script.specs.declared.command.Command.{Command}
-use Rattle.play_script.specs.declared.command.Command.TheVariants.{Admit, Take, Settle, GiveBack, Report, Undo, Confirm, Discard, Hold, Lift, Post, Round, Past}
+use Rattle.play_script.specs.declared.command.Command.TheVariants.{Admit, Take, Settle, GiveBack, Report, Undo, Confirm, Discard, Hold, Lift, Post, Round, Past, Wire, Answered}
 
 abbrev pub told_point : PointLine → PointWords
 told_point p = record { name = p.name.now; start = p.start; end = p.end; value = p.value }
@@ -48,6 +48,8 @@ told (Some (Lift sender)) = LiftLine sender.now
 told (Some (Post sender body)) = PostLine sender.now body.now
 told (Some Round) = RoundLine
 told (Some Past) = PastLine
+told (Some (Wire max)) = WireLine max
+told (Some (Answered flush answer)) = AnswerLine flush answer
 
 -- the parts of a command are in their ranges
 abbrev pub IsReady : Option Command → Type 0
@@ -65,3 +67,5 @@ IsReady (Some (Lift sender)) = is_sender_name sender.now ≡ true
 IsReady (Some (Post sender body)) = is_sender_name sender.now ≡ true
 IsReady (Some Round) = ⊤
 IsReady (Some Past) = ⊤
+IsReady (Some (Wire max)) = (1 ≤ max) × (max ≤ MAX_TAKEN)
+IsReady (Some (Answered flush answer)) = ⊤

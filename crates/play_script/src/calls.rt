@@ -1,22 +1,31 @@
 //! Commands asked of a book, and what it replies.
 
-ghost use Rattle.std.specs.Prelude.{◌≡◌, ◌≤◌, ◌<◌, Some, true, length};
+ghost use Rattle.std.specs.Prelude.{◌≡◌, ◌≤◌, ◌<◌, Some, None, true, length, IfErr, OnErr, OnOk};
 ghost use Rattle.metric_events.specs.Senders.{is_sender_name};
 ghost use Rattle.delta_book.specs.Journal.{history};
+ghost use Rattle.delta_book.specs.Refusals.{flush_refusal};
+ghost use Rattle.metric_events.specs.History.{◌▸◌};
 ghost use Rattle.play_script.specs.Answered.{Answers, reply_text};
 ghost use Rattle.play_script.specs.Commands as asked;
+ghost use Rattle.play_script.specs.Run as spec;
+ghost use Rattle.play_script.specs.Run.{IsForwarded};
+ghost use Rattle.metric_events.specs.declared.event.Event.TheVariants as event;
 ghost use Rattle.play_script.specs.Told.{told, told_points, IsReady};
 
 use crate::command::Command;
 use crate::making::make_points;
-use crate::numbers::MAX_TAKEN;
 use crate::point_line::PointLine;
 use crate::refusal::{Refusal, of_admit, of_hold, of_point, of_read, of_round, of_take, of_undo};
 use crate::reply::Reply;
+use back_answers::{Act, Answer, act};
 use delta_book::book::Book;
+use delta_book::faults::NotLive;
+use delta_book::flush::Flush;
 use metric_events::batch::Batch;
+use metric_events::limits::MAX_TAKEN;
 use metric_events::sender_name::SenderName;
 use otlp_read::read_request;
+use out_texts::request_text;
 use std::alloc::Global;
 
 /// The seat from which a script's events come.
@@ -172,6 +181,91 @@ fn past(book: &Book) -> Reply<'static>
     }
 }
 
+/// Gives back a flush that is live.
+fn send_home(book: &mut Book, flush: u64)
+    requires { flush_refusal (history book.old) flush ≡ None }
+    ensures { history book.new ≡ history book.old ▸ event.GiveBack flush }
+{
+    let Ok(()) = book.give_back(SEAT, flush) else {
+        unreachable!()
+    };
+}
+
+/// The request of a flush that is live; where it finds no memory the flush is given back.
+fn forward(alloc: Global, book: &mut Book, flush: &Flush) -> Reply<'static>
+    requires { flush_refusal (history book.old) flush.now.number ≡ None }
+    ensures { IsForwarded (history book.old) (history book.new) flush.now.number flush.now.points.items (reply_text result) }
+{
+    match request_text(alloc, flush) {
+        Ok(request) => Reply::Wired {
+            flush: flush.number,
+            request,
+        },
+        Err(_) => {
+            send_home(book, flush.number);
+            Reply::Refused(Refusal::NoMemory)
+        }
+    }
+}
+
+fn wire(alloc: Global, book: &mut Book, most: u64) -> Reply<'static>
+    requires low { 1 ≤ most }
+    requires high { most ≤ MAX_TAKEN }
+    ensures { Answers (history book.old) (asked.WireLine most) (reply_text result) (history book.new) }
+{
+    match book.take(SEAT, most as usize) {
+        Ok(None) => Reply::Nothing,
+        Ok(Some(flush)) => forward(alloc, book, &flush),
+        Err(fault) => Reply::Refused(of_take(fault)),
+    }
+}
+
+/// The seconds that an answer asks to wait.
+fn wait_told(answer: Answer) -> Option<u64>
+    ensures { result ≡ spec.wait_told answer }
+{
+    match answer {
+        Answer::Retryable { after } => after,
+        Answer::Success | Answer::Final | Answer::Unknown => None,
+    }
+}
+
+/// Ends a flush by an act.
+fn end_flush(book: &mut Book, flush: u64, by: Act) -> Result<(), NotLive>
+    ensures ok { OnOk result (history book.new ≡ history book.old ▸ spec.event_of by flush) }
+    ensures none { OnOk result (flush_refusal (history book.old) flush ≡ None) }
+    ensures fault { IfErr result (λ e. flush_refusal (history book.old) flush ≡ Some e) }
+    ensures err { OnErr result (book.new ≡ book.old) }
+{
+    match by {
+        Act::Settle => book.settle(SEAT, flush),
+        Act::GiveBack => book.give_back(SEAT, flush),
+        Act::DropFlush => book.drop_flush(SEAT, flush),
+    }
+}
+
+/// What is said of a flush that ended by an act.
+fn ended(flush: u64, by: Act, wait: Option<u64>) -> Reply<'static>
+    ensures { reply_text result ≡ spec.act_text by wait flush }
+{
+    match (by, wait) {
+        (Act::Settle, _) => Reply::Settled(flush),
+        (Act::GiveBack, None) => Reply::Returned(flush),
+        (Act::GiveBack, Some(seconds)) => Reply::Waits { flush, seconds },
+        (Act::DropFlush, _) => Reply::Dropped(flush),
+    }
+}
+
+fn answered(book: &mut Book, flush: u64, answer: Answer) -> Reply<'static>
+    ensures { Answers (history book.old) (asked.AnswerLine flush answer) (reply_text result) (history book.new) }
+{
+    let by = act(answer);
+    match end_flush(book, flush, by) {
+        Ok(()) => ended(flush, by, wait_told(answer)),
+        Err(_) => Reply::Refused(Refusal::NotLive),
+    }
+}
+
 /// Asks the book what the command says, and makes the reply.
 pub fn reply_to<'a>(alloc: Global, book: &mut Book, command: Command<'a>) -> Reply<'a>
     requires { IsReady (Some command) }
@@ -191,5 +285,7 @@ pub fn reply_to<'a>(alloc: Global, book: &mut Book, command: Command<'a>) -> Rep
         Command::Post { sender, body } => post(alloc, book, sender, body),
         Command::Round => round(book),
         Command::Past => past(book),
+        Command::Wire(max) => wire(alloc, book, max),
+        Command::Answered { flush, answer } => answered(book, flush, answer),
     }
 }

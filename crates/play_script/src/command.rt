@@ -1,16 +1,19 @@
 //! What a line of a script asks for.
 
-ghost use Rattle.std.specs.Prelude.{◌≡◌, ◌≢◌, true, option_copied, IfSome, IfOk, OnErr};
+ghost use Rattle.std.specs.Prelude.{◌≡◌, ◌≢◌, ◌≤◌, ◌∷◌, true, option_copied, IfSome, IfOk, OnErr};
 ghost use Rattle.play_script.specs.Commands as spec;
+ghost use Rattle.play_script.specs.Pieces.{words};
 ghost use Rattle.play_script.specs.Run.{takes_memory};
 ghost use Rattle.play_script.specs.Told.{told, rest_words, IsReady};
 ghost use Rattle.metric_events.specs.Senders as senders;
 
 use crate::line_points::read_points;
-use crate::numbers::{MAX_TAKEN, number};
+use crate::numbers::{number, status};
 use crate::pieces::cut_word;
 use crate::point_line::PointLine;
 use crate::verb::{Verb, verb_of};
+use back_answers::{Answer, classify};
+use metric_events::limits::MAX_TAKEN;
 use metric_events::sender_name::is_sender_name;
 use std::alloc::{AllocError, Global};
 
@@ -41,6 +44,13 @@ pub enum Command<'a> {
     Round,
     /// Tell what earlier rounds brought.
     Past,
+    /// Take a flush of at most so many series and tell the request that forwards it.
+    Wire(u64),
+    /// End a flush as the back end's answer says.
+    Answered {
+        flush: u64,
+        answer: Answer,
+    },
 }
 
 /// The number that is the one word of the rest.
@@ -92,16 +102,52 @@ fn admit<'a>(alloc: Global, rest: Option<&'a [u8]>) -> Result<Option<Command<'a>
     }))
 }
 
-/// The command to take at most so many series.
-fn take(rest: Option<&[u8]>) -> Option<Command<'_>>
-    ensures told { told result ≡ spec.numbered spec.take_line (spec.only_number (rest_words rest.entry)) }
-    ensures ready { IsReady result }
+/// How many series may be taken, which is the one word of the rest.
+fn only_taken(rest: Option<&[u8]>) -> Option<u64>
+    ensures value { result ≡ spec.only_taken (rest_words rest.entry) }
+    ensures low { IfSome result (λ max. 1 ≤ max) }
+    ensures high { IfSome result (λ max. max ≤ MAX_TAKEN) }
 {
     let max = only_number(rest)?;
     if max == 0 || max > MAX_TAKEN {
         return None;
     }
-    Some(Command::Take(max))
+    Some(max)
+}
+
+/// The answer of this status, with the one word of the rest as its `Retry-After`.
+fn retried(code: &[u8], rest: &[u8]) -> Option<Answer>
+    ensures { result ≡ spec.told_answer (code.now ∷ words rest.now) }
+{
+    let word = cut_word(rest);
+    match word.rest {
+        None if !word.first.is_empty() => Some(classify(status(code)?, Some(word.first))),
+        None => None,
+        Some(_) => None,
+    }
+}
+
+/// What the back end answered, by the rest of the line.
+fn answer_of(text: &[u8]) -> Option<Answer>
+    ensures { result ≡ spec.told_answer (words text.now) }
+{
+    let word = cut_word(text);
+    match word.rest {
+        None if word.first == b"none".as_slice() => Some(Answer::Unknown),
+        None => Some(classify(status(word.first)?, None)),
+        Some(rest) => retried(word.first, rest),
+    }
+}
+
+/// The command to end a flush by what the back end answered.
+fn answered(rest: Option<&[u8]>) -> Option<Command<'_>>
+    ensures told { told result ≡ spec.answer_words (rest_words rest.entry) }
+    ensures ready { IsReady result }
+{
+    let word = cut_word(rest?);
+    let flush = number(word.first)?;
+    let answer = answer_of(word.rest?)?;
+    Some(Command::Answered { flush, answer })
 }
 
 /// The command to report, of which nothing more is said.
@@ -161,7 +207,7 @@ fn command_by(verb: Verb, rest: Option<&[u8]>) -> Option<Command<'_>>
 {
     match verb {
         Verb::Admit => unreachable!(),
-        Verb::Take => take(rest),
+        Verb::Take => Some(Command::Take(only_taken(rest)?)),
         Verb::Settle => Some(Command::Settle(only_number(rest)?)),
         Verb::GiveBack => Some(Command::GiveBack(only_number(rest)?)),
         Verb::Report => report(rest),
@@ -173,6 +219,8 @@ fn command_by(verb: Verb, rest: Option<&[u8]>) -> Option<Command<'_>>
         Verb::Post => post(rest),
         Verb::Round => round(rest),
         Verb::Past => past(rest),
+        Verb::Wire => Some(Command::Wire(only_taken(rest)?)),
+        Verb::Answered => answered(rest),
     }
 }
 

@@ -8,8 +8,8 @@ use decimals::number_up_to;
 /// The greatest number.
 pub const MAX_NUMBER: u64 = u64::MAX;
 
-/// The most series that a flush may be asked to take.
-pub const MAX_TAKEN: u64 = 1000;
+/// The greatest status of an answer.
+const MAX_STATUS: u64 = 65_535;
 
 /// The greatest value above zero, and the greatest size of one below.
 pub const MAX_ABOVE: u64 = 9_223_372_036_854_775_807;
@@ -21,6 +21,14 @@ pub fn number(digits: &[u8]) -> Option<u64>
     ensures { result ≡ spec.number digits.now }
 {
     number_up_to(digits, MAX_NUMBER)
+}
+
+/// The status below 2^16 that decimal digits write; zeros may lead.
+pub fn status(digits: &[u8]) -> Option<u16>
+    ensures { result ≡ spec.status digits.now }
+{
+    let code = number_up_to(digits, MAX_STATUS)?;
+    Some(code as u16)
 }
 
 /// The number of 64 bits with its sign that digits write, or `-` and digits.

@@ -3,7 +3,7 @@
 ghost use Rattle.std.specs.Prelude.{◌≡◌, ◌++◌, OnOk, codes, decimal};
 ghost use Rattle.play_script.specs.Answered.{reply_text};
 ghost use Rattle.play_script.specs.Refused.{refusal_text};
-ghost use Rattle.play_script.specs.Replies.{said, batch_and_foreign};
+ghost use Rattle.play_script.specs.Replies.{said, batch_and_foreign, wired_text, flush_and_wait};
 
 use crate::flush_text::put_flush;
 use crate::refusal::{Refusal, put_refusal};
@@ -39,6 +39,10 @@ pub enum Reply<'a> {
     /// The round of this number has begun.
     Round(u64),
     Past(Vec<PastTotals>),
+    /// A flush was taken and has this number; this request forwards it.
+    Wired { flush: u64, request: Vec<u8> },
+    /// A flush went home, and the back end asks to wait so many seconds.
+    Waits { flush: u64, seconds: u64 },
 }
 
 /// Puts a word and a text on a line.
@@ -73,6 +77,26 @@ fn put_posted(out: &mut Vec<u8>, batch: u64, foreign: u64) -> Result<(), AllocEr
     put_numbered(out, b" foreign ", foreign)
 }
 
+/// Puts a flush's number on a line and its request on the next.
+#[tactic(auto, unfolding(crate::specs::Replies::said, crate::specs::Replies::wired_text))]
+fn put_wired(out: &mut Vec<u8>, flush: u64, request: &[u8]) -> Result<(), AllocError>
+    ensures { OnOk result (out.new.items ≡ out.old.items ++ wired_text flush request.now) }
+{
+    put_numbered(out, b"flush ", flush)?;
+    out.extend_from_slice(request)?;
+    out.extend_from_slice(b"\n")
+}
+
+/// Puts the number of a flush that went home, and the seconds to wait.
+#[tactic(auto, unfolding(crate::specs::Replies::said, crate::specs::Replies::flush_and_wait))]
+fn put_wait(out: &mut Vec<u8>, flush: u64, seconds: u64) -> Result<(), AllocError>
+    ensures { OnOk result (out.new.items ≡ out.old.items ++ said (codes "returned ") (flush_and_wait flush seconds)) }
+{
+    out.extend_from_slice(b"returned ")?;
+    put_number(out, flush)?;
+    put_numbered(out, b" after ", seconds)
+}
+
 #[tactic(auto, unfolding(crate::specs::Replies::said))]
 fn put_refused(out: &mut Vec<u8>, why: Refusal) -> Result<(), AllocError>
     ensures { OnOk result (out.new.items ≡ out.old.items ++ said (codes "refused ") (refusal_text why)) }
@@ -105,5 +129,7 @@ pub fn put_reply(out: &mut Vec<u8>, reply: &Reply<'_>) -> Result<(), AllocError>
         Reply::Report(rows) => put_report(out, rows.as_slice()),
         Reply::Round(round) => put_numbered(out, b"round ", *round),
         Reply::Past(rows) => put_past(out, rows.as_slice()),
+        Reply::Wired { flush, request } => put_wired(out, *flush, request.as_slice()),
+        Reply::Waits { flush, seconds } => put_wait(out, *flush, *seconds),
     }
 }

@@ -20,6 +20,8 @@ pub enum Verb {
     Post,
     Round,
     Past,
+    Wire,
+    Answered,
 }
 
 fn is(word: &[u8], text: &[u8]) -> bool
@@ -70,6 +72,12 @@ pub fn verb_of(word: &[u8]) -> Option<Verb>
     }
     if is(word, b"past") {
         return Some(Verb::Past);
+    }
+    if is(word, b"wire") {
+        return Some(Verb::Wire);
+    }
+    if is(word, b"answer") {
+        return Some(Verb::Answered);
     }
     None
 }

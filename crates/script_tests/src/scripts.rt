@@ -264,3 +264,133 @@ end
 fn names_and_kinds(rt: HostRuntime) {
     replies(&rt, rt.alloc(), NAMED, SHOWN);
 }
+
+/// Flushes that are told as the requests that forward them.
+const WIRES: [(&str, &str); 5] = [
+    (
+        r#"post A {"resourceMetrics":[{"scopeMetrics":[{"metrics":[{"name":"a","sum":{"aggregationTemporality":1,"isMonotonic":true,"dataPoints":[{"asInt":"5","startTimeUnixNano":"10","timeUnixNano":"20"}]}}]}]}]}
+wire 10
+wire 10
+ok 1
+wire 10
+"#,
+        r#"batch 1 foreign 0
+flush 1
+{"resourceMetrics":[{"resource":{"attributes":[]},"scopeMetrics":[{"metrics":[{"name":"a","sum":{"aggregationTemporality":1,"dataPoints":[{"asInt":"5","attributes":[],"startTimeUnixNano":"10","timeUnixNano":"20"}],"isMonotonic":true},"unit":""}],"scope":{"attributes":[],"name":"","version":""}}]}]}
+nothing
+settled 1
+nothing
+"#,
+    ),
+    (
+        "admit A x 10 20 1 y 10 20 2\nwire 10\nback 1\nwire 1\ntake 10\n",
+        r#"batch 1
+flush 1
+{"resourceMetrics":[{"resource":{"attributes":[]},"scopeMetrics":[{"metrics":[{"name":"x","sum":{"aggregationTemporality":1,"dataPoints":[{"asInt":"1","attributes":[],"startTimeUnixNano":"10","timeUnixNano":"20"}],"isMonotonic":false},"unit":""},{"name":"y","sum":{"aggregationTemporality":1,"dataPoints":[{"asInt":"2","attributes":[],"startTimeUnixNano":"10","timeUnixNano":"20"}],"isMonotonic":false},"unit":""}],"scope":{"attributes":[],"name":"","version":""}}]}]}
+returned 1
+flush 2
+{"resourceMetrics":[{"resource":{"attributes":[]},"scopeMetrics":[{"metrics":[{"name":"x","sum":{"aggregationTemporality":1,"dataPoints":[{"asInt":"1","attributes":[],"startTimeUnixNano":"10","timeUnixNano":"20"}],"isMonotonic":false},"unit":""}],"scope":{"attributes":[],"name":"","version":""}}]}]}
+flush 3 points 1
+point y (10,20] 1,2,0
+"#,
+    ),
+    (
+        r#"post A {"resourceMetrics":[{"scopeMetrics":[{"metrics":[{"name":"h","histogram":{"aggregationTemporality":1,"dataPoints":[{"count":"7","sum":30,"explicitBounds":[0,5,10],"bucketCounts":["1","2","0","4"],"startTimeUnixNano":"10","timeUnixNano":"20"},{"count":"2","explicitBounds":[0,5,10],"bucketCounts":["0","1","1","0"],"startTimeUnixNano":"20","timeUnixNano":"30"}]}}]}]}]}
+wire 10
+"#,
+        r#"batch 1 foreign 0
+flush 1
+{"resourceMetrics":[{"resource":{"attributes":[]},"scopeMetrics":[{"metrics":[{"histogram":{"aggregationTemporality":1,"dataPoints":[{"attributes":[],"bucketCounts":["1","3","1","4"],"count":"9","explicitBounds":[0,5,10],"startTimeUnixNano":"10","timeUnixNano":"30"}]},"name":"h","unit":""}],"scope":{"attributes":[],"name":"","version":""}}]}]}
+"#,
+    ),
+    (
+        r#"post A {"resourceMetrics":[{"scopeMetrics":[{"metrics":[{"name":"m","unit":"s","sum":{"aggregationTemporality":1,"dataPoints":[{"attributes":[{"key":"k","value":{"intValue":"1"}}],"asInt":"1","startTimeUnixNano":"10","timeUnixNano":"20"},{"attributes":[{"key":"k","value":{"intValue":"2"}}],"asInt":"2","startTimeUnixNano":"10","timeUnixNano":"20"}]}},{"name":"m","unit":"t","sum":{"aggregationTemporality":1,"dataPoints":[{"asInt":"3","startTimeUnixNano":"10","timeUnixNano":"20"}]}}]}]}]}
+wire 10
+"#,
+        r#"batch 1 foreign 0
+flush 1
+{"resourceMetrics":[{"resource":{"attributes":[]},"scopeMetrics":[{"metrics":[{"name":"m","sum":{"aggregationTemporality":1,"dataPoints":[{"asInt":"1","attributes":[{"key":"k","value":{"intValue":"1"}}],"startTimeUnixNano":"10","timeUnixNano":"20"},{"asInt":"2","attributes":[{"key":"k","value":{"intValue":"2"}}],"startTimeUnixNano":"10","timeUnixNano":"20"}],"isMonotonic":false},"unit":"s"},{"name":"m","sum":{"aggregationTemporality":1,"dataPoints":[{"asInt":"3","attributes":[],"startTimeUnixNano":"10","timeUnixNano":"20"}],"isMonotonic":false},"unit":"t"}],"scope":{"attributes":[],"name":"","version":""}}]}]}
+"#,
+    ),
+    (
+        "wire 10\nadmit A x 10 20 1\nhold A\nwire 10\nwire 0\nwire 1001\nwire\nwire 1 1\nwire x\nwire 1000\n",
+        "nothing\nbatch 1\nheld A\nnothing\nbad command\nbad command\nbad command\nbad command\nbad command\nnothing\n",
+    ),
+];
+
+#[test]
+fn wires(rt: HostRuntime) {
+    for (script, text) in WIRES {
+        replies(&rt, rt.alloc(), script, text);
+    }
+}
+
+/// Flushes that end by what the back end answered, and lines that are no answer.
+const ANSWERS: [(&str, &str); 3] = [
+    (
+        "admit A req 10 20 5\ntake 10\nanswer 1 503 2\ntake 10\nanswer 2 400\nadmit A req 20 30 7\ntake 10\nanswer 3 none\nreport\n",
+        "batch 1\nflush 1 points 1\npoint req (10,20] 1,5,0\nreturned 1 after 2\nflush 2 points 1\npoint req (10,20] 1,5,0\ndropped 2\nbatch 2\nflush 3 points 1\npoint req (20,30] 1,7,0\nreturned 3\nseries req sum owner A frontier 30 accepted 2,12,0 acknowledged 0,0,0 dropped 1,5,0 in-flight 0,0,0 stored 1,7,0 quarantined 0,0,0\nend\n",
+    ),
+    (
+        "admit A x 10 20 1\ntake 1\nanswer 1 200\nanswer 1 200\nanswer 1 503 2\nanswer 1 400\nanswer 1 none\nreport\n",
+        "batch 1\nflush 1 points 1\npoint x (10,20] 1,1,0\nsettled 1\nrefused not-live\nrefused not-live\nrefused not-live\nrefused not-live\nseries x sum owner A frontier 20 accepted 1,1,0 acknowledged 1,1,0 dropped 0,0,0 in-flight 0,0,0 stored 0,0,0 quarantined 0,0,0\nend\n",
+    ),
+    (
+        "answer 9 200\nanswer 1 none 5\nanswer 1 503 \nanswer 1\nanswer 1 \nanswer 1 65535\nanswer 1 65536\nanswer 1 None\nanswer 1 503 2 2\nanswer 1 503 2 \nanswer 1 -1\nanswer 1  200\nanswer x 200\nanswer\nanswer 18446744073709551616 200\n",
+        "refused not-live\nbad command\nbad command\nbad command\nbad command\nrefused not-live\nbad command\nbad command\nbad command\nbad command\nbad command\nbad command\nbad command\nbad command\nbad command\n",
+    ),
+];
+
+#[test]
+fn answers(rt: HostRuntime) {
+    for (script, text) in ANSWERS {
+        replies(&rt, rt.alloc(), script, text);
+    }
+}
+
+/// What the back end answers to the first flush, and what becomes of it.
+const ENDS: [(&str, &str); 28] = [
+    ("none", "returned 1"),
+    ("0", "returned 1"),
+    ("199", "returned 1"),
+    ("200", "settled 1"),
+    ("299", "settled 1"),
+    ("300", "returned 1"),
+    ("399", "returned 1"),
+    ("400", "dropped 1"),
+    ("428", "dropped 1"),
+    ("429", "returned 1"),
+    ("430", "dropped 1"),
+    ("501", "dropped 1"),
+    ("502", "returned 1"),
+    ("503", "returned 1"),
+    ("504", "returned 1"),
+    ("505", "dropped 1"),
+    ("599", "dropped 1"),
+    ("600", "returned 1"),
+    ("65535", "returned 1"),
+    ("200 7", "settled 1"),
+    ("400 7", "dropped 1"),
+    ("429 7", "returned 1 after 7"),
+    ("502 7", "returned 1"),
+    ("504 7", "returned 1"),
+    ("503 soon", "returned 1"),
+    ("503 -1", "returned 1"),
+    (
+        "503 18446744073709551615",
+        "returned 1 after 18446744073709551615",
+    ),
+    ("503 18446744073709551616", "returned 1"),
+];
+
+#[test]
+fn ends_of_a_flush(rt: HostRuntime) -> Result<(), Fail> {
+    for (answer, end) in ENDS {
+        let script = format!(in rt.alloc(); "admit A x 10 20 1\ntake 1\nanswer 1 {answer}\n")?;
+        let text = format!(in rt.alloc();
+            "batch 1\nflush 1 points 1\npoint x (10,20] 1,1,0\n{end}\n"
+        )?;
+        replies(&rt, rt.alloc(), script.as_str(), text.as_str());
+    }
+    Ok(())
+}
