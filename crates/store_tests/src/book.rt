@@ -1,6 +1,7 @@
 //! What no clause says: that each call succeeds where memory is ample, and at which count each
 //! limit lies.
 ghost use Rattle.std.specs.Prelude.{◌≡◌, ◌<◌, length, IfOk};
+ghost use Rattle.metric_events.specs.PointFaults.{IsSum};
 
 use delta_book::book::Book;
 use delta_book::faults::{
@@ -423,7 +424,9 @@ fn a_full_journal_is_closed(rt: HostRuntime) -> Result<(), Fail> {
 }
 
 // A batch of one point of this series, with the value 1.
-fn batch_of(alloc: Global, series: SeriesId, start: u64) -> Result<Batch, Fail> {
+fn batch_of(alloc: Global, series: SeriesId, start: u64) -> Result<Batch, Fail>
+    requires { IsSum series.kind }
+{
     let mut points = Points::new(alloc);
     points.push(Point::sum(alloc, series, start, start.saturating_add(1), 1)?)?;
     let sender = sender(alloc, 0)?;
