@@ -433,7 +433,8 @@ fn batch_of(alloc: Global, series: SeriesId, start: u64) -> Result<Batch, Fail>
     Ok(Batch { sender, points })
 }
 
-// What is kept of a second batch shares the identity of the first: its entry and its accepted point.
+// What is kept of a second batch shares the identity of the first: its entry and its accepted point;
+// and so does a flush: its entry, what is kept of it while it is live, and the point that it sends.
 #[test]
 fn known_series_are_kept_once(rt: HostRuntime) -> Result<(), Fail> {
     let alloc = rt.alloc();
@@ -446,5 +447,8 @@ fn known_series_are_kept_once(rt: HostRuntime) -> Result<(), Fail> {
     let own = series(alloc, 1, Kind::Sum { monotonic: false })?;
     assert_eq!(rt; admitted(&rt, &mut book, batch_of(alloc, own, 2)?), Ok(2));
     assert_eq!(rt; shared.owners(), 5);
+    let flush = book.take(7, 1)?.ok_or("nothing was taken")?;
+    assert_eq!(rt; flush.points.as_slice().len(), 1);
+    assert_eq!(rt; shared.owners(), 8);
     Ok(())
 }
