@@ -26,9 +26,7 @@ fn backend<'a>(alloc: Global) -> Arg<'a>
     ensures rule { rule_of result ≡ spec.backend }
     ensures local { result.global ≡ false }
 {
-    Arg::new(alloc, "backend")
-        .long("backend")
-        .required(true)
+    Arg::new(alloc, "backend").long("backend").required(true)
 }
 
 /// `--listen ADDR`

@@ -1,6 +1,5 @@
 ghost use Rattle.std.specs.Prelude.{◌<◌, ◌≤◌, ◌^◌, length};
 
-
 /// What the gateway is told when it starts.
 #[derive(Clone, Copy, Debug)]
 pub struct Options<'a> {

@@ -52,8 +52,7 @@ pub fn serve_all<R: Net<Listener = TcpListener, Stream = TcpStream>>(
     net: &R,
     alloc: Global,
     options: &Options<'_>,
-) -> Result<Vec<u8>, GatewayFault>
-{
+) -> Result<Vec<u8>, GatewayFault> {
     let Ok(listener) = TcpListener::bind(net, options.listen) else {
         return Err(GatewayFault::CannotListen);
     };

@@ -29,8 +29,15 @@ fn defaults_stand_in(rt: HostRuntime) -> Result<(), Fail> {
 #[test]
 fn what_is_given_is_taken(rt: HostRuntime) -> Result<(), Fail> {
     let words = [
-        "gateway", "serve", "--flush-series", "1", "--listen=[::1]:80", "--connections", "1000000",
-        "--backend", "b:9",
+        "gateway",
+        "serve",
+        "--flush-series",
+        "1",
+        "--listen=[::1]:80",
+        "--connections",
+        "1000000",
+        "--backend",
+        "b:9",
     ];
     let options = meant(&rt, rt.alloc(), words.as_slice())?;
     assert_eq!(rt; options.backend, "b:9");
@@ -49,10 +56,42 @@ fn faulty_lines_are_refused(rt: HostRuntime) -> Result<(), Fail> {
         &["gateway", "serve", "--help"],
         &["gateway", "serve", "--connections", "1"],
         &["gateway", "serve", "--backend", "b:9"],
-        &["gateway", "serve", "--backend", "b:9", "--connections", "1000001"],
-        &["gateway", "serve", "--backend", "b:9", "--connections", "+1"],
-        &["gateway", "serve", "--backend", "b:9", "--connections", "1", "--flush-series", "0"],
-        &["gateway", "serve", "--backend", "b:9", "--connections", "1", "--flush-series", "1001"],
+        &[
+            "gateway",
+            "serve",
+            "--backend",
+            "b:9",
+            "--connections",
+            "1000001",
+        ],
+        &[
+            "gateway",
+            "serve",
+            "--backend",
+            "b:9",
+            "--connections",
+            "+1",
+        ],
+        &[
+            "gateway",
+            "serve",
+            "--backend",
+            "b:9",
+            "--connections",
+            "1",
+            "--flush-series",
+            "0",
+        ],
+        &[
+            "gateway",
+            "serve",
+            "--backend",
+            "b:9",
+            "--connections",
+            "1",
+            "--flush-series",
+            "1001",
+        ],
     ];
     for line in lines {
         assert!(rt; matches!(options(rt.alloc(), line), Err(LineFault::Line(_))));
