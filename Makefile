@@ -10,7 +10,8 @@ run:
 # Proves the programs and builds them into bin/.
 build:
 	cd crates/play && mkdir -p out && rt run < /dev/null > out/build.log 2>&1 || { cat out/build.log; exit 1; }
-	mkdir -p bin && cp crates/play/out/play bin/
+	cd crates/gateway && mkdir -p out && rt run -- $$(cat args) > out/build.log 2>&1 || { cat out/build.log; exit 1; }
+	mkdir -p bin && cp crates/play/out/play bin/ && cp crates/gateway/out/gateway bin/
 
 # The gate: every proof from nothing, the must-fail edits, the tests and the programs; and then what
 # the prover can't see, with the program that the gate has built.

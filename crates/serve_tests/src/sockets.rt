@@ -3,7 +3,7 @@ use crate::desk::{ACCEPTED, Fixed, POSTED, done, keeper, refused};
 use back_answers::Answer;
 use delta_book::book::Book;
 use gate_workers::{BookKeeper, End, Served, Uplink};
-use gateway::{Backend, serve_connection};
+use gateway_serve::{Backend, serve_connection};
 use std::io::{Read, Write};
 use std::net::{Shutdown, TcpListener, TcpStream};
 use std::process::Abort;
