@@ -37,10 +37,10 @@ fn main(rt: HostRuntime) -> ExitCode {
         }
         Ok(options) => match serve_all(&rt, alloc, &options) {
             Err(fault) => fail(&rt, fault),
-            Ok(report) => {
-                let _ = io::writer(&rt).write_all(report.as_slice());
-                ExitCode::SUCCESS
-            }
+            Ok(report) => match io::writer(&rt).write_all(report.as_slice()) {
+                Ok(()) => ExitCode::SUCCESS,
+                Err(_) => fail(&rt, GatewayFault::CannotWrite),
+            },
         },
     }
 }

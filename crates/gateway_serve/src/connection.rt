@@ -2,18 +2,22 @@
 ghost use Rattle.std.specs.Prelude.{None};
 ghost use Rattle.gate_workers.specs.Served.{IsServed};
 
+use crate::waits::bound_waits;
 use byte_ends::{FromReader, ToWriter, drain};
 use gate_workers::{Keeper, NoPace, Served, serve};
 use http_edge::{MAX_BODY, MAX_HEAD};
 use std::alloc::Global;
 use std::net::{Shutdown, TcpStream};
-use std::time::Duration;
 
 /// The most bytes that are thrown away of a request that was refused: those of the largest message,
 /// and as many again for the lines of its chunks.
 const MOST_REFUSED: usize = 2 * (MAX_HEAD + MAX_BODY);
 
-/// For how many seconds a connection whose request was refused may keep the gateway waiting for a byte.
+/// For how many seconds a sender may keep the gateway waiting for its next bytes, or for room for the
+/// answer's.
+const WAIT_SECONDS: u64 = 30;
+
+/// The same for the rest of a request that was refused.
 const LAST_WAIT_SECONDS: u64 = 2;
 
 /// Whether the request may have been refused before all of it was read.
@@ -34,12 +38,7 @@ fn end_softly(stream: &TcpStream, reader: &mut FromReader<&TcpStream>) {
     if stream.shutdown(Shutdown::Write).is_err() {
         return;
     }
-    if stream
-        .set_read_timeout(Some(Duration::from_secs(LAST_WAIT_SECONDS)))
-        .is_err()
-    {
-        return;
-    }
+    bound_waits(stream, LAST_WAIT_SECONDS);
     let _ = drain(reader, MOST_REFUSED);
 }
 
@@ -48,6 +47,7 @@ fn end_softly(stream: &TcpStream, reader: &mut FromReader<&TcpStream>) {
 pub fn serve_connection<K: Keeper>(alloc: Global, keeper: &mut K, stream: &TcpStream) -> Served
     ensures { IsServed K.gives None keeper.old keeper.new None None result }
 {
+    bound_waits(stream, WAIT_SECONDS);
     let mut reader = FromReader::new(stream);
     let mut writer = ToWriter::new(stream);
     let served = serve(alloc, keeper, &mut reader, &mut writer, &mut NoPace);

@@ -1,6 +1,6 @@
 use thiserror::Error;
 
-/// Why the gateway ended before all of its connections were served.
+/// Why the gateway ended without telling its report.
 #[derive(Clone, Copy, Debug, Drop, PartialEq, Eq, Error)]
 pub enum GatewayFault {
     /// The address can't be listened on.
@@ -12,4 +12,7 @@ pub enum GatewayFault {
     /// A growth was refused where no answer could tell it.
     #[error("no memory")]
     NoMemory,
+    /// The report was not written whole.
+    #[error("cannot write")]
+    CannotWrite,
 }

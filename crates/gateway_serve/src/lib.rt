@@ -8,6 +8,7 @@ mod backend;
 mod connection;
 mod fault;
 mod serving;
+mod waits;
 
 pub use backend::Backend;
 pub use connection::serve_connection;
