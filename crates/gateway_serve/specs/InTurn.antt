@@ -1,5 +1,5 @@
 -- Connections that are served one after another over one keeper, and the report at their end.
-use Rattle.std.specs.Prelude.{◌≡◌, ◌≤◌, ℕ, List, None, suc}
+use Rattle.std.specs.Prelude.{◌≡◌, ◌≤◌, ℕ, zero, suc, List, None}
 use Rattle.metric_events.specs.History.{History}
 use Rattle.metric_events.specs.Legal.{IsLegal}
 use Rattle.delta_book.specs.Totals.{totals_rows}
@@ -14,7 +14,7 @@ IsOneServed gives k k' = (served : Served) × IsServed gives None k k' None None
 
 -- what so many connections make of it
 abbrev pub AreServed : {K : Type 0} → Giving K → ℕ → K → K → Type 0
-AreServed gives 0 k k' = k ≡ k'
+AreServed gives zero k k' = k ≡ k'
 AreServed {K} gives (suc n) k k' = (m : K) × AreServed gives n k m × IsOneServed gives m k'
 
 -- the same of at most so many
