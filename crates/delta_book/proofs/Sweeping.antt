@@ -21,7 +21,7 @@ abbrev pub is_some_cell : CellView → Bool
 is_some_cell c = not (end_of c == 0)
 
 -- a cell of no frontier stands for no point
-empty_cell : (c : CellView) (qs : List Accepted) → Stands c qs → is_some_cell c ≡ false → qs ≡ []
+pub empty_cell : (c : CellView) (qs : List Accepted) → Stands c qs → is_some_cell c ≡ false → qs ≡ []
 empty_cell c [] h e = refl
 empty_cell c (a ∷ qs) h e =
     let z : end_of c ≡ 0 = eqb-true (end_of c) 0 (back (end_of c == 0) e) in
@@ -38,9 +38,9 @@ full_cell c qs h e n =
     let t : not (0 == 0) ≡ true = subst (λ k. not (k == 0) ≡ true) z e in
     let q : false ≡ true = t in cc
 
-none_of : (x : Identity) (qs : List Accepted) → of_series x qs ≡ [] → list_any (is_of x) qs ≡ false
-none_of x [] e = refl
-none_of x (a ∷ qs) e = both (is_of x a) refl (none_of x qs)
+pub none_of_empty : (x : Identity) (qs : List Accepted) → of_series x qs ≡ [] → list_any (is_of x) qs ≡ false
+none_of_empty x [] e = refl
+none_of_empty x (a ∷ qs) e = both (is_of x a) refl (none_of_empty x qs)
   where
     both : (v : Bool) → is_of x a ≡ v → (of_series x qs ≡ [] → list_any (is_of x) qs ≡ false) → (is_of x a || list_any (is_of x) qs) ≡ false
     both true k r = absurd (let q : a ∷ of_series x qs ≡ [] = rw k at e in cc)
@@ -72,7 +72,7 @@ left_over (c ∷ cs) qs z h = both (is_some_cell c) (same_series z c.id) refl re
         rw (e, m) (sym k)
     both true false e m r = rw (e, m) r
     both false true e m r =
-        let k : list_any (is_of z) qs ≡ false = subst (λ y. list_any (is_of y) qs ≡ false) (sym (same_series-exact z c.id m)) (none_of c.id qs (empty_cell c (of_series c.id qs) h.0 e)) in
+        let k : list_any (is_of z) qs ≡ false = subst (λ y. list_any (is_of y) qs ≡ false) (sym (same_series-exact z c.id m)) (none_of_empty c.id qs (empty_cell c (of_series c.id qs) h.0 e)) in
         rw (e, m) (r ∙ (ap (λ v. is_among z (map id_of cs) && v) k ∙ (and_false (is_among z (map id_of cs)) ∙ sym k)))
     both false false e m r = rw (e, m) r
 
