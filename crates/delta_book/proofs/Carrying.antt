@@ -1,5 +1,5 @@
 -- The cells go from one round to the next.
-use Rattle.std.proofs.Common.{◌≡◌, ℕ, ◌+◌, ◌<◌, ◌≤◌, Bool, true, false, not, ◌==◌, List, [], ◌∷◌, ◌++◌, map, set, get_or, length, take, drop, refl, ap, sym, ◌∙◌, subst, arith, zero, suc, None}
+use Rattle.std.proofs.Common.{◌≡◌, ℕ, ◌<◌, ◌≤◌, Bool, true, false, not, ◌==◌, List, [], ◌∷◌, ◌++◌, map, set, get_or, length, take, drop, refl, ap, sym, ◌∙◌, subst, arith, zero, suc, None}
 use Rattle.std.specs.Prelude.{nat_lt}
 use Rattle.std.specs.List.{list_any, list_all}
 use Rattle.std.proofs.lemmas.Bool.{and_parts, or_left, or_right, ltb-false}
@@ -10,9 +10,9 @@ use Rattle.series_id.proofs.Order.{same_series-refl, before-apart}
 use Rattle.metric_events.specs.Opening.{IsOpening, series_of}
 use Rattle.metric_events.specs.declared.opening.Opening.{Opening}
 use Rattle.metric_events.specs.declared.opened_series.OpenedSeries.{OpenedSeries}
-use Rattle.metric_events.specs.History.{History, opening}
+use Rattle.metric_events.specs.History.{opening}
 use Rattle.metric_events.specs.Points.{points, mark, carried, carried_of, opened_points, is_among, is_flying}
-use Rattle.metric_events.specs.Running.{open_batches, live_flushes, held_senders}
+use Rattle.metric_events.specs.Running.{held_senders}
 use Rattle.metric_events.specs.Series.{of_series, is_ascending}
 use Rattle.metric_events.specs.Legal.{is_in_live}
 use Rattle.metric_events.specs.Standing.{stands, series_standing, all_series}
@@ -34,7 +34,7 @@ use Rattle.delta_book.specs.Journal.{Journal, journal_of, history}
 use Rattle.delta_book.specs.declared.open.Open.{Open}
 use Rattle.delta_book.proofs.Adding.{written_back}
 use Rattle.delta_book.proofs.Choosing.{AreTied}
-use Rattle.delta_book.proofs.Closes.{MayClose, may_close, next_opened}
+use Rattle.delta_book.proofs.Closes.{may_close, next_opened}
 use Rattle.delta_book.proofs.Sweeping.{is_some_cell, empty_cell, none_of_empty}
 use Rattle.delta_book.proofs.ToldCells.{owner_is, frontier_of, has_points}
 
@@ -111,9 +111,10 @@ carries_one c qs h m n = record {
 
 carries_each : (cs : List CellView) (qs : List Accepted) → AllStand cs qs → ((x : Identity) → is_among x (map id_of cs) ≡ true → HasPoint x qs) → ((x : Identity) → list_any (stands is_flying) (of_series x qs) ≡ false) → AllCarry cs
 carries_each [] qs h k n = tt
-carries_each (c ∷ cs) qs h k n =
-    (carries_one c qs h.0 (k c.id (or_left (same_series c.id c.id) (is_among c.id (map id_of cs)) (same_series-refl c.id))) (n c.id),
-    carries_each cs qs h.1 (λ x m. k x (or_right (same_series x c.id) (is_among x (map id_of cs)) m)) n)
+carries_each (c ∷ cs) qs h k n = (
+  carries_one c qs h.0 (k c.id (or_left (same_series c.id c.id) (is_among c.id (map id_of cs)) (same_series-refl c.id))) (n c.id),
+  carries_each cs qs h.1 (λ x m. k x (or_right (same_series x c.id) (is_among x (map id_of cs)) m)) n,
+)
 
 pub may_carry : (cs ds : List CellView) (qs : List Accepted) (live : List Flight) → AreCells cs qs → AreTied qs live → live ≡ [] → ds ≡ cs → AllCarry ds
 may_carry cs ds qs live h t none d =
@@ -134,9 +135,10 @@ hands_one before c qs held h m =
 
 hands_each : (before : List OpenedSeries) (cs : List CellView) (qs : List Accepted) (held : List (List ℕ)) → AllStand cs qs → ((x : Identity) → is_among x (map id_of cs) ≡ true → HasPoint x qs) → AllHandOn cs (map (handed_on before) (map (series_standing qs held) (map id_of cs)))
 hands_each before [] qs held h k = tt
-hands_each before (c ∷ cs) qs held h k =
-    (hands_one before c qs held h.0 (k c.id (or_left (same_series c.id c.id) (is_among c.id (map id_of cs)) (same_series-refl c.id))),
-    hands_each before cs qs held h.1 (λ x m. k x (or_right (same_series x c.id) (is_among x (map id_of cs)) m)))
+hands_each before (c ∷ cs) qs held h k = (
+  hands_one before c qs held h.0 (k c.id (or_left (same_series c.id c.id) (is_among c.id (map id_of cs)) (same_series-refl c.id))),
+  hands_each before cs qs held h.1 (λ x m. k x (or_right (same_series x c.id) (is_among x (map id_of cs)) m)),
+)
 
 hands_all : (before : List OpenedSeries) (cs : List CellView) (qs : List Accepted) (held : List (List ℕ)) → AreCells cs qs → AllHandOn cs (map (handed_on before) (all_series qs held))
 hands_all before cs qs held h = subst (λ xs. AllHandOn cs (map (handed_on before) (map (series_standing qs held) xs))) h.ids (hands_each before cs qs held h.stand (has_points cs qs h))

@@ -1,5 +1,5 @@
 -- The cells of a book, one for each series that has an accepted point, in series order.
-use Rattle.std.specs.Prelude.{◌≡◌, ℕ, ◌==◌, ◌&&◌, Bool, true, List, [], ◌∷◌, ◌++◌, map, if◌then◌else◌, Some, None, zero, suc, not}
+use Rattle.std.specs.Prelude.{◌≡◌, ℕ, ◌==◌, Bool, true, List, [], ◌∷◌, ◌++◌, map, if◌then◌else◌, Some, None, zero, suc, not}
 use Rattle.std.specs.declared.option.Option.{Option}
 use Rattle.std.specs.List.{list_all, list_any}
 use Rattle.series_id.specs.Identity.{Identity}

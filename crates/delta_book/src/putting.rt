@@ -89,7 +89,13 @@ fn open_all(
     ensures room { OnOk result ((qs : List Accepted) → IsOpenTable sender.now cells.old.items qs → HasRoomFor cells.new.items batch.now) }
 {
     for p in batch {
-        open_cell(alloc, cells, sender, p.series(), count_of(batch, p.series()))?;
+        open_cell(
+            alloc,
+            cells,
+            sender,
+            p.series(),
+            count_of(batch, p.series()),
+        )?;
     }
     Ok(())
 }

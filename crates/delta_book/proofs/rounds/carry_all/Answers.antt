@@ -1,5 +1,4 @@
 use Rattle.std.proofs.Common.{◌∙◌, ap, arith, add-one, subst, sym, get_or, set}
-use Rattle.series_cell.specs.Cells.{CellView}
 use Rattle.delta_book.proofs.Carrying.{AreCarried, length_carried, carries_at, carried_more, carried_all}
 use Rattle.delta_book.proofs.rounds.carry_all.Goals as goal
 
