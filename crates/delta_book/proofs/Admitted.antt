@@ -10,7 +10,7 @@ use Rattle.metric_events.specs.Points.{points, admitted}
 use Rattle.metric_events.specs.Rows.{fits}
 use Rattle.metric_events.specs.Series.{sum_of}
 use Rattle.metric_events.specs.Legal.{MayAdmit, is_over, is_too_large}
-use Rattle.metric_events.specs.declared.limits.TheConstants.{MAX_AMOUNT}
+use Rattle.metric_events.specs.declared.limits.TheConstants.{MAX_BUCKET}
 use Rattle.metric_events.specs.declared.accepted.Accepted.{Accepted}
 use Rattle.metric_events.specs.declared.batch.Batch.{Batch}
 use Rattle.metric_events.specs.declared.entry.Entry.{Entry}
@@ -29,7 +29,7 @@ use Rattle.delta_book.proofs.Opened.{open_more, open_push}
 word_small : (b : ℕ) (s : List ℕ) (qs : List Accepted) (ps : List DataPoint) (x : Identity) (k : ℕ) → is_too_large (qs ++ map (admitted b s) ps) ps ≡ false → list_any (is_point_of x) ps ≡ true → word_of x k qs + word_in x k ps < 2 ^ 64
 word_small b s qs ps x k h m =
     let all : List Accepted = qs ++ map (admitted b s) ps in
-    omega (arith, word-with x k b s qs ps, both_at (is_point_of x) (λ p. not (is_over all p)) (slice_index (sum_of x all) k ≤ MAX_AMOUNT) (λ p e f. subst (λ y. slice_index (sum_of y all) k ≤ MAX_AMOUNT) (same_series-exact p.series x e) (word_fits p.series.kind (sum_of p.series all) k (back (fits p.series.kind (sum_of p.series all)) f))) ps m (any_none (is_over all) ps h))
+    omega (arith, word-with x k b s qs ps, both_at (is_point_of x) (λ p. not (is_over all p)) (slice_index (sum_of x all) k ≤ MAX_BUCKET) (λ p e f. subst (λ y. slice_index (sum_of y all) k ≤ MAX_BUCKET) (same_series-exact p.series x e) (word_fits p.series.kind (sum_of p.series all) k (back (fits p.series.kind (sum_of p.series all)) f))) ps m (any_none (is_over all) ps h))
   where
     back : (v : Bool) → not (not v) ≡ true → v ≡ true
     back true e = refl
