@@ -57,12 +57,12 @@ SeatGives seats t (totals (Some rows)) t' = IsUntold seats t t' (λ E. rows ≡ 
 SeatGives seats t (order r) t' = t' ≡ t
 
 -- who has no end for orders is told that nobody takes them
-abbrev pub MayOrder : Bool → Call → Type 0
-MayOrder false (order r) = r ≡ Err Gone
-MayOrder orders c = ⊤
+abbrev pub MayOrder : Call → Bool → Type 0
+MayOrder (order r) false = r ≡ Err Gone
+MayOrder c orders = ⊤
 
 -- what a call with its answer makes of the keeper
 pub record WorkerGives (seats : ℕ) (k : Worker) (c : Call) (k' : Worker) : Type 0 where
   pub seat : SeatGives seats k.told c k'.told
   pub orders : k'.orders ≡ k.orders
-  pub ordered : MayOrder k.orders c
+  pub ordered : MayOrder c k.orders
