@@ -224,7 +224,11 @@ impl<L: Ledger> Kept<L> {
     }
 
     /// As `Book::quarantine`, from the seat, which is told.
-    pub fn quarantine(&mut self, seat: &mut Seat<L>, sender: SenderName) -> Result<(), QuarantineFault>
+    pub fn quarantine(
+        &mut self,
+        seat: &mut Seat<L>,
+        sender: SenderName,
+    ) -> Result<(), QuarantineFault>
         ensures told { OnOk result (IsToldAt L.parts self.old self.new seat.old seat.new (Event.Quarantine sender)) }
         ensures none { OnOk result (quarantine_refusal (history self.old) sender ≡ None) }
         ensures fault { IfErr result (λ e. e ≡ unwrap_or (quarantine_refusal (history self.old) sender) QuarantineFault.NoMemory) }

@@ -1,4 +1,6 @@
 ghost use Rattle.std.specs.Prelude.{◌≡◌, ◌+◌, ◌<◌, ◌≤◌, [], length, IfOk};
+ghost use Rattle.metric_events.specs.Legal.{IsLegal};
+ghost use Rattle.delta_book.specs.Journal.{history, IsNumbered};
 ghost use Rattle.shared_book.specs.Receipts.{told_of, told_also};
 
 use crate::receipt::Receipt;
@@ -35,11 +37,7 @@ impl<L: Ledger> Model for Seat<L> {
 
 impl<L: Ledger> Seat<L> {
     /// A seat that was told nothing, with room for all receipts of a round.
-    pub(crate) fn new(
-        alloc: Global,
-        number: u16,
-        share: Share<L>,
-    ) -> Result<Seat<L>, AllocError>
+    pub(crate) fn new(alloc: Global, number: u16, share: Share<L>) -> Result<Seat<L>, AllocError>
         requires number { number < L.parts }
         requires parts { share.parts ≡ 1 }
         requires amount { share.amount ≡ 0 }
@@ -83,6 +81,8 @@ impl<L: Ledger> Seat<L> {
         requires long { length self.old.receipts ≤ events.old.total }
         ensures told { self.new ≡ told_also self.old receipt }
         ensures total { events.new.total ≡ events.old.total + 1 }
+        ensures legal { IsLegal (history book.now) }
+        ensures numbered { IsNumbered (history book.now) }
     {
         let _entries = book.journal();
         let Seat {

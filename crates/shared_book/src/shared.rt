@@ -170,7 +170,12 @@ impl<L: Ledger> SharedBook<L> {
     }
 
     /// As `Book::quarantine`.
-    pub fn quarantine(&self, rt: &impl Wait, seat: &mut Seat<L>, sender: SenderName) -> Result<(), QuarantineFault>
+    pub fn quarantine(
+        &self,
+        rt: &impl Wait,
+        seat: &mut Seat<L>,
+        sender: SenderName,
+    ) -> Result<(), QuarantineFault>
         ensures told { OnOk result (IsTold L.parts seat.old seat.new (Event.Quarantine sender)) }
         ensures fault { IfErr result (λ e. AsOf L.parts seat.old (λ E. e ≡ unwrap_or (quarantine_refusal E sender) QuarantineFault.NoMemory)) }
         ensures err { OnErr result (seat.new ≡ seat.old) }
@@ -179,7 +184,12 @@ impl<L: Ledger> SharedBook<L> {
     }
 
     /// As `Book::lift`. Takes no memory.
-    pub fn lift(&self, rt: &impl Wait, seat: &mut Seat<L>, sender: &SenderName) -> Result<(), NotQuarantined>
+    pub fn lift(
+        &self,
+        rt: &impl Wait,
+        seat: &mut Seat<L>,
+        sender: &SenderName,
+    ) -> Result<(), NotQuarantined>
         ensures told { OnOk result (IsTold L.parts seat.old seat.new (Event.Lift sender.now)) }
         ensures fault { IfErr result (λ e. AsOf L.parts seat.old (λ E. lift_refusal E sender.now ≡ Some e)) }
         ensures err { OnErr result (seat.new ≡ seat.old) }
