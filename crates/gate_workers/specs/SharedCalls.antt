@@ -1,8 +1,7 @@
 -- What the calls of a keeper over a shared book tell its seat.
-use Rattle.std.specs.Prelude.{◌≡◌, ◌≢◌, ◌⊎◌, ℕ, Bool, true, false, ⊤, if◌then◌else◌, [], Option, Some, None, Result, Ok, Err, unwrap_or}
+use Rattle.std.specs.Prelude.{◌≡◌, ◌≢◌, ℕ, Bool, false, ⊤, if◌then◌else◌, [], Some, None, Result, Ok, Err, unwrap_or}
 use Rattle.metric_events.specs.History.{History}
 use Rattle.metric_events.specs.Choice.{pick}
-use Rattle.metric_events.specs.declared.batch.Batch.{Batch}
 use Rattle.metric_events.specs.declared.event.Event.{Event}
 use Rattle.metric_events.specs.declared.event.Event.TheVariants.{Admit, Undo, Confirm, Settle, Drop, GiveBack, Quarantine, Lift}
 use Rattle.delta_book.specs.Refusals.{admit_refusal, undo_refusal, confirm_refusal, flush_refusal, quarantine_refusal, lift_refusal}
@@ -14,9 +13,7 @@ use Rattle.delta_book.specs.declared.faults.TakeFault.TheVariants as taking
 use Rattle.delta_book.specs.declared.faults.QuarantineFault.TheVariants as holding
 use Rattle.shared_book.specs.Receipts.{Told}
 use Rattle.shared_book.specs.Moments.{AsOf, IsTold, IsTakenFor}
-use Rattle.gate_workers.specs.declared.order_fault.OrderFault.{OrderFault}
 use Rattle.gate_workers.specs.declared.order_fault.OrderFault.TheVariants.{Gone}
-use Rattle.gate_workers.specs.declared.turn.Turn.{Turn}
 use Rattle.gate_workers.specs.Calls.{Call, admit, undo, confirm, take, settle, drop_flush, give_back, quarantine, lift, totals, order}
 
 -- what contracts see of a keeper over a shared book: what its seat was told, and whether it has an end for orders
