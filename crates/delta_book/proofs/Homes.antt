@@ -14,23 +14,22 @@ use Rattle.metric_events.specs.declared.accepted.Accepted.{Accepted}
 use Rattle.metric_events.proofs.Fits.{merged_is, chosen_fit, made_of, made_of_filter, made_points}
 use Rattle.series_cell.specs.Cells.{CellView, Stands, home_hull}
 use Rattle.series_cell.proofs.Reading.{tells}
-use Rattle.delta_book.specs.declared.part.Part.TheVariants.{Home}
-use Rattle.delta_book.specs.Parts.{home_point, part_of}
+use Rattle.delta_book.specs.AtHome.{home_point, home_points}
 use Rattle.delta_book.specs.Tables.{AreCells, id_of}
-use Rattle.delta_book.proofs.Adding.{part_is}
+use Rattle.delta_book.proofs.Adding.{home_points_are}
 use Rattle.delta_book.proofs.Sending.{merged_some, merged_none}
 use Rattle.delta_book.proofs.Asked.{none_of}
 
-part_hull : (c : CellView) (qs : List Accepted) → Stands c (of_series c.id qs) → home_hull c ≡ hull (part_of Home c.id qs)
-part_hull c qs h = (tells c (of_series c.id qs) h).home_span ∙ ap hull (sym (part_is Home c.id qs))
+own_hull : (c : CellView) (qs : List Accepted) → Stands c (of_series c.id qs) → home_hull c ≡ hull (home_points c.id qs)
+own_hull c qs h = (tells c (of_series c.id qs) h).home_span ∙ ap hull (sym (home_points_are c.id qs))
 
 pub home_none : (c : CellView) (qs : List Accepted) → Stands c (of_series c.id qs) → home_hull c ≡ None → home_point qs c.id ≡ None
-home_none c qs h e = merged_none c.id (part_of Home c.id qs) (sym (part_hull c qs h) ∙ e)
+home_none c qs h e = merged_none c.id (home_points c.id qs) (sym (own_hull c qs h) ∙ e)
 
 pub home_some : (c : CellView) (qs : List Accepted) (span : Interval) (row : List ℕ) (x : Identity) → Stands c (of_series c.id qs) → home_hull c ≡ Some span → row ≡ c.stored → x ≡ c.id → home_point qs c.id ≡ Some (record { series = x; span = span; row = row })
 home_some c qs span row x h e r s =
-    merged_some c.id (part_of Home c.id qs) span (sym (part_hull c qs h) ∙ e)
-    ∙ (ap (λ w. Some (record { series = c.id; span = span; row = w })) (ap (row_sum (row_length c.id.kind)) (part_is Home c.id qs) ∙ (sym (tells c (of_series c.id qs) h).stored ∙ sym r))
+    merged_some c.id (home_points c.id qs) span (sym (own_hull c qs h) ∙ e)
+    ∙ (ap (λ w. Some (record { series = c.id; span = span; row = w })) (ap (row_sum (row_length c.id.kind)) (home_points_are c.id qs) ∙ (sym (tells c (of_series c.id qs) h).stored ∙ sym r))
     ∙ ap (λ (y : Identity). Some (record { series = y; span = span; row = row })) (sym s))
 
 pub home_point_is : (c : CellView) (E : History) (span : Interval) (row : List ℕ) (x : Identity) → IsLegal E → Stands c (of_series c.id (points E)) → home_hull c ≡ Some span → row ≡ c.stored → x ≡ c.id → IsMerged (record { series = x; span = span; row = row })
@@ -40,7 +39,7 @@ home_point_is c E span row x l h e r s =
     subst (λ (y : Identity). IsMerged (record { series = y; span = span; row = row })) (sym s)
     (subst (λ w. IsMerged (record { series = c.id; span = span; row = w })) (sym (r ∙ k.stored)) p)
 
-none_left : (x : Identity) (qs : List Accepted) → list_any (is_of x) qs ≡ false → part_of Home x qs ≡ []
+none_left : (x : Identity) (qs : List Accepted) → list_any (is_of x) qs ≡ false → home_points x qs ≡ []
 none_left x [] h = refl
 none_left x (a ∷ qs) h = let p = or_parts (is_of x a) (list_any (is_of x) qs) h in rw p.0 (none_left x qs p.1)
 

@@ -59,6 +59,3 @@ same_at (w ∷ cs) (suc i) c d l e f = same_at cs i c d (omega arith) e f
 
 pub middle_lt : (low high : ℕ) → low < high → low + (high - low) / 2 < high
 middle_lt low high h = omega arith
-
-pub middle_is : (low high : ℕ) → low < high → low + (high - low) / 2 ≤ high
-middle_is low high h = omega (arith, middle_lt low high h)
