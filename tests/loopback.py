@@ -1,6 +1,8 @@
 """The built gateway over loopback: a client that reads whole answers, and a back end that is told how to
 answer."""
+import itertools
 import json
+import os
 import socket
 import subprocess
 import threading
@@ -11,10 +13,23 @@ NO_MEMORY = (b"HTTP/1.1 503 Service Unavailable\r\nContent-Type: application/jso
              b"Content-Length: 23\r\nConnection: close\r\n\r\n{\"message\":\"no memory\"}")
 
 
+# Below the ports that the system gives to clients, so that none of them takes a gateway's.
+PORTS = itertools.count(20_000 + os.getpid() % 1000 * 10)
+PORTS_LOCK = threading.Lock()
+
+
 def free_port():
-    with socket.socket() as listener:
-        listener.bind(("127.0.0.1", 0))
-        return listener.getsockname()[1]
+    """A port that nobody listens on, and that no other call of this process gives."""
+    while True:
+        with PORTS_LOCK:
+            port = next(PORTS)
+        with socket.socket() as listener:
+            listener.setsockopt(socket.SOL_SOCKET, socket.SO_REUSEADDR, 1)
+            try:
+                listener.bind(("127.0.0.1", port))
+                return port
+            except OSError:
+                continue
 
 
 def posted(body, sender="A"):
@@ -113,7 +128,8 @@ class BackEnd:
         self.bodies = []
         self.listener = socket.create_server(("127.0.0.1", 0))
         self.port = self.listener.getsockname()[1]
-        threading.Thread(target=self.serve, daemon=True).start()
+        self.thread = threading.Thread(target=self.serve, daemon=True)
+        self.thread.start()
 
     def serve(self):
         while True:
@@ -138,6 +154,9 @@ class BackEnd:
         connection.sendall(b"HTTP/1.1 " + answer + b"Content-Length: 0\r\n\r\n")
 
     def close(self):
+        """Ends the thread before the listener is closed, whose number another could have by then."""
+        self.listener.shutdown(socket.SHUT_RDWR)
+        self.thread.join(SECONDS)
         self.listener.close()
 
 
