@@ -9,7 +9,7 @@ use crate::connection::serve_connection;
 use crate::fault::GatewayFault;
 use delta_book::book::Book;
 use gate_workers::{BookKeeper, Keeper};
-use gateway_options::Options;
+use gateway_options::ServeOptions;
 use out_texts::report_text;
 use std::alloc::Global;
 use std::net::{Net, TcpListener, TcpStream};
@@ -51,7 +51,7 @@ fn report_of(alloc: Global, book: &Book) -> Result<Vec<u8>, GatewayFault>
 pub fn serve_all<R: Net<Listener = TcpListener, Stream = TcpStream>>(
     net: &R,
     alloc: Global,
-    options: &Options<'_>,
+    options: &ServeOptions<'_>,
 ) -> Result<Vec<u8>, GatewayFault> {
     let Ok(listener) = TcpListener::bind(net, options.listen) else {
         return Err(GatewayFault::CannotListen);
