@@ -1,5 +1,5 @@
 //! Rounds: the book is shared anew after so many connections.
-ghost use Rattle.std.specs.Prelude.{◌≡◌, ◌+◌, [], OnOk};
+ghost use Rattle.std.specs.Prelude.{◌≡◌, ◌+◌, ◌<◌, ◌≤◌, [], OnOk};
 
 use crate::crew::serve_beside;
 use crate::fault::GatewayFault;
@@ -72,6 +72,15 @@ fn close(book: &mut Book) -> Result<(), GatewayFault>
     }
 }
 
+/// How many of the connections that are left the next round serves.
+fn next_count(left: u64, round: u64) -> u64
+    requires { 0 < round }
+    ensures most { result ≤ left }
+    ensures some { 0 < left → 0 < result }
+{
+    if left < round { left } else { round }
+}
+
 /// Serves all connections over a new book, and gives it with the sums of the audits: a round is closed
 /// after so many connections, unless none is left.
 pub fn serve_rounds<R: Net<Listener = TcpListener, Stream = TcpStream> + Threads + Wait + Sync>(
@@ -83,13 +92,13 @@ pub fn serve_rounds<R: Net<Listener = TcpListener, Stream = TcpStream> + Threads
     let Ok(new) = Book::new(alloc) else {
         return Err(GatewayFault::NoMemory);
     };
-    let first = options.connections.min(options.round);
+    let first = next_count(options.connections, options.round);
     let (mut book, audit) = one_round(rt, alloc, new, listener, options, first)?;
     let mut sums = Sums::of(audit);
     let mut left = options.connections - first;
     while left > 0 {
         close(&mut book)?;
-        let count = left.min(options.round);
+        let count = next_count(left, options.round);
         let (next, audit) = one_round(rt, alloc, book, listener, options, count)?;
         book = next;
         sums = sums.and(audit);
