@@ -24,6 +24,7 @@ test:
 	tests/refused_libraries.py crates/growths/out/growths
 	tests/refused_gateway.py crates/gateway/out/gateway
 	tests/hostile_input.py crates/gateway/out/gateway
+	tests/gateway_load.py crates/gateway/out/gateway
 
 # Tries all edits, those too that the gate leaves out: make edits, or make edits NAME=delta_book.
 edits:

@@ -165,7 +165,8 @@ s.sendall(head + b" " * 6000000)
 sys.stdout.buffer.write(s.makefile("rb").read())' > "$folder/found" 2> "$folder/client"
 same_bytes 'a body that is too long is sent whole, and then the answer read' "$folder/wanted" "$folder/found"
 say 's.close()'
-gateway_ended 'the end' "$empty"
+gateway_ended 'the end' "$empty
+admitted 2 acknowledged 1"
 wait "$back_end"
 back_end=
 forwarded 10 20 5 > "$folder/wanted"
@@ -179,7 +180,8 @@ end'
 start "127.0.0.1:$(free_port)" 2
 ask 'a body for nobody' '{} 200' -H "$json" -H 'x-sender: A' -d "$(body 10 20 5)" "$at/v1/metrics"
 ask 'a flush to nobody' '{"act":"returned","flush":"1","points":"1"} 200' -X POST "$at/flush"
-gateway_ended 'nobody' "$stored"
+gateway_ended 'nobody' "$stored
+admitted 1 acknowledged 0"
 
 start "127.0.0.1:$(free_port)" 3 --flush-series 1
 ask 'a series' '{} 200' -H "$json" -d "$(body 10 20 5)" "$at/v1/metrics"
@@ -187,7 +189,17 @@ ask 'another series' '{} 200' -H "$json" -d "$(body 10 20 5 | sed s/req/res/)" "
 ask 'a flush of one series' '{"act":"returned","flush":"1","points":"1"} 200' -X POST "$at/flush"
 gateway_ended 'one series a flush' 'series req monotonic owner - frontier 20 accepted 1,5,0 acknowledged 0,0,0 dropped 0,0,0 in-flight 0,0,0 stored 1,5,0 quarantined 0,0,0
 series res monotonic owner - frontier 20 accepted 1,5,0 acknowledged 0,0,0 dropped 0,0,0 in-flight 0,0,0 stored 1,5,0 quarantined 0,0,0
-end'
+end
+admitted 2 acknowledged 0'
+
+start "127.0.0.1:$(free_port)" 3 --round 1
+ask 'a body in a round of its own' '{} 200' -H "$json" -H 'x-sender: A' -d "$(body 10 20 5)" "$at/v1/metrics"
+ask 'the same body in the next round' '{"message":"out of order: point 0, frontier 20"} 400' \
+    -H "$json" -H 'x-sender: A' -d "$(body 10 20 5)" "$at/v1/metrics"
+ask 'the report of the last round' "$stored
+ 200" "$at/report"
+gateway_ended 'rounds of one connection' "$stored
+admitted 1 acknowledged 0"
 
 start_back_end none
 start "$back_at" 5
@@ -207,7 +219,8 @@ sleep 1
 ask 'a request behind one that goes away and one that says nothing' "$stored
  200" "$at/report"
 kill "$silent" 2> /dev/null
-gateway_ended 'a silent sender' "$stored"
+gateway_ended 'a silent sender' "$stored
+admitted 1 acknowledged 0"
 
 # run ARGUMENTS
 run() {
@@ -236,7 +249,8 @@ faulty 'flushes of no series' "error: invalid value '0' for '--flush-series <flu
 faulty 'a call for help' "Usage: $(basename "$program") serve [OPTIONS] --backend <backend> --connections <connections>" serve --help
 
 run serve $nobody --connections 0 --listen 127.0.0.1:0
-ended 'no connection' 0 end ''
+ended 'no connection' 0 'end
+admitted 0 acknowledged 0' ''
 run serve $nobody --connections 1 --listen nowhere
 ended 'no address' 1 '' 'gateway: cannot listen'
 start "127.0.0.1:9" 1

@@ -1,22 +1,66 @@
 //! The command line: its options, their ranges and their defaults.
-ghost use Rattle.std.specs.Prelude.{◌≡◌, ◌≤◌, IfOk, IfSome, Some, false, map, option_and_then};
-ghost use Rattle.clap.specs.Words.{app_of, rule_of, first_value, found_of, subcommand_rows_of};
-ghost use Rattle.decimals.specs.Numbers as numbers;
+ghost use Rattle.std.specs.Prelude.{◌≡◌, IfOk, IfSome, false, map};
+ghost use Rattle.clap.specs.Words.{app_of, rule_of, found_of, rows_of, subcommand_rows_of, with_subcommand};
 ghost use Rattle.gateway_options.specs.CommandLine as spec;
-ghost use Rattle.gateway_options.specs.CommandLine.{IsMeant, IsGiven};
+ghost use Rattle.gateway_options.specs.CommandLine.{IsMeant, IsGiven, AreServed, AreRehearsed};
 
 use crate::line_fault::LineFault;
+use crate::number_option::NumberOption;
+use crate::rehearse_options::RehearseOptions;
+use crate::serve_options::ServeOptions;
 use crate::told::Options;
 use clap::error::ErrorKind;
-use clap::{Arg, ArgMatches, Command, Error, value_parser};
-use decimals::number_up_to;
+use clap::{Arg, ArgMatches, Command, Error};
 use std::alloc::Global;
 
-/// The most connections that one run serves.
-const MOST_CONNECTIONS: u64 = 1_000_000;
+const CONNECTIONS: NumberOption<'static> = NumberOption {
+    name: "connections",
+    default: None,
+    least: 0,
+    most: 1_000_000,
+};
 
-/// The most series of a flush.
-const MOST_SERIES: u64 = 1000;
+const RECEIVERS: NumberOption<'static> = NumberOption {
+    name: "receivers",
+    default: Some("2"),
+    least: 1,
+    most: 8,
+};
+
+const FLUSHERS: NumberOption<'static> = NumberOption {
+    name: "flushers",
+    default: Some("1"),
+    least: 1,
+    most: 4,
+};
+
+const FLUSH_SERIES: NumberOption<'static> = NumberOption {
+    name: "flush-series",
+    default: Some("1000"),
+    least: 1,
+    most: 1000,
+};
+
+const ROUND: NumberOption<'static> = NumberOption {
+    name: "round",
+    default: Some("32000"),
+    least: 1,
+    most: 32_000,
+};
+
+const SENDERS: NumberOption<'static> = NumberOption {
+    name: "senders",
+    default: Some("2"),
+    least: 1,
+    most: 4,
+};
+
+const BATCHES: NumberOption<'static> = NumberOption {
+    name: "batches",
+    default: Some("3"),
+    least: 1,
+    most: 100,
+};
 
 /// The most bytes of the back end's address.
 const LONGEST_BACKEND: usize = 4_294_967_295;
@@ -39,68 +83,79 @@ fn listen<'a>(alloc: Global) -> Arg<'a>
         .default_value("127.0.0.1:4318")
 }
 
-/// `--connections N`
-fn connections<'a>(alloc: Global) -> Arg<'a>
-    ensures rule { rule_of result ≡ spec.connections }
-    ensures local { result.global ≡ false }
-{
-    Arg::new(alloc, "connections")
-        .long("connections")
-        .required(true)
-        .value_parser(value_parser!(u32).range(0..=1000000))
-}
-
-/// `--flush-series N`
-fn flush_series<'a>(alloc: Global) -> Arg<'a>
-    ensures rule { rule_of result ≡ spec.flush_series }
-    ensures local { result.global ≡ false }
-{
-    Arg::new(alloc, "flush-series")
-        .long("flush-series")
-        .default_value("1000")
-        .value_parser(value_parser!(u16).range(1..=1000))
-}
-
-/// The subcommand `serve`, and nothing else.
-fn command<'a>(alloc: Global) -> Result<Command<'a>, Error>
-    ensures { IfOk result (λ c. app_of c ≡ spec.gateway) }
+/// The command with the subcommand `serve` as well.
+fn with_serve<'a>(command: Command<'a>, alloc: Global) -> Result<Command<'a>, Error>
+    ensures { IfOk result (λ c. app_of c ≡ with_subcommand (app_of command.entry) spec.serve.top) }
 {
     let serve = Command::new(alloc, "serve")
         .arg(backend(alloc))?
         .arg(listen(alloc))?
-        .arg(connections(alloc))?
-        .arg(flush_series(alloc))?;
-    let command = Command::new(alloc, "gateway")
-        .subcommand_required(true)
-        .subcommand(serve)?;
-    Ok(command)
+        .arg(CONNECTIONS.argument(alloc))?
+        .arg(RECEIVERS.argument(alloc))?
+        .arg(FLUSHERS.argument(alloc))?
+        .arg(FLUSH_SERIES.argument(alloc))?
+        .arg(ROUND.argument(alloc))?;
+    Ok(command.subcommand(serve)?)
 }
 
-/// The number that an option's digits write, up to `most`.
-fn number_of(matches: &ArgMatches<'_>, id: &str, most: u64) -> Option<u64>
-    ensures { IfSome result (λ n. option_and_then (numbers.number_up_to most) (first_value (found_of matches.now) id.now) ≡ Some n) }
+/// The command with the subcommand `rehearse` as well.
+fn with_rehearse<'a>(command: Command<'a>, alloc: Global) -> Result<Command<'a>, Error>
+    ensures { IfOk result (λ c. app_of c ≡ with_subcommand (app_of command.entry) spec.rehearse.top) }
 {
-    number_up_to(matches.get_str(id)?.as_bytes(), most)
+    let rehearse = Command::new(alloc, "rehearse")
+        .arg(SENDERS.argument(alloc))?
+        .arg(BATCHES.argument(alloc))?;
+    Ok(command.subcommand(rehearse)?)
+}
+
+/// The two subcommands, one of which must be given.
+fn command<'a>(alloc: Global) -> Result<Command<'a>, Error>
+    ensures { IfOk result (λ c. app_of c ≡ spec.gateway) }
+{
+    let bare = Command::new(alloc, "gateway").subcommand_required(true);
+    with_rehearse(with_serve(bare, alloc)?, alloc)
+}
+
+/// The options of `serve`, where its numbers are digits in their ranges.
+fn serve_options<'a>(matches: &ArgMatches<'a>) -> Option<ServeOptions<'a>>
+    ensures { IfSome result (AreServed (rows_of (found_of matches.now))) }
+{
+    let backend = matches.get_str("backend")?;
+    if backend.len() > LONGEST_BACKEND {
+        return None;
+    }
+    Some(ServeOptions {
+        backend,
+        listen: matches.get_str("listen")?,
+        connections: CONNECTIONS.read(matches)?,
+        receivers: RECEIVERS.read(matches)? as u16,
+        flushers: FLUSHERS.read(matches)? as u16,
+        flush_series: FLUSH_SERIES.read(matches)? as usize,
+        round: ROUND.read(matches)?,
+    })
+}
+
+/// The options of `rehearse`, where its numbers are digits in their ranges.
+fn rehearse_options(matches: &ArgMatches<'_>) -> Option<RehearseOptions>
+    ensures { IfSome result (AreRehearsed (rows_of (found_of matches.now))) }
+{
+    Some(RehearseOptions {
+        senders: SENDERS.read(matches)? as u16,
+        batches: BATCHES.read(matches)? as u16,
+    })
 }
 
 /// The options that the matches of the line have, where its numbers are digits in their ranges.
 fn options_in<'a>(matches: &ArgMatches<'a>) -> Option<Options<'a>>
     ensures { IfSome result (IsGiven (subcommand_rows_of matches.now)) }
 {
-    let serve = matches.subcommand_matches("serve")?;
-    let backend = serve.get_str("backend")?;
-    let listen = serve.get_str("listen")?;
-    let connections = number_of(serve, "connections", MOST_CONNECTIONS)?;
-    let flush_series = number_of(serve, "flush-series", MOST_SERIES)?;
-    if flush_series < 1 || backend.len() > LONGEST_BACKEND {
-        return None;
+    match matches.subcommand_matches("serve") {
+        Some(serve) => Some(Options::Serve(serve_options(serve)?)),
+        None => {
+            let rehearse = matches.subcommand_matches("rehearse")?;
+            Some(Options::Rehearse(rehearse_options(rehearse)?))
+        }
     }
-    Some(Options {
-        backend,
-        listen,
-        connections,
-        flush_series: flush_series as usize,
-    })
 }
 
 /// The options that the words mean, of which the first is the program's name.

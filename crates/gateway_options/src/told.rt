@@ -1,16 +1,11 @@
-ghost use Rattle.std.specs.Prelude.{◌<◌, ◌≤◌, ◌^◌, length};
+use crate::rehearse_options::RehearseOptions;
+use crate::serve_options::ServeOptions;
 
 /// What the gateway is told when it starts.
 #[derive(Clone, Copy, Debug)]
-pub struct Options<'a> {
-    /// The address of the back end, as it is handed to the system.
-    pub backend: &'a str,
-    /// The address that is listened on, as it is handed to the system.
-    pub listen: &'a str,
-    /// How many connections are served.
-    pub connections: u64,
-    /// How many series a flush takes at most.
-    pub flush_series: usize,
-    ghost short: { length backend.now < 2 ^ 32 },
-    ghost few: { (1 ≤ flush_series) × (flush_series ≤ 1000) },
+pub enum Options<'a> {
+    /// It serves connections.
+    Serve(ServeOptions<'a>),
+    /// It plays senders, gateway and back end in one process.
+    Rehearse(RehearseOptions),
 }

@@ -1,5 +1,5 @@
 //! Command lines and what they mean.
-use gateway_options::{LineFault, Options, options};
+use gateway_options::{LineFault, Options, ServeOptions, options};
 use std::process::Abort;
 use std::test::Fail;
 
@@ -8,10 +8,10 @@ fn meant<'a, R: Abort>(
     rt: &R,
     alloc: std::alloc::Global,
     words: &'a [&'a str],
-) -> Result<Options<'a>, Fail> {
+) -> Result<ServeOptions<'a>, Fail> {
     match options(alloc, words) {
-        Ok(options) => Ok(options),
-        Err(_) => panic!(rt; "the line was refused"),
+        Ok(Options::Serve(options)) => Ok(options),
+        _ => panic!(rt; "the line was refused"),
     }
 }
 
