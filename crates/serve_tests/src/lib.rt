@@ -10,6 +10,8 @@ mod exchanges;
 #[cfg(test)]
 mod lines;
 #[cfg(test)]
+mod options;
+#[cfg(test)]
 mod refusals;
 #[cfg(test)]
 mod requests;
