@@ -18,6 +18,7 @@ build:
 test:
 	rt ci
 	tests/play_ends.sh crates/play/out/play
+	tests/gateway_serves.sh crates/gateway/out/gateway
 
 # Tries all edits, those too that the gate leaves out: make edits, or make edits NAME=delta_book.
 edits:

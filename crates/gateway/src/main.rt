@@ -1,8 +1,8 @@
-//! The gateway. `serve` serves so many connections one after another and prints the report; a faulty
-//! line, or a call for help, is told on standard error with status 2, any other fault with status 1.
+//! The gateway. `serve` serves so many connections and prints the report and the sums of its audits; a
+//! faulty line, or a call for help, is told on standard error with status 2, any other fault with status 1.
 #![tactic(auto)]
 
-use gateway_options::{LineFault, options};
+use gateway_options::{LineFault, Options, options};
 use gateway_serve::{GatewayFault, serve_all};
 use std::io::Write;
 use std::process::ExitCode;
@@ -35,12 +35,13 @@ fn main(rt: HostRuntime) -> ExitCode {
             let _ = eprint!(rt; "{error}");
             ExitCode::from(2)
         }
-        Ok(options) => match serve_all(&rt, alloc, &options) {
+        Ok(Options::Rehearse(_)) => fail(&rt, GatewayFault::CannotStart),
+        Ok(Options::Serve(options)) => match serve_all(&rt, alloc, &options) {
             Err(fault) => fail(&rt, fault),
-            Ok(report) => {
-                let _ = io::writer(&rt).write_all(report.as_slice());
-                ExitCode::SUCCESS
-            }
+            Ok(report) => match io::writer(&rt).write_all(report.as_slice()) {
+                Ok(()) => ExitCode::SUCCESS,
+                Err(_) => fail(&rt, GatewayFault::CannotWrite),
+            },
         },
     }
 }
