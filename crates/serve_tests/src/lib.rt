@@ -14,6 +14,8 @@ mod options;
 #[cfg(test)]
 mod refusals;
 #[cfg(test)]
+mod rehearsals;
+#[cfg(test)]
 mod requests;
 #[cfg(test)]
 mod sockets;
