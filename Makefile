@@ -19,6 +19,7 @@ test:
 	rt ci
 	tests/play_ends.sh crates/play/out/play
 	tests/gateway_serves.sh crates/gateway/out/gateway
+	tests/gateway_rehearses.sh crates/gateway/out/gateway
 
 # Tries all edits, those too that the gate leaves out: make edits, or make edits NAME=delta_book.
 edits:

@@ -22,6 +22,9 @@ const FLUSHES_AFTER: u16 = 4;
 /// A port of this machine, whichever is free.
 const LOOPBACK: &str = "127.0.0.1:0";
 
+/// The most bytes of the back end's address.
+const LONGEST_ADDRESS: usize = 64;
+
 /// How many connections the gateway gets: one for each batch and each flush, and one for the report.
 fn connections_of(options: &RehearseOptions) -> u64
     ensures { result ≡ options.now.senders * options.now.batches + 7 }
@@ -138,8 +141,12 @@ pub fn rehearse<R: Net<Listener = TcpListener, Stream = TcpStream> + Threads + W
     let Ok(backend) = format!(in alloc; "127.0.0.1:{port}") else {
         return Err(GatewayFault::NoMemory);
     };
+    let backend = backend.as_str();
+    if backend.len() > LONGEST_ADDRESS {
+        return Err(GatewayFault::CannotListen);
+    }
     let served = ServeOptions {
-        backend: backend.as_str(),
+        backend,
         listen: LOOPBACK,
         connections: connections_of(options),
         receivers: 2,
