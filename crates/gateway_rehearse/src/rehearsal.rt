@@ -35,9 +35,7 @@ fn connections_of(options: &RehearseOptions) -> u64
 
 /// Has each sender post from a thread of its own and another thread order flushes meanwhile, until all
 /// have ended. What no thread can be started for is done in this one: the gateway waits for it.
-fn send_all<
-    R: Net<Listener = TcpListener, Stream = TcpStream> + Threads + Wait + Clock + Sync,
->(
+fn send_all<R: Net<Listener = TcpListener, Stream = TcpStream> + Threads + Wait + Clock + Sync>(
     rt: &R,
     alloc: Global,
     stage: &Stage,

@@ -76,14 +76,7 @@ fn a_rehearsal_has_defaults(rt: HostRuntime) -> Result<(), Fail> {
 
 #[test]
 fn the_longest_rehearsal(rt: HostRuntime) -> Result<(), Fail> {
-    let words = [
-        "gateway",
-        "rehearse",
-        "--batches",
-        "100",
-        "--senders",
-        "4",
-    ];
+    let words = ["gateway", "rehearse", "--batches", "100", "--senders", "4"];
     let options = rehearsed(&rt, rt.alloc(), words.as_slice())?;
     assert_eq!(rt; options.senders, 4);
     assert_eq!(rt; options.batches, 100);
