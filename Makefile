@@ -20,6 +20,7 @@ test:
 	rt ci
 	tests/play_ends.sh crates/play/out/play
 	tests/gateway_serves.sh crates/gateway/out/gateway
+	tests/gateway_rehearses.sh crates/gateway/out/gateway
 	tests/refused_growths.py crates/play/out/play
 	tests/refused_libraries.py crates/growths/out/growths
 	tests/refused_gateway.py crates/gateway/out/gateway

@@ -1,8 +1,10 @@
-//! The gateway. `serve` serves so many connections and prints the report and the sums of its audits; a
-//! faulty line, or a call for help, is told on standard error with status 2, any other fault with status 1.
+//! The gateway. `serve` serves so many connections and prints the report and the sums of its audits;
+//! `rehearse` does so with senders and a back end of its own. A faulty line, or a call for help, is told on
+//! standard error with status 2, any other fault with status 1.
 #![tactic(auto)]
 
 use gateway_options::{LineFault, Options, options};
+use gateway_rehearse::rehearse;
 use gateway_serve::{GatewayFault, serve_all};
 use std::io::Write;
 use std::process::ExitCode;
@@ -12,6 +14,17 @@ use std::{env, io};
 fn fail<R: Eprint>(rt: &R, fault: GatewayFault) -> ExitCode {
     let _ = eprintln!(rt; "gateway: {fault}");
     ExitCode::from(1)
+}
+
+/// Prints what a run has told, or its fault.
+fn tell(rt: &HostRuntime, told: Result<Vec<u8>, GatewayFault>) -> ExitCode {
+    match told {
+        Err(fault) => fail(rt, fault),
+        Ok(text) => match io::writer(rt).write_all(text.as_slice()) {
+            Ok(()) => ExitCode::SUCCESS,
+            Err(_) => fail(rt, GatewayFault::CannotWrite),
+        },
+    }
 }
 
 fn main(rt: HostRuntime) -> ExitCode {
@@ -35,13 +48,12 @@ fn main(rt: HostRuntime) -> ExitCode {
             let _ = eprint!(rt; "{error}");
             ExitCode::from(2)
         }
-        Ok(Options::Rehearse(_)) => fail(&rt, GatewayFault::CannotStart),
-        Ok(Options::Serve(options)) => match serve_all(&rt, alloc, &options) {
-            Err(fault) => fail(&rt, fault),
-            Ok(report) => match io::writer(&rt).write_all(report.as_slice()) {
-                Ok(()) => ExitCode::SUCCESS,
-                Err(_) => fail(&rt, GatewayFault::CannotWrite),
-            },
-        },
+        Ok(options) => {
+            let told = match options {
+                Options::Serve(options) => serve_all(&rt, alloc, &options),
+                Options::Rehearse(options) => rehearse(&rt, alloc, &options),
+            };
+            tell(&rt, told)
+        }
     }
 }

@@ -15,7 +15,10 @@ pub const PAUSE: u64 = 1;
 
 /// A connection to the gateway, tried until there is one; nothing once the gateway has ended. The
 /// gateway waits for each connection that it was promised.
-fn connection<R: Net<Stream = TcpStream> + Wait + Clock>(rt: &R, stage: &Stage) -> Option<TcpStream> {
+fn connection<R: Net<Stream = TcpStream> + Wait + Clock>(
+    rt: &R,
+    stage: &Stage,
+) -> Option<TcpStream> {
     for _ in rt.forever() {
         if stage.has_ended() {
             return None;

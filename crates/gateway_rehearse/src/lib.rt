@@ -6,7 +6,9 @@
 mod back_end;
 mod client;
 mod posting;
+mod rehearsal;
 mod sender;
 mod stage;
 
 pub use posting::post_of;
+pub use rehearsal::rehearse;

@@ -6,7 +6,12 @@ use out_texts::put_number;
 use std::alloc::{AllocError, Global};
 
 /// Puts a number in decimal between two texts.
-fn put_between(out: &mut Vec<u8>, before: &[u8], number: u64, after: &[u8]) -> Result<(), AllocError>
+fn put_between(
+    out: &mut Vec<u8>,
+    before: &[u8],
+    number: u64,
+    after: &[u8],
+) -> Result<(), AllocError>
     ensures { OnOk result (out.new.items ≡ out.old.items ++ spec.between before.now number after.now) }
 {
     out.extend_from_slice(before)?;

@@ -35,7 +35,11 @@ pub fn post_all<R: Net<Stream = TcpStream> + Wait + Clock>(
 }
 
 /// Orders so many flushes, one after the other.
-pub fn order_flushes<R: Net<Stream = TcpStream> + Wait + Clock>(rt: &R, stage: &Stage, flushes: u16) {
+pub fn order_flushes<R: Net<Stream = TcpStream> + Wait + Clock>(
+    rt: &R,
+    stage: &Stage,
+    flushes: u16,
+) {
     for _ in 0..flushes {
         ask(rt, stage, FLUSH);
     }

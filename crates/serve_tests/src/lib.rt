@@ -10,7 +10,11 @@ mod exchanges;
 #[cfg(test)]
 mod lines;
 #[cfg(test)]
+mod options;
+#[cfg(test)]
 mod refusals;
+#[cfg(test)]
+mod rehearsals;
 #[cfg(test)]
 mod requests;
 #[cfg(test)]
