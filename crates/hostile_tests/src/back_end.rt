@@ -1,6 +1,4 @@
 //! A back end that breaks off, over scripted ends: what the exchange answers, and what becomes of the flush.
-ghost use Rattle.std.specs.Prelude.{Unit};
-
 use crate::gate::{ACCEPTED, POSTED, bytewise};
 use back_answers::Answer;
 use byte_ends::{Script, Step, Tape};

@@ -1,6 +1,4 @@
 //! A book behind an uplink that nobody answers, requests to it, and what they are answered.
-ghost use Rattle.std.specs.Prelude.{◌≡◌};
-
 use back_answers::Answer;
 use byte_ends::{Script, Step, Tape};
 use delta_book::book::Book;
@@ -13,7 +11,8 @@ use std::test::Fail;
 pub struct Nobody;
 
 impl Uplink for Nobody {
-    ghost sends = { λ u bytes answer w. answer ≡ Answer.Unknown };
+    /// What is answered stands in the call alone.
+    ghost sends = { λ before bytes answer after. Unit {0} };
 
     fn send(&mut self, _bytes: &[u8]) -> Answer {
         Answer::Unknown
