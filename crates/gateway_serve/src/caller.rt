@@ -24,7 +24,7 @@ fn may_be_cut_off(served: Served) -> bool {
     matches!(
         served,
         Served::Replied {
-            status: 400 | 413,
+            status: 400 | 413 | 503,
             ..
         }
     )
