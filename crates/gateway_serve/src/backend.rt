@@ -1,14 +1,10 @@
 ghost use Rattle.std.specs.Prelude.{◌<◌, ◌^◌, length};
 
-use crate::waits::bound_waits;
 use back_answers::Answer;
 use byte_ends::{FromReader, ToWriter};
 use gate_workers::{Uplink, exchange};
 use std::alloc::Global;
 use std::net::{Net, TcpStream};
-
-/// For how many seconds the back end may keep the gateway waiting at a read or a write.
-const WAIT_SECONDS: u64 = 60;
 
 /// The back end at an address. Each request goes on a connection of its own.
 #[derive(Drop)]
@@ -36,13 +32,12 @@ impl<R: Net<Stream = TcpStream>> Uplink for Backend<'_, R> {
     /// What a back end has is not known.
     ghost sends = { λ before bytes answer after. Unit {0} };
 
-    /// Unknown where there is no connection, where it breaks, and where the back end keeps the gateway
-    /// waiting for too long.
+    /// Unknown where there is no connection, and where it breaks. An answer is waited for as long as it
+    /// takes: a flush that was given back meanwhile might be counted twice.
     fn send(&mut self, bytes: &[u8]) -> Answer {
         let Ok(stream) = TcpStream::connect(self.net, self.address) else {
             return Answer::Unknown;
         };
-        bound_waits(&stream, WAIT_SECONDS);
         let mut reader = FromReader::new(&stream);
         let mut writer = ToWriter::new(&stream);
         exchange(self.alloc, &mut reader, &mut writer, self.address, bytes)
