@@ -6,8 +6,9 @@ Call: tests/hostile_input.py PROGRAM, with the path of the built gateway.
   - Input that is no request, and bodies that are no metrics, have their whole answers, each read by a
     client that sends all the while; the report shows that nothing was taken.
   - A client that breaks off within its message is not answered, and nothing was taken of it.
-  - The back end closes in the middle of flush 1, a later point of the series is posted meanwhile, and
+  - The back end closes in the middle of flush 1, a later point of the series is admitted meanwhile, and
     flush 2 forwards one point over both with their sum.
+  - A back end that does not answer holds one flusher: another flush and the receivers go on.
 Each line tells one check; the last line tells how many there were and how many were wrong, and the status
 is 0 where none was.
 """
@@ -90,7 +91,7 @@ def bad_inputs(program, checks):
     for cut in cuts:
         break_off(gateway, message[:cut])
     checks.same("the report after all that", EMPTY, gateway.ask(ordered("GET /report")))
-    checks.same("the end", (0, b"end\n", b""), gateway.end())
+    checks.same("the end", (0, b"end\nadmitted 0 acknowledged 0\n", b""), gateway.end())
 
 
 class HalfBackEnd(BackEnd):
@@ -133,18 +134,43 @@ def broken_flush(program, checks):
     order = later(gateway, ordered("POST /flush"), first)
     checks.same("the back end gets flush 1", True, back_end.reached.wait(SECONDS))
     post = later(gateway, posted(point(20, 30, 5)), second)
-    post.join(0.5)  # A gateway of one thread answers it after the flush.
+    post.join(SECONDS)
+    checks.same("a later point meanwhile", [DONE], second)
     back_end.released.set()
     order.join(SECONDS)
-    post.join(SECONDS)
     checks.same("flush 1 comes back", [turn("returned", 1)], first)
-    checks.same("a later point meanwhile", [DONE], second)
     checks.same("flush 2", turn("settled", 2), gateway.ask(ordered("POST /flush")))
     bodies = [sent_points(body) for body in back_end.bodies]
     checks.same("what flush 2 sent", [[(10, 10, 30)]], bodies)
     report = (b"series a monotonic owner A frontier 30 accepted 2,10,0 acknowledged 2,10,0 dropped 0,0,0 "
-              b"in-flight 0,0,0 stored 0,0,0 quarantined 0,0,0\nend\n")
+              b"in-flight 0,0,0 stored 0,0,0 quarantined 0,0,0\nend\nadmitted 2 acknowledged 2\n")
     checks.same("the end of it", (0, report, b""), gateway.end())
+    back_end.close()
+
+
+def series(name, acknowledged, in_flight, stored):
+    """A line of the report: a sum with one point of 5."""
+    return (f"series {name} monotonic owner A frontier 20 accepted 1,5,0 acknowledged {acknowledged} dropped "
+            f"0,0,0 in-flight {in_flight} stored {stored} quarantined 0,0,0\n").encode()
+
+
+def held_flusher(program, checks):
+    back_end = HalfBackEnd()
+    gateway = Gateway(program, back_end.port, 5, options=["--flushers", "2"])
+    checks.same("a point of a", DONE, gateway.ask(posted(point(10, 20, 5))))
+    first = []
+    order = later(gateway, ordered("POST /flush"), first)
+    checks.same("the back end holds flush 1", True, back_end.reached.wait(SECONDS))
+    checks.same("a point of b", DONE, gateway.ask(posted(point(10, 20, 5, "b"))))
+    checks.same("flush 2 goes on", turn("settled", 2), gateway.ask(ordered("POST /flush")))
+    settled = series("b", "1,5,0", "0,0,0", "0,0,0")
+    held = response(b"200 OK", b"text/plain", series("a", "0,0,0", "1,5,0", "0,0,0") + settled + b"end\n")
+    checks.same("the report meanwhile", held, gateway.ask(ordered("GET /report")))
+    back_end.released.set()
+    order.join(SECONDS)
+    checks.same("flush 1 is given back", [turn("returned", 1)], first)
+    text = series("a", "0,0,0", "0,0,0", "1,5,0") + settled + b"end\nadmitted 2 acknowledged 1\n"
+    checks.same("the end of both", (0, text, b""), gateway.end())
     back_end.close()
 
 
@@ -152,6 +178,7 @@ def main(program):
     checks = Checks()
     bad_inputs(program, checks)
     broken_flush(program, checks)
+    held_flusher(program, checks)
     return checks.end()
 
 

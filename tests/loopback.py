@@ -39,11 +39,11 @@ def posted(body, sender="A"):
     return head.encode() + body
 
 
-def point(start, end, value):
-    """A body with one point of the monotonic sum `a`."""
+def point(start, end, value, name="a"):
+    """A body with one point of the monotonic sum of this name."""
     one = {"asInt": str(value), "startTimeUnixNano": str(start), "timeUnixNano": str(end)}
     total = {"aggregationTemporality": 1, "isMonotonic": True, "dataPoints": [one]}
-    scope = {"metrics": [{"name": "a", "sum": total}]}
+    scope = {"metrics": [{"name": name, "sum": total}]}
     return json.dumps({"resourceMetrics": [{"scopeMetrics": [scope]}]}).encode()
 
 
@@ -59,12 +59,12 @@ def response(status, kind, body, allow=b""):
 
 
 class Gateway:
-    """A gateway that serves so many connections."""
+    """A gateway that serves so many connections, with these options more."""
 
-    def __init__(self, program, backend, connections, environment=None):
+    def __init__(self, program, backend, connections, environment=None, options=()):
         self.port = free_port()
         words = [program, "serve", "--backend", f"127.0.0.1:{backend}", "--connections",
-                 str(connections), "--listen", f"127.0.0.1:{self.port}"]
+                 str(connections), "--listen", f"127.0.0.1:{self.port}", *options]
         self.process = subprocess.Popen(words, stdout=subprocess.PIPE, stderr=subprocess.PIPE,
                                         env=environment)
 
@@ -132,13 +132,20 @@ class BackEnd:
         self.thread.start()
 
     def serve(self):
+        serving = []
         while True:
             try:
                 connection = self.listener.accept()[0]
             except OSError:
-                return
-            with connection:
-                self.answer(connection)
+                break
+            serving.append(threading.Thread(target=self.serve_one, args=(connection,), daemon=True))
+            serving[-1].start()
+        for thread in serving:
+            thread.join(SECONDS)
+
+    def serve_one(self, connection):
+        with connection:
+            self.answer(connection)
 
     def answer(self, connection):
         """Reads a whole request, keeps its body and answers it."""

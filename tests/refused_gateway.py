@@ -11,8 +11,9 @@ while all from k on are, and makes the exchanges below over loopback.
   - What was answered 503 left nothing, but that a flush order may have taken its flush: it was given
     back, or ended by the answer of the back end that got it. Where the exchange with the back end found
     no memory its flush is given back, and the order is answered so.
-  - At the end the gateway prints the report that all this leads to, status 0, or ends with
-    `gateway: no memory`, status 1, and prints nothing; so it ends too where it can't start.
+  - At the end the gateway prints the report that all this leads to and how many points were admitted and
+    acknowledged, status 0, or ends with `gateway: no memory`, status 1, and prints nothing; so it ends
+    too where it can't start, or with `gateway: cannot start a thread`.
 The last line tells the counts, and the status is 0 where nothing was wrong.
 """
 import copy
@@ -92,6 +93,10 @@ class Store:
         rows = " ".join(f"{name} {points},{value},0" for name, (points, value) in names)
         return f"series a monotonic owner {self.owner} frontier {self.frontier} {rows}\nend\n".encode()
 
+    def ending(self):
+        last = f"admitted {self.accepted[0]} acknowledged {self.acknowledged[0]}\n"
+        return self.report() + last.encode()
+
 
 # Each exchange: what is sent, what a store answers to it, and whether it is an order to flush.
 EXCHANGES = [
@@ -147,6 +152,13 @@ def made(refusing, program, growth, form):
     return answers, bodies, Run(status, out, err, growths, refused)
 
 
+def has_not_started(answers, run):
+    """Whether the gateway ended before it could serve: nobody listens, or hangs up at once."""
+    faults = (b"gateway: no memory\n", b"gateway: cannot start a thread\n")
+    answered = [answer for answer in answers if isinstance(answer, bytes) and answer]
+    return (run.status, run.out) == (1, b"") and run.err in faults and not answered
+
+
 def full_answers():
     store = Store()
     return [serve(store) for _, serve, _ in EXCHANGES]
@@ -155,8 +167,8 @@ def full_answers():
 def way_of(answers, bodies, run, form):
     """In which way the run ended, and what is wrong where it is none of them."""
     no_memory = (run.status, run.out, run.err) == (1, b"", b"gateway: no memory\n")
-    if answers == ["no connection"]:
-        return ("could not start", None) if no_memory and run.refused else (None, f"{run}")
+    if run.refused and has_not_started(answers, run):
+        return "could not start", None
     if form == "alone" and answers.count(NO_MEMORY) > 1:
         return None, f"{answers.count(NO_MEMORY)} answers of no memory"
     if run.refused == 0 and (run.status != 0 or answers != full_answers()):
@@ -170,7 +182,7 @@ def way_of(answers, bodies, run, form):
         return None, f"{len(answers)} answers, and then {run}"
     stores = [store for store in stores if store.sent == bodies]
     if not no_memory:
-        stores = [store for store in stores if (run.status, run.out, run.err) == (0, store.report(), b"")]
+        stores = [store for store in stores if (run.status, run.out, run.err) == (0, store.ending(), b"")]
     if not stores:
         return None, f"the back end got {bodies}, and the end is {run}"
     if run.refused == 0:
