@@ -17,6 +17,7 @@
 #include <stdlib.h>
 #include <string.h>
 #include <sys/mman.h>
+#include <sys/syscall.h>
 #include <unistd.h>
 
 typedef int Main(int, char **, char **);
@@ -178,6 +179,12 @@ static char *put(char *at, const char *word, long number)
     return (char *)memcpy(at, digit, count) + count;
 }
 
+static void leave(int status)
+{
+    for (;;)
+        syscall(SYS_exit_group, status);
+}
+
 static void tell_counts(void)
 {
     char line[96];
@@ -188,8 +195,16 @@ static void tell_counts(void)
         return;
     char *end = stpcpy(put(put(line, "growths ", growths), " refused ", refused), "\n");
     if (write(file, line, (size_t)(end - line)) < 0)
-        _exit(99);
+        leave(99);
     close(file);
+}
+
+/* A program of threads ends so, which calls nothing of `atexit`. */
+void _exit(int status)
+{
+    tell_counts();
+    leave(status);
+    __builtin_unreachable();
 }
 
 static int counted_main(int count, char **words, char **environment)
