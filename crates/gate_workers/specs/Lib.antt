@@ -13,3 +13,6 @@ pub mod Keepers
 pub mod Served
 pub mod ServedBook
 pub mod Exchanged
+pub mod Orders
+pub mod Worked
+pub mod SharedCalls

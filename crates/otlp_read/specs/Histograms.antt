@@ -19,12 +19,12 @@ infixl 10 ◌>>=◌
 abbrev pub ◌>>=◌ : {A B : Type 0} → Option A → (A → Option B) → Option B
 o >>= f = option_and_then f o
 
--- count: a whole number of 64 bits; absent is 0. How large counts, sums and buckets may be is a rule of points
+-- count: a whole number of 64 bits; absent is 0
 unfoldable pub count_in : Option Data → Option ℕ
 count_in None = Some 0
 count_in (Some d) = unsigned_64 d
 
--- sum: a whole number of 64 bits; absent it is absent
+-- sum: a whole number of 64 bits, absent where it is absent; how large it may be is a rule of points
 unfoldable pub total_in : Option Data → Option (Option ℕ)
 total_in None = Some None
 total_in (Some d) = option_map (λ n. Some n) (unsigned_64 d)

@@ -2,7 +2,7 @@
 use Rattle.std.proofs.Common.{◌≡◌, ℕ, ℤ, pos, negsuc, suc, ◌+◌, ◌-◌, ◌<◌, ◌≤◌, ◌^◌, Bool, true, false, leb, cond, List, [], ◌∷◌, length, map, sum, Option, Some, None, Ok, refl, sym, ap, ◌∙◌, subst, arith}
 use Rattle.std.specs.Prelude.{decimal, codes, slice_index, ◌==◌}
 use Rattle.std.specs.List.{AllByRecursion, list_all}
-use Rattle.std.proofs.lemmas.Bool.{le-leb, leb-true, and_parts, eq-eqb}
+use Rattle.std.proofs.lemmas.Bool.{le-leb, le-ltb, leb-true, and_parts, eq-eqb}
 use Rattle.std.proofs.lemmas.List.{map-id}
 use Rattle.std.proofs.lemmas.List.Elements.{recursion_from_All}
 use Rattle.serde_json.specs.Data.{Data, number, unsigned, string, array, object, no_members, member}
@@ -20,7 +20,7 @@ use Rattle.metric_events.specs.declared.limits.TheConstants.{MAX_POINTS, MAX_SUM
 use Rattle.metric_events.specs.DataPoint.{DataPoint, IsMerged}
 use Rattle.metric_events.specs.Interval.{Interval, IsInterval}
 use Rattle.metric_events.specs.Rows.{fits, are_within, histogram_row, buckets_of}
-use Rattle.metric_events.specs.PointFaults.{histogram_fault, given_buckets, bounds_of}
+use Rattle.metric_events.specs.PointFaults.{histogram_fault, given_buckets, bounds_of, is_total_large}
 use Rattle.otlp_read.specs.Whole.{unsigned_in, signed_in}
 use Rattle.otlp_read.specs.Fields.{field, flags_fit, nanos_in, text_in, is_delta}
 use Rattle.otlp_read.specs.Lists.{elements_in, list_in}
@@ -98,14 +98,14 @@ given bs count [] e = absurd (omega (arith, e))
 given [] count (b ∷ rest) e = refl
 given (x ∷ bs) count (b ∷ rest) e = refl
 
-row_fits : (bs : List ℤ) (total : Option ℕ) (buckets : List ℕ) → IsSmall total → are_within (λ k. MAX_BUCKET) buckets ≡ true → sum buckets ≤ MAX_COUNT → fits (Histogram bs) (histogram_row total buckets) ≡ true
-row_fits bs None buckets small words few = rw (words, le-leb (sum buckets) MAX_COUNT few) refl
-row_fits bs (Some n) buckets small words few = rw (words, le-leb (sum buckets) MAX_COUNT few, le-leb n MAX_SUM small) refl
+not_large : (total : Option ℕ) → IsSmall total → is_total_large total ≡ false
+not_large None small = refl
+not_large (Some n) small = le-ltb MAX_SUM n small
 
-histogram_unfaulted : (bs : List ℤ) (span : Interval) (total : Option ℕ) (buckets : List ℕ) → IsInterval span → length buckets ≡ length bs + 1 → IsSmall total → are_within (λ k. MAX_BUCKET) buckets ≡ true → sum buckets ≤ MAX_COUNT
+histogram_unfaulted : (bs : List ℤ) (span : Interval) (total : Option ℕ) (buckets : List ℕ) → IsInterval span → length buckets ≡ length bs + 1 → IsSmall total
     → histogram_fault (Histogram bs) span.start span.end (sum buckets) total buckets ≡ None
-histogram_unfaulted bs span total buckets is long small words few =
-    rw (is.valid, given bs (sum buckets) buckets long, eq-eqb (length buckets) (length bs + 1) long, eq-eqb (sum buckets) (sum buckets) refl, row_fits bs total buckets small words few) refl
+histogram_unfaulted bs span total buckets is long small =
+    rw (is.valid, given bs (sum buckets) buckets long, eq-eqb (length buckets) (length bs + 1) long, eq-eqb (sum buckets) (sum buckets) refl, not_large total small) refl
 
 -- ---- points of histograms
 
@@ -155,7 +155,7 @@ histogram_again p bs k h =
     let whole : given_buckets bs (sum (buckets_of p.row)) (buckets_of p.row) ≡ buckets_of p.row = given bs (sum (buckets_of p.row)) (buckets_of p.row) is.long in
     let unfaulted : histogram_fault p.series.kind p.span.start p.span.end (sum (buckets_of p.row)) (total_of p.row) (buckets_of p.row) ≡ None =
     ap (λ (kind : Kind). histogram_fault kind p.span.start p.span.end (sum (buckets_of p.row)) (total_of p.row) (buckets_of p.row)) k
-    ∙ histogram_unfaulted bs p.span (total_of p.row) (buckets_of p.row) h.span is.long small is.words is.few in
+    ∙ histogram_unfaulted bs p.span (total_of p.row) (buckets_of p.row) h.span is.long small in
     let row : histogram_row (total_of p.row) (given_buckets (bounds_of p.series.kind) (sum (buckets_of p.row)) (buckets_of p.row)) ≡ row_read p.series.kind p.row =
     ap (λ (kind : Kind). histogram_row (total_of p.row) (given_buckets (bounds_of kind) (sum (buckets_of p.row)) (buckets_of p.row))) k
     ∙ ap (λ (buckets : List ℕ). histogram_row (total_of p.row) buckets) whole

@@ -364,6 +364,14 @@ fn reads_histograms(rt: HostRuntime) -> Result<(), Fail> {
             [1, 1, 0, 0].as_slice(),
         ),
         (r#""count":3,"bucketCounts":[3]"#, [1, 1, 0, 3].as_slice()),
+        (
+            r#""count":"9223372036854775808""#,
+            [1, 1, 0, 9223372036854775808].as_slice(),
+        ),
+        (
+            r#""count":18446744073709551615,"sum":9007199254740992,"bucketCounts":["18446744073709551615","0"],"explicitBounds":[0]"#,
+            [1, 0, 9007199254740992, 18446744073709551615, 0].as_slice(),
+        ),
     ] {
         let body = histogram_with(alloc, fields)?;
         let reading = read_request(alloc, body.as_bytes())?;
@@ -380,7 +388,10 @@ fn reads_histograms(rt: HostRuntime) -> Result<(), Fail> {
         r#""count":1,"sum":-1"#,
         r#""count":1,"sum":9007199254740993"#,
         r#""count":0,"bucketCounts":[0,0],"explicitBounds":[9007199254740993]"#,
-        r#""count":"9223372036854775808""#,
+        r#""count":"18446744073709551616""#,
+        r#""count":0,"bucketCounts":["18446744073709551616"]"#,
+        r#""count":"18446744073709551615","bucketCounts":["18446744073709551615",1],"explicitBounds":[0]"#,
+        r#""count":0,"bucketCounts":["18446744073709551615",1],"explicitBounds":[0]"#,
     ] {
         let body = histogram_with(alloc, fields)?;
         let reading = read_request(alloc, body.as_bytes())?;

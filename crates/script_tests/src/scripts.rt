@@ -325,6 +325,56 @@ fn wires(rt: HostRuntime) {
     }
 }
 
+/// Histograms up to their limits: of a bucket, of the buckets together, and of the sum.
+const LIMITS: [(&str, &str); 3] = [
+    (
+        r#"post A {"resourceMetrics":[{"scopeMetrics":[{"metrics":[{"name":"h","histogram":{"aggregationTemporality":1,"dataPoints":[{"count":"18446744073709551615","explicitBounds":[0],"bucketCounts":["18446744073709551615","0"],"startTimeUnixNano":"10","timeUnixNano":"20"}]}}]}]}]}
+post A {"resourceMetrics":[{"scopeMetrics":[{"metrics":[{"name":"h","histogram":{"aggregationTemporality":1,"dataPoints":[{"count":"1","explicitBounds":[0],"bucketCounts":["1","0"],"startTimeUnixNano":"20","timeUnixNano":"30"}]}}]}]}]}
+post A {"resourceMetrics":[{"scopeMetrics":[{"metrics":[{"name":"h","histogram":{"aggregationTemporality":1,"dataPoints":[{"count":"1","explicitBounds":[0],"bucketCounts":["0","1"],"startTimeUnixNano":"20","timeUnixNano":"30"}]}}]}]}]}
+post A {"resourceMetrics":[{"scopeMetrics":[{"metrics":[{"name":"h","histogram":{"aggregationTemporality":1,"dataPoints":[{"count":"0","explicitBounds":[0],"bucketCounts":["0","0"],"startTimeUnixNano":"20","timeUnixNano":"30"}]}}]}]}]}
+wire 10
+"#,
+        r#"batch 1 foreign 0
+refused too-large
+refused too-large
+batch 2 foreign 0
+flush 1
+{"resourceMetrics":[{"resource":{"attributes":[]},"scopeMetrics":[{"metrics":[{"histogram":{"aggregationTemporality":1,"dataPoints":[{"attributes":[],"bucketCounts":["18446744073709551615","0"],"count":"18446744073709551615","explicitBounds":[0],"startTimeUnixNano":"10","timeUnixNano":"30"}]},"name":"h","unit":""}],"scope":{"attributes":[],"name":"","version":""}}]}]}
+"#,
+    ),
+    (
+        r#"post A {"resourceMetrics":[{"scopeMetrics":[{"metrics":[{"name":"h","histogram":{"aggregationTemporality":1,"dataPoints":[{"count":"1","sum":9007199254740993,"startTimeUnixNano":"10","timeUnixNano":"20"},{"count":"1","sum":9007199254740992,"startTimeUnixNano":"10","timeUnixNano":"20"}]}}]}]}]}
+post A {"resourceMetrics":[{"scopeMetrics":[{"metrics":[{"name":"h","histogram":{"aggregationTemporality":1,"dataPoints":[{"count":"1","sum":1,"startTimeUnixNano":"20","timeUnixNano":"30"}]}}]}]}]}
+post A {"resourceMetrics":[{"scopeMetrics":[{"metrics":[{"name":"h","histogram":{"aggregationTemporality":1,"dataPoints":[{"count":"1","sum":0,"startTimeUnixNano":"20","timeUnixNano":"30"}]}}]}]}]}
+take 10
+"#,
+        "batch 1 foreign 1\nrefused too-large\nbatch 2 foreign 0\nflush 1 points 1\npoint h (10,30] 2,0,9007199254740992,2\n",
+    ),
+    (
+        r#"post A {"resourceMetrics":[{"scopeMetrics":[{"metrics":[{"name":"h","histogram":{"aggregationTemporality":1,"dataPoints":[{"count":"18446744073709551615","startTimeUnixNano":"10","timeUnixNano":"20"}]}}]}]}]}
+confirm 1
+take 10
+ok 1
+post A {"resourceMetrics":[{"scopeMetrics":[{"metrics":[{"name":"h","histogram":{"aggregationTemporality":1,"dataPoints":[{"count":"1","startTimeUnixNano":"20","timeUnixNano":"30"}]}}]}]}]}
+round
+post A {"resourceMetrics":[{"scopeMetrics":[{"metrics":[{"name":"h","histogram":{"aggregationTemporality":1,"dataPoints":[{"count":"1","startTimeUnixNano":"20","timeUnixNano":"30"}]}}]}]}]}
+confirm 2
+take 10
+ok 2
+round
+past
+"#,
+        "batch 1 foreign 0\nconfirmed 1\nflush 1 points 1\npoint h (10,20] 1,1,0,18446744073709551615\nsettled 1\nrefused too-large\nround 2\nbatch 2 foreign 0\nconfirmed 2\nflush 2 points 1\npoint h (20,30] 1,1,0,1\nsettled 2\nround 3\npast h histogram[] acknowledged 2,2,0,18446744073709551616 dropped 0,0,0,0\nend\n",
+    ),
+];
+
+#[test]
+fn limits_of_histograms(rt: HostRuntime) {
+    for (script, text) in LIMITS {
+        replies(&rt, rt.alloc(), script, text);
+    }
+}
+
 /// Flushes that end by what the back end answered, and lines that are no answer.
 const ANSWERS: [(&str, &str); 3] = [
     (

@@ -1,5 +1,5 @@
 //! Tests of one connection: requests with their responses over a book, flush turns by order, the
-//! exchange with the back end, and connections over loopback. They run what no clause says: worked
+//! exchange with the back end, connections over loopback, and command lines. They run what no clause says: worked
 //! bytes, writers that fail, and the refusals in their order.
 #![tactic(auto)]
 
@@ -8,7 +8,13 @@ mod desk;
 #[cfg(test)]
 mod exchanges;
 #[cfg(test)]
+mod lines;
+#[cfg(test)]
+mod options;
+#[cfg(test)]
 mod refusals;
+#[cfg(test)]
+mod rehearsals;
 #[cfg(test)]
 mod requests;
 #[cfg(test)]

@@ -2,8 +2,8 @@
 use crate::desk::{ACCEPTED, Fixed, POSTED, done, keeper, refused};
 use back_answers::Answer;
 use delta_book::book::Book;
-use gate_workers::{BookKeeper, End, Served, Uplink};
-use gateway::{Backend, serve_connection};
+use gate_workers::{BookKeeper, Connection, End, NoPace, Served, Uplink};
+use gateway_serve::{Backend, Caller};
 use std::io::{Read, Write};
 use std::net::{Shutdown, TcpListener, TcpStream};
 use std::process::Abort;
@@ -22,8 +22,7 @@ fn answer_to<R: Abort, U: Uplink + Drop>(
     client.write_all(request)?;
     client.shutdown(Shutdown::Write)?;
     let (stream, _) = listener.accept()?;
-    let got = serve_connection(net.alloc(), keeper, &stream);
-    drop(stream);
+    let got = Caller::new(stream).serve(net.alloc(), keeper, &mut NoPace);
     assert_eq!(rt; got, served);
     let mut text = Vec::new(net.alloc());
     client.read_to_end(&mut text)?;

@@ -166,6 +166,19 @@ fn expect_totals(rt: &impl Abort, alloc: Global, book: &Book) -> Result<(), Fail
     Ok(())
 }
 
+// The cells say the same: the batch that was undone left none, and nothing is away or at home.
+fn expect_cells(rt: &impl Abort, alloc: Global, book: &Book) -> Result<(), Fail> {
+    let cells = book.cells();
+    assert_eq!(rt; cells.len(), 2);
+    assert!(rt; cells[0].acknowledged() == [1, 1, 0].as_slice());
+    assert!(rt; cells[0].stored() == [0, 0, 0].as_slice());
+    assert!(rt; cells[1].accepted() == [1, 1, 0].as_slice());
+    assert!(rt; cells[1].dropped() == [1, 1, 0].as_slice());
+    assert_eq!(rt; cells[1].frontier(), 2);
+    assert!(rt; cells[1].owner().is_same(&sender(alloc, 0)?));
+    Ok(())
+}
+
 #[test]
 fn each_call_once(rt: HostRuntime) -> Result<(), Fail> {
     let alloc = rt.alloc();
@@ -174,7 +187,8 @@ fn each_call_once(rt: HostRuntime) -> Result<(), Fail> {
     admit_and_undo(&rt, alloc, &mut book)?;
     take_and_end(&rt, &mut book);
     hold_and_lift(&rt, alloc, &mut book)?;
-    expect_totals(&rt, alloc, &book)
+    expect_totals(&rt, alloc, &book)?;
+    expect_cells(&rt, alloc, &book)
 }
 
 // A flush takes several series of both kinds, and sends one point of each.
@@ -433,8 +447,8 @@ fn batch_of(alloc: Global, series: SeriesId, start: u64) -> Result<Batch, Fail>
     Ok(Batch { sender, points })
 }
 
-// What is kept of a second batch shares the identity of the first: its entry and its accepted point;
-// and so does a flush: its entry, what is kept of it while it is live, and the point that it sends.
+// What is kept of a batch shares the identity of its cell: the point of its entry; and so does a
+// flush: its entry, and the point that it sends.
 #[test]
 fn known_series_are_kept_once(rt: HostRuntime) -> Result<(), Fail> {
     let alloc = rt.alloc();
@@ -446,9 +460,9 @@ fn known_series_are_kept_once(rt: HostRuntime) -> Result<(), Fail> {
     assert_eq!(rt; shared.owners(), 3);
     let own = series(alloc, 1, Kind::Sum { monotonic: false })?;
     assert_eq!(rt; admitted(&rt, &mut book, batch_of(alloc, own, 2)?), Ok(2));
-    assert_eq!(rt; shared.owners(), 5);
+    assert_eq!(rt; shared.owners(), 4);
     let flush = book.take(7, 1)?.ok_or("nothing was taken")?;
     assert_eq!(rt; flush.points.as_slice().len(), 1);
-    assert_eq!(rt; shared.owners(), 8);
+    assert_eq!(rt; shared.owners(), 6);
     Ok(())
 }

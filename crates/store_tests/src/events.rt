@@ -245,7 +245,7 @@ fn faults_of_sums(rt: HostRuntime) {
 #[test]
 fn rows_of_histograms(rt: HostRuntime) {
     let alloc = rt.alloc();
-    let most = u64::MAX / 2;
+    let most = 18446744073709551615;
     let sum = 9007199254740992;
     expect_buckets(
         &rt,
@@ -272,7 +272,7 @@ fn rows_of_histograms(rt: HostRuntime) {
 #[test]
 fn faults_of_histograms(rt: HostRuntime) {
     let alloc = rt.alloc();
-    let past = u64::MAX / 2 + 1;
+    let most = 18446744073709551615;
     let fault = histogram(&rt, alloc, &[1], 20, 8, None, &[1]).err();
     assert_eq!(rt; fault, Some(PointFault::BadSpan));
     let fault = histogram(&rt, alloc, &[1, 2, 3], 10, 8, None, &[1, 2, 0, 4]).err();
@@ -283,10 +283,10 @@ fn faults_of_histograms(rt: HostRuntime) {
     assert_eq!(rt; fault, Some(PointFault::BucketMismatch));
     let fault = histogram(&rt, alloc, &[], 10, 1, Some(9007199254740993), &[1]).err();
     assert_eq!(rt; fault, Some(PointFault::TooLarge));
-    let fault = histogram(&rt, alloc, &[], 10, past, None, &[]).err();
-    assert_eq!(rt; fault, Some(PointFault::TooLarge));
-    let fault = histogram(&rt, alloc, &[0], 10, past, None, &[past - 1, 1]).err();
-    assert_eq!(rt; fault, Some(PointFault::TooLarge));
+    let fault = histogram(&rt, alloc, &[0], 10, most, None, &[most, 1]).err();
+    assert_eq!(rt; fault, Some(PointFault::BucketMismatch));
+    let fault = histogram(&rt, alloc, &[0], 10, 0, None, &[most, 1]).err();
+    assert_eq!(rt; fault, Some(PointFault::BucketMismatch));
 }
 
 #[test]

@@ -1,0 +1,77 @@
+#!/usr/bin/env python3
+"""Prints what the calls of the store cost by the series that there are and by the batch's points.
+
+    bench/store.py [PROGRAM]
+
+PROGRAM is bin/play, as `make build` makes it, where none is named. Each figure is the processor
+time of a script less that of the same script without the calls that are measured, so it holds the
+reading of their lines and the writing of their replies too. What is printed says what was measured
+here, and asserts nothing.
+"""
+
+import os
+import subprocess
+import sys
+import tempfile
+
+BATCH = 1_000
+TIMES = 5
+SERIES = [100, 10_000]
+
+
+def admit(first, count, start):
+    """A batch of one point each of so many series, over one nanosecond."""
+    words = (f"s{name:05} {start} {start + 1} 1" for name in range(first, first + count))
+    return "admit A " + " ".join(words)
+
+
+def filled(series):
+    """Batches that bring so many series."""
+    return [admit(first, min(BATCH, series - first), 1) for first in range(0, series, BATCH)]
+
+
+def thousand(series, time):
+    """A batch of a thousand points, of as many series as there are up to a thousand."""
+    width = min(series, BATCH)
+    words = []
+    for turn in range(BATCH // width):
+        start = 10 + time * BATCH + turn
+        words += [f"s{name:05} {start} {start + 1} 1" for name in range(width)]
+    return "admit A " + " ".join(words)
+
+
+def seconds(program, lines):
+    """The processor time of a run over these lines."""
+    with tempfile.TemporaryFile() as stdin:
+        stdin.write("".join(line + "\n" for line in lines).encode())
+        stdin.seek(0)
+        child = subprocess.Popen([program], stdin=stdin, stdout=subprocess.DEVNULL)
+        _, status, usage = os.wait4(child.pid, 0)
+    if status != 0:
+        sys.exit(f"{program} ended with status {status}")
+    return usage.ru_utime + usage.ru_stime
+
+
+def main():
+    program = sys.argv[1] if len(sys.argv) > 1 else "bin/play"
+    for series in SERIES:
+        before = filled(series)
+        base = seconds(program, before)
+        admits = [thousand(series, time) for time in range(TIMES)]
+        each = (seconds(program, before + admits) - base) / TIMES
+        print(f"{series} series: an admit of {BATCH} points {each * 1e3:.1f} ms")
+    before = filled(10_000)
+    base = seconds(program, before)
+    flushes = [line for f in range(1, TIMES + 1) for line in ("take 1000", f"back {f}")]
+    each = (seconds(program, before + flushes) - base) / TIMES
+    print(f"10000 series: take and back of 1000 series {each * 1e3:.1f} ms")
+    undos = []
+    for time in range(TIMES):
+        undos += [thousand(10_000, time), f"undo {len(before) + 1 + time}"]
+    each = (seconds(program, before + undos) - base) / TIMES
+    print(f"10000 series: admit and undo of 1000 points of as many series {each * 1e3:.1f} ms")
+    print(f"one batch of 10000 points of as many series {seconds(program, [admit(0, 10_000, 1)]):.2f} s")
+
+
+if __name__ == "__main__":
+    main()

@@ -1,0 +1,157 @@
+//! The cells of a book, in series order.
+ghost use Rattle.std.specs.Prelude.{◌≡◌, ◌<◌, ◌∷◌, [], ℕ, List, map, length, true, false, ◌++◌, MatchOption, MatchResult, ◌≤◌, not};
+ghost use Rattle.std.specs.List.{list_any, list_all};
+ghost use Rattle.metric_events.specs.Points.{landed, is_among, is_flying, is_in_flight};
+ghost use Rattle.metric_events.specs.Series.{of_series, is_ascending};
+ghost use Rattle.metric_events.specs.Standing.{stands};
+ghost use Rattle.metric_events.specs.Legal.{are_distinct, is_batch_home};
+ghost use Rattle.metric_events.specs.declared.accepted.Accepted.{Accepted};
+ghost use Rattle.series_cell.specs.Cells.{Stands, IsOfSame, AreTogether, is_of_batch, lifted};
+ghost use Rattle.metric_events.specs.Points.{admitted};
+ghost use Rattle.delta_book.specs.Tables.{AreCells, IsTable, IsEntered, RemovesFrom, RemovesAll, IdAt, id_of, on_series};
+ghost use Rattle.delta_book.specs.Puts.{IsGap};
+
+use metric_events::place::Place;
+use metric_events::point::Point;
+use series_cell::cell::Cell;
+use series_id::SeriesId;
+
+/// Where the cell of a series is, or where it goes.
+pub fn find_place(cells: &[Cell], series: &SeriesId) -> Result<usize, usize>
+    ensures { MatchResult result (λ i. (i < length cells.now) × IdAt cells.now i series.now) (λ i. (i ≤ length cells.now) × (is_ascending (map id_of cells.now) ≡ true → IsGap cells.now i series.now)) }
+{
+    let mut low = 0;
+    let mut high = cells.len();
+    while low < high {
+        let middle = low + (high - low) / 2;
+        if series.is_same(cells[middle].id()) {
+            return Ok(middle);
+        }
+        if series.is_before(cells[middle].id()) {
+            high = middle;
+        } else {
+            low = middle + 1;
+        }
+    }
+    Err(low)
+}
+
+/// Where the cell of a series stands.
+pub fn find_cell(cells: &[Cell], series: &SeriesId) -> Option<usize>
+    ensures { MatchOption result (is_ascending (map id_of cells.now) ≡ true → is_among series.now (map id_of cells.now) ≡ false) (λ i. (i < length cells.now) × IdAt cells.now i series.now) }
+{
+    match find_place(cells, series) {
+        Ok(i) => Some(i),
+        Err(_) => None,
+    }
+}
+
+fn lift_one(cell: &mut Cell, flush: u64)
+    ensures stands { (qs : List Accepted) → Stands cell.old qs → list_any (stands is_flying) qs ≡ false → Stands cell.new (map (lifted flush) qs) }
+    ensures same { IsOfSame cell.old cell.new }
+{
+    if !cell.is_flying() {
+        cell.lift_off(flush);
+    }
+}
+
+fn lift_series(cells: &mut [Cell], flush: u64, series: &SeriesId)
+    ensures { (qs : List Accepted) → AreCells cells.old qs → list_any (stands is_flying) (of_series series.now qs) ≡ false → AreCells cells.new (map (on_series (lifted flush) (series.now ∷ [])) qs) }
+{
+    if let Some(i) = find_cell(cells, series) {
+        lift_one(&mut cells[i], flush);
+    }
+}
+
+/// Sends what is at home of these series away with a flush.
+pub fn take_off(cells: &mut [Cell], flush: u64, series: &[SeriesId])
+    ensures { (qs : List Accepted) → AreCells cells.old qs → are_distinct series.now ≡ true → list_all (λ x. not (list_any (stands is_flying) (of_series x qs))) series.now ≡ true → AreCells cells.new (map (on_series (lifted flush) series.now) qs) }
+{
+    for x in series {
+        lift_series(cells, flush, x);
+    }
+}
+
+fn land_one(cell: &mut Cell, place: Place)
+    ensures stands { (f : ℕ) (qs : List Accepted) → Stands cell.old qs → list_any (stands (is_in_flight f)) qs ≡ true → is_flying place ≡ false → Stands cell.new (map (landed f place) qs) }
+    ensures same { IsOfSame cell.old cell.new }
+{
+    match place {
+        Place::Acknowledged => cell.acknowledge(),
+        Place::Dropped => cell.discard(),
+        Place::Home => cell.set_down(),
+        Place::InFlight(_) => {}
+    }
+}
+
+fn land_series(cells: &mut [Cell], place: Place, series: &SeriesId)
+    ensures { (f : ℕ) (qs : List Accepted) → AreCells cells.old qs → list_any (stands (is_in_flight f)) (of_series series.now qs) ≡ true → is_flying place ≡ false → AreCells cells.new (map (on_series (landed f place) (series.now ∷ [])) qs) }
+{
+    if let Some(i) = find_cell(cells, series) {
+        land_one(&mut cells[i], place);
+    }
+}
+
+/// Moves what is in flight of these series.
+pub fn land(cells: &mut [Cell], place: Place, series: &[SeriesId])
+    ensures { (f : ℕ) (qs : List Accepted) → AreCells cells.old qs → are_distinct series.now ≡ true → list_all (λ x. list_any (stands (is_in_flight f)) (of_series x qs)) series.now ≡ true → is_flying place ≡ false → AreCells cells.new (map (on_series (landed f place) series.now) qs) }
+{
+    for x in series {
+        land_series(cells, place, x);
+    }
+}
+
+fn is_home_in(cells: &[Cell], series: &SeriesId, number: u64) -> bool
+    ensures { (qs : List Accepted) → AreCells cells.now qs → list_any (is_of_batch number) (of_series series.now qs) ≡ true → AreTogether number (of_series series.now qs) → result ≡ is_batch_home number (of_series series.now qs) }
+{
+    match find_cell(cells, series) {
+        Some(i) => cells[i].can_remove(number),
+        None => true,
+    }
+}
+
+/// Each point of the batch is at home.
+pub fn is_all_home(cells: &[Cell], batch: &[Point], number: u64) -> bool
+    ensures { (qs : List Accepted) → AreCells cells.now qs → IsEntered qs number batch.now → result ≡ is_batch_home number qs }
+{
+    for p in batch {
+        if !is_home_in(cells, p.series(), number) {
+            return false;
+        }
+    }
+    true
+}
+
+fn remove_one(cells: &mut [Cell], point: &Point, number: u64)
+    requires { RemovesFrom cells.old number point.now }
+    ensures { (s : List ℕ) (before after : List Accepted) → IsTable cells.old (before ++ admitted number s point.now ∷ after) → IsTable cells.new (before ++ after) }
+{
+    if let Some(i) = find_cell(cells, point.series()) {
+        cells[i].remove(number, point);
+    }
+}
+
+/// Takes out the cells that stand for no point.
+pub fn sweep(cells: &mut Vec<Cell>)
+    ensures { (qs : List Accepted) → IsTable cells.old.items qs → AreCells cells.new.items qs }
+{
+    cells.retain(|cell| cell.frontier() != 0);
+}
+
+fn remove_points(cells: &mut [Cell], batch: &[Point], number: u64)
+    requires { RemovesAll cells.old number batch.now }
+    ensures { (s : List ℕ) (before after : List Accepted) → AreCells cells.old (before ++ (map (admitted number s) batch.now ++ after)) → IsTable cells.new (before ++ after) }
+{
+    for p in batch {
+        remove_one(cells, p, number);
+    }
+}
+
+/// Takes the points of a batch out again.
+pub fn remove_batch(cells: &mut Vec<Cell>, batch: &[Point], number: u64)
+    requires { RemovesAll cells.old.items number batch.now }
+    ensures { (s : List ℕ) (before after : List Accepted) → AreCells cells.old.items (before ++ (map (admitted number s) batch.now ++ after)) → AreCells cells.new.items (before ++ after) }
+{
+    remove_points(cells, batch, number);
+    sweep(cells);
+}

@@ -1,0 +1,43 @@
+ghost use Rattle.std.specs.Prelude.{◌≡◌, Ok, Err};
+ghost use Rattle.gate_workers.specs.Orders.{given_back};
+
+use crate::order_fault::OrderFault;
+use crate::turn::Turn;
+use crossbeam_channel::{RecvError, Sender, bounded};
+use std::alloc::Global;
+use std::sync::Wait;
+
+/// How many orders, and how many connections, lie in their channel at most until a worker takes them.
+pub const CHANNEL_PLACES: usize = 64;
+
+/// An order for one flush turn, with the end that the turn goes back on.
+#[derive(Drop)]
+pub struct Order {
+    pub reply: Sender<Turn>,
+}
+
+/// What came back of an order: without a turn, whoever took it is gone.
+fn given_back(answer: Result<Turn, RecvError>) -> Result<Turn, OrderFault>
+    ensures { result ≡ given_back answer }
+{
+    match answer {
+        Ok(turn) => Ok(turn),
+        Err(_) => Err(OrderFault::Gone),
+    }
+}
+
+/// Has one turn made by whoever takes the order, and waits for it. Gone where no end takes the order or
+/// gives a turn back; NoMemory where the way back can't be made, and then nothing was ordered.
+pub(crate) fn place_order<R: Wait>(
+    rt: &R,
+    alloc: Global,
+    orders: &Sender<Order>,
+) -> Result<Turn, OrderFault> {
+    let Ok((reply, answer)) = bounded(alloc, 1) else {
+        return Err(OrderFault::NoMemory);
+    };
+    if orders.send(rt, Order { reply }).is_err() {
+        return Err(OrderFault::Gone);
+    }
+    given_back(answer.recv(rt))
+}

@@ -1,0 +1,159 @@
+//! A keeper over a book that threads share.
+ghost use Rattle.std.specs.Prelude.{◌≡◌, is_some};
+ghost use Rattle.gate_workers.specs.SharedCalls.{WorkerGives};
+
+use crate::keeper::Keeper;
+use crate::order::{Order, place_order};
+use crate::order_fault::OrderFault;
+use crate::store::Store;
+use crate::turn::Turn;
+use crossbeam_channel::Sender;
+use delta_book::faults::{
+    AdmitFault, NotLive, NotOpen, NotQuarantined, QuarantineFault, TakeFault, UndoFault,
+};
+use delta_book::flush::Flush;
+use delta_book::totals::SeriesTotals;
+use metric_events::batch::Batch;
+use metric_events::sender_name::SenderName;
+use shared_book::seat::Seat;
+use shared_book::shared::SharedBook;
+use std::alloc::{AllocError, Global};
+use std::marker::Model;
+use std::sync::Wait;
+use std::sync::ledger::Ledger;
+
+/// A keeper over a shared book, from a seat of it. Each call takes the lock of the book for itself, and
+/// may wait for it; `order` takes none, and may wait for whoever makes the turn. Contracts see what the
+/// seat was told, and whether the keeper can order.
+#[derive(Drop)]
+pub struct SharedKeeper<'a, L: Ledger, R: Wait> {
+    rt: &'a R,
+    alloc: Global,
+    shared: &'a SharedBook<L>,
+    seat: Seat<L>,
+    orders: Option<Sender<Order>>,
+}
+
+impl<'a, L: Ledger, R: Wait> Model for SharedKeeper<'a, L, R> {
+    ghost use Rattle.std.specs.Prelude.{is_some};
+    ghost use Rattle.gate_workers.specs.SharedCalls.{Worker};
+
+    ghost Value = { Worker };
+
+    ghost view = { λ k. record { told = k.seat; orders = is_some k.orders } };
+}
+
+impl<'a, L: Ledger, R: Wait> SharedKeeper<'a, L, R> {
+    /// A keeper that works from this seat, and orders by this end. A flusher has none, so that the channel
+    /// closes once the receivers have ended; its `order` answers Gone.
+    pub fn new(
+        rt: &'a R,
+        alloc: Global,
+        shared: &'a SharedBook<L>,
+        seat: Seat<L>,
+        orders: Option<Sender<Order>>,
+    ) -> Self
+        ensures seat { result.told ≡ seat }
+        ensures orders { result.orders ≡ is_some orders }
+    {
+        SharedKeeper {
+            rt,
+            alloc,
+            shared,
+            seat,
+            orders,
+        }
+    }
+
+    /// The seat, with all that it was told. The end for orders is dropped.
+    pub fn into_seat(self) -> Seat<L>
+        ensures { result ≡ self.entry.told }
+    {
+        let SharedKeeper { seat, .. } = self;
+        seat
+    }
+}
+
+impl<'a, L: Ledger, R: Wait> Store for SharedKeeper<'a, L, R> {
+    ghost gives = { λ k c w. WorkerGives L.parts k c w };
+
+    fn admit(&mut self, body: Batch) -> Result<u64, (AdmitFault, Batch)> {
+        match self.shared.admit(self.rt, &mut self.seat, body) {
+            Ok(number) => return Ok(number),
+            Err(refused) => return Err(refused),
+        }
+    }
+
+    fn undo(&mut self, batch: u64) -> Result<(), UndoFault> {
+        match self.shared.undo(self.rt, &mut self.seat, batch) {
+            Ok(()) => return Ok(()),
+            Err(fault) => return Err(fault),
+        }
+    }
+
+    fn confirm(&mut self, batch: u64) -> Result<(), NotOpen> {
+        match self.shared.confirm(self.rt, &mut self.seat, batch) {
+            Ok(()) => return Ok(()),
+            Err(fault) => return Err(fault),
+        }
+    }
+
+    fn take(&mut self, max: usize) -> Result<Option<Flush>, TakeFault> {
+        match self.shared.take(self.rt, &mut self.seat, max) {
+            Ok(None) => return Ok(None),
+            Ok(Some(flush)) => return Ok(Some(flush)),
+            Err(fault) => return Err(fault),
+        }
+    }
+
+    fn settle(&mut self, flush: u64) -> Result<(), NotLive> {
+        match self.shared.settle(self.rt, &mut self.seat, flush) {
+            Ok(()) => return Ok(()),
+            Err(fault) => return Err(fault),
+        }
+    }
+
+    fn drop_flush(&mut self, flush: u64) -> Result<(), NotLive> {
+        match self.shared.drop_flush(self.rt, &mut self.seat, flush) {
+            Ok(()) => return Ok(()),
+            Err(fault) => return Err(fault),
+        }
+    }
+
+    fn give_back(&mut self, flush: u64) -> Result<(), NotLive> {
+        match self.shared.give_back(self.rt, &mut self.seat, flush) {
+            Ok(()) => return Ok(()),
+            Err(fault) => return Err(fault),
+        }
+    }
+
+    fn quarantine(&mut self, sender: SenderName) -> Result<(), QuarantineFault> {
+        match self.shared.quarantine(self.rt, &mut self.seat, sender) {
+            Ok(()) => return Ok(()),
+            Err(fault) => return Err(fault),
+        }
+    }
+
+    fn lift(&mut self, sender: &SenderName) -> Result<(), NotQuarantined> {
+        match self.shared.lift(self.rt, &mut self.seat, sender) {
+            Ok(()) => return Ok(()),
+            Err(fault) => return Err(fault),
+        }
+    }
+
+    fn totals(&mut self) -> Result<Vec<SeriesTotals>, AllocError> {
+        match self.shared.totals(self.rt, &mut self.seat) {
+            Ok(rows) => return Ok(rows),
+            Err(fault) => return Err(fault),
+        }
+    }
+}
+
+impl<'a, L: Ledger, R: Wait> Keeper for SharedKeeper<'a, L, R> {
+    fn order(&mut self) -> Result<Turn, OrderFault> {
+        let Some(orders) = &self.orders else {
+            return Err(OrderFault::Gone);
+        };
+        place_order(self.rt, self.alloc, orders)
+    }
+}

@@ -1,0 +1,59 @@
+//! The gateway. `serve` serves so many connections and prints the report and the sums of its audits;
+//! `rehearse` does so with senders and a back end of its own. A faulty line, or a call for help, is told on
+//! standard error with status 2, any other fault with status 1.
+#![tactic(auto)]
+
+use gateway_options::{LineFault, Options, options};
+use gateway_rehearse::rehearse;
+use gateway_serve::{GatewayFault, serve_all};
+use std::io::Write;
+use std::process::ExitCode;
+use std::{env, io};
+
+/// Tells a fault on standard error.
+fn fail<R: Eprint>(rt: &R, fault: GatewayFault) -> ExitCode {
+    let _ = eprintln!(rt; "gateway: {fault}");
+    ExitCode::from(1)
+}
+
+/// Prints what a run has told, or its fault.
+fn tell(rt: &HostRuntime, told: Result<Vec<u8>, GatewayFault>) -> ExitCode {
+    match told {
+        Err(fault) => fail(rt, fault),
+        Ok(text) => match io::writer(rt).write_all(text.as_slice()) {
+            Ok(()) => ExitCode::SUCCESS,
+            Err(_) => fail(rt, GatewayFault::CannotWrite),
+        },
+    }
+}
+
+fn main(rt: HostRuntime) -> ExitCode {
+    let alloc = rt.alloc();
+    let Ok(args) = env::args(&rt) else {
+        return fail(&rt, GatewayFault::NoMemory);
+    };
+    let collected: Result<Vec<String>, _> = args.collect(alloc);
+    let Ok(words) = collected else {
+        return fail(&rt, GatewayFault::NoMemory);
+    };
+    let mut texts: Vec<&str> = Vec::new(alloc);
+    for word in &words {
+        if texts.push(word.as_str()).is_err() {
+            return fail(&rt, GatewayFault::NoMemory);
+        }
+    }
+    match options(alloc, texts.as_slice()) {
+        Err(LineFault::NoMemory) => fail(&rt, GatewayFault::NoMemory),
+        Err(LineFault::Line(error)) => {
+            let _ = eprint!(rt; "{error}");
+            ExitCode::from(2)
+        }
+        Ok(options) => {
+            let told = match options {
+                Options::Serve(options) => serve_all(&rt, alloc, &options),
+                Options::Rehearse(options) => rehearse(&rt, alloc, &options),
+            };
+            tell(&rt, told)
+        }
+    }
+}

@@ -1,0 +1,13 @@
+-- What an option of the code is by the rules of the command line.
+use Rattle.std.specs.Prelude.{option_map}
+use Rattle.gateway_options.specs.CommandLine.{Number}
+use Rattle.gateway_options.specs.declared.number_option.NumberOption.{NumberOption}
+
+-- the option's name, default and range
+abbrev pub described : NumberOption → Number
+described o = record {
+  name = o.name.now;
+  default = option_map (λ text. text.now) o.default;
+  least = o.least;
+  most = o.most;
+}

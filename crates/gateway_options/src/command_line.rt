@@ -1,0 +1,176 @@
+//! The command line: its options, their ranges and their defaults.
+ghost use Rattle.std.specs.Prelude.{◌≡◌, IfOk, IfSome, false, map};
+ghost use Rattle.clap.specs.Words.{app_of, rule_of, found_of, rows_of, subcommand_rows_of, with_subcommand};
+ghost use Rattle.gateway_options.specs.CommandLine as spec;
+ghost use Rattle.gateway_options.specs.CommandLine.{IsMeant, IsGiven, AreServed, AreRehearsed};
+
+use crate::line_fault::LineFault;
+use crate::number_option::NumberOption;
+use crate::rehearse_options::RehearseOptions;
+use crate::serve_options::ServeOptions;
+use crate::told::Options;
+use clap::error::ErrorKind;
+use clap::{Arg, ArgMatches, Command, Error};
+use std::alloc::Global;
+
+const CONNECTIONS: NumberOption<'static> = NumberOption {
+    name: "connections",
+    default: None,
+    least: 0,
+    most: 1_000_000,
+};
+
+const RECEIVERS: NumberOption<'static> = NumberOption {
+    name: "receivers",
+    default: Some("2"),
+    least: 1,
+    most: 8,
+};
+
+const FLUSHERS: NumberOption<'static> = NumberOption {
+    name: "flushers",
+    default: Some("1"),
+    least: 1,
+    most: 4,
+};
+
+const FLUSH_SERIES: NumberOption<'static> = NumberOption {
+    name: "flush-series",
+    default: Some("1000"),
+    least: 1,
+    most: 1000,
+};
+
+const ROUND: NumberOption<'static> = NumberOption {
+    name: "round",
+    default: Some("32000"),
+    least: 1,
+    most: 32_000,
+};
+
+const SENDERS: NumberOption<'static> = NumberOption {
+    name: "senders",
+    default: Some("2"),
+    least: 1,
+    most: 4,
+};
+
+const BATCHES: NumberOption<'static> = NumberOption {
+    name: "batches",
+    default: Some("3"),
+    least: 1,
+    most: 100,
+};
+
+/// The most bytes of the back end's address.
+const LONGEST_BACKEND: usize = 4_294_967_295;
+
+/// `--backend ADDR`
+fn backend<'a>(alloc: Global) -> Arg<'a>
+    ensures rule { rule_of result ≡ spec.backend }
+    ensures local { result.global ≡ false }
+{
+    Arg::new(alloc, "backend").long("backend").required(true)
+}
+
+/// `--listen ADDR`
+fn listen<'a>(alloc: Global) -> Arg<'a>
+    ensures rule { rule_of result ≡ spec.listen }
+    ensures local { result.global ≡ false }
+{
+    Arg::new(alloc, "listen")
+        .long("listen")
+        .default_value("127.0.0.1:4318")
+}
+
+/// The command with the subcommand `serve` as well.
+fn with_serve<'a>(command: Command<'a>, alloc: Global) -> Result<Command<'a>, Error>
+    ensures { IfOk result (λ c. app_of c ≡ with_subcommand (app_of command.entry) spec.serve.top) }
+{
+    let serve = Command::new(alloc, "serve")
+        .arg(backend(alloc))?
+        .arg(listen(alloc))?
+        .arg(CONNECTIONS.argument(alloc))?
+        .arg(RECEIVERS.argument(alloc))?
+        .arg(FLUSHERS.argument(alloc))?
+        .arg(FLUSH_SERIES.argument(alloc))?
+        .arg(ROUND.argument(alloc))?;
+    Ok(command.subcommand(serve)?)
+}
+
+/// The command with the subcommand `rehearse` as well.
+fn with_rehearse<'a>(command: Command<'a>, alloc: Global) -> Result<Command<'a>, Error>
+    ensures { IfOk result (λ c. app_of c ≡ with_subcommand (app_of command.entry) spec.rehearse.top) }
+{
+    let rehearse = Command::new(alloc, "rehearse")
+        .arg(SENDERS.argument(alloc))?
+        .arg(BATCHES.argument(alloc))?;
+    Ok(command.subcommand(rehearse)?)
+}
+
+/// The two subcommands, one of which must be given.
+fn command<'a>(alloc: Global) -> Result<Command<'a>, Error>
+    ensures { IfOk result (λ c. app_of c ≡ spec.gateway) }
+{
+    let bare = Command::new(alloc, "gateway").subcommand_required(true);
+    with_rehearse(with_serve(bare, alloc)?, alloc)
+}
+
+/// The options of `serve`, where its numbers are digits in their ranges.
+fn serve_options<'a>(matches: &ArgMatches<'a>) -> Option<ServeOptions<'a>>
+    ensures { IfSome result (AreServed (rows_of (found_of matches.now))) }
+{
+    let backend = matches.get_str("backend")?;
+    if backend.len() > LONGEST_BACKEND {
+        return None;
+    }
+    Some(ServeOptions {
+        backend,
+        listen: matches.get_str("listen")?,
+        connections: CONNECTIONS.read(matches)?,
+        receivers: RECEIVERS.read(matches)? as u16,
+        flushers: FLUSHERS.read(matches)? as u16,
+        flush_series: FLUSH_SERIES.read(matches)? as usize,
+        round: ROUND.read(matches)?,
+    })
+}
+
+/// The options of `rehearse`, where its numbers are digits in their ranges.
+fn rehearse_options(matches: &ArgMatches<'_>) -> Option<RehearseOptions>
+    ensures { IfSome result (AreRehearsed (rows_of (found_of matches.now))) }
+{
+    Some(RehearseOptions {
+        senders: SENDERS.read(matches)? as u16,
+        batches: BATCHES.read(matches)? as u16,
+    })
+}
+
+/// The options that the matches of the line have, where its numbers are digits in their ranges.
+fn options_in<'a>(matches: &ArgMatches<'a>) -> Option<Options<'a>>
+    ensures { IfSome result (IsGiven (subcommand_rows_of matches.now)) }
+{
+    match matches.subcommand_matches("serve") {
+        Some(serve) => Some(Options::Serve(serve_options(serve)?)),
+        None => {
+            let rehearse = matches.subcommand_matches("rehearse")?;
+            Some(Options::Rehearse(rehearse_options(rehearse)?))
+        }
+    }
+}
+
+/// The options that the words mean, of which the first is the program's name.
+///
+/// `Line` where they are faulty or ask for help, also where a number is written with a sign.
+pub fn options<'a>(alloc: Global, words: &'a [&'a str]) -> Result<Options<'a>, LineFault>
+    ensures { IfOk result (IsMeant (map (λ s. s.now) words.entry.now)) }
+{
+    let mut command = command(alloc)?;
+    let matches = command.try_get_matches_from_mut(words)?;
+    match options_in(&matches) {
+        Some(options) => Ok(options),
+        None => match command.error(ErrorKind::ValueValidation, "a number is digits alone") {
+            Ok(error) => Err(LineFault::Line(error)),
+            Err(_) => Err(LineFault::NoMemory),
+        },
+    }
+}

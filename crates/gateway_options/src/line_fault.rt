@@ -1,0 +1,32 @@
+use clap::Error;
+use clap::error::ErrorKind;
+use std::fmt;
+
+/// Why a command line gives no options.
+#[derive(Debug, Drop)]
+pub enum LineFault {
+    /// The line is faulty, or asks for help. Its text is for the user.
+    Line(Error),
+    /// A growth was refused.
+    NoMemory,
+}
+
+impl From<Error> for LineFault {
+    ghost from_gives = { λ e fault. Unit {0} };
+
+    fn from(error: Error) -> LineFault {
+        match error.kind() {
+            ErrorKind::OutOfMemory => LineFault::NoMemory,
+            _ => LineFault::Line(error),
+        }
+    }
+}
+
+impl fmt::Display for LineFault {
+    fn fmt<W: fmt::Write>(&self, f: &mut fmt::Formatter<W>) -> fmt::Result {
+        match self {
+            LineFault::Line(error) => write!(f, "{error}"),
+            LineFault::NoMemory => f.write_str("gateway: no memory\n"),
+        }
+    }
+}

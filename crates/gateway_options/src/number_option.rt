@@ -1,0 +1,46 @@
+ghost use Rattle.std.specs.Prelude.{◌≡◌, ◌≤◌, IfSome, false};
+ghost use Rattle.clap.specs.Words.{found_of, rows_of, rule_of};
+ghost use Rattle.gateway_options.specs.CommandLine.{IsNumber, number_rule};
+ghost use Rattle.gateway_options.specs.NumberOption.{described};
+
+use clap::{Arg, ArgMatches, value_parser};
+use decimals::number_up_to;
+use std::alloc::Global;
+
+/// An option whose value is a number: `--name N`, of digits alone.
+#[derive(Clone, Copy)]
+pub struct NumberOption<'a> {
+    pub name: &'a str,
+    /// What stands in where the option is left out. Where nothing does it must be given.
+    pub default: Option<&'a str>,
+    pub least: u32,
+    pub most: u32,
+}
+
+impl<'a> NumberOption<'a> {
+    /// The option by clap's rules.
+    pub fn argument(&self, alloc: Global) -> Arg<'a>
+        ensures rule { rule_of result ≡ number_rule (described self.now) }
+        ensures local { result.global ≡ false }
+    {
+        let range = i64::from(self.least)..=i64::from(self.most);
+        let argument = Arg::new(alloc, self.name)
+            .long(self.name)
+            .value_parser(value_parser!(u32).range(range));
+        match self.default {
+            Some(text) => argument.default_value(text),
+            None => argument.required(true),
+        }
+    }
+
+    /// The number that the option's digits write, where it is in the option's range.
+    pub fn read(&self, matches: &ArgMatches<'_>) -> Option<u64>
+        ensures { IfSome result (λ n. IsNumber (described self.now) (rows_of (found_of matches.now)) n × (n ≤ self.now.most)) }
+    {
+        let number = number_up_to(matches.get_str(self.name)?.as_bytes(), u64::from(self.most))?;
+        if number < u64::from(self.least) {
+            return None;
+        }
+        Some(number)
+    }
+}

@@ -1,0 +1,42 @@
+use std::net::SocketAddr;
+use std::sync::atomic::{AtomicBool, Ordering};
+
+/// What the threads of a rehearsal share: where the gateway listens, and what has become of it.
+#[derive(Drop)]
+pub struct Stage {
+    /// Where the gateway listens.
+    pub gateway: SocketAddr,
+    ended: AtomicBool,
+    starved: AtomicBool,
+}
+
+impl Stage {
+    /// A stage on which nothing has ended.
+    pub fn new(gateway: SocketAddr) -> Stage {
+        Stage {
+            gateway,
+            ended: AtomicBool::new(false),
+            starved: AtomicBool::new(false),
+        }
+    }
+
+    /// Says that the gateway has ended: nobody takes a connection any more.
+    pub fn end(&self) {
+        self.ended.store(true, Ordering::SeqCst);
+    }
+
+    /// Whether the gateway has ended.
+    pub fn has_ended(&self) -> bool {
+        self.ended.load(Ordering::SeqCst)
+    }
+
+    /// Says that a growth was refused.
+    pub fn starve(&self) {
+        self.starved.store(true, Ordering::SeqCst);
+    }
+
+    /// Whether a growth was refused.
+    pub fn is_starved(&self) -> bool {
+        self.starved.load(Ordering::SeqCst)
+    }
+}

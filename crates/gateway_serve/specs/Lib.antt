@@ -1,0 +1,2 @@
+pub mod LastLine
+pub mod Ended

@@ -1,0 +1,72 @@
+use crate::caller::Caller;
+use crate::fault::GatewayFault;
+use crossbeam_channel::{Receiver, Sender, bounded};
+use gate_workers::{CHANNEL_PLACES, Order};
+use std::alloc::Global;
+
+/// What one worker works on, with the ends that it needs for it.
+#[derive(Drop)]
+pub enum Work {
+    /// It serves connections, and orders flushes.
+    Receive {
+        callers: Receiver<Caller>,
+        order: Sender<Order>,
+    },
+    /// It carries out the flushes that are ordered.
+    Flush {
+        orders: Receiver<Order>,
+    },
+}
+
+/// The ends of both channels of a round: of connections that were accepted, and of orders. Once these
+/// and the workers' are dropped both channels are closed.
+#[derive(Drop)]
+pub struct Channels {
+    hand: Sender<Caller>,
+    callers: Receiver<Caller>,
+    order: Sender<Order>,
+    orders: Receiver<Order>,
+}
+
+impl Channels {
+    /// Two empty channels.
+    pub fn new(alloc: Global) -> Result<Channels, GatewayFault> {
+        let Ok((hand, callers)) = bounded(alloc, CHANNEL_PLACES) else {
+            return Err(GatewayFault::NoMemory);
+        };
+        let Ok((order, orders)) = bounded(alloc, CHANNEL_PLACES) else {
+            return Err(GatewayFault::NoMemory);
+        };
+        Ok(Channels {
+            hand,
+            callers,
+            order,
+            orders,
+        })
+    }
+
+    /// The work of a receiver.
+    pub fn receiving(&self) -> Result<Work, GatewayFault> {
+        let Ok(callers) = self.callers.clone() else {
+            return Err(GatewayFault::NoMemory);
+        };
+        match self.order.clone() {
+            Ok(order) => Ok(Work::Receive { callers, order }),
+            Err(_) => Err(GatewayFault::NoMemory),
+        }
+    }
+
+    /// The work of a flusher.
+    pub fn flushing(&self) -> Result<Work, GatewayFault> {
+        match self.orders.clone() {
+            Ok(orders) => Ok(Work::Flush { orders }),
+            Err(_) => Err(GatewayFault::NoMemory),
+        }
+    }
+
+    /// The end that connections are handed to the receivers by. The others are dropped.
+    pub fn into_hand(self) -> Sender<Caller> {
+        let Channels { hand, .. } = self;
+        hand
+    }
+}

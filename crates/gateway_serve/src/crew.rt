@@ -1,0 +1,105 @@
+//! The workers of a round, each in a thread of its own.
+use crate::caller::Caller;
+use crate::channels::{Channels, Work};
+use crate::fault::GatewayFault;
+use crate::worker::work;
+use crossbeam_channel::Sender;
+use gateway_options::ServeOptions;
+use shared_book::seat::Seat;
+use shared_book::shared::SharedBook;
+use std::alloc::Global;
+use std::net::{Net, TcpListener, TcpStream};
+use std::sync::Wait;
+use std::sync::ledger::Ledger;
+use std::thread;
+use std::thread::{JoinHandle, Threads};
+
+/// The work of the seat of this number: the first seats are the flushers', so that these are there
+/// before the first receiver.
+fn work_of(channels: &Channels, flushers: u16, number: u16) -> Result<Work, GatewayFault> {
+    if number < flushers {
+        channels.flushing()
+    } else {
+        channels.receiving()
+    }
+}
+
+/// Accepts so many connections and hands them to the receivers. May wait for a free one.
+fn accept_all<R: Wait>(
+    rt: &R,
+    listener: &TcpListener,
+    connections: u64,
+    hand: Sender<Caller>,
+) -> Result<(), GatewayFault> {
+    for _ in 0..connections {
+        let Ok((stream, _)) = listener.accept() else {
+            return Err(GatewayFault::CannotAccept);
+        };
+        if hand.send(rt, Caller::new(stream)).is_err() {
+            return Err(GatewayFault::NoMemory);
+        }
+    }
+    Ok(())
+}
+
+/// Waits for all workers, and gives their seats.
+fn join_all<L: Ledger, R: Threads>(
+    rt: &R,
+    alloc: Global,
+    running: Vec<JoinHandle<Seat<L>>>,
+) -> Result<Vec<Seat<L>>, GatewayFault> {
+    let mut seats = Vec::new(alloc);
+    let mut outcome = Ok(());
+    for worker in running {
+        if seats.push(worker.join(rt)).is_err() {
+            outcome = Err(GatewayFault::NoMemory);
+        }
+    }
+    outcome?;
+    Ok(seats)
+}
+
+/// Starts a worker on each seat, accepts so many connections beside them, and lets them end. On every
+/// path all ends of the channels are dropped before a worker is waited for, so each of them ends.
+pub fn serve_beside<
+    L: Ledger + Send + Sync,
+    R: Net<Listener = TcpListener, Stream = TcpStream> + Threads + Wait + Sync,
+>(
+    rt: &R,
+    alloc: Global,
+    shared: &SharedBook<L>,
+    seats: Vec<Seat<L>>,
+    listener: &TcpListener,
+    options: &ServeOptions<'_>,
+    connections: u64,
+) -> Result<Vec<Seat<L>>, GatewayFault> {
+    thread::scope(thread::scope_env(), rt, |scope| {
+        let channels = Channels::new(alloc)?;
+        let mut running = Vec::new(alloc);
+        let mut outcome = Ok(());
+        for seat in seats {
+            let Ok(task) = work_of(&channels, options.flushers, seat.number()) else {
+                outcome = Err(GatewayFault::NoMemory);
+                break;
+            };
+            let Ok(worker) = scope.spawn(move || work(rt, alloc, shared, seat, options, task))
+            else {
+                outcome = Err(GatewayFault::CannotStart);
+                break;
+            };
+            if running.push(worker).is_err() {
+                outcome = Err(GatewayFault::NoMemory);
+                break;
+            }
+        }
+        let hand = channels.into_hand();
+        if outcome.is_ok() {
+            outcome = accept_all(rt, listener, connections, hand);
+        } else {
+            drop(hand);
+        }
+        let seats = join_all(rt, alloc, running);
+        outcome?;
+        seats
+    })
+}

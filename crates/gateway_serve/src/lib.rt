@@ -1,0 +1,23 @@
+//! The gateway as a library: its sockets, its threads, and the rounds of its store. What is done with
+//! a request and with a flush is `gate_workers`'s, and what the workers share is `shared_book`'s; here
+//! are the calls of the system. No contract can say what a socket gives or takes, so what is proved of
+//! the connections is which calls the keeper gets.
+#![tactic(auto)]
+
+mod backend;
+mod caller;
+mod channels;
+mod crew;
+mod fault;
+mod last_line;
+mod rounds;
+mod serving;
+mod sums;
+mod waits;
+mod worker;
+
+pub use backend::Backend;
+pub use caller::Caller;
+pub use fault::GatewayFault;
+pub use serving::{serve_all, serve_bound};
+pub use sums::Sums;

@@ -1,0 +1,108 @@
+//! Rounds: the book is shared anew after so many connections.
+ghost use Rattle.std.specs.Prelude.{◌≡◌, ◌+◌, ◌<◌, ◌≤◌, [], OnOk};
+
+use crate::crew::serve_beside;
+use crate::fault::GatewayFault;
+use crate::sums::Sums;
+use delta_book::book::Book;
+use delta_book::faults::RoundFault;
+use gateway_options::ServeOptions;
+use shared_book::audit::Audit;
+use shared_book::shared::SharedBook;
+use std::alloc::Global;
+use std::marker::Brand;
+use std::net::{Net, TcpListener, TcpStream};
+use std::sync::Wait;
+use std::sync::ledger::{Blank, Ledger};
+use std::thread::Threads;
+
+/// One round over a ledger: the book is shared, so many connections are served, and all that the
+/// workers were told is compared with the book.
+fn round_over<
+    L: Ledger + Send + Sync,
+    R: Net<Listener = TcpListener, Stream = TcpStream> + Threads + Wait + Sync,
+>(
+    rt: &R,
+    alloc: Global,
+    blank: Blank,
+    book: Book,
+    listener: &TcpListener,
+    options: &ServeOptions<'_>,
+    connections: u64,
+) -> Result<(Book, Audit), GatewayFault>
+    requires ledger { (blank.name ≡ L.name) × (blank.parts ≡ L.parts) }
+    requires parts { blank.parts ≡ options.now.receivers + options.now.flushers }
+    requires empty { book.entries ≡ [] }
+{
+    let seats = options.receivers + options.flushers;
+    let Ok((shared, seats)) = SharedBook::<L>::new(alloc, book, blank, seats) else {
+        return Err(GatewayFault::NoMemory);
+    };
+    let seats = serve_beside(rt, alloc, &shared, seats, listener, options, connections)?;
+    match shared.finish(seats) {
+        Ok(done) => Ok(done),
+        Err(_) => Err(GatewayFault::AuditFailed),
+    }
+}
+
+/// One round over a ledger of its own.
+fn one_round<R: Net<Listener = TcpListener, Stream = TcpStream> + Threads + Wait + Sync>(
+    rt: &R,
+    alloc: Global,
+    book: Book,
+    listener: &TcpListener,
+    options: &ServeOptions<'_>,
+    connections: u64,
+) -> Result<(Book, Audit), GatewayFault>
+    requires empty { book.entries ≡ [] }
+{
+    let parts = u64::from(options.receivers) + u64::from(options.flushers);
+    let blank = Blank::new(parts);
+    round_over::<Brand, R>(rt, alloc, blank, book, listener, options, connections)
+}
+
+/// Closes the round of a book.
+fn close(book: &mut Book) -> Result<(), GatewayFault>
+    ensures { OnOk result (book.new.entries ≡ []) }
+{
+    match book.close_round() {
+        Ok(_) => Ok(()),
+        Err(RoundFault::NoMemory) => Err(GatewayFault::NoMemory),
+        Err(_) => Err(GatewayFault::AuditFailed),
+    }
+}
+
+/// How many of the connections that are left the next round serves.
+fn next_count(left: u64, round: u64) -> u64
+    requires { 0 < round }
+    ensures most { result ≤ left }
+    ensures some { 0 < left → 0 < result }
+{
+    if left < round { left } else { round }
+}
+
+/// Serves all connections over a new book, and gives it with the sums of the audits: a round is closed
+/// after so many connections, unless none is left.
+pub fn serve_rounds<R: Net<Listener = TcpListener, Stream = TcpStream> + Threads + Wait + Sync>(
+    rt: &R,
+    alloc: Global,
+    listener: &TcpListener,
+    options: &ServeOptions<'_>,
+) -> Result<(Book, Sums), GatewayFault> {
+    let Ok(new) = Book::new(alloc) else {
+        return Err(GatewayFault::NoMemory);
+    };
+    let first = next_count(options.connections, options.round);
+    let (mut book, audit) = one_round(rt, alloc, new, listener, options, first)?;
+    let mut sums = Sums::of(audit);
+    let mut left = options.connections - first;
+    while left > 0 {
+        close(&mut book)?;
+        let count = next_count(left, options.round);
+        let (next, audit) = one_round(rt, alloc, book, listener, options, count)?;
+        book = next;
+        sums = sums.and(audit);
+        left -= count;
+    }
+    Ok((book, sums))
+}

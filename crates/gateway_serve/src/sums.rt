@@ -1,0 +1,28 @@
+use shared_book::audit::Audit;
+
+/// What the audits of all rounds have found, added up. A sum stops at the most that it holds.
+#[derive(Clone, Copy, Debug, PartialEq, Eq)]
+pub struct Sums {
+    /// The points of all batches that were admitted, undone ones too.
+    pub admitted: u128,
+    /// The points that the back end has taken.
+    pub acknowledged: u128,
+}
+
+impl Sums {
+    /// Those of one round.
+    pub fn of(audit: Audit) -> Sums {
+        Sums {
+            admitted: audit.admitted,
+            acknowledged: audit.acknowledged,
+        }
+    }
+
+    /// With those of one more round.
+    pub fn and(self, audit: Audit) -> Sums {
+        Sums {
+            admitted: self.admitted.saturating_add(audit.admitted),
+            acknowledged: self.acknowledged.saturating_add(audit.acknowledged),
+        }
+    }
+}

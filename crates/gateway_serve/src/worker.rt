@@ -1,0 +1,43 @@
+use crate::backend::Backend;
+use crate::channels::Work;
+use gate_workers::{NoPace, SharedKeeper, flusher_loop, receiver_loop};
+use gateway_options::ServeOptions;
+use shared_book::seat::Seat;
+use shared_book::shared::SharedBook;
+use std::alloc::Global;
+use std::net::{Net, TcpStream};
+use std::sync::Wait;
+use std::sync::ledger::Ledger;
+
+/// Works from a seat until there is no more work, and gives the seat back with all that it was told.
+pub fn work<L: Ledger, R: Net<Stream = TcpStream> + Wait>(
+    rt: &R,
+    alloc: Global,
+    shared: &SharedBook<L>,
+    seat: Seat<L>,
+    options: &ServeOptions<'_>,
+    work: Work,
+) -> Seat<L> {
+    match work {
+        Work::Receive { callers, order } => {
+            let mut keeper = SharedKeeper::new(rt, alloc, shared, seat, Some(order));
+            receiver_loop(rt, alloc, callers, &mut keeper, &mut NoPace);
+            keeper.into_seat()
+        }
+        Work::Flush { orders } => {
+            let mut keeper = SharedKeeper::new(rt, alloc, shared, seat, None);
+            let mut backend = Backend::new(rt, alloc, options.backend);
+            let most = options.flush_series;
+            flusher_loop(
+                rt,
+                alloc,
+                orders,
+                &mut keeper,
+                &mut backend,
+                &mut NoPace,
+                most,
+            );
+            keeper.into_seat()
+        }
+    }
+}

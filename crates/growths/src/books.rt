@@ -1,0 +1,234 @@
+//! Calls of a book: without memory its journal and its totals are as before, and the same call goes
+//! through.
+ghost use Rattle.std.specs.Prelude.{◌≤◌};
+
+use crate::bodies::{LATER, MIXED};
+use crate::making::{batch_of, name_of, text_of};
+use crate::telling::{no_memory, tell, tell_number};
+use delta_book::book::Book;
+use delta_book::faults::{AdmitFault, QuarantineFault, RoundFault, TakeFault};
+use delta_book::flush::Flush;
+use metric_events::batch::Batch;
+use out_texts::{past_text, report_text, request_text};
+use std::alloc::{AllocError, Global};
+
+/// The seat of all events.
+const SEAT: u16 = 0;
+
+/// What a book shows: how many entries it has, and its report.
+#[derive(Drop)]
+struct Shown {
+    entries: usize,
+    report: Vec<u8>,
+}
+
+fn report_of(alloc: Global, book: &Book) -> Result<Vec<u8>, AllocError> {
+    let rows = book.totals()?;
+    report_text(alloc, rows.as_slice())
+}
+
+/// What a book shows, which is asked for twice where it finds no memory.
+fn look_at(rt: &HostRuntime, alloc: Global, book: &Book) -> Result<Shown, AllocError> {
+    for _ in 0..2 {
+        match report_of(alloc, book) {
+            Ok(report) => {
+                let entries = book.journal().len();
+                return Ok(Shown { entries, report });
+            }
+            Err(_) => no_memory(rt, "Book::totals", true),
+        }
+    }
+    Err(AllocError)
+}
+
+/// Tells that a call found no memory, and whether the book is as before; of the report where that
+/// finds memory.
+fn refused(rt: &HostRuntime, alloc: Global, call: &str, book: &Book, before: &Shown) {
+    let same = match report_of(alloc, book) {
+        Ok(report) => report == before.report,
+        Err(_) => true,
+    };
+    no_memory(rt, call, same && book.journal().len() == before.entries);
+}
+
+fn made(rt: &HostRuntime, alloc: Global) -> Result<Book, AllocError> {
+    for _ in 0..2 {
+        match Book::new(alloc) {
+            Ok(book) => {
+                tell(rt, "Book::new", book.journal().is_empty());
+                return Ok(book);
+            }
+            Err(_) => no_memory(rt, "Book::new", true),
+        }
+    }
+    Err(AllocError)
+}
+
+/// A batch of a body, which is made again where it finds no memory.
+fn batch_twice(rt: &HostRuntime, alloc: Global, body: &[u8]) -> Result<Batch, AllocError> {
+    for _ in 0..2 {
+        match batch_of(alloc, body) {
+            Ok(batch) => return Ok(batch),
+            Err(_) => no_memory(rt, "the batch", true),
+        }
+    }
+    Err(AllocError)
+}
+
+fn copy_twice(rt: &HostRuntime, alloc: Global, batch: &Batch) -> Result<Batch, AllocError> {
+    for _ in 0..2 {
+        match batch.copy(alloc) {
+            Ok(copy) => return Ok(copy),
+            Err(_) => no_memory(rt, "the batch", true),
+        }
+    }
+    Err(AllocError)
+}
+
+fn admit(rt: &HostRuntime, alloc: Global, book: &mut Book, body: &[u8]) -> Result<(), AllocError> {
+    let before = look_at(rt, alloc, book)?;
+    let mut batch = batch_twice(rt, alloc, body)?;
+    let copy = copy_twice(rt, alloc, &batch)?;
+    for _ in 0..2 {
+        if batch.points.as_slice().is_empty() {
+            break;
+        }
+        match book.admit(SEAT, batch) {
+            Ok(number) => {
+                tell_number(rt, "Book::admit", number);
+                return Ok(());
+            }
+            Err((AdmitFault::NoMemory, back)) => {
+                refused(rt, alloc, "Book::admit", book, &before);
+                tell_back(rt, &back, &copy);
+                batch = back;
+            }
+            Err(_) => return Err(AllocError),
+        }
+    }
+    Err(AllocError)
+}
+
+/// Tells where a batch that is handed back is another one.
+fn tell_back(rt: &HostRuntime, back: &Batch, copy: &Batch) {
+    if !back.is_same(copy) {
+        tell(rt, "the batch that came back is", false);
+    }
+}
+
+fn take(rt: &HostRuntime, alloc: Global, book: &mut Book, most: usize) -> Result<Flush, AllocError>
+    requires low { 1 ≤ most }
+    requires high { most ≤ 1000 }
+{
+    let before = look_at(rt, alloc, book)?;
+    for _ in 0..2 {
+        match book.take(SEAT, most) {
+            Ok(Some(flush)) => {
+                tell_number(rt, "Book::take", flush.number);
+                return Ok(flush);
+            }
+            Err(TakeFault::NoMemory) => refused(rt, alloc, "Book::take", book, &before),
+            Ok(None) | Err(TakeFault::Full) => break,
+        }
+    }
+    Err(AllocError)
+}
+
+fn quarantine(rt: &HostRuntime, alloc: Global, book: &mut Book) -> Result<(), AllocError> {
+    let before = look_at(rt, alloc, book)?;
+    for _ in 0..2 {
+        let Ok(sender) = name_of(alloc, b"H") else {
+            no_memory(rt, "the sender", true);
+            continue;
+        };
+        match book.quarantine(SEAT, sender) {
+            Ok(()) => {
+                tell(rt, "Book::quarantine", true);
+                return Ok(());
+            }
+            Err(QuarantineFault::NoMemory) => refused(rt, alloc, "Book::quarantine", book, &before),
+            Err(_) => break,
+        }
+    }
+    Err(AllocError)
+}
+
+fn close_round(rt: &HostRuntime, alloc: Global, book: &mut Book) -> Result<(), AllocError> {
+    let before = look_at(rt, alloc, book)?;
+    for _ in 0..2 {
+        match book.close_round() {
+            Ok(round) => {
+                tell_number(rt, "Book::close_round", round);
+                return Ok(());
+            }
+            Err(RoundFault::NoMemory) => refused(rt, alloc, "Book::close_round", book, &before),
+            Err(_) => break,
+        }
+    }
+    Err(AllocError)
+}
+
+/// Prints a text behind the name of the call that made it.
+fn print_text(
+    rt: &HostRuntime,
+    alloc: Global,
+    call: &str,
+    bytes: Vec<u8>,
+) -> Result<(), AllocError> {
+    let text = text_of(alloc, bytes)?;
+    let _ = println!(rt; "{call} {text}");
+    Ok(())
+}
+
+fn print_request(rt: &HostRuntime, alloc: Global, flush: &Flush) -> Result<(), AllocError> {
+    for _ in 0..2 {
+        match request_text(alloc, flush) {
+            Ok(bytes) => return print_text(rt, alloc, "request_text", bytes),
+            Err(_) => no_memory(rt, "request_text", true),
+        }
+    }
+    Err(AllocError)
+}
+
+fn print_report(rt: &HostRuntime, alloc: Global, book: &Book) -> Result<(), AllocError> {
+    let now = look_at(rt, alloc, book)?;
+    print_text(rt, alloc, "report_text", now.report)
+}
+
+fn past_of(alloc: Global, book: &Book) -> Result<Vec<u8>, AllocError> {
+    let rows = book.past()?;
+    past_text(alloc, rows.as_slice())
+}
+
+fn print_past(rt: &HostRuntime, alloc: Global, book: &Book) -> Result<(), AllocError> {
+    for _ in 0..2 {
+        match past_of(alloc, book) {
+            Ok(bytes) => return print_text(rt, alloc, "past_text", bytes),
+            Err(_) => no_memory(rt, "Book::past", true),
+        }
+    }
+    Err(AllocError)
+}
+
+/// The first round: a batch is taken and settled.
+fn first_round(rt: &HostRuntime, alloc: Global, book: &mut Book) -> Result<(), AllocError> {
+    admit(rt, alloc, book, MIXED)?;
+    tell(rt, "Book::confirm", book.confirm(SEAT, 1).is_ok());
+    let flush = take(rt, alloc, book, 1)?;
+    print_request(rt, alloc, &flush)?;
+    tell(rt, "Book::settle", book.settle(SEAT, 1).is_ok());
+    print_report(rt, alloc, book)
+}
+
+/// All calls, over two rounds.
+pub fn two_rounds(rt: &HostRuntime, alloc: Global) -> Result<(), AllocError> {
+    let mut book = made(rt, alloc)?;
+    first_round(rt, alloc, &mut book)?;
+    quarantine(rt, alloc, &mut book)?;
+    close_round(rt, alloc, &mut book)?;
+    admit(rt, alloc, &mut book, LATER)?;
+    let flush = take(rt, alloc, &mut book, 1000)?;
+    print_request(rt, alloc, &flush)?;
+    print_past(rt, alloc, &book)?;
+    print_report(rt, alloc, &book)
+}

@@ -1,0 +1,140 @@
+//! Calls that are handed a value or change one: without memory it is as before, and the same call with
+//! the same value goes through.
+ghost use Rattle.std.specs.Prelude.{◌≡◌};
+
+use crate::bodies::{MIXED, SUMS};
+use crate::making::{first_point, name_of, points_of};
+use crate::telling::{no_memory, tell};
+use bucket_lanes::{fits, is_zero};
+use metric_events::point::Point;
+use metric_events::points::Points;
+use series_cell::cell::Cell;
+use series_id::{AttrSet, Kind, SeriesId, Text};
+use std::alloc::{AllocError, Global};
+
+/// The calls, in the order in which they are made.
+pub const CALLS: [&str; 4] = [
+    "SeriesId::share",
+    "Points::push",
+    "Cell::put",
+    "Cell::reserve",
+];
+
+/// Makes a call on a value of its own.
+pub fn make(rt: &HostRuntime, alloc: Global, call: &str) -> Result<(), AllocError> {
+    match call {
+        "SeriesId::share" => share(rt, alloc),
+        "Points::push" => push(rt, alloc),
+        "Cell::put" => put(rt, alloc),
+        _ => reserve(rt, alloc),
+    }
+}
+
+/// A sum's identity that is not shared yet.
+fn own_series(alloc: Global) -> Result<SeriesId, AllocError> {
+    let made = SeriesId::new(
+        AttrSet::empty(alloc),
+        Text::new(String::new(alloc)),
+        Text::new(String::new(alloc)),
+        AttrSet::empty(alloc),
+        Text::new(String::from_str(alloc, "x")?),
+        Text::new(String::new(alloc)),
+        Kind::Sum { monotonic: false },
+        AttrSet::empty(alloc),
+    );
+    match made {
+        Ok(series) => Ok(series),
+        Err(_) => Err(AllocError),
+    }
+}
+
+/// An identity that is handed back is shared at the second call.
+fn share(rt: &HostRuntime, alloc: Global) -> Result<(), AllocError> {
+    let mut series = own_series(alloc)?;
+    let same = own_series(alloc)?;
+    for _ in 0..2 {
+        match series.share(alloc) {
+            Ok(shared) => {
+                tell(rt, "SeriesId::share", shared.is_same(&same));
+                return Ok(());
+            }
+            Err(refused) => {
+                series = refused.value;
+                no_memory(rt, "SeriesId::share", series.is_same(&same));
+            }
+        }
+    }
+    Err(AllocError)
+}
+
+/// Points that found no room for one more are as before.
+fn push(rt: &HostRuntime, alloc: Global) -> Result<(), AllocError> {
+    let mut points = Points::new(alloc);
+    let sums = points_of(alloc, SUMS)?;
+    for point in sums.as_slice() {
+        push_one(rt, alloc, &mut points, point)?;
+    }
+    tell(rt, "Points::push", points.is_same(&sums));
+    Ok(())
+}
+
+fn push_one(
+    rt: &HostRuntime,
+    alloc: Global,
+    points: &mut Points,
+    point: &Point,
+) -> Result<(), AllocError> {
+    let before = points.copy(alloc)?;
+    for _ in 0..2 {
+        let one = point.copy(alloc)?;
+        match points.push(one) {
+            Ok(()) => return Ok(()),
+            Err(_) => no_memory(rt, "Points::push", points.is_same(&before)),
+        }
+    }
+    Err(AllocError)
+}
+
+/// A cell without room for a point is as before.
+fn put(rt: &HostRuntime, alloc: Global) -> Result<(), AllocError> {
+    let point = first_point(alloc, MIXED)?;
+    let series = point.series().copy(alloc)?;
+    let mut cell = Cell::new(alloc, name_of(alloc, b"A")?, series)?;
+    for _ in 0..2 {
+        if !cell.id().is_same(point.series())
+            || cell.frontier() > point.span().start()
+            || cell.accepted().len() != point.row().len()
+            || !fits(cell.accepted(), point.row(), 18_446_744_073_709_551_615)
+        {
+            tell(rt, "Cell::put", false);
+            return Ok(());
+        }
+        match cell.put(&point, 1) {
+            Ok(()) => {
+                tell(rt, "Cell::put", cell.accepted() == point.row());
+                return Ok(());
+            }
+            Err(_) => no_memory(
+                rt,
+                "Cell::put",
+                is_zero(cell.accepted()) && cell.frontier() == 0,
+            ),
+        }
+    }
+    Err(AllocError)
+}
+
+/// A cell without room for more points is as before.
+fn reserve(rt: &HostRuntime, alloc: Global) -> Result<(), AllocError> {
+    let mut cell = Cell::new(alloc, name_of(alloc, b"A")?, own_series(alloc)?)?;
+    for _ in 0..2 {
+        match cell.reserve(100) {
+            Ok(()) => {
+                tell(rt, "Cell::reserve", is_zero(cell.accepted()));
+                return Ok(());
+            }
+            Err(_) => no_memory(rt, "Cell::reserve", is_zero(cell.accepted())),
+        }
+    }
+    Err(AllocError)
+}

@@ -1,0 +1,77 @@
+//! A book that is made before the calls, and whose batches, flushes and held sender end after them, by
+//! calls that take no memory.
+ghost use Rattle.std.specs.Prelude.{◌≤◌};
+
+use crate::bodies::{FOURTH, SUMS};
+use crate::making::{batch_of, name_of};
+use crate::telling::{tell, tell_number};
+use delta_book::book::Book;
+use metric_events::sender_name::SenderName;
+use std::alloc::{AllocError, Global};
+
+/// The seat of all events.
+const SEAT: u16 = 0;
+
+/// A book with two open batches, three live flushes of the first, and a held sender.
+#[derive(Drop)]
+pub struct Kept {
+    book: Book,
+    held: SenderName,
+}
+
+fn admit(alloc: Global, book: &mut Book, body: &[u8]) -> Result<(), AllocError> {
+    let batch = batch_of(alloc, body)?;
+    if batch.points.as_slice().is_empty() {
+        return Err(AllocError);
+    }
+    match book.admit(SEAT, batch) {
+        Ok(_) => Ok(()),
+        Err(_) => Err(AllocError),
+    }
+}
+
+fn take_one(book: &mut Book) -> Result<(), AllocError> {
+    match book.take(SEAT, 1) {
+        Ok(Some(_)) => Ok(()),
+        _ => Err(AllocError),
+    }
+}
+
+/// Makes the book.
+pub fn prepare(alloc: Global) -> Result<Kept, AllocError> {
+    let mut book = Book::new(alloc)?;
+    admit(alloc, &mut book, SUMS)?;
+    for _ in 0..3 {
+        take_one(&mut book)?;
+    }
+    admit(alloc, &mut book, FOURTH)?;
+    if book.quarantine(SEAT, name_of(alloc, b"H")?).is_err() {
+        return Err(AllocError);
+    }
+    let held = name_of(alloc, b"H")?;
+    Ok(Kept { book, held })
+}
+
+/// How many points were acknowledged, as far as 64 bits tell it.
+fn acknowledged(book: &Book) -> u64 {
+    u64::try_from(book.acknowledged()).unwrap_or(u64::MAX)
+}
+
+/// Ends all that is open, and tells each answer.
+pub fn end(rt: &HostRuntime, kept: Kept) {
+    let Kept { mut book, held } = kept;
+    tell(rt, "end: settle", book.settle(SEAT, 1).is_ok());
+    tell(rt, "end: drop_flush", book.drop_flush(SEAT, 2).is_ok());
+    tell(rt, "end: give_back", book.give_back(SEAT, 3).is_ok());
+    tell(rt, "end: undo", book.undo(SEAT, 2).is_ok());
+    tell(
+        rt,
+        "end: undo of a taken batch",
+        book.undo(SEAT, 1).is_err(),
+    );
+    tell(rt, "end: confirm", book.confirm(SEAT, 1).is_ok());
+    tell(rt, "end: lift", book.lift(SEAT, &held).is_ok());
+    tell(rt, "end: settle again", book.settle(SEAT, 1).is_err());
+    tell_number(rt, "end: journal", book.journal().len() as u64);
+    tell_number(rt, "end: acknowledged", acknowledged(&book));
+}

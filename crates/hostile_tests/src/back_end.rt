@@ -1,0 +1,180 @@
+//! A back end that breaks off, over scripted ends: what the exchange answers, and what becomes of the flush.
+use crate::gate::{ACCEPTED, POSTED, bytewise};
+use back_answers::Answer;
+use byte_ends::{Script, Step, Tape};
+use delta_book::book::Book;
+use gate_workers::{BookKeeper, NoPace, Uplink, exchange, serve_book};
+use std::alloc::Global;
+use std::process::Abort;
+use std::test::Fail;
+
+const OK: &[u8] = b"HTTP/1.1 200 OK\r\n\r\n";
+
+/// A back end of which each connection gives this reply, and follows these steps.
+#[derive(Drop)]
+struct Scripted<'a> {
+    alloc: Global,
+    reply: &'a [u8],
+    reads: &'a [Step],
+    writes: &'a [Step],
+}
+
+impl Uplink for Scripted<'_> {
+    /// What is answered is compared where it runs.
+    ghost sends = { λ before bytes answer after. Unit {0} };
+
+    fn send(&mut self, bytes: &[u8]) -> Answer {
+        let mut reader = Script::new(self.reply, self.reads);
+        let mut writer = Tape::new(self.alloc, self.writes);
+        exchange(self.alloc, &mut reader, &mut writer, "b:9", bytes)
+    }
+}
+
+/// What a request of two bytes is answered.
+fn answer_of(alloc: Global, reply: &[u8], reads: &[Step], writes: &[Step]) -> Answer {
+    let mut reader = Script::new(reply, reads);
+    let mut writer = Tape::new(alloc, writes);
+    exchange(alloc, &mut reader, &mut writer, "b:9", b"{}")
+}
+
+/// How many bytes the request of two bytes has.
+fn request_length(alloc: Global) -> usize {
+    let mut reader = Script::new(OK, &[]);
+    let mut writer = Tape::new(alloc, &[]);
+    let _ = exchange(alloc, &mut reader, &mut writer, "b:9", b"{}");
+    writer.taken().len()
+}
+
+#[test]
+fn a_writer_that_fails_after_any_byte(rt: HostRuntime) -> Result<(), Fail> {
+    let alloc = rt.alloc();
+    let length = request_length(alloc);
+    assert!(rt; length > 100);
+    for count in 0..length {
+        let writes = bytewise(alloc, count)?;
+        let answer = answer_of(alloc, OK, &[], writes.as_slice());
+        assert_eq!(rt; answer, Answer::Unknown, "{count} bytes");
+    }
+    let whole = bytewise(alloc, length)?;
+    assert_eq!(rt;
+        answer_of(alloc, OK, &[], whole.as_slice()),
+        Answer::Success
+    );
+    Ok(())
+}
+
+#[test]
+fn a_reader_that_fails_or_ends_after_any_byte(rt: HostRuntime) -> Result<(), Fail> {
+    let alloc = rt.alloc();
+    for count in 0..OK.len() {
+        let reads = bytewise(alloc, count)?;
+        let answer = answer_of(alloc, OK, reads.as_slice(), &[]);
+        assert_eq!(rt; answer, Answer::Unknown, "{count} bytes");
+        assert_eq!(rt;
+            answer_of(alloc, &OK[..count], &[], &[]),
+            Answer::Unknown,
+            "{count} bytes"
+        );
+    }
+    Ok(())
+}
+
+#[test]
+fn answers_of_the_table(rt: HostRuntime) -> Result<(), Fail> {
+    let cases: [(&[u8], Answer); 4] = [
+        (b"HTTP/1.1 200 OK\r\n", Answer::Unknown),
+        (b"HTTP/1.1 302 Found\r\n\r\n", Answer::Unknown),
+        (
+            b"HTTP/1.1 503 Service Unavailable\r\nRetry-After: 2\r\n\r\n",
+            Answer::Retryable { after: Some(2) },
+        ),
+        (
+            b"HTTP/1.1 503 Service Unavailable\r\nRetry-After: soon\r\n\r\n",
+            Answer::Retryable { after: None },
+        ),
+    ];
+    for (reply, answer) in cases {
+        assert_eq!(rt; answer_of(rt.alloc(), reply, &[], &[]), answer);
+    }
+    Ok(())
+}
+
+/// Posts a point and orders a flush to this back end, whose answer to the order ends by this text; the
+/// book has then so many entries.
+fn flushed<R: Abort>(rt: &R, backend: Scripted, text: &[u8]) -> Result<(), Fail> {
+    let alloc = backend.alloc;
+    let mut keeper = BookKeeper::new(alloc, Book::new(alloc)?, 0, backend, 1000);
+    let mut tape = Tape::new(alloc, &[]);
+    let _ = serve_book(
+        alloc,
+        &mut keeper,
+        &mut Script::new(POSTED, &[]),
+        &mut tape,
+        &mut NoPace,
+    );
+    assert_eq!(rt; tape.taken(), ACCEPTED);
+    let order = b"POST /flush HTTP/1.1\r\n\r\n";
+    let mut tape = Tape::new(alloc, &[]);
+    let _ = serve_book(
+        alloc,
+        &mut keeper,
+        &mut Script::new(order, &[]),
+        &mut tape,
+        &mut NoPace,
+    );
+    assert!(rt; tape.taken().starts_with(b"HTTP/1.1 200 OK\r\n"));
+    assert!(rt; tape.taken().ends_with(text));
+    // The admission and its end, the flush and its end.
+    assert_eq!(rt; keeper.into_book().journal().len(), 4);
+    Ok(())
+}
+
+const RETURNED: &[u8] = b"\r\n\r\n{\"act\":\"returned\",\"flush\":\"1\",\"points\":\"1\"}";
+
+#[test]
+fn an_unknown_answer_gives_the_flush_back(rt: HostRuntime) -> Result<(), Fail> {
+    let alloc = rt.alloc();
+    let fails = [Step::Fail];
+    let breaks = [Step::AtMost(100), Step::Fail];
+    let cases: [(&[u8], &[Step], &[Step]); 5] = [
+        (OK, &[], &fails),
+        (OK, &[], &breaks),
+        (OK, &fails, &[]),
+        (b"HTTP/1.1 200 OK\r\n", &[], &[]),
+        (b"HTTP/1.1 302 Found\r\n\r\n", &[], &[]),
+    ];
+    for (reply, reads, writes) in cases {
+        let backend = Scripted {
+            alloc,
+            reply,
+            reads,
+            writes,
+        };
+        flushed(&rt, backend, RETURNED)?;
+    }
+    Ok(())
+}
+
+#[test]
+fn a_wait_is_told_where_it_is_a_number(rt: HostRuntime) -> Result<(), Fail> {
+    let cases: [(&[u8], &[u8]); 2] = [
+        (
+            b"HTTP/1.1 503 Service Unavailable\r\nRetry-After: 2\r\n\r\n",
+            b"{\"act\":\"returned\",\"flush\":\"1\",\"points\":\"1\",\"retryAfter\":\"2\"}",
+        ),
+        (
+            b"HTTP/1.1 503 Service Unavailable\r\nRetry-After: soon\r\n\r\n",
+            RETURNED,
+        ),
+    ];
+    for (reply, text) in cases {
+        let backend = Scripted {
+            alloc: rt.alloc(),
+            reply,
+            reads: &[],
+            writes: &[],
+        };
+        flushed(&rt, backend, text)?;
+    }
+    Ok(())
+}

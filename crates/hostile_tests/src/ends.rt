@@ -1,0 +1,65 @@
+//! A writer that takes so many bytes of the answer and then fails.
+use crate::gate::{ACCEPTED, Outcome, POSTED, bytewise, outcome_of};
+use byte_ends::Step;
+use gate_workers::{End, Served};
+use http_edge::Written;
+use std::process::Abort;
+use std::test::Fail;
+
+/// The batch ended so, after so much of the answer was written: its admission and its end are the two
+/// entries, and as many series are there.
+fn expect<R: Abort>(
+    rt: &R,
+    got: &Outcome,
+    written: Written,
+    end: End,
+    series: usize,
+) -> Result<(), Fail> {
+    let served = Served::Replied {
+        status: 200,
+        written,
+        end,
+    };
+    assert_eq!(rt; got.served, served);
+    assert_eq!(rt; got.book.journal().len(), 2);
+    assert_eq!(rt; got.book.totals()?.len(), series);
+    Ok(())
+}
+
+#[test]
+fn the_answer_has_91_bytes(rt: HostRuntime) {
+    assert_eq!(rt; ACCEPTED.len(), 91);
+}
+
+#[test]
+fn none_of_the_answer_was_written(rt: HostRuntime) -> Result<(), Fail> {
+    for steps in [[Step::Fail], [Step::AtMost(0)]] {
+        let got = outcome_of(rt.alloc(), POSTED, &[], &steps)?;
+        expect(&rt, &got, Written::None_, End::Undone, 0)?;
+        assert_eq!(rt; got.tape.taken().len(), 0);
+    }
+    Ok(())
+}
+
+#[test]
+fn part_of_the_answer_was_written(rt: HostRuntime) -> Result<(), Fail> {
+    for count in 1..ACCEPTED.len() {
+        let steps = bytewise(rt.alloc(), count)?;
+        let got = outcome_of(rt.alloc(), POSTED, &[], steps.as_slice())?;
+        expect(&rt, &got, Written::Part(count), End::Confirmed, 1)?;
+        assert_eq!(rt; got.tape.taken(), &ACCEPTED[..count]);
+    }
+    Ok(())
+}
+
+#[test]
+fn all_of_the_answer_was_written(rt: HostRuntime) -> Result<(), Fail> {
+    let steps = bytewise(rt.alloc(), ACCEPTED.len())?;
+    let all: [&[Step]; 2] = [&[], steps.as_slice()];
+    for steps in all {
+        let got = outcome_of(rt.alloc(), POSTED, &[], steps)?;
+        expect(&rt, &got, Written::All, End::Confirmed, 1)?;
+        assert_eq!(rt; got.tape.taken(), ACCEPTED);
+    }
+    Ok(())
+}

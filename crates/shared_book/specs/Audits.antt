@@ -1,0 +1,39 @@
+-- Whether what the seats were told is the journal.
+use Rattle.std.specs.Prelude.{◌≡◌, ℕ, ◌+◌, ◌<◌, ◌==◌, ◌||◌, Bool, true, false, List, [], ◌∷◌, length, sum_by}
+use Rattle.metric_events.specs.declared.entry.Entry.{Entry}
+use Rattle.metric_events.specs.declared.event.Event.{Event}
+use Rattle.metric_events.specs.declared.event.Event.TheVariants.{Admit, Undo, Confirm, Take, Settle, Drop, GiveBack, Quarantine, Lift}
+use Rattle.shared_book.specs.Receipts.{Told, receipts_of}
+
+-- a seat's receipts are those of the entries that name it, each once, in order
+abbrev pub IsMatched : List Entry → Told → Type 0
+IsMatched entries t = t.receipts ≡ receipts_of t.number 0 entries
+
+-- a seat has fewer receipts than entries name it
+abbrev pub IsShort : List Entry → Told → Type 0
+IsShort entries t = length t.receipts < length (receipts_of t.number 0 entries)
+
+-- the number is on one of the seats
+abbrev pub is_seated : ℕ → List Told → Bool
+is_seated n [] = false
+is_seated n (t ∷ ts) = (t.number == n) || is_seated n ts
+
+-- each number below is on one of the seats
+abbrev pub AllSeated : ℕ → List Told → Type 0
+AllSeated seats ts = (n : ℕ) → n < seats → is_seated n ts ≡ true
+
+-- how many points an event admits
+abbrev pub points_in : Event → ℕ
+points_in (Admit b body) = length body.points
+points_in (Undo b) = 0
+points_in (Confirm b) = 0
+points_in (Take f series) = 0
+points_in (Settle f) = 0
+points_in (Drop f) = 0
+points_in (GiveBack f) = 0
+points_in (Quarantine s) = 0
+points_in (Lift s) = 0
+
+-- how many points were admitted by these entries
+abbrev pub admitted_points : List Entry → ℕ
+admitted_points entries = sum_by (λ e. points_in e.event) entries

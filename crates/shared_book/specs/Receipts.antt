@@ -1,0 +1,75 @@
+-- What a seat was told, and what it should have been told by a journal.
+use Rattle.std.specs.Prelude.{ℕ, zero, suc, ◌+◌, ◌==◌, List, [], ◌∷◌, ◌++◌, Some, None, if◌then◌else◌}
+use Rattle.std.specs.declared.option.Option.{Option}
+use Rattle.metric_events.specs.declared.batch.Batch.{Batch}
+use Rattle.metric_events.specs.declared.entry.Entry.{Entry}
+use Rattle.metric_events.specs.declared.event.Event.{Event}
+use Rattle.metric_events.specs.declared.event.Event.TheVariants.{Admit, Undo, Confirm, Take, Settle, Drop, GiveBack, Quarantine, Lift}
+use Rattle.shared_book.specs.declared.receipt.Receipt.{Receipt}
+use Rattle.shared_book.specs.declared.event_kind.EventKind.{EventKind}
+use Rattle.shared_book.specs.declared.event_kind.EventKind.TheVariants as kind
+
+-- what contracts see of a seat: its number, and the receipts of what it was told, in order
+pub record Told : Type 0 where
+  pub number : ℕ
+  pub receipts : List Receipt
+
+-- the seat of this number with these receipts
+abbrev pub told_of : ℕ → List Receipt → Told
+told_of number receipts = record { number = number; receipts = receipts }
+
+-- a seat that was told this too
+abbrev pub told_also : Told → Receipt → Told
+told_also t receipt = told_of t.number (t.receipts ++ receipt ∷ [])
+
+-- which event it is
+abbrev pub kind_of : Event → EventKind
+kind_of (Admit b body) = kind.Admit
+kind_of (Undo b) = kind.Undo
+kind_of (Confirm b) = kind.Confirm
+kind_of (Take f series) = kind.Take
+kind_of (Settle f) = kind.Settle
+kind_of (Drop f) = kind.Drop
+kind_of (GiveBack f) = kind.GiveBack
+kind_of (Quarantine s) = kind.Quarantine
+kind_of (Lift s) = kind.Lift
+
+-- the batch or the flush that it names, 0 where it names a sender
+abbrev pub number_of : Event → ℕ
+number_of (Admit b body) = b
+number_of (Undo b) = b
+number_of (Confirm b) = b
+number_of (Take f series) = f
+number_of (Settle f) = f
+number_of (Drop f) = f
+number_of (GiveBack f) = f
+number_of (Quarantine s) = 0
+number_of (Lift s) = 0
+
+-- the batch that came in with it
+abbrev pub body_of : Event → Option Batch
+body_of (Admit b body) = Some body
+body_of (Undo b) = None
+body_of (Confirm b) = None
+body_of (Take f series) = None
+body_of (Settle f) = None
+body_of (Drop f) = None
+body_of (GiveBack f) = None
+body_of (Quarantine s) = None
+body_of (Lift s) = None
+
+-- the receipt of an event at a place of the journal
+abbrev pub receipt_of : ℕ → Event → Receipt
+receipt_of index event = record { index = index; kind = kind_of event; number = number_of event; body = body_of event }
+
+-- the receipts of those entries that name a seat, in order, where the first entry is at a place
+abbrev pub receipts_of : ℕ → ℕ → List Entry → List Receipt
+receipts_of number index [] = []
+receipts_of number index (e ∷ es) =
+    if e.seat == number then receipt_of index e.event ∷ receipts_of number (index + 1) es
+    else receipts_of number (index + 1) es
+
+-- seats 0, 1, .. that were told nothing
+abbrev pub fresh_seats : ℕ → List Told
+fresh_seats zero = []
+fresh_seats (suc n) = fresh_seats n ++ told_of n [] ∷ []

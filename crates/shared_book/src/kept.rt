@@ -1,0 +1,284 @@
+//! What lies under the lock.
+ghost use Rattle.std.specs.Prelude.{◌≡◌, ◌≢◌, ◌+◌, ◌<◌, ◌≤◌, [], length, IfOk, IfErr, IfSome, IfNone, OnOk, OnErr, unwrap_or, if◌then◌else◌, None, Some};
+ghost use Rattle.metric_events.specs.Choice.{pick};
+ghost use Rattle.delta_book.specs.Journal.{history};
+ghost use Rattle.delta_book.specs.Refusals.{admit_refusal, undo_refusal, confirm_refusal, flush_refusal, quarantine_refusal, lift_refusal};
+ghost use Rattle.delta_book.specs.Flushes.{is_full};
+ghost use Rattle.delta_book.specs.Totals.{totals_rows};
+ghost use Rattle.shared_book.specs.Moments.{IsMoment, IsToldAt, IsTakenAt};
+
+use crate::event_kind::EventKind;
+use crate::receipt::Receipt;
+use crate::seat::Seat;
+use delta_book::book::Book;
+use delta_book::faults::{
+    AdmitFault, NotLive, NotOpen, NotQuarantined, QuarantineFault, TakeFault, UndoFault,
+};
+use delta_book::flush::Flush;
+use delta_book::totals::SeriesTotals;
+use metric_events::batch::Batch;
+use metric_events::event::Event;
+use metric_events::limits::MAX_TAKEN;
+use metric_events::sender_name::SenderName;
+use std::alloc::AllocError;
+use std::marker::Model;
+use std::sync::ledger::{self, Ledger};
+
+/// The book, and beside it the ledger's count of its entries. Contracts see the book's journal.
+/// Whenever the lock is free, each entry names a seat of this book, and the ledger's total is
+/// the number of entries; that the journal's history is legal is true of every book.
+#[derive(Drop)]
+pub struct Kept<L: Ledger> {
+    pub(crate) book: Book,
+    pub(crate) events: ledger::Book<L>,
+}
+
+impl<L: Ledger> Model for Kept<L> {
+    ghost use Rattle.delta_book.specs.Journal.{Journal};
+    ghost use Rattle.shared_book.specs.Moments.{IsKept};
+
+    ghost Value = { Journal };
+
+    ghost view = { λ k. k.book };
+
+    ghost invariant = { λ k. IsKept L.parts k.book k.events.total };
+}
+
+impl<L: Ledger> Kept<L> {
+    /// Where the next entry will stand. What the seat was told stands in the journal.
+    fn look(&mut self, seat: &mut Seat<L>) -> u64
+        ensures place { result ≡ length self.old.entries }
+        ensures kept { self.new ≡ self.old }
+        ensures seat { seat.new ≡ seat.old }
+        ensures moment { IsMoment L.parts seat.old self.old }
+    {
+        let Kept { book, events } = self;
+        seat.audit(events);
+        book.journal().len() as u64
+    }
+
+    /// As `Book::admit`, from the seat, which is told. The copy goes into its receipt.
+    pub fn admit(
+        &mut self,
+        seat: &mut Seat<L>,
+        body: Batch,
+        copy: Batch,
+    ) -> Result<u64, (AdmitFault, Batch)>
+        requires some { 0 < length body.points }
+        requires copy { copy ≡ body }
+        ensures told { IfOk result (λ n. IsToldAt L.parts self.old self.new seat.old seat.new (Event.Admit n body)) }
+        ensures none { OnOk result (admit_refusal (history self.old) body ≡ None) }
+        ensures fault { IfErr result (λ e. e.0 ≡ unwrap_or (admit_refusal (history self.old) body) AdmitFault.NoMemory) }
+        ensures returned { IfErr result (λ e. e.1 ≡ body) }
+        ensures err { OnErr result ((self.new ≡ self.old) × (seat.new ≡ seat.old)) }
+        ensures moment { IsMoment L.parts seat.old self.old }
+    {
+        let index = self.look(seat);
+        let number = seat.number();
+        let Kept { book, events } = self;
+        let batch = book.admit(number, body)?;
+        let receipt = Receipt {
+            index,
+            kind: EventKind::Admit,
+            number: batch,
+            body: Some(copy),
+        };
+        seat.tell(book, events, receipt);
+        Ok(batch)
+    }
+
+    /// As `Book::undo`, from the seat, which is told.
+    pub fn undo(&mut self, seat: &mut Seat<L>, batch: u64) -> Result<(), UndoFault>
+        ensures told { OnOk result (IsToldAt L.parts self.old self.new seat.old seat.new (Event.Undo batch)) }
+        ensures none { OnOk result (undo_refusal (history self.old) batch ≡ None) }
+        ensures fault { IfErr result (λ e. undo_refusal (history self.old) batch ≡ Some e) }
+        ensures err { OnErr result ((self.new ≡ self.old) × (seat.new ≡ seat.old)) }
+        ensures moment { IsMoment L.parts seat.old self.old }
+    {
+        let index = self.look(seat);
+        let number = seat.number();
+        let Kept { book, events } = self;
+        book.undo(number, batch)?;
+        let receipt = Receipt {
+            index,
+            kind: EventKind::Undo,
+            number: batch,
+            body: None,
+        };
+        seat.tell(book, events, receipt);
+        Ok(())
+    }
+
+    /// As `Book::confirm`, from the seat, which is told.
+    pub fn confirm(&mut self, seat: &mut Seat<L>, batch: u64) -> Result<(), NotOpen>
+        ensures told { OnOk result (IsToldAt L.parts self.old self.new seat.old seat.new (Event.Confirm batch)) }
+        ensures none { OnOk result (confirm_refusal (history self.old) batch ≡ None) }
+        ensures fault { IfErr result (λ e. confirm_refusal (history self.old) batch ≡ Some e) }
+        ensures err { OnErr result ((self.new ≡ self.old) × (seat.new ≡ seat.old)) }
+        ensures moment { IsMoment L.parts seat.old self.old }
+    {
+        let index = self.look(seat);
+        let number = seat.number();
+        let Kept { book, events } = self;
+        book.confirm(number, batch)?;
+        let receipt = Receipt {
+            index,
+            kind: EventKind::Confirm,
+            number: batch,
+            body: None,
+        };
+        seat.tell(book, events, receipt);
+        Ok(())
+    }
+
+    /// As `Book::take`, from the seat, which is told where something was taken.
+    pub fn take(&mut self, seat: &mut Seat<L>, max: usize) -> Result<Option<Flush>, TakeFault>
+        requires low { 1 ≤ max }
+        requires high { max ≤ MAX_TAKEN }
+        ensures nothing { IfOk result (λ o. IfNone o ((pick (history self.old) max ≡ []) × (self.new ≡ self.old) × (seat.new ≡ seat.old))) }
+        ensures some { IfOk result (λ o. IfSome o (λ flush. IsTakenAt L.parts self.old self.new seat.old seat.new max flush)) }
+        ensures fault { IfErr result (λ e. e ≡ (if is_full (history self.old) then TakeFault.Full else TakeFault.NoMemory)) }
+        ensures err { OnErr result ((pick (history self.old) max ≢ []) × (self.new ≡ self.old) × (seat.new ≡ seat.old)) }
+        ensures moment { IsMoment L.parts seat.old self.old }
+    {
+        let index = self.look(seat);
+        let number = seat.number();
+        let Kept { book, events } = self;
+        let Some(flush) = book.take(number, max)? else {
+            return Ok(None);
+        };
+        let receipt = Receipt {
+            index,
+            kind: EventKind::Take,
+            number: flush.number,
+            body: None,
+        };
+        seat.tell(book, events, receipt);
+        Ok(Some(flush))
+    }
+
+    /// As `Book::settle`, from the seat, which is told.
+    pub fn settle(&mut self, seat: &mut Seat<L>, flush: u64) -> Result<(), NotLive>
+        ensures told { OnOk result (IsToldAt L.parts self.old self.new seat.old seat.new (Event.Settle flush)) }
+        ensures none { OnOk result (flush_refusal (history self.old) flush ≡ None) }
+        ensures fault { IfErr result (λ e. flush_refusal (history self.old) flush ≡ Some e) }
+        ensures err { OnErr result ((self.new ≡ self.old) × (seat.new ≡ seat.old)) }
+        ensures moment { IsMoment L.parts seat.old self.old }
+    {
+        let index = self.look(seat);
+        let number = seat.number();
+        let Kept { book, events } = self;
+        book.settle(number, flush)?;
+        let receipt = Receipt {
+            index,
+            kind: EventKind::Settle,
+            number: flush,
+            body: None,
+        };
+        seat.tell(book, events, receipt);
+        Ok(())
+    }
+
+    /// As `Book::drop_flush`, from the seat, which is told.
+    pub fn drop_flush(&mut self, seat: &mut Seat<L>, flush: u64) -> Result<(), NotLive>
+        ensures told { OnOk result (IsToldAt L.parts self.old self.new seat.old seat.new (Event.Drop flush)) }
+        ensures none { OnOk result (flush_refusal (history self.old) flush ≡ None) }
+        ensures fault { IfErr result (λ e. flush_refusal (history self.old) flush ≡ Some e) }
+        ensures err { OnErr result ((self.new ≡ self.old) × (seat.new ≡ seat.old)) }
+        ensures moment { IsMoment L.parts seat.old self.old }
+    {
+        let index = self.look(seat);
+        let number = seat.number();
+        let Kept { book, events } = self;
+        book.drop_flush(number, flush)?;
+        let receipt = Receipt {
+            index,
+            kind: EventKind::Drop,
+            number: flush,
+            body: None,
+        };
+        seat.tell(book, events, receipt);
+        Ok(())
+    }
+
+    /// As `Book::give_back`, from the seat, which is told.
+    pub fn give_back(&mut self, seat: &mut Seat<L>, flush: u64) -> Result<(), NotLive>
+        ensures told { OnOk result (IsToldAt L.parts self.old self.new seat.old seat.new (Event.GiveBack flush)) }
+        ensures none { OnOk result (flush_refusal (history self.old) flush ≡ None) }
+        ensures fault { IfErr result (λ e. flush_refusal (history self.old) flush ≡ Some e) }
+        ensures err { OnErr result ((self.new ≡ self.old) × (seat.new ≡ seat.old)) }
+        ensures moment { IsMoment L.parts seat.old self.old }
+    {
+        let index = self.look(seat);
+        let number = seat.number();
+        let Kept { book, events } = self;
+        book.give_back(number, flush)?;
+        let receipt = Receipt {
+            index,
+            kind: EventKind::GiveBack,
+            number: flush,
+            body: None,
+        };
+        seat.tell(book, events, receipt);
+        Ok(())
+    }
+
+    /// As `Book::quarantine`, from the seat, which is told.
+    pub fn quarantine(
+        &mut self,
+        seat: &mut Seat<L>,
+        sender: SenderName,
+    ) -> Result<(), QuarantineFault>
+        ensures told { OnOk result (IsToldAt L.parts self.old self.new seat.old seat.new (Event.Quarantine sender)) }
+        ensures none { OnOk result (quarantine_refusal (history self.old) sender ≡ None) }
+        ensures fault { IfErr result (λ e. e ≡ unwrap_or (quarantine_refusal (history self.old) sender) QuarantineFault.NoMemory) }
+        ensures err { OnErr result ((self.new ≡ self.old) × (seat.new ≡ seat.old)) }
+        ensures moment { IsMoment L.parts seat.old self.old }
+    {
+        let index = self.look(seat);
+        let number = seat.number();
+        let Kept { book, events } = self;
+        book.quarantine(number, sender)?;
+        let receipt = Receipt {
+            index,
+            kind: EventKind::Quarantine,
+            number: 0,
+            body: None,
+        };
+        seat.tell(book, events, receipt);
+        Ok(())
+    }
+
+    /// As `Book::lift`, from the seat, which is told.
+    pub fn lift(&mut self, seat: &mut Seat<L>, sender: &SenderName) -> Result<(), NotQuarantined>
+        ensures told { OnOk result (IsToldAt L.parts self.old self.new seat.old seat.new (Event.Lift sender.now)) }
+        ensures none { OnOk result (lift_refusal (history self.old) sender.now ≡ None) }
+        ensures fault { IfErr result (λ e. lift_refusal (history self.old) sender.now ≡ Some e) }
+        ensures err { OnErr result ((self.new ≡ self.old) × (seat.new ≡ seat.old)) }
+        ensures moment { IsMoment L.parts seat.old self.old }
+    {
+        let index = self.look(seat);
+        let number = seat.number();
+        let Kept { book, events } = self;
+        book.lift(number, sender)?;
+        let receipt = Receipt {
+            index,
+            kind: EventKind::Lift,
+            number: 0,
+            body: None,
+        };
+        seat.tell(book, events, receipt);
+        Ok(())
+    }
+
+    /// As `Book::totals`, beside the seat, which stays as it is.
+    pub fn totals(&mut self, seat: &mut Seat<L>) -> Result<Vec<SeriesTotals>, AllocError>
+        ensures rows { IfOk result (λ v. v.items ≡ totals_rows (history self.old)) }
+        ensures kept { self.new ≡ self.old }
+        ensures seat { seat.new ≡ seat.old }
+        ensures moment { IsMoment L.parts seat.old self.old }
+    {
+        self.look(seat);
+        self.book.totals()
+    }
+}

@@ -1,0 +1,75 @@
+//! Seats beside books that are not the ones they worked on.
+ghost use Rattle.std.specs.Prelude.{◌≡◌};
+
+use crate::bodies::{admitted, body};
+use delta_book::book::Book;
+use shared_book::audit_fault::AuditFault;
+use shared_book::checking::check;
+use shared_book::seat::Seat;
+use shared_book::shared::SharedBook;
+use std::alloc::Global;
+use std::marker::Brand;
+use std::process::Abort;
+use std::sync::Wait;
+use std::sync::ledger::{Blank, Ledger};
+use std::test::Fail;
+
+// A book with one entry of this seat: a batch of one point with this value.
+fn book_of(rt: &impl Abort, alloc: Global, seat: u16, value: i64) -> Result<Book, Fail> {
+    let mut book = Book::new(alloc)?;
+    let body = body(alloc, "A", "req", (10, 20), value)?;
+    assert!(rt; !body.points.as_slice().is_empty());
+    assert!(rt; book.admit(seat, body).is_ok());
+    Ok(book)
+}
+
+// A seat that was told nothing, beside an entry of its own and beside one of another.
+fn check_fresh<L: Ledger>(rt: &impl Abort, alloc: Global, seats: &[Seat<L>]) -> Result<(), Fail> {
+    assert_eq!(rt; check(&Book::new(alloc)?, seats), Ok(()));
+    assert_eq!(rt; check(&book_of(rt, alloc, 1, 5)?, seats), Ok(()));
+    assert_eq!(rt;
+        check(&book_of(rt, alloc, 0, 5)?, seats),
+        Err(AuditFault::MissingReceipt)
+    );
+    Ok(())
+}
+
+// A seat that was told of one batch, beside no entry, the same, another batch, and another seat's.
+fn check_told<L: Ledger>(rt: &impl Abort, alloc: Global, seats: &[Seat<L>]) -> Result<(), Fail> {
+    assert_eq!(rt;
+        check(&Book::new(alloc)?, seats),
+        Err(AuditFault::StrayEntry)
+    );
+    assert_eq!(rt; check(&book_of(rt, alloc, 0, 5)?, seats), Ok(()));
+    assert_eq!(rt;
+        check(&book_of(rt, alloc, 0, 6)?, seats),
+        Err(AuditFault::StrayEntry)
+    );
+    assert_eq!(rt;
+        check(&book_of(rt, alloc, 1, 5)?, seats),
+        Err(AuditFault::StrayEntry)
+    );
+    Ok(())
+}
+
+fn one_seat<L: Ledger, R: Wait + Abort>(rt: &R, alloc: Global, blank: Blank) -> Result<(), Fail>
+    requires name { blank.name ≡ L.name }
+    requires ledger { blank.parts ≡ L.parts }
+    requires parts { blank.parts ≡ 1 }
+{
+    let Ok((shared, seats)) = SharedBook::<L>::new(alloc, Book::new(alloc)?, blank, 1) else {
+        return Err(Fail::from("no seats"));
+    };
+    check_fresh(rt, alloc, seats.as_slice())?;
+    let mut seats = seats;
+    let mut seat = seats.pop().ok_or("no seat")?;
+    let body = body(alloc, "A", "req", (10, 20), 5)?;
+    assert_eq!(rt; admitted(rt, &shared, &mut seat, body), Ok(1));
+    seats.push(seat)?;
+    check_told(rt, alloc, seats.as_slice())
+}
+
+#[test]
+fn seats_beside_other_books(rt: HostRuntime) -> Result<(), Fail> {
+    one_seat::<Brand, _>(&rt, rt.alloc(), Blank::new(1))
+}

@@ -1,0 +1,121 @@
+//! Batches of one point, and the calls and rows that tests compare.
+ghost use Rattle.std.specs.Prelude.{◌≡◌, false, IfOk};
+
+use delta_book::faults::{AdmitFault, TakeFault};
+use delta_book::totals::SeriesTotals;
+use metric_events::batch::Batch;
+use metric_events::point::Point;
+use metric_events::points::Points;
+use metric_events::row::Row;
+use metric_events::sender_name::SenderName;
+use series_id::{AttrSet, Kind, SeriesId, Text};
+use shared_book::seat::Seat;
+use shared_book::shared::SharedBook;
+use std::alloc::Global;
+use std::process::Abort;
+use std::sync::Wait;
+use std::sync::ledger::Ledger;
+use std::test::Fail;
+
+// The non-monotonic sum of this name.
+fn series(alloc: Global, name: &str) -> Result<SeriesId, Fail>
+    ensures { IfOk result (λ x. x.kind ≡ Kind.Sum false) }
+{
+    Ok(SeriesId::new(
+        AttrSet::empty(alloc),
+        Text::new(String::new(alloc)),
+        Text::new(String::new(alloc)),
+        AttrSet::empty(alloc),
+        Text::new(format!(in alloc; "{name}")?),
+        Text::new(String::new(alloc)),
+        Kind::Sum { monotonic: false },
+        AttrSet::empty(alloc),
+    )?)
+}
+
+pub fn sender(alloc: Global, name: &str) -> Result<SenderName, Fail> {
+    Ok(SenderName::new(alloc, name.as_bytes())?)
+}
+
+// One point of a sum.
+pub fn body(
+    alloc: Global,
+    owner: &str,
+    name: &str,
+    span: (u64, u64),
+    value: i64,
+) -> Result<Batch, Fail> {
+    let mut points = Points::new(alloc);
+    let series = series(alloc, name)?;
+    points.push(Point::sum(alloc, series, span.0, span.1, value)?)?;
+    Ok(Batch {
+        sender: sender(alloc, owner)?,
+        points,
+    })
+}
+
+// Four batches of one point each, of a sender of this name, in a series of its own.
+pub fn four_bodies(alloc: Global, name: &str) -> Result<Vec<Batch>, Fail> {
+    let mut bodies = Vec::new(alloc);
+    for (start, end) in [(10, 20), (20, 30), (30, 40), (40, 50)] {
+        bodies.push(body(alloc, name, name, (start, end), 1)?)?;
+    }
+    Ok(bodies)
+}
+
+// What becomes of a batch with a point.
+pub fn admitted<L: Ledger, R: Wait + Abort>(
+    rt: &R,
+    shared: &SharedBook<L>,
+    seat: &mut Seat<L>,
+    body: Batch,
+) -> Result<u64, AdmitFault> {
+    assert!(rt; !body.points.as_slice().is_empty());
+    match shared.admit(rt, seat, body) {
+        Ok(number) => Ok(number),
+        Err((fault, _)) => Err(fault),
+    }
+}
+
+// A flush that was taken: its number, and of its one point the end and the row.
+#[derive(Clone, Copy, Debug, PartialEq, Eq)]
+pub struct Sent {
+    pub number: u64,
+    pub end: u64,
+    pub row: [u64; 3],
+}
+
+// What up to ten series bring, where a flush has one point of a sum.
+pub fn taken<L: Ledger, R: Wait + Abort>(
+    rt: &R,
+    shared: &SharedBook<L>,
+    seat: &mut Seat<L>,
+) -> Result<Option<Sent>, TakeFault> {
+    let Some(flush) = shared.take(rt, seat, 10)? else {
+        return Ok(None);
+    };
+    let points = flush.points.as_slice();
+    assert_eq!(rt; points.len(), 1);
+    let row = points[0].row();
+    assert_eq!(rt; row.len(), 3);
+    Ok(Some(Sent {
+        number: flush.number,
+        end: points[0].span().end(),
+        row: [row[0], row[1], row[2]],
+    }))
+}
+
+fn expect_row(rt: &impl Abort, row: &Row, words: &[u64; 3]) {
+    assert!(rt; row.as_slice() == words.as_slice());
+}
+
+// The rows of one series: accepted, acknowledged, dropped, in flight, stored and quarantined.
+pub fn expect_rows(rt: &impl Abort, totals: &SeriesTotals, frontier: u64, rows: &[[u64; 3]; 6]) {
+    assert_eq!(rt; totals.frontier, frontier);
+    expect_row(rt, &totals.accepted, &rows[0]);
+    expect_row(rt, &totals.acknowledged, &rows[1]);
+    expect_row(rt, &totals.dropped, &rows[2]);
+    expect_row(rt, &totals.in_flight, &rows[3]);
+    expect_row(rt, &totals.stored, &rows[4]);
+    expect_row(rt, &totals.quarantined, &rows[5]);
+}

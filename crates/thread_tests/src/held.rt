@@ -1,0 +1,139 @@
+//! A worker that is held until a flag is up, and a connection of written bytes.
+ghost use Rattle.std.specs.Prelude.{◌≡◌};
+
+use back_answers::Answer;
+use byte_ends::{Script, Tape};
+use gate_workers::{Connection, Keeper, Pace, Served, Spot, Uplink, serve};
+use std::alloc::Global;
+use std::sync::atomic::{AtomicBool, Ordering};
+use std::thread;
+use std::time::{Clock, Duration};
+
+/// How often a worker that is held looks at its flag, a millisecond apart, before it goes on all the same.
+const MOST_LOOKS: u32 = 10_000;
+
+/// Whether the flag comes up in time.
+pub fn comes_up<R: Clock>(rt: &R, flag: &AtomicBool) -> bool {
+    for _ in 0..MOST_LOOKS {
+        if flag.load(Ordering::SeqCst) {
+            return true;
+        }
+        thread::sleep(rt, Duration::from_millis(1));
+    }
+    false
+}
+
+/// What a worker that is held and the others tell each other.
+#[derive(Drop)]
+pub struct Flags {
+    /// A worker is held.
+    pub held: AtomicBool,
+    /// It may go on.
+    pub free: AtomicBool,
+    /// A flag did not come up in time.
+    pub late: AtomicBool,
+}
+
+impl Flags {
+    pub fn new() -> Flags {
+        Flags {
+            held: AtomicBool::new(false),
+            free: AtomicBool::new(false),
+            late: AtomicBool::new(false),
+        }
+    }
+}
+
+/// Holds the first worker that comes to the spot until it may go on.
+#[derive(Drop)]
+pub struct Hold<'a, R: Clock> {
+    rt: &'a R,
+    spot: Spot,
+    flags: &'a Flags,
+}
+
+impl<'a, R: Clock> Hold<'a, R> {
+    pub fn new(rt: &'a R, spot: Spot, flags: &'a Flags) -> Self {
+        Hold { rt, spot, flags }
+    }
+}
+
+impl<R: Clock> Pace for Hold<'_, R> {
+    fn at(&mut self, spot: Spot) {
+        if spot != self.spot || self.flags.held.swap(true, Ordering::SeqCst) {
+            return;
+        }
+        if !comes_up(self.rt, &self.flags.free) {
+            self.flags.late.store(true, Ordering::SeqCst);
+        }
+    }
+}
+
+/// Lets a worker ask its store once another one is held.
+#[derive(Drop)]
+pub struct After<'a, R: Clock> {
+    rt: &'a R,
+    flags: &'a Flags,
+}
+
+impl<'a, R: Clock> After<'a, R> {
+    pub fn new(rt: &'a R, flags: &'a Flags) -> Self {
+        After { rt, flags }
+    }
+}
+
+impl<R: Clock> Pace for After<'_, R> {
+    fn at(&mut self, spot: Spot) {
+        if spot == Spot::BodyRead && !comes_up(self.rt, &self.flags.held) {
+            self.flags.late.store(true, Ordering::SeqCst);
+        }
+    }
+}
+
+/// An uplink that gives one answer.
+#[derive(Drop)]
+pub struct Fixed {
+    pub answer: Answer,
+}
+
+impl Uplink for Fixed {
+    ghost sends = { λ u bytes answer w. answer ≡ u.answer };
+
+    fn send(&mut self, _bytes: &[u8]) -> Answer {
+        self.answer
+    }
+}
+
+/// All of the response to a post.
+pub const ACCEPTED: &[u8] =
+    b"HTTP/1.1 200 OK\r\nContent-Type: application/json\r\nContent-Length: 2\r\nConnection: close\r\n\r\n{}";
+
+/// A connection of these bytes, whose flag is up once this is its whole response.
+#[derive(Drop)]
+pub struct Scripted<'a> {
+    bytes: &'a [u8],
+    response: &'a [u8],
+    answered: &'a AtomicBool,
+}
+
+impl<'a> Scripted<'a> {
+    pub fn new(bytes: &'a [u8], response: &'a [u8], answered: &'a AtomicBool) -> Self {
+        Scripted {
+            bytes,
+            response,
+            answered,
+        }
+    }
+}
+
+impl Connection for Scripted<'_> {
+    fn serve<K: Keeper, P: Pace>(self, alloc: Global, keeper: &mut K, pace: &mut P) -> Served {
+        let mut reader = Script::new(self.bytes, &[]);
+        let mut writer = Tape::new(alloc, &[]);
+        let served = serve(alloc, keeper, &mut reader, &mut writer, pace);
+        if writer.taken() == self.response {
+            self.answered.store(true, Ordering::SeqCst);
+        }
+        served
+    }
+}

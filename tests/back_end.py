@@ -1,0 +1,50 @@
+#!/usr/bin/env python3
+"""A back end for tests: takes so many requests and gives them the answers that it is told.
+
+    tests/back_end.py FOLDER ANSWER ..
+
+Listens on a port of its own, which it writes to FOLDER/port. An ANSWER is a status, a status and the
+seconds of Retry-After joined by a comma (503,2), or `none`: the connection is closed with no answer.
+Each request, head and body, byte by byte as it came, is written to FOLDER/request-1, request-2, ..
+"""
+import socket
+import sys
+
+
+def request_of(connection):
+    """The bytes of a request whose head tells its Content-Length."""
+    taken = b""
+    wanted = None
+    while wanted is None or len(taken) < wanted:
+        piece = connection.recv(65536)
+        if not piece:
+            break
+        taken += piece
+        head, mark, _ = taken.partition(b"\r\n\r\n")
+        if mark and wanted is None:
+            lengths = [line for line in head.split(b"\r\n") if line.lower().startswith(b"content-length:")]
+            wanted = len(head) + 4 + int(lengths[0].split(b":")[1])
+    return taken
+
+
+def answer_of(told):
+    """The bytes of an answer."""
+    status, _, seconds = told.partition(",")
+    retry = f"Retry-After: {seconds}\r\n" if seconds else ""
+    return f"HTTP/1.1 {status} Told\r\n{retry}Content-Length: 0\r\nConnection: close\r\n\r\n".encode()
+
+
+def main():
+    folder, *answers = sys.argv[1:]
+    listener = socket.create_server(("127.0.0.1", 0))
+    with open(f"{folder}/port", "w") as port:
+        port.write(str(listener.getsockname()[1]))
+    for number, told in enumerate(answers, 1):
+        connection, _ = listener.accept()
+        with connection, open(f"{folder}/request-{number}", "wb") as file:
+            file.write(request_of(connection))
+            if told != "none":
+                connection.sendall(answer_of(told))
+
+
+main()

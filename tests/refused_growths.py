@@ -1,0 +1,167 @@
+#!/usr/bin/env python3
+"""The program play, with each growth of its memory refused in turn.
+
+Call: tests/refused_growths.py PROGRAM [SCRIPT..], with the path of the built play; it needs gcc.
+
+For each tests/scripts/NAME.script, and each k from 1 until a run meets no refusal, it runs the script
+while growth k alone is refused, and while all from k on are. The full run writes NAME.replies. Two
+lines are put behind each script, which tell what the store holds at its end.
+  - A run that met no refusal is the full run.
+  - Else some lines, with k alone at most one, are answered `refused no-memory`, and the others as in a
+    run of the script without those lines; a `wire` may also have taken its flush and given it back.
+  - Or the run ends with `play: no memory` after whole replies, which are those of such a run.
+  - Or each line is answered as in the full run, where the program can do without what it was refused.
+The last line tells the counts, and the status is 0 where nothing was wrong.
+"""
+import concurrent.futures
+import glob
+import itertools
+import os
+import re
+import sys
+import tempfile
+
+from refusing import FORMS, HERE, Counts, Refusing, plain
+
+PROBE = [b"report", b"take 1000"]
+NO_MEMORY = b"refused no-memory\n"
+TAKES_MEMORY = {b"admit", b"post", b"take", b"wire", b"report", b"hold", b"lift", b"round", b"past"}
+
+
+def lines_of(text):
+    lines = text.split(b"\n")
+    return lines[:-1] if lines[-1] == b"" else lines
+
+
+def verb(line):
+    return line.split(b" ")[0]
+
+
+def reply_lines(line, texts):
+    """How many lines the reply has to this line of a script, if these lines of text begin with it."""
+    first = texts[0]
+    if verb(line) in (b"report", b"past") and not first.startswith((b"refused ", b"bad ")):
+        return texts.index(b"end\n") + 1 if b"end\n" in texts else len(texts) + 1
+    if verb(line) == b"take" and first.startswith(b"flush "):
+        return 1 + int(first.split(b" ")[3])
+    if verb(line) == b"wire" and first.startswith(b"flush "):
+        return 2
+    return 1
+
+
+def replies_of(script, text):
+    """The replies to the first lines of the script, as many as there are whole, and the text behind them."""
+    texts = text.splitlines(keepends=True)
+    replies = []
+    for line in script:
+        count = reply_lines(line, texts) if texts else 1
+        if count > len(texts) or not texts[count - 1].endswith(b"\n"):
+            break
+        replies.append(b"".join(texts[:count]))
+        texts = texts[count:]
+    return replies, b"".join(texts)
+
+
+class Player:
+    """A script with its full run, and its runs without some lines."""
+
+    def __init__(self, program, name, script):
+        self.program = program
+        self.name = name
+        self.script = script
+        self.known = {}
+        self.full = plain([program], b"\n".join(script) + b"\n")
+
+    def replies(self, lines):
+        text = b"".join(line + b"\n" for line in lines)
+        run = plain([self.program], text)
+        replies, rest = replies_of(lines, run.out)
+        assert run.status == 0 and not rest and len(replies) == len(lines), self.name
+        return replies
+
+    def taken_back(self, before, line):
+        """The Take of a `wire` and its GiveBack, behind these lines."""
+        take = b"take" + line[4:]
+        flush = re.match(rb"flush (\d+) ", self.replies(before + [take])[-1])
+        return [take, b"back " + flush[1]] if flush else []
+
+    def without(self, refused, back):
+        """The replies of the script without the refused lines, but for those of which a flush goes back."""
+        key = (tuple(refused), tuple(back))
+        if key not in self.known:
+            lines, ours = [], []
+            for place, line in enumerate(self.script):
+                stand_in = [line] if place not in refused else []
+                if place in back:
+                    stand_in = self.taken_back(lines, line)
+                lines += stand_in
+                ours += [place not in refused] * len(stand_in)
+            replies = iter([r for r, our in zip(self.replies(lines), ours) if our])
+            self.known[key] = [NO_MEMORY if place in refused else next(replies)
+                               for place in range(len(self.script))]
+        return self.known[key]
+
+    def is_possible(self, replies, refused):
+        wires = [place for place in refused if verb(self.script[place]) == b"wire"]
+        choices = itertools.chain.from_iterable(
+            itertools.combinations(wires, count) for count in range(len(wires) + 1))
+        return any(self.without(refused, back)[:len(replies)] == replies for back in choices)
+
+    def way_of(self, run, form):
+        """In which way the run ended, and what is wrong where it is none of them."""
+        if run.refused == 0:
+            same = (run.status, run.out, run.err) == (0, self.full.out, b"")
+            return ("without refusal", None) if same else (None, "no refusal, but not the full run")
+        ended = (run.status, run.err) == (1, b"play: no memory\n")
+        if not ended and (run.status, run.err) != (0, b""):
+            return None, f"status {run.status}, standard error {run.err}"
+        replies, rest = replies_of(self.script, run.out)
+        if rest or (len(replies) < len(self.script)) != ended:
+            return None, f"{len(replies)} whole replies, and then {rest}"
+        refused = [place for place, reply in enumerate(replies) if reply == NO_MEMORY]
+        if len(refused) > 1 and form == "alone":
+            return None, f"lines {refused} are refused"
+        if any(verb(self.script[place]) not in TAKES_MEMORY for place in refused):
+            return None, f"of the lines {refused} one takes no memory"
+        if not self.is_possible(replies, refused):
+            return None, f"not the replies of the script without the lines {refused}: {replies}"
+        return ("ended" if ended else "refused a line" if refused else "did without"), None
+
+
+def play_all(refusing, counts, program, path):
+    """All runs of a script."""
+    name = os.path.basename(path).removesuffix(".script")
+    with open(path, "rb") as file:
+        script = lines_of(file.read())
+    with open(path.removesuffix(".script") + ".replies", "rb") as file:
+        wanted = file.read()
+    player = Player(program, name, script + PROBE)
+    whole = plain([program], b"\n".join(script) + b"\n" if script else b"")
+    told = None if (whole.status, whole.out, whole.err) == (0, wanted, b"") else f"{name}: {whole.out}"
+    counts.add(whole, None if told else "without refusal", told)
+    given = b"\n".join(player.script) + b"\n"
+    for form in FORMS:
+        for growth in itertools.count(1):
+            run = refusing.run([program], given, growth, form)
+            way, told = player.way_of(run, form)
+            counts.add(run, way, f"{name}, growth {growth} {form}: {told}")
+            if run.refused == 0 or run.status == "no end":
+                break
+
+
+def main(program, *paths):
+    paths = paths or sorted(glob.glob(os.path.join(HERE, "scripts", "*.script")))
+    counts = Counts("play")
+    with tempfile.TemporaryDirectory() as folder:
+        refusing = Refusing(folder)
+        with concurrent.futures.ThreadPoolExecutor(os.cpu_count()) as pool:
+            jobs = [pool.submit(play_all, refusing, counts, program, path) for path in paths]
+            for job in jobs:
+                job.result()
+    return counts.tell()
+
+
+if __name__ == "__main__":
+    if len(sys.argv) < 2 or not os.access(sys.argv[1], os.X_OK):
+        sys.exit(f"usage: {sys.argv[0]} PROGRAM [SCRIPT..]")
+    sys.exit(main(*sys.argv[1:]))

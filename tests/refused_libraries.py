@@ -1,0 +1,96 @@
+#!/usr/bin/env python3
+"""The calls of the libraries that can find no memory, with each growth refused in turn.
+
+Call: tests/refused_libraries.py PROGRAM, with the path of the built growths; it needs gcc.
+
+The program makes each call, and again where it finds no memory; a line tells each answer. The full run
+is crates/growths/stdout. For each k from 1 until a run meets no refusal:
+  - With growth k alone refused the lines are those of the full run, and one of `no memory`, with the
+    name of the call that met it; or those of the full run, where the call can do without.
+  - With all from k on refused the lines are those of the full run up to a call that finds no memory,
+    and then those of the calls that take none, which are answered as ever.
+  - No call says that something changed, and none but the last ones ends the program.
+  - Where its first book finds no memory the program ends with `growths: no memory`, and no line.
+The last line tells the counts, and the status is 0 where nothing was wrong.
+"""
+import os
+import sys
+import tempfile
+
+from refusing import HERE, Counts, Refusing, in_turn
+
+MARK = "no memory: "
+CUT = "the calls end here"
+# What a call is made on. Its growths are those of calls that stand in lines of their own.
+SHARED = {"the value", "the batch", "the sender", "Book::totals", "Book::past"}
+
+
+def ends_of(lines):
+    return [line for line in lines if line.startswith("end: ")]
+
+
+def names_its_call(lines, place):
+    """Whether a line of `no memory` stands right before the line of its call."""
+    call = lines[place].removeprefix(MARK)
+    return call in SHARED or lines[place + 1].startswith(call)
+
+
+def way_alone(full, lines):
+    marks = [place for place, line in enumerate(lines) if line.startswith(MARK)]
+    rest = [line for line in lines if not line.startswith(MARK)]
+    if rest != full:
+        return None, f"other lines: {[line for line in rest if line not in full]}"
+    if not marks:
+        return "did without", None
+    if len(marks) > 1 or not names_its_call(lines, marks[0]):
+        return None, f"{[lines[place] for place in marks]}"
+    return "made again", None
+
+
+def way_from(full, lines):
+    rest = [line for line in lines if not line.startswith(MARK)]
+    if rest == lines:
+        return ("did without", None) if lines == full else (None, "other lines")
+    if CUT not in rest:
+        return None, "a call found memory again"
+    cut = rest.index(CUT)
+    if rest[:cut] != full[:cut] or rest[cut + 1:] != ends_of(full):
+        return None, f"{rest[cut:]}"
+    return "ended as ever", None
+
+
+def way_of(full, run, form):
+    lines = run.out.decode().splitlines()
+    if run.refused == 0:
+        same = (run.status, run.err, lines) == (0, b"", full)
+        return ("without refusal", None) if same else (None, "no refusal, but not the full run")
+    if (run.status, run.out, run.err) == (1, b"", b"growths: no memory\n"):
+        return "could not begin", None
+    if (run.status, run.err) != (0, b""):
+        return None, f"status {run.status}, standard error {run.err}"
+    if any("something changed" in line for line in lines):
+        return None, f"{[line for line in lines if 'changed' in line]}"
+    return way_alone(full, lines) if form == "alone" else way_from(full, lines)
+
+
+def main(program):
+    with open(os.path.join(HERE, "..", "crates", "growths", "stdout")) as file:
+        full = file.read().splitlines()
+    counts = Counts("libraries")
+
+    def run_once(growth, form):
+        run = refusing.run([program], b"", growth, form)
+        way, told = way_of(full, run, form)
+        counts.add(run, way, f"growth {growth} {form}: {told}")
+        return run
+
+    with tempfile.TemporaryDirectory() as folder:
+        refusing = Refusing(folder)
+        in_turn(run_once(0, "alone").growths or 0, run_once)
+    return counts.tell()
+
+
+if __name__ == "__main__":
+    if len(sys.argv) != 2 or not os.access(sys.argv[1], os.X_OK):
+        sys.exit(f"usage: {sys.argv[0]} PROGRAM")
+    sys.exit(main(sys.argv[1]))

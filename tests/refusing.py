@@ -1,0 +1,99 @@
+"""Runs a program while growths of its memory are refused, by the preloaded library refuse_growth.c."""
+import concurrent.futures
+import itertools
+import os
+import re
+import subprocess
+import threading
+from collections import namedtuple
+
+HERE = os.path.dirname(os.path.abspath(__file__))
+FORMS = ("alone", "from")
+SECONDS = 60
+
+# How a run ended, what it wrote, and how many growths it had and were refused.
+Run = namedtuple("Run", "status out err growths refused")
+
+
+class Refusing:
+    """The library, built into a folder, which also takes the counts of each thread's runs."""
+
+    def __init__(self, folder):
+        self.folder = folder
+        self.library = os.path.join(folder, "refuse_growth.so")
+        source = os.path.join(HERE, "refuse_growth.c")
+        command = ["gcc", "-O1", "-Wall", "-Wextra", "-Werror", "-shared", "-fPIC"]
+        subprocess.run(command + ["-o", self.library, source, "-ldl"], check=True)
+
+    def counts_path(self):
+        return os.path.join(self.folder, f"counts{threading.get_ident()}")
+
+    def environment(self, growth, form):
+        """With the growth 0 none is refused, and all are counted."""
+        return dict(os.environ, LD_PRELOAD=self.library, REFUSE_GROWTH=str(growth),
+                    REFUSE_FORM=form, REFUSE_COUNTS=self.counts_path())
+
+    def counts(self):
+        """The counts that the last run of this thread left; a run that was cut off leaves none."""
+        path = self.counts_path()
+        try:
+            with open(path) as file:
+                found = re.fullmatch(r"growths (\d+) refused (\d+)\n", file.read())
+            os.remove(path)
+        except FileNotFoundError:
+            found = None
+        return (int(found[1]), int(found[2])) if found else (None, None)
+
+    def run(self, words, given, growth, form="alone"):
+        try:
+            done = subprocess.run(words, input=given, capture_output=True, timeout=SECONDS,
+                                  env=self.environment(growth, form))
+        except subprocess.TimeoutExpired:
+            return Run("no end", b"", b"", None, None)
+        return Run(done.returncode, done.stdout, done.stderr, *self.counts())
+
+
+def plain(words, given):
+    """A run without the library."""
+    done = subprocess.run(words, input=given, capture_output=True, timeout=SECONDS)
+    return Run(done.returncode, done.stdout, done.stderr, None, 0)
+
+
+def in_turn(growths, run_once):
+    """Makes a run for each growth of the full run and each form, side by side, and then for later growths
+    until a run meets no refusal."""
+    for form in FORMS:
+        with concurrent.futures.ThreadPoolExecutor(os.cpu_count()) as pool:
+            list(pool.map(run_once, range(1, growths + 1), itertools.repeat(form)))
+        for growth in itertools.count(growths + 1):
+            run = run_once(growth, form)
+            if run.refused == 0 or run.status == "no end":
+                break
+
+
+class Counts:
+    """What a runner ends by telling."""
+
+    def __init__(self, what):
+        self.what = what
+        self.lock = threading.Lock()
+        self.runs = self.refused = self.wrong = 0
+        self.ways = {}
+
+    def add(self, run, way, told=None):
+        """Counts a run: by which way a refusal ended, or what is wrong, which is told."""
+        with self.lock:
+            self.runs += 1
+            if run.refused is None or run.refused:
+                self.refused += 1
+            if way is None:
+                self.wrong += 1
+                print(f"wrong: {told}", flush=True)
+            else:
+                self.ways[way] = self.ways.get(way, 0) + 1
+
+    def tell(self):
+        ways = ", ".join(f"{count} {way}" for way, count in sorted(self.ways.items()))
+        print(f"{self.what}: {ways}")
+        print(f"{self.what}: runs {self.runs}, refused {self.refused}, wrong {self.wrong}", flush=True)
+        return 0 if self.wrong == 0 and self.refused > 0 else 1
