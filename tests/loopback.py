@@ -74,7 +74,7 @@ class Gateway:
         while time.monotonic() < until:
             try:
                 return socket.create_connection(("127.0.0.1", self.port), SECONDS)
-            except ConnectionRefusedError:
+            except ConnectionError:  # Nobody listens, or whoever did has ended.
                 if self.process.poll() is not None:
                     return None
                 time.sleep(0.002)
