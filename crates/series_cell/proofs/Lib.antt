@@ -5,3 +5,4 @@ pub mod Standing
 pub mod Carrying
 pub mod Reading
 pub mod Ends
+pub mod Lent

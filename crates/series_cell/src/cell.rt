@@ -12,6 +12,7 @@ ghost use Rattle.series_cell.specs.Cells.{Stands, IsCell, IsOfSame, HasHome, Han
 use crate::batch_span::{
     BatchSpan, drop_first, end_or, find_start, has_batch, hull, join_all, spans_from, spans_to,
 };
+use crate::kept::Kept;
 use crate::rows::{keeps_words, zero_row};
 use bucket_lanes::{add_into, clear, move_into, sub_from};
 use metric_events::point::Point;
@@ -23,51 +24,23 @@ use std::marker::Model;
 
 /// The totals of one series: what was accepted, what is at home (`stored`), in flight,
 /// acknowledged and dropped, each a row of words that changes lane by lane; and the spans of the
-/// points that are in flight or at home, those in flight first.
+/// points that are in flight or at home, those in flight first. All of it stands on the heap, so
+/// that a cell is one word, which a list of cells moves at little cost.
+#[derive(Drop)]
 pub struct Cell {
-    owner: SenderName,
-    id: SeriesId,
-    accepted: Vec<u64>,
-    stored: Vec<u64>,
-    in_flight: Vec<u64>,
-    acknowledged: Vec<u64>,
-    dropped: Vec<u64>,
-    spans: Vec<BatchSpan>,
-    /// How many of the spans are in flight.
-    cut: usize,
-    /// The flush that they are in flight with.
-    flush: u64,
-    /// The greatest end of what has landed, 0 where nothing has.
-    landed: u64,
+    kept: Box<Kept>,
 }
 
 impl Model for Cell {
-    ghost use Rattle.std.specs.Prelude.{◌-◌, vec_capacity, vec_len};
     ghost use Rattle.series_cell.specs.Cells.{CellView, IsCell};
 
     ghost Value = { CellView };
 
-    ghost view = { λ c. record { owner = c.owner; id = c.id; accepted = c.accepted.items; stored = c.stored.items; in_flight = c.in_flight.items; acknowledged = c.acknowledged.items; dropped = c.dropped.items; spans = c.spans.items; cut = c.cut; flush = c.flush; landed = c.landed; spare = vec_capacity c.spans - vec_len c.spans } };
+    ghost use Rattle.series_cell.specs.Kept.{view_of};
 
-    ghost invariant = { λ c. IsCell (record { owner = c.owner; id = c.id; accepted = c.accepted.items; stored = c.stored.items; in_flight = c.in_flight.items; acknowledged = c.acknowledged.items; dropped = c.dropped.items; spans = c.spans.items; cut = c.cut; flush = c.flush; landed = c.landed; spare = vec_capacity c.spans - vec_len c.spans }) };
-}
+    ghost view = { λ c. view_of c.kept.value };
 
-impl Drop for Cell {
-    fn drop(self) {
-        let Cell {
-            owner: _,
-            id: _,
-            accepted: _,
-            stored: _,
-            in_flight: _,
-            acknowledged: _,
-            dropped: _,
-            spans: _,
-            cut: _,
-            flush: _,
-            landed: _,
-        } = self;
-    }
+    ghost invariant = { λ c. IsCell (view_of c.kept.value) };
 }
 
 impl Cell {
@@ -83,7 +56,7 @@ impl Cell {
         let in_flight = zero_row(alloc, n)?;
         let acknowledged = zero_row(alloc, n)?;
         let dropped = zero_row(alloc, n)?;
-        Ok(Cell {
+        let kept = Kept {
             owner,
             id,
             accepted,
@@ -95,6 +68,9 @@ impl Cell {
             cut: 0,
             flush: 0,
             landed: 0,
+        };
+        Ok(Cell {
+            kept: Box::new(alloc, kept)?,
         })
     }
 
@@ -105,7 +81,7 @@ impl Cell {
         ensures same { IsOfSame self.old self.new }
         ensures stands { (qs : List Accepted) → Stands self.old qs → Stands self.new qs }
     {
-        self.spans.reserve(n)
+        self.kept.spans.reserve(n)
     }
 
     /// Puts a point of a batch at home. It takes memory only where there is no room to spare;
@@ -121,10 +97,11 @@ impl Cell {
         ensures spare { self.old.spare ≤ self.new.spare + 1 }
         ensures err { OnErr result ((qs : List Accepted) → Stands self.old qs → Stands self.new qs) }
     {
-        self.spans.reserve(1)?;
-        add_into(&mut self.accepted, point.row());
-        add_into(&mut self.stored, point.row());
-        self.spans.push_reserved(BatchSpan {
+        let kept = self.kept.as_mut();
+        kept.spans.reserve(1)?;
+        add_into(&mut kept.accepted, point.row());
+        add_into(&mut kept.stored, point.row());
+        kept.spans.push_reserved(BatchSpan {
             span: point.span(),
             batch,
         });
@@ -136,7 +113,8 @@ impl Cell {
     pub fn can_remove(&self, batch: u64) -> bool
         ensures { (qs : List Accepted) → Stands self.now qs → list_any (is_of_batch batch) qs ≡ true → AreTogether batch qs → result ≡ is_batch_home batch qs }
     {
-        has_batch(spans_from(&self.spans, self.cut), batch)
+        let kept = self.kept.as_ref();
+        has_batch(spans_from(&kept.spans, kept.cut), batch)
     }
 
     /// Takes a point of a batch that is at home out again, as if it had never come.
@@ -147,10 +125,11 @@ impl Cell {
         ensures spare { self.old.spare ≤ self.new.spare }
     {
         let _batch = batch;
-        let at = self.cut + find_start(spans_from(&self.spans, self.cut), point.span().start());
-        sub_from(&mut self.accepted, point.row());
-        sub_from(&mut self.stored, point.row());
-        self.spans.remove(at);
+        let kept = self.kept.as_mut();
+        let at = kept.cut + find_start(spans_from(&kept.spans, kept.cut), point.span().start());
+        sub_from(&mut kept.accepted, point.row());
+        sub_from(&mut kept.stored, point.row());
+        kept.spans.remove(at);
     }
 
     /// Sends what is at home away with a flush.
@@ -161,10 +140,11 @@ impl Cell {
         ensures flush { self.new.flush ≡ flush }
         ensures spare { self.old.spare ≤ self.new.spare }
     {
-        keeps_words(self.accepted.as_slice());
-        move_into(&mut self.in_flight, &mut self.stored);
-        self.cut = self.spans.len();
-        self.flush = flush;
+        let kept = self.kept.as_mut();
+        keeps_words(kept.accepted.as_slice());
+        move_into(&mut kept.in_flight, &mut kept.stored);
+        kept.cut = kept.spans.len();
+        kept.flush = flush;
     }
 
     /// What is in flight is at home again.
@@ -173,9 +153,10 @@ impl Cell {
         ensures same { IsOfSame self.old self.new }
         ensures spare { self.old.spare ≤ self.new.spare }
     {
-        keeps_words(self.accepted.as_slice());
-        move_into(&mut self.stored, &mut self.in_flight);
-        self.cut = 0;
+        let kept = self.kept.as_mut();
+        keeps_words(kept.accepted.as_slice());
+        move_into(&mut kept.stored, &mut kept.in_flight);
+        kept.cut = 0;
     }
 
     /// What is in flight is acknowledged for good.
@@ -184,11 +165,12 @@ impl Cell {
         ensures same { IsOfSame self.old self.new }
         ensures spare { self.old.spare ≤ self.new.spare }
     {
-        keeps_words(self.accepted.as_slice());
-        move_into(&mut self.acknowledged, &mut self.in_flight);
-        self.landed = self.landed.max(end_or(spans_to(&self.spans, self.cut), 0));
-        drop_first(&mut self.spans, self.cut);
-        self.cut = 0;
+        let kept = self.kept.as_mut();
+        keeps_words(kept.accepted.as_slice());
+        move_into(&mut kept.acknowledged, &mut kept.in_flight);
+        kept.landed = kept.landed.max(end_or(spans_to(&kept.spans, kept.cut), 0));
+        drop_first(&mut kept.spans, kept.cut);
+        kept.cut = 0;
     }
 
     /// What is in flight is dropped for good.
@@ -197,11 +179,12 @@ impl Cell {
         ensures same { IsOfSame self.old self.new }
         ensures spare { self.old.spare ≤ self.new.spare }
     {
-        keeps_words(self.accepted.as_slice());
-        move_into(&mut self.dropped, &mut self.in_flight);
-        self.landed = self.landed.max(end_or(spans_to(&self.spans, self.cut), 0));
-        drop_first(&mut self.spans, self.cut);
-        self.cut = 0;
+        let kept = self.kept.as_mut();
+        keeps_words(kept.accepted.as_slice());
+        move_into(&mut kept.dropped, &mut kept.in_flight);
+        kept.landed = kept.landed.max(end_or(spans_to(&kept.spans, kept.cut), 0));
+        drop_first(&mut kept.spans, kept.cut);
+        kept.cut = 0;
     }
 
     /// Begins the next round: what was acknowledged and dropped is past, what is at home is all
@@ -215,94 +198,95 @@ impl Cell {
         ensures spare { self.old.spare ≤ self.new.spare }
     {
         let frontier = self.frontier();
-        self.accepted.copy_from_slice(self.stored.as_slice());
-        clear(&mut self.acknowledged);
-        clear(&mut self.dropped);
-        self.landed = frontier;
-        join_all(&mut self.spans);
+        let kept = self.kept.as_mut();
+        kept.accepted.copy_from_slice(kept.stored.as_slice());
+        clear(&mut kept.acknowledged);
+        clear(&mut kept.dropped);
+        kept.landed = frontier;
+        join_all(&mut kept.spans);
     }
 
     /// Whether something is in flight.
     pub fn is_flying(&self) -> bool
         ensures { result ≡ nat_lt 0 self.now.cut }
     {
-        0 < self.cut
+        0 < self.kept.cut
     }
 
     /// Whether something is at home.
     pub fn has_stored(&self) -> bool
         ensures { result ≡ nat_lt self.now.cut (length self.now.spans) }
     {
-        self.cut < self.spans.len()
+        self.kept.cut < self.kept.spans.len()
     }
 
     /// Who sends the series.
     pub fn owner(&self) -> &SenderName
         ensures { result.now ≡ self.now.owner }
     {
-        &self.owner
+        &self.kept.owner
     }
 
     /// The series.
     pub fn id(&self) -> &SeriesId
         ensures { result.now ≡ self.now.id }
     {
-        &self.id
+        &self.kept.id
     }
 
     /// The greatest end of its points in nanoseconds, 0 where there is none.
     pub fn frontier(&self) -> u64
         ensures { result ≡ end_of self.now }
     {
-        self.landed.max(end_or(&self.spans, 0))
+        self.kept.landed.max(end_or(&self.kept.spans, 0))
     }
 
     /// The sum of all its points.
     pub fn accepted(&self) -> &[u64]
         ensures { result.now ≡ self.now.accepted }
     {
-        self.accepted.as_slice()
+        self.kept.accepted.as_slice()
     }
 
     /// The sum of what is at home.
     pub fn stored(&self) -> &[u64]
         ensures { result.now ≡ self.now.stored }
     {
-        self.stored.as_slice()
+        self.kept.stored.as_slice()
     }
 
     /// The sum of what is in flight.
     pub fn in_flight(&self) -> &[u64]
         ensures { result.now ≡ self.now.in_flight }
     {
-        self.in_flight.as_slice()
+        self.kept.in_flight.as_slice()
     }
 
     /// The sum of what the back end has taken.
     pub fn acknowledged(&self) -> &[u64]
         ensures { result.now ≡ self.now.acknowledged }
     {
-        self.acknowledged.as_slice()
+        self.kept.acknowledged.as_slice()
     }
 
     /// The sum of what the back end has refused for good.
     pub fn dropped(&self) -> &[u64]
         ensures { result.now ≡ self.now.dropped }
     {
-        self.dropped.as_slice()
+        self.kept.dropped.as_slice()
     }
 
     /// From the first start to the last end of what is at home.
     pub fn stored_span(&self) -> Option<Span>
         ensures { result ≡ home_hull self.now }
     {
-        hull(spans_from(&self.spans, self.cut))
+        hull(spans_from(&self.kept.spans, self.kept.cut))
     }
 
     /// From the first start to the last end of what is in flight.
     pub fn flight_span(&self) -> Option<Span>
         ensures { result ≡ flight_hull self.now }
     {
-        hull(spans_to(&self.spans, self.cut))
+        hull(spans_to(&self.kept.spans, self.kept.cut))
     }
 }

@@ -5,5 +5,6 @@
 
 pub mod batch_span;
 pub mod cell;
+mod kept;
 pub mod laws;
 mod rows;

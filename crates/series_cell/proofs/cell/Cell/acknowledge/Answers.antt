@@ -1,25 +1,29 @@
-use Rattle.std.proofs.Common.{◌≡◌, ℕ, ◌-◌, ◌<◌, ◌^◌, sym, ap, ◌∙◌, subst, arith, take, map, max, length, refl, List}
-use Rattle.std.specs.Prelude.{slice_index, vec_capacity, vec_len}
+use Rattle.std.proofs.Common.{◌≡◌, ℕ, ◌<◌, ◌^◌, sym, ap, ◌∙◌, subst, arith, take, map, max, length, refl, List}
+use Rattle.std.specs.Prelude.{slice_index}
 use Rattle.metric_events.specs.Points.{landed}
 use Rattle.metric_events.specs.Rows.{zeros}
 use Rattle.metric_events.specs.declared.place.Place.TheVariants.{Acknowledged}
 use Rattle.series_cell.specs.Cells.{CellView, Stands}
+use Rattle.series_cell.specs.Kept.{view_of}
 use Rattle.series_cell.specs.Spans.{end_of_spans}
 use Rattle.series_cell.proofs.ByPlace.{moved}
+use Rattle.series_cell.proofs.Lent.{lent_cell, lent_view}
 use Rattle.series_cell.proofs.Sizes.{sized, within}
 use Rattle.series_cell.proofs.Standing.{stands_acknowledged_as}
 use Rattle.series_cell.proofs.cell.Cell.acknowledge.Goals as goal
 
 pub move_into-requires-clause-same : goal.move_into-requires-clause-same
 move_into-requires-clause-same c =
-    let s = sized _ c.self.invariant.0 c.self.invariant.1 in
+    let own = lent_cell c.as_mut-kept.ensures.value c.self.invariant in
+    let s = sized _ own.0 own.1 in
     ap length c.deref_mut.ensures.value ∙ (s.acknowledged ∙ sym (ap length c.deref_mut-2.ensures.value ∙ s.in_flight))
 
 pub move_into-requires-clause-fits : goal.move_into-requires-clause-fits
 move_into-requires-clause-fits c = λ k l.
-    let i = c.self.inside in
-    let v : CellView = record { owner = i.owner; id = i.id; accepted = i.accepted.items; stored = i.stored.items; in_flight = i.in_flight.items; acknowledged = i.acknowledged.items; dropped = i.dropped.items; spans = i.spans.items; cut = i.cut; flush = i.flush; landed = i.landed; spare = vec_capacity i.spans - vec_len i.spans } in
-    let w = within v c.self.invariant.0 k c.self.invariant.1 in
+    let i = c.as_mut-kept.result.now in
+    let own = lent_cell c.as_mut-kept.ensures.value c.self.invariant in
+    let v : CellView = view_of i in
+    let w = within v own.0 k own.1 in
     let top : slice_index i.accepted.items k < 2 ^ 64 = subst (λ (r : List ℕ). slice_index r k < 2 ^ 64) c.as_slice.ensures.value (c.keeps_words.ensures k) in
     let ed : slice_index c.deref_mut.result.now k ≡ slice_index i.acknowledged.items k = ap (λ (r : List ℕ). slice_index r k) c.deref_mut.ensures.value in
     let es : slice_index c.deref_mut-2.result.now k ≡ slice_index i.in_flight.items k = ap (λ (r : List ℕ). slice_index r k) c.deref_mut-2.ensures.value in
@@ -27,23 +31,25 @@ move_into-requires-clause-fits c = λ k l.
 
 pub invariant_of-self : goal.invariant_of-self
 invariant_of-self c =
-    let i = c.self.inside in
-    let h = c.self.invariant.1 in
-    let s = sized _ c.self.invariant.0 h in
+    let i = c.as_mut-kept.result.now in
+    let own = lent_cell c.as_mut-kept.ensures.value c.self.invariant in
+    let h = own.1 in
+    let s = sized _ own.0 h in
     let m = moved i.acknowledged.items i.in_flight.items _ _ _ _ i.acknowledged.len i.in_flight.len c.deref_mut.ensures.value c.deref_mut-2.ensures.value (s.acknowledged ∙ sym s.in_flight) c.move_into.auto.dst c.move_into.auto.src c.move_into.ensures.sums c.move_into.ensures.none i.acknowledged.ok.0 i.in_flight.ok.0 in (
-      map (landed i.flush Acknowledged) c.self.invariant.0,
-      stands_acknowledged_as _ i.flush c.self.invariant.0 _ _ _ _ _ refl h m.0 (m.1 ∙ ap zeros s.in_flight)
+      map (landed i.flush Acknowledged) own.0,
+      stands_acknowledged_as _ i.flush own.0 _ _ _ _ _ refl h m.0 (m.1 ∙ ap zeros s.in_flight)
           c.drop_first.ensures.items
-          (c.max-self-inside.ensures ∙ ap (λ n. max i.landed n) (c.end_or.ensures ∙ ap (end_of_spans 0) (c.spans_to.ensures ∙ ap (take i.cut) c.deref.ensures.value))),
+          (c.max-kept.ensures ∙ ap (λ n. max i.landed n) (c.end_or.ensures ∙ ap (end_of_spans 0) (c.spans_to.ensures ∙ ap (take i.cut) c.deref.ensures.value))),
     )
 
 pub returns-clause-stands : goal.returns-clause-stands
 returns-clause-stands c = λ qs g.
-    let i = c.self.inside in
-    let v : CellView = record { owner = i.owner; id = i.id; accepted = i.accepted.items; stored = i.stored.items; in_flight = i.in_flight.items; acknowledged = i.acknowledged.items; dropped = i.dropped.items; spans = i.spans.items; cut = i.cut; flush = i.flush; landed = i.landed; spare = vec_capacity i.spans - vec_len i.spans } in
-    let h : Stands v qs = subst (λ (w : CellView). Stands w qs) (sym c.self.view_is) g in
+    let i = c.as_mut-kept.result.now in
+    let is = lent_view c.as_mut-kept.ensures.value c.self.view_is in
+    let v : CellView = view_of i in
+    let h : Stands v qs = subst (λ (w : CellView). Stands w qs) (sym is) g in
     let s = sized v qs h in
     let m = moved i.acknowledged.items i.in_flight.items _ _ _ _ i.acknowledged.len i.in_flight.len c.deref_mut.ensures.value c.deref_mut-2.ensures.value (s.acknowledged ∙ sym s.in_flight) c.move_into.auto.dst c.move_into.auto.src c.move_into.ensures.sums c.move_into.ensures.none i.acknowledged.ok.0 i.in_flight.ok.0 in
-    stands_acknowledged_as v c.args.self.now.flush qs _ _ _ _ _ (sym (ap (λ (w : CellView). w.flush) c.self.view_is)) h m.0 (m.1 ∙ ap zeros s.in_flight)
+    stands_acknowledged_as v c.args.self.now.flush qs _ _ _ _ _ (sym (ap (λ (w : CellView). w.flush) is)) h m.0 (m.1 ∙ ap zeros s.in_flight)
     c.drop_first.ensures.items
-    (c.max-self-inside.ensures ∙ ap (λ n. max i.landed n) (c.end_or.ensures ∙ ap (end_of_spans 0) (c.spans_to.ensures ∙ ap (take i.cut) c.deref.ensures.value)))
+    (c.max-kept.ensures ∙ ap (λ n. max i.landed n) (c.end_or.ensures ∙ ap (end_of_spans 0) (c.spans_to.ensures ∙ ap (take i.cut) c.deref.ensures.value)))

@@ -2,6 +2,7 @@ use Rattle.std.proofs.Common.{ap, ◌∙◌, drop}
 use Rattle.std.specs.List.{list_any}
 use Rattle.series_cell.specs.Spans.{is_span_of}
 use Rattle.series_cell.specs.Cells.{CellView}
+use Rattle.series_cell.proofs.Lent.{lent_view}
 use Rattle.series_cell.proofs.Standing.{can_remove_is}
 use Rattle.series_cell.proofs.cell.Cell.can_remove.Goals as goal
 
@@ -9,5 +10,5 @@ pub returns : goal.returns
 returns c = λ qs h some one.
     can_remove_is c.args.self.now qs c.args.batch c.has_batch.result h some one
     (c.has_batch.ensures
-    ∙ (ap (list_any (is_span_of c.args.batch)) (c.spans_from.ensures ∙ ap (drop c.self.inside.cut) c.deref.ensures.value)
-    ∙ ap (λ (w : CellView). list_any (is_span_of c.args.batch) (drop w.cut w.spans)) c.self.view_is))
+    ∙ (ap (list_any (is_span_of c.args.batch)) (c.spans_from.ensures ∙ ap (drop c.as_ref-kept.result.now.cut) c.deref.ensures.value)
+    ∙ ap (λ (w : CellView). list_any (is_span_of c.args.batch) (drop w.cut w.spans)) (lent_view c.as_ref-kept.ensures c.self.view_is)))

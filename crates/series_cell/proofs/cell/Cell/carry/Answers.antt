@@ -1,48 +1,54 @@
-use Rattle.std.proofs.Common.{◌≡◌, ◌-◌, ◌<◌, sym, ap, ◌∙◌, subst, arith, drop, length}
-use Rattle.std.specs.Prelude.{vec_capacity, vec_len}
+use Rattle.std.proofs.Common.{◌≡◌, ◌<◌, sym, ap, ◌∙◌, subst, arith, drop, length}
 use Rattle.metric_events.specs.Rows.{zeros}
 use Rattle.series_cell.specs.Cells.{CellView, Stands, HandsOn, end_of, opened_with}
+use Rattle.series_cell.specs.Kept.{view_of}
 use Rattle.series_cell.specs.Spans.{hull_of, joined_spans}
 use Rattle.series_cell.proofs.ByPlace.{cleared_row}
+use Rattle.series_cell.proofs.Lent.{lent_cell, lent_view}
 use Rattle.series_cell.proofs.Sizes.{sized}
 use Rattle.series_cell.proofs.Carrying.{stands_carried, handed, hands_on}
 use Rattle.series_cell.proofs.cell.Cell.carry.Goals as goal
 
 pub copy_from_slice-requires : goal.copy_from_slice-requires
 copy_from_slice-requires c =
-    let i = c.self.inside in
-    let s = sized _ c.self.invariant.0 c.self.invariant.1 in
+    let i = c.as_mut-kept.result.now in
+    let own = lent_cell c.as_mut-kept.ensures.value c.self.invariant in
+    let s = sized _ own.0 own.1 in
     omega (arith, i.accepted.ok.0, s.accepted, s.stored, ap length c.as_slice.ensures.value)
 
 pub invariant_of-self : goal.invariant_of-self
 invariant_of-self c =
-    let i = c.self.inside in
-    let v : CellView = record { owner = i.owner; id = i.id; accepted = i.accepted.items; stored = i.stored.items; in_flight = i.in_flight.items; acknowledged = i.acknowledged.items; dropped = i.dropped.items; spans = i.spans.items; cut = i.cut; flush = i.flush; landed = i.landed; spare = vec_capacity i.spans - vec_len i.spans } in
-    let h : Stands v c.self.invariant.0 = c.self.invariant.1 in
-    let s = sized v c.self.invariant.0 h in
-    let none : i.cut ≡ 0 = ap (λ (w : CellView). w.cut) c.self.view_is ∙ c.requires.nothing in
-    let some : 0 < end_of v = subst (λ (w : CellView). 0 < end_of w) (sym c.self.view_is) c.requires.some in (
+    let i = c.as_mut-kept.result.now in
+    let own = lent_cell c.as_mut-kept.ensures.value c.self.invariant in
+    let is = lent_view c.as_mut-kept.ensures.value c.self.view_is in
+    let v : CellView = view_of i in
+    let h : Stands v own.0 = own.1 in
+    let s = sized v own.0 h in
+    let none : i.cut ≡ 0 = ap (λ (w : CellView). w.cut) is ∙ c.requires.nothing in
+    let some : 0 < end_of v = subst (λ (w : CellView). 0 < end_of w) (sym is) c.requires.some in (
       opened_with (handed v),
-      stands_carried v c.self.invariant.0 (handed v) _ _ _ _ _ _ h none some (hands_on v)
+      stands_carried v own.0 (handed v) _ _ _ _ _ _ h none some (hands_on v)
           (c.copy_from_slice.ensures.items ∙ c.as_slice.ensures.value)
           (cleared_row i.acknowledged.items _ _ i.acknowledged.len c.deref_mut.ensures.value c.clear.auto.words c.clear.ensures i.acknowledged.ok.0 ∙ ap zeros s.acknowledged)
           (cleared_row i.dropped.items _ _ i.dropped.len c.deref_mut-2.ensures.value c.clear-2.auto.words c.clear-2.ensures i.dropped.ok.0 ∙ ap zeros s.dropped)
           (c.join_all.ensures.items ∙ ap (λ n. joined_spans (hull_of (drop n i.spans.items))) (sym none))
-          (c.frontier-frontier.ensures ∙ ap end_of (sym c.self.view_is)),
+          (c.frontier-frontier.ensures ∙ ap end_of (sym is)),
     )
 
 pub returns-clause-stands : goal.returns-clause-stands
 returns-clause-stands c = λ t k.
-    let i = c.self.inside in
-    let v : CellView = record { owner = i.owner; id = i.id; accepted = i.accepted.items; stored = i.stored.items; in_flight = i.in_flight.items; acknowledged = i.acknowledged.items; dropped = i.dropped.items; spans = i.spans.items; cut = i.cut; flush = i.flush; landed = i.landed; spare = vec_capacity i.spans - vec_len i.spans } in
-    let h : Stands v c.self.invariant.0 = c.self.invariant.1 in
-    let s = sized v c.self.invariant.0 h in
-    let hands : HandsOn v t = subst (λ (w : CellView). HandsOn w t) (sym c.self.view_is) k in
-    let none : i.cut ≡ 0 = ap (λ (w : CellView). w.cut) c.self.view_is ∙ c.requires.nothing in
-    let some : 0 < end_of v = subst (λ (w : CellView). 0 < end_of w) (sym c.self.view_is) c.requires.some in
-    stands_carried v c.self.invariant.0 t _ _ _ _ _ _ h none some hands
+    let i = c.as_mut-kept.result.now in
+    let own = lent_cell c.as_mut-kept.ensures.value c.self.invariant in
+    let is = lent_view c.as_mut-kept.ensures.value c.self.view_is in
+    let v : CellView = view_of i in
+    let h : Stands v own.0 = own.1 in
+    let s = sized v own.0 h in
+    let hands : HandsOn v t = subst (λ (w : CellView). HandsOn w t) (sym is) k in
+    let none : i.cut ≡ 0 = ap (λ (w : CellView). w.cut) is ∙ c.requires.nothing in
+    let some : 0 < end_of v = subst (λ (w : CellView). 0 < end_of w) (sym is) c.requires.some in
+    stands_carried v own.0 t _ _ _ _ _ _ h none some hands
     (c.copy_from_slice.ensures.items ∙ c.as_slice.ensures.value)
     (cleared_row i.acknowledged.items _ _ i.acknowledged.len c.deref_mut.ensures.value c.clear.auto.words c.clear.ensures i.acknowledged.ok.0 ∙ ap zeros s.acknowledged)
     (cleared_row i.dropped.items _ _ i.dropped.len c.deref_mut-2.ensures.value c.clear-2.auto.words c.clear-2.ensures i.dropped.ok.0 ∙ ap zeros s.dropped)
     (c.join_all.ensures.items ∙ ap (λ n. joined_spans (hull_of (drop n i.spans.items))) (sym none))
-    (c.frontier-frontier.ensures ∙ ap end_of (sym c.self.view_is))
+    (c.frontier-frontier.ensures ∙ ap end_of (sym is))

@@ -1,22 +1,26 @@
-use Rattle.std.proofs.Common.{◌≡◌, ℕ, ◌-◌, ◌<◌, ◌^◌, sym, ap, ◌∙◌, subst, arith, map, length, List}
-use Rattle.std.specs.Prelude.{slice_index, vec_capacity, vec_len}
+use Rattle.std.proofs.Common.{◌≡◌, ℕ, ◌<◌, ◌^◌, sym, ap, ◌∙◌, subst, arith, map, length, List}
+use Rattle.std.specs.Prelude.{slice_index}
 use Rattle.metric_events.specs.Rows.{zeros}
 use Rattle.series_cell.specs.Cells.{CellView, Stands, lifted}
+use Rattle.series_cell.specs.Kept.{view_of}
 use Rattle.series_cell.proofs.ByPlace.{moved}
+use Rattle.series_cell.proofs.Lent.{lent_cell, lent_view}
 use Rattle.series_cell.proofs.Sizes.{sized, within}
 use Rattle.series_cell.proofs.Standing.{stands_lift_as}
 use Rattle.series_cell.proofs.cell.Cell.lift_off.Goals as goal
 
 pub move_into-requires-clause-same : goal.move_into-requires-clause-same
 move_into-requires-clause-same c =
-    let s = sized _ c.self.invariant.0 c.self.invariant.1 in
+    let own = lent_cell c.as_mut-kept.ensures.value c.self.invariant in
+    let s = sized _ own.0 own.1 in
     ap length c.deref_mut.ensures.value ∙ (s.in_flight ∙ sym (ap length c.deref_mut-2.ensures.value ∙ s.stored))
 
 pub move_into-requires-clause-fits : goal.move_into-requires-clause-fits
 move_into-requires-clause-fits c = λ k l.
-    let i = c.self.inside in
-    let v : CellView = record { owner = i.owner; id = i.id; accepted = i.accepted.items; stored = i.stored.items; in_flight = i.in_flight.items; acknowledged = i.acknowledged.items; dropped = i.dropped.items; spans = i.spans.items; cut = i.cut; flush = i.flush; landed = i.landed; spare = vec_capacity i.spans - vec_len i.spans } in
-    let w = within v c.self.invariant.0 k c.self.invariant.1 in
+    let i = c.as_mut-kept.result.now in
+    let own = lent_cell c.as_mut-kept.ensures.value c.self.invariant in
+    let v : CellView = view_of i in
+    let w = within v own.0 k own.1 in
     let top : slice_index i.accepted.items k < 2 ^ 64 = subst (λ (r : List ℕ). slice_index r k < 2 ^ 64) c.as_slice.ensures.value (c.keeps_words.ensures k) in
     let ed : slice_index c.deref_mut.result.now k ≡ slice_index i.in_flight.items k = ap (λ (r : List ℕ). slice_index r k) c.deref_mut.ensures.value in
     let es : slice_index c.deref_mut-2.result.now k ≡ slice_index i.stored.items k = ap (λ (r : List ℕ). slice_index r k) c.deref_mut-2.ensures.value in
@@ -24,17 +28,20 @@ move_into-requires-clause-fits c = λ k l.
 
 pub invariant_of-self : goal.invariant_of-self
 invariant_of-self c =
-    let i = c.self.inside in
-    let h = c.self.invariant.1 in
-    let s = sized _ c.self.invariant.0 h in
+    let i = c.as_mut-kept.result.now in
+    let own = lent_cell c.as_mut-kept.ensures.value c.self.invariant in
+    let is = lent_view c.as_mut-kept.ensures.value c.self.view_is in
+    let h = own.1 in
+    let s = sized _ own.0 h in
     let m = moved i.in_flight.items i.stored.items _ _ _ _ i.in_flight.len i.stored.len c.deref_mut.ensures.value c.deref_mut-2.ensures.value (s.in_flight ∙ sym s.stored) c.move_into.auto.dst c.move_into.auto.src c.move_into.ensures.sums c.move_into.ensures.none i.in_flight.ok.0 i.stored.ok.0 in
-    (map (lifted c.args.flush) c.self.invariant.0, stands_lift_as _ c.args.flush c.self.invariant.0 _ _ _ h (ap (λ (w : CellView). w.cut) c.self.view_is ∙ c.requires) m.0 (m.1 ∙ ap zeros s.stored) (c.len-self-inside.ensures ∙ i.spans.ok.0))
+    (map (lifted c.args.flush) own.0, stands_lift_as _ c.args.flush own.0 _ _ _ h (ap (λ (w : CellView). w.cut) is ∙ c.requires) m.0 (m.1 ∙ ap zeros s.stored) (c.len-kept.ensures ∙ i.spans.ok.0))
 
 pub returns-clause-stands : goal.returns-clause-stands
 returns-clause-stands c = λ qs g.
-    let i = c.self.inside in
-    let v : CellView = record { owner = i.owner; id = i.id; accepted = i.accepted.items; stored = i.stored.items; in_flight = i.in_flight.items; acknowledged = i.acknowledged.items; dropped = i.dropped.items; spans = i.spans.items; cut = i.cut; flush = i.flush; landed = i.landed; spare = vec_capacity i.spans - vec_len i.spans } in
-    let h : Stands v qs = subst (λ (w : CellView). Stands w qs) (sym c.self.view_is) g in
+    let i = c.as_mut-kept.result.now in
+    let is = lent_view c.as_mut-kept.ensures.value c.self.view_is in
+    let v : CellView = view_of i in
+    let h : Stands v qs = subst (λ (w : CellView). Stands w qs) (sym is) g in
     let s = sized v qs h in
     let m = moved i.in_flight.items i.stored.items _ _ _ _ i.in_flight.len i.stored.len c.deref_mut.ensures.value c.deref_mut-2.ensures.value (s.in_flight ∙ sym s.stored) c.move_into.auto.dst c.move_into.auto.src c.move_into.ensures.sums c.move_into.ensures.none i.in_flight.ok.0 i.stored.ok.0 in
-    stands_lift_as v c.args.flush qs _ _ _ h (ap (λ (w : CellView). w.cut) c.self.view_is ∙ c.requires) m.0 (m.1 ∙ ap zeros s.stored) (c.len-self-inside.ensures ∙ i.spans.ok.0)
+    stands_lift_as v c.args.flush qs _ _ _ h (ap (λ (w : CellView). w.cut) is ∙ c.requires) m.0 (m.1 ∙ ap zeros s.stored) (c.len-kept.ensures ∙ i.spans.ok.0)

@@ -1,61 +1,70 @@
-use Rattle.std.proofs.Common.{◌≡◌, ℕ, ◌-◌, ◌≤◌, sym, ap, ◌∙◌, subst, arith, length, refl, List, [], ◌∷◌, ◌++◌}
-use Rattle.std.specs.Prelude.{slice_index, vec_capacity, vec_len}
+use Rattle.std.proofs.Common.{◌≡◌, ℕ, ◌≤◌, sym, ap, ◌∙◌, subst, arith, length, refl, List, [], ◌∷◌, ◌++◌}
+use Rattle.std.specs.Prelude.{slice_index}
 use Rattle.series_id.specs.Identity.{Identity, row_length}
 use Rattle.metric_events.specs.Points.{admitted}
 use Rattle.metric_events.specs.Interval.{Interval}
 use Rattle.series_cell.specs.Cells.{CellView, Stands, end_of}
+use Rattle.series_cell.specs.Kept.{view_of}
 use Rattle.series_cell.proofs.ByPlace.{added_row}
+use Rattle.series_cell.proofs.Lent.{lent_cell, lent_view}
 use Rattle.series_cell.proofs.Sizes.{sized, within}
 use Rattle.series_cell.proofs.Standing.{stands_put_as}
 use Rattle.series_cell.proofs.cell.Cell.put.Goals as goal
 
--- a row of the point is as long as the cell's
-row_long : (c : goal.After-push_reserved) → length c.args.point.now.row ≡ row_length c.self.inside.id.kind
-row_long c = c.row.ensures.made.merged.long ∙ ap (λ (x : Identity). row_length x.kind) (c.requires.series ∙ sym (ap (λ (w : CellView). w.id) c.self.view_is))
-
 pub add_into-requires-clause-same : goal.add_into-requires-clause-same
 add_into-requires-clause-same c =
-    let s = sized _ c.self.invariant.0 c.self.invariant.1 in
-    ap length c.deref_mut.ensures.value ∙ (s.accepted ∙ sym (ap length c.row.ensures.value ∙ (c.row.ensures.made.merged.long ∙ ap (λ (x : Identity). row_length x.kind) (c.requires.series ∙ sym (ap (λ (w : CellView). w.id) c.self.view_is)))))
+    let own = lent_cell c.as_mut-kept.ensures.value c.self.invariant in
+    let is = lent_view c.as_mut-kept.ensures.value c.self.view_is in
+    let s = sized _ own.0 own.1 in
+    ap length c.deref_mut.ensures.value ∙ (s.accepted ∙ sym (ap length c.row.ensures.value ∙ (c.row.ensures.made.merged.long ∙ ap (λ (x : Identity). row_length x.kind) (c.requires.series ∙ sym (ap (λ (w : CellView). w.id) is)))))
 
 pub add_into-requires-2-clause-same : goal.add_into-requires-2-clause-same
 add_into-requires-2-clause-same c =
-    let s = sized _ c.self.invariant.0 c.self.invariant.1 in
-    ap length c.deref_mut-2.ensures.value ∙ (s.stored ∙ sym (ap length c.row-2.ensures.value ∙ (c.row-2.ensures.made.merged.long ∙ ap (λ (x : Identity). row_length x.kind) (c.requires.series ∙ sym (ap (λ (w : CellView). w.id) c.self.view_is)))))
+    let own = lent_cell c.as_mut-kept.ensures.value c.self.invariant in
+    let is = lent_view c.as_mut-kept.ensures.value c.self.view_is in
+    let s = sized _ own.0 own.1 in
+    ap length c.deref_mut-2.ensures.value ∙ (s.stored ∙ sym (ap length c.row-2.ensures.value ∙ (c.row-2.ensures.made.merged.long ∙ ap (λ (x : Identity). row_length x.kind) (c.requires.series ∙ sym (ap (λ (w : CellView). w.id) is)))))
 
 pub add_into-requires-2-clause-fits : goal.add_into-requires-2-clause-fits
 add_into-requires-2-clause-fits c = λ k l.
-    let i = c.self.inside in
-    let v : CellView = record { owner = i.owner; id = i.id; accepted = i.accepted.items; stored = i.stored.items; in_flight = i.in_flight.items; acknowledged = i.acknowledged.items; dropped = i.dropped.items; spans = i.spans.items; cut = i.cut; flush = i.flush; landed = i.landed; spare = vec_capacity i.spans - vec_len i.spans } in
-    let w = within v c.self.invariant.0 k c.self.invariant.1 in
-    let s = sized v c.self.invariant.0 c.self.invariant.1 in
+    let i = c.as_mut-kept.result.now in
+    let own = lent_cell c.as_mut-kept.ensures.value c.self.invariant in
+    let is = lent_view c.as_mut-kept.ensures.value c.self.view_is in
+    let v : CellView = view_of i in
+    let w = within v own.0 k own.1 in
+    let s = sized v own.0 own.1 in
     let ed : slice_index c.deref_mut-2.result.now k ≡ slice_index i.stored.items k = ap (λ (r : List ℕ). slice_index r k) c.deref_mut-2.ensures.value in
     let er : slice_index c.row-2.result.now k ≡ slice_index c.args.point.now.row k = ap (λ (r : List ℕ). slice_index r k) c.row-2.ensures.value in
-    let ea : i.accepted.items ≡ c.args.self.now.accepted = ap (λ (w : CellView). w.accepted) c.self.view_is in
+    let ea : i.accepted.items ≡ c.args.self.now.accepted = ap (λ (w : CellView). w.accepted) is in
     let top = c.requires.fits k (omega (arith, l, ap length c.deref_mut-2.ensures.value, s.stored, s.accepted, ap length ea)) in
     omega (arith, top, ed, er, ap (λ (r : List ℕ). slice_index r k) ea, w.stored)
 
 pub invariant_of-self-2 : goal.invariant_of-self-2
 invariant_of-self-2 c =
-    let i = c.self.inside in
-    let h = c.self.invariant.1 in
-    let s = sized _ c.self.invariant.0 h in (
-      c.self.invariant.0 ++ admitted c.args.batch i.owner c.args.point.now ∷ [],
-      stands_put_as _ i.owner c.args.point.now c.args.batch c.self.invariant.0 _ _ _ _ refl h c.row.ensures.made (c.requires.series ∙ sym (ap (λ (w : CellView). w.id) c.self.view_is))
-          (subst (λ (w : CellView). end_of w ≤ c.args.point.now.span.start) (sym c.self.view_is) c.requires.order)
-          (added_row i.accepted.items c.args.point.now.row _ _ _ i.accepted.len c.deref_mut.ensures.value c.row.ensures.value (row_long c ∙ sym s.accepted) c.add_into.auto.dst c.add_into.ensures i.accepted.ok.0)
-          (added_row i.stored.items c.args.point.now.row _ _ _ i.stored.len c.deref_mut-2.ensures.value c.row-2.ensures.value (row_long c ∙ sym s.stored) c.add_into-2.auto.dst c.add_into-2.ensures i.stored.ok.0)
+    let i = c.as_mut-kept.result.now in
+    let own = lent_cell c.as_mut-kept.ensures.value c.self.invariant in
+    let is = lent_view c.as_mut-kept.ensures.value c.self.view_is in
+    let long : length c.args.point.now.row ≡ row_length i.id.kind = c.row.ensures.made.merged.long ∙ ap (λ (x : Identity). row_length x.kind) (c.requires.series ∙ sym (ap (λ (w : CellView). w.id) is)) in
+    let h = own.1 in
+    let s = sized _ own.0 h in (
+      own.0 ++ admitted c.args.batch i.owner c.args.point.now ∷ [],
+      stands_put_as _ i.owner c.args.point.now c.args.batch own.0 _ _ _ _ refl h c.row.ensures.made (c.requires.series ∙ sym (ap (λ (w : CellView). w.id) is))
+          (subst (λ (w : CellView). end_of w ≤ c.args.point.now.span.start) (sym is) c.requires.order)
+          (added_row i.accepted.items c.args.point.now.row _ _ _ i.accepted.len c.deref_mut.ensures.value c.row.ensures.value (long ∙ sym s.accepted) c.add_into.auto.dst c.add_into.ensures i.accepted.ok.0)
+          (added_row i.stored.items c.args.point.now.row _ _ _ i.stored.len c.deref_mut-2.ensures.value c.row-2.ensures.value (long ∙ sym s.stored) c.add_into-2.auto.dst c.add_into-2.ensures i.stored.ok.0)
           (c.push_reserved.ensures.items ∙ (ap (λ ms. ms ++ record { span = c.span.result; batch = c.args.batch } ∷ []) c.in_ok-reserve.ensures.items ∙ ap (λ (t : Interval). i.spans.items ++ record { span = t; batch = c.args.batch } ∷ []) c.span.ensures)),
     )
 
 pub returns-clause-ok : goal.returns-clause-ok
 returns-clause-ok c = λ qs g.
-    let i = c.self.inside in
-    let v : CellView = record { owner = i.owner; id = i.id; accepted = i.accepted.items; stored = i.stored.items; in_flight = i.in_flight.items; acknowledged = i.acknowledged.items; dropped = i.dropped.items; spans = i.spans.items; cut = i.cut; flush = i.flush; landed = i.landed; spare = vec_capacity i.spans - vec_len i.spans } in
-    let h : Stands v qs = subst (λ (w : CellView). Stands w qs) (sym c.self.view_is) g in
+    let i = c.as_mut-kept.result.now in
+    let is = lent_view c.as_mut-kept.ensures.value c.self.view_is in
+    let long : length c.args.point.now.row ≡ row_length i.id.kind = c.row.ensures.made.merged.long ∙ ap (λ (x : Identity). row_length x.kind) (c.requires.series ∙ sym (ap (λ (w : CellView). w.id) is)) in
+    let v : CellView = view_of i in
+    let h : Stands v qs = subst (λ (w : CellView). Stands w qs) (sym is) g in
     let s = sized v qs h in
-    stands_put_as v c.args.self.now.owner c.args.point.now c.args.batch qs _ _ _ _ (sym (ap (λ (w : CellView). w.owner) c.self.view_is)) h c.row.ensures.made (c.requires.series ∙ sym (ap (λ (w : CellView). w.id) c.self.view_is))
-    (subst (λ (w : CellView). end_of w ≤ c.args.point.now.span.start) (sym c.self.view_is) c.requires.order)
-    (added_row i.accepted.items c.args.point.now.row _ _ _ i.accepted.len c.deref_mut.ensures.value c.row.ensures.value (row_long c ∙ sym s.accepted) c.add_into.auto.dst c.add_into.ensures i.accepted.ok.0)
-    (added_row i.stored.items c.args.point.now.row _ _ _ i.stored.len c.deref_mut-2.ensures.value c.row-2.ensures.value (row_long c ∙ sym s.stored) c.add_into-2.auto.dst c.add_into-2.ensures i.stored.ok.0)
+    stands_put_as v c.args.self.now.owner c.args.point.now c.args.batch qs _ _ _ _ (sym (ap (λ (w : CellView). w.owner) is)) h c.row.ensures.made (c.requires.series ∙ sym (ap (λ (w : CellView). w.id) is))
+    (subst (λ (w : CellView). end_of w ≤ c.args.point.now.span.start) (sym is) c.requires.order)
+    (added_row i.accepted.items c.args.point.now.row _ _ _ i.accepted.len c.deref_mut.ensures.value c.row.ensures.value (long ∙ sym s.accepted) c.add_into.auto.dst c.add_into.ensures i.accepted.ok.0)
+    (added_row i.stored.items c.args.point.now.row _ _ _ i.stored.len c.deref_mut-2.ensures.value c.row-2.ensures.value (long ∙ sym s.stored) c.add_into-2.auto.dst c.add_into-2.ensures i.stored.ok.0)
     (c.push_reserved.ensures.items ∙ (ap (λ ms. ms ++ record { span = c.span.result; batch = c.args.batch } ∷ []) c.in_ok-reserve.ensures.items ∙ ap (λ (t : Interval). i.spans.items ++ record { span = t; batch = c.args.batch } ∷ []) c.span.ensures))

@@ -1,19 +1,22 @@
-use Rattle.std.proofs.Common.{◌≡◌, ℕ, ◌-◌, ◌+◌, sym, ap, ◌∙◌, subst, arith, drop, length, refl, List, ◌∷◌, ◌++◌, remove}
-use Rattle.std.specs.Prelude.{slice_index, vec_capacity, vec_len}
+use Rattle.std.proofs.Common.{◌≡◌, ℕ, ◌+◌, sym, ap, ◌∙◌, subst, arith, drop, length, refl, List, ◌∷◌, ◌++◌, remove}
+use Rattle.std.specs.Prelude.{slice_index}
 use Rattle.metric_events.specs.Points.{admitted}
 use Rattle.metric_events.specs.Interval.{Interval}
 use Rattle.series_cell.specs.Cells.{CellView, Stands, HasHome}
+use Rattle.series_cell.specs.Kept.{view_of}
 use Rattle.series_cell.specs.Spans.{place_of}
 use Rattle.series_cell.proofs.ByPlace.{taken_row, part_le}
+use Rattle.series_cell.proofs.Lent.{lent_view}
 use Rattle.series_cell.proofs.Sizes.{sized}
 use Rattle.series_cell.proofs.Standing.{stands_remove, taken_from, parted, span_inside, home_ascends}
 use Rattle.series_cell.proofs.cell.Cell.remove.Goals as goal
 
 pub sub_from-requires-clause-same : goal.sub_from-requires-clause-same
 sub_from-requires-clause-same c =
-    let i = c.self.inside in
-    let v : CellView = record { owner = i.owner; id = i.id; accepted = i.accepted.items; stored = i.stored.items; in_flight = i.in_flight.items; acknowledged = i.acknowledged.items; dropped = i.dropped.items; spans = i.spans.items; cut = i.cut; flush = i.flush; landed = i.landed; spare = vec_capacity i.spans - vec_len i.spans } in
-    let g : HasHome v c.args.batch c.args.point.now = subst (λ (w : CellView). HasHome w c.args.batch c.args.point.now) (sym c.self.view_is) c.requires in
+    let i = c.as_mut-kept.result.now in
+    let is = lent_view c.as_mut-kept.ensures.value c.self.view_is in
+    let v : CellView = view_of i in
+    let g : HasHome v c.args.batch c.args.point.now = subst (λ (w : CellView). HasHome w c.args.batch c.args.point.now) (sym is) c.requires in
     let h = g.1.1 in
     let t = taken_from v c.args.batch c.args.point.now g.0 g.1.0 h in
     let s = sized v _ h in
@@ -21,9 +24,10 @@ sub_from-requires-clause-same c =
 
 pub sub_from-requires-clause-within : goal.sub_from-requires-clause-within
 sub_from-requires-clause-within c = λ k l.
-    let i = c.self.inside in
-    let v : CellView = record { owner = i.owner; id = i.id; accepted = i.accepted.items; stored = i.stored.items; in_flight = i.in_flight.items; acknowledged = i.acknowledged.items; dropped = i.dropped.items; spans = i.spans.items; cut = i.cut; flush = i.flush; landed = i.landed; spare = vec_capacity i.spans - vec_len i.spans } in
-    let g : HasHome v c.args.batch c.args.point.now = subst (λ (w : CellView). HasHome w c.args.batch c.args.point.now) (sym c.self.view_is) c.requires in
+    let i = c.as_mut-kept.result.now in
+    let is = lent_view c.as_mut-kept.ensures.value c.self.view_is in
+    let v : CellView = view_of i in
+    let g : HasHome v c.args.batch c.args.point.now = subst (λ (w : CellView). HasHome w c.args.batch c.args.point.now) (sym is) c.requires in
     let h = g.1.1 in
     let t = taken_from v c.args.batch c.args.point.now g.0 g.1.0 h in
     let s = sized v _ h in
@@ -32,9 +36,10 @@ sub_from-requires-clause-within c = λ k l.
 
 pub sub_from-requires-2-clause-same : goal.sub_from-requires-2-clause-same
 sub_from-requires-2-clause-same c =
-    let i = c.self.inside in
-    let v : CellView = record { owner = i.owner; id = i.id; accepted = i.accepted.items; stored = i.stored.items; in_flight = i.in_flight.items; acknowledged = i.acknowledged.items; dropped = i.dropped.items; spans = i.spans.items; cut = i.cut; flush = i.flush; landed = i.landed; spare = vec_capacity i.spans - vec_len i.spans } in
-    let g : HasHome v c.args.batch c.args.point.now = subst (λ (w : CellView). HasHome w c.args.batch c.args.point.now) (sym c.self.view_is) c.requires in
+    let i = c.as_mut-kept.result.now in
+    let is = lent_view c.as_mut-kept.ensures.value c.self.view_is in
+    let v : CellView = view_of i in
+    let g : HasHome v c.args.batch c.args.point.now = subst (λ (w : CellView). HasHome w c.args.batch c.args.point.now) (sym is) c.requires in
     let h = g.1.1 in
     let t = taken_from v c.args.batch c.args.point.now g.0 g.1.0 h in
     let s = sized v _ h in
@@ -42,9 +47,10 @@ sub_from-requires-2-clause-same c =
 
 pub sub_from-requires-2-clause-within : goal.sub_from-requires-2-clause-within
 sub_from-requires-2-clause-within c = λ k l.
-    let i = c.self.inside in
-    let v : CellView = record { owner = i.owner; id = i.id; accepted = i.accepted.items; stored = i.stored.items; in_flight = i.in_flight.items; acknowledged = i.acknowledged.items; dropped = i.dropped.items; spans = i.spans.items; cut = i.cut; flush = i.flush; landed = i.landed; spare = vec_capacity i.spans - vec_len i.spans } in
-    let g : HasHome v c.args.batch c.args.point.now = subst (λ (w : CellView). HasHome w c.args.batch c.args.point.now) (sym c.self.view_is) c.requires in
+    let i = c.as_mut-kept.result.now in
+    let is = lent_view c.as_mut-kept.ensures.value c.self.view_is in
+    let v : CellView = view_of i in
+    let g : HasHome v c.args.batch c.args.point.now = subst (λ (w : CellView). HasHome w c.args.batch c.args.point.now) (sym is) c.requires in
     let h = g.1.1 in
     let t = taken_from v c.args.batch c.args.point.now g.0 g.1.0 h in
     let s = sized v _ h in
@@ -53,9 +59,10 @@ sub_from-requires-2-clause-within c = λ k l.
 
 pub remove-requires : goal.remove-requires
 remove-requires c =
-    let i = c.self.inside in
-    let v : CellView = record { owner = i.owner; id = i.id; accepted = i.accepted.items; stored = i.stored.items; in_flight = i.in_flight.items; acknowledged = i.acknowledged.items; dropped = i.dropped.items; spans = i.spans.items; cut = i.cut; flush = i.flush; landed = i.landed; spare = vec_capacity i.spans - vec_len i.spans } in
-    let g : HasHome v c.args.batch c.args.point.now = subst (λ (w : CellView). HasHome w c.args.batch c.args.point.now) (sym c.self.view_is) c.requires in
+    let i = c.as_mut-kept.result.now in
+    let is = lent_view c.as_mut-kept.ensures.value c.self.view_is in
+    let v : CellView = view_of i in
+    let g : HasHome v c.args.batch c.args.point.now = subst (λ (w : CellView). HasHome w c.args.batch c.args.point.now) (sym is) c.requires in
     let h = g.1.1 in
     let t = taken_from v c.args.batch c.args.point.now g.0 g.1.0 h in
     let s = sized v _ h in
@@ -68,9 +75,10 @@ remove-requires c =
 
 pub invariant_of-self : goal.invariant_of-self
 invariant_of-self c =
-    let i = c.self.inside in
-    let v : CellView = record { owner = i.owner; id = i.id; accepted = i.accepted.items; stored = i.stored.items; in_flight = i.in_flight.items; acknowledged = i.acknowledged.items; dropped = i.dropped.items; spans = i.spans.items; cut = i.cut; flush = i.flush; landed = i.landed; spare = vec_capacity i.spans - vec_len i.spans } in
-    let g : HasHome v c.args.batch c.args.point.now = subst (λ (w : CellView). HasHome w c.args.batch c.args.point.now) (sym c.self.view_is) c.requires in
+    let i = c.as_mut-kept.result.now in
+    let is = lent_view c.as_mut-kept.ensures.value c.self.view_is in
+    let v : CellView = view_of i in
+    let g : HasHome v c.args.batch c.args.point.now = subst (λ (w : CellView). HasHome w c.args.batch c.args.point.now) (sym is) c.requires in
     let h = g.1.1 in
     let t = taken_from v c.args.batch c.args.point.now g.0 g.1.0 h in
     let s = sized v _ h in
@@ -87,9 +95,10 @@ invariant_of-self c =
 
 pub returns-clause-stands : goal.returns-clause-stands
 returns-clause-stands c = λ before after k.
-    let i = c.self.inside in
-    let v : CellView = record { owner = i.owner; id = i.id; accepted = i.accepted.items; stored = i.stored.items; in_flight = i.in_flight.items; acknowledged = i.acknowledged.items; dropped = i.dropped.items; spans = i.spans.items; cut = i.cut; flush = i.flush; landed = i.landed; spare = vec_capacity i.spans - vec_len i.spans } in
-    let h : Stands v (before ++ admitted c.args.batch v.owner c.args.point.now ∷ after) = subst (λ (w : CellView). Stands w (before ++ admitted c.args.batch w.owner c.args.point.now ∷ after)) (sym c.self.view_is) k in
+    let i = c.as_mut-kept.result.now in
+    let is = lent_view c.as_mut-kept.ensures.value c.self.view_is in
+    let v : CellView = view_of i in
+    let h : Stands v (before ++ admitted c.args.batch v.owner c.args.point.now ∷ after) = subst (λ (w : CellView). Stands w (before ++ admitted c.args.batch w.owner c.args.point.now ∷ after)) (sym is) k in
     let t = taken_from v c.args.batch c.args.point.now before after h in
     let s = sized v _ h in
     let at : c.find_start.result ≡ place_of c.args.point.now.span.start (drop i.cut i.spans.items) =

@@ -1,0 +1,22 @@
+use crate::batch_span::BatchSpan;
+use metric_events::sender_name::SenderName;
+use series_id::SeriesId;
+
+/// What a cell keeps.
+#[derive(Drop)]
+pub(crate) struct Kept {
+    pub(crate) owner: SenderName,
+    pub(crate) id: SeriesId,
+    pub(crate) accepted: Vec<u64>,
+    pub(crate) stored: Vec<u64>,
+    pub(crate) in_flight: Vec<u64>,
+    pub(crate) acknowledged: Vec<u64>,
+    pub(crate) dropped: Vec<u64>,
+    pub(crate) spans: Vec<BatchSpan>,
+    /// How many of the spans are in flight.
+    pub(crate) cut: usize,
+    /// The flush that they are in flight with.
+    pub(crate) flush: u64,
+    /// The greatest end of what has landed, 0 where nothing has.
+    pub(crate) landed: u64,
+}
