@@ -29,11 +29,11 @@ pub fn spans_to(spans: &[BatchSpan], to: usize) -> &[BatchSpan]
     &spans[..to]
 }
 
-/// Whether one is of this batch.
+/// Whether one is of this batch. It looks from the last back: a batch that is undone came late.
 pub fn has_batch(spans: &[BatchSpan], batch: u64) -> bool
     ensures { result ≡ list_any (is_span_of batch) spans.now }
 {
-    spans.iter().any(|span| span.batch == batch)
+    spans.iter().rev().any(|span| span.batch == batch)
 }
 
 /// Where the span that starts there stands, among spans each of which ends before the next starts.
