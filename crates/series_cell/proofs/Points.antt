@@ -1,7 +1,6 @@
 -- Lists of points of one series.
 use Rattle.std.proofs.Common.{◌≡◌, ℕ, ◌<◌, ◌≤◌, Bool, true, false, cond, ◌&&◌, List, [], ◌∷◌, ◌++◌, map, filter, length, remove, max, refl, ap, sym, ◌∙◌, subst, arith, get_or, zero, suc}
 use Rattle.std.specs.List.{list_all}
-use Rattle.std.specs.List.Sorted.{IsNonDecreasingBy}
 use Rattle.std.specs.Prelude.{nat_le}
 use Rattle.std.proofs.lemmas.Bool.{and_parts, and_from, leb-true, le-leb}
 use Rattle.series_id.specs.Identity.{Identity, row_length}
@@ -17,7 +16,7 @@ use Rattle.metric_events.specs.declared.accepted.Accepted.{Accepted}
 use Rattle.metric_events.proofs.Sums.{row_sum-append, row_sum_long, add_rows-comm, add_rows-zeros, add_rows_longer, add_rows_swap, length-zeros, length-add_rows}
 use Rattle.metric_events.proofs.Intervals.{ends_after}
 use Rattle.series_cell.specs.Cells.{AllOwn, InOrder, starts_from, greatest_end, is_landed, lifted}
-use Rattle.series_cell.specs.Spans.{span_of, end_of_spans, place_of}
+use Rattle.series_cell.specs.Spans.{span_of, end_of_spans, place_of, AreInOrder}
 use Rattle.series_cell.specs.declared.batch_span.BatchSpan.{BatchSpan}
 
 -- whose points, and of what
@@ -168,21 +167,29 @@ all_end_by (b ∷ before) after a o =
     let p = starts_parts b.point.span.end before (a ∷ after) o.0 in
     and_from (nat_le b.point.span.end a.point.span.start) _ (and_parts (starts_from b.point.span.end a) (list_all (starts_from b.point.span.end) after) p.1).0 (all_end_by before after a o.1)
 
--- ends in order of time ascend
+-- the spans of points in order of time
 
-later_ends : (s : List ℕ) (x : Identity) (end : ℕ) (qs : List Accepted) (j : ℕ) (d : BatchSpan) → AllOwn s x qs → list_all (starts_from end) qs ≡ true → j < length (map span_of qs) → end ≤ (get_or (map span_of qs) j d).span.end
-later_ends s x end [] j d h k l = absurd (omega (arith, l))
-later_ends s x end (a ∷ qs) zero d h k l =
-    let p = and_parts (starts_from end a) (list_all (starts_from end) qs) k in
-    omega (arith, leb-true end a.point.span.start p.0, ends_after a.point.span h.0.span)
-later_ends s x end (a ∷ qs) (suc j) d h k l = later_ends s x end qs j d h.1 (and_parts (starts_from end a) (list_all (starts_from end) qs) k).1 (omega arith)
+later : (s : List ℕ) (x : Identity) (end : ℕ) (qs : List Accepted) (j : ℕ) (d : BatchSpan) → AllOwn s x qs → list_all (starts_from end) qs ≡ true → j < length (map span_of qs) → (end ≤ (get_or (map span_of qs) j d).span.start) × (end ≤ (get_or (map span_of qs) j d).span.end)
+later s x end [] j d h k l = absurd (omega (arith, l))
+later s x end (a ∷ qs) zero d h k l =
+    let start = leb-true end a.point.span.start (and_parts (starts_from end a) (list_all (starts_from end) qs) k).0 in
+    (start, omega (arith, start, ends_after a.point.span h.0.span))
+later s x end (a ∷ qs) (suc j) d h k l = later s x end qs j d h.1 (and_parts (starts_from end a) (list_all (starts_from end) qs) k).1 (omega arith)
 
-pub ends_ascend : (s : List ℕ) (x : Identity) (qs : List Accepted) → AllOwn s x qs → InOrder qs → IsNonDecreasingBy (λ (m : BatchSpan). m.span.end) (map span_of qs)
-ends_ascend s x [] h o i j d l b = absurd (omega (arith, b))
-ends_ascend s x (a ∷ qs) h o zero zero d l b = omega arith
-ends_ascend s x (a ∷ qs) h o zero (suc j) d l b = later_ends s x a.point.span.end qs j d h.1 o.0 (omega arith)
-ends_ascend s x (a ∷ qs) h o (suc i) zero d l b = absurd (omega (arith, l))
-ends_ascend s x (a ∷ qs) h o (suc i) (suc j) d l b = ends_ascend s x qs h.1 o.1 i j d (omega arith) (omega arith)
+in_turn : (s : List ℕ) (x : Identity) (qs : List Accepted) → AllOwn s x qs → InOrder qs → (i j : ℕ) (d : BatchSpan) → i ≤ j → j < length (map span_of qs) → ((get_or (map span_of qs) i d).span.start ≤ (get_or (map span_of qs) j d).span.start) × ((get_or (map span_of qs) i d).span.end ≤ (get_or (map span_of qs) j d).span.end)
+in_turn s x [] h o i j d l b = absurd (omega (arith, b))
+in_turn s x (a ∷ qs) h o zero zero d l b = (omega arith, omega arith)
+in_turn s x (a ∷ qs) h o zero (suc j) d l b =
+    let r = later s x a.point.span.end qs j d h.1 o.0 (omega arith) in
+    (omega (arith, r.0, ends_after a.point.span h.0.span), r.1)
+in_turn s x (a ∷ qs) h o (suc i) zero d l b = absurd (omega (arith, l))
+in_turn s x (a ∷ qs) h o (suc i) (suc j) d l b = in_turn s x qs h.1 o.1 i j d (omega arith) (omega arith)
+
+pub spans_in_order : (s : List ℕ) (x : Identity) (qs : List Accepted) → AllOwn s x qs → InOrder qs → AreInOrder (map span_of qs)
+spans_in_order s x qs h o = record {
+  starts = λ i j d l b. (in_turn s x qs h o i j d l b).0;
+  ends = λ i j d l b. (in_turn s x qs h o i j d l b).1;
+}
 
 -- ends
 

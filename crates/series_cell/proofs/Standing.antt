@@ -1,7 +1,6 @@
 -- What each call does to the points that a cell stands for.
 use Rattle.std.proofs.Common.{◌≡◌, ℕ, ◌+◌, ◌<◌, ◌≤◌, ◌==◌, Bool, true, false, not, ◌&&◌, ◌||◌, List, [], ◌∷◌, ◌++◌, map, filter, length, remove, take, drop, max, refl, ap, sym, ◌∙◌, subst, arith, inl, inr}
 use Rattle.std.specs.List.{list_all, list_any}
-use Rattle.std.specs.List.Sorted.{IsNonDecreasingBy}
 use Rattle.std.proofs.lemmas.Bool.{and_parts}
 use Rattle.std.proofs.lemmas.List.Folds.{list_any-append}
 use Rattle.std.proofs.lemmas.List.{append_assoc, append-nil, map-append, length-map, length-append}
@@ -20,9 +19,9 @@ use Rattle.metric_events.proofs.Lists.{all_append, all_first, all_last}
 use Rattle.metric_events.proofs.Sums.{row_sum-append, row_sum_long, add_rows-comm, add_rows-zeros}
 use Rattle.metric_events.specs.Legal.{is_batch_home}
 use Rattle.series_cell.specs.Cells.{CellView, Stands, AllOwn, InOrder, greatest_end, is_landed, lifted, end_of, AreTogether, is_of_batch, is_other_or_off}
-use Rattle.series_cell.specs.Spans.{span_of, end_of_spans, place_of, is_span_of}
+use Rattle.series_cell.specs.Spans.{span_of, end_of_spans, place_of, is_span_of, AreInOrder}
 use Rattle.series_cell.specs.declared.batch_span.BatchSpan.{BatchSpan}
-use Rattle.series_cell.proofs.Points.{all_own-append, all_own_first, all_own_last, all_own-map, sum_length, moves_at, moves_landed, moves_lifted, sum-moved, sum_out, row_sum_push, last_end, in_order_push, in_order-map, in_order_without, in_order_first, in_order_last, all_end_by, ends_ascend, last_greatest, greatest_end-append, greatest_end-map, spans_end, spans_moved, all_at, filter_at, filter_off, landed-gone, landed-home, landed-away, lifted-gone, lifted-home, past, place_at, remove_at}
+use Rattle.series_cell.proofs.Points.{all_own-append, all_own_first, all_own_last, all_own-map, sum_length, moves_at, moves_landed, moves_lifted, sum-moved, sum_out, row_sum_push, last_end, in_order_push, in_order-map, in_order_without, in_order_first, in_order_last, all_end_by, spans_in_order, last_greatest, greatest_end-append, greatest_end-map, spans_end, spans_moved, all_at, filter_at, filter_off, landed-gone, landed-home, landed-away, lifted-gone, lifted-home, past, place_at, remove_at}
 
 three : (xs ys zs ws : List Accepted) → (xs ++ (ys ++ zs)) ++ ws ≡ xs ++ (ys ++ (zs ++ ws))
 three xs ys zs ws = append_assoc xs (ys ++ zs) ws ∙ ap (λ rs. xs ++ rs) (append_assoc ys zs ws)
@@ -267,11 +266,12 @@ spans_of_home c qs h = home_spans c qs h
 pub spans_of_away : (c : CellView) (qs : List Accepted) (h : Stands c qs) → take c.cut c.spans ≡ map span_of h.away
 spans_of_away c qs h = away_spans c qs h
 
--- what is at home ends in ascending order
-pub home_ascends : (c : CellView) (qs : List Accepted) → Stands c qs → (ms : List BatchSpan) → ms ≡ drop c.cut c.spans → IsNonDecreasingBy (λ (m : BatchSpan). m.span.end) ms
-home_ascends c qs h ms e =
-    let Ascends : List BatchSpan → Type 0 = λ ns. IsNonDecreasingBy (λ (m : BatchSpan). m.span.end) ns in
-    subst Ascends (sym (e ∙ home_spans c qs h)) (ends_ascend c.owner c.id h.home (home_own c qs h) (in_order_last h.away h.home h.ordered))
+-- what is at home is in order of time, and what is in flight
+pub home_in_order : (c : CellView) (qs : List Accepted) → Stands c qs → (ms : List BatchSpan) → ms ≡ drop c.cut c.spans → AreInOrder ms
+home_in_order c qs h ms e = subst AreInOrder (sym (e ∙ home_spans c qs h)) (spans_in_order c.owner c.id h.home (home_own c qs h) (in_order_last h.away h.home h.ordered))
+
+pub away_in_order : (c : CellView) (qs : List Accepted) → Stands c qs → (ms : List BatchSpan) → ms ≡ take c.cut c.spans → AreInOrder ms
+away_in_order c qs h ms e = subst AreInOrder (sym (e ∙ away_spans c qs h)) (spans_in_order c.owner c.id h.away (away_own c qs h) (in_order_first h.away h.home h.ordered))
 
 added : (n : ℕ) (gone away : List Accepted) (t : Place → Bool) (q : Place) → t q ≡ true → (row flight : List ℕ) → row ≡ row_sum n (filter (stands t) gone) → flight ≡ row_sum n away → add_rows row flight ≡ row_sum n (filter (stands t) (gone ++ map (at q) away))
 added n gone away t q e row flight r f =

@@ -1,5 +1,6 @@
 -- The spans of points that have not landed.
 use Rattle.std.specs.Prelude.{ℕ, ◌+◌, ◌==◌, Bool, List, [], ◌∷◌, nat_le, if◌then◌else◌, Some, None}
+use Rattle.std.specs.List.Sorted.{IsNonDecreasingBy}
 use Rattle.std.specs.declared.option.Option.{Option}
 use Rattle.metric_events.specs.Interval.{Interval, joined_to}
 use Rattle.metric_events.specs.declared.accepted.Accepted.{Accepted}
@@ -25,6 +26,11 @@ place_of start (m ∷ ms) = if ends_by start m then 1 + place_of start ms else 0
 abbrev pub end_of_spans : ℕ → List BatchSpan → ℕ
 end_of_spans before [] = before
 end_of_spans before (m ∷ ms) = end_of_spans m.span.end ms
+
+-- in order of time: starts and ends ascend
+pub record AreInOrder (ms : List BatchSpan) : Type 0 where
+  pub starts : IsNonDecreasingBy (λ m. m.span.start) ms
+  pub ends : IsNonDecreasingBy (λ m. m.span.end) ms
 
 -- from the first start to the last end
 abbrev pub hull_of : List BatchSpan → Option Interval

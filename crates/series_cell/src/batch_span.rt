@@ -1,8 +1,7 @@
 ghost use Rattle.std.specs.Prelude.{◌≡◌, ◌≤◌, ◌-◌, length, drop, take, vec_capacity, vec_len};
 ghost use Rattle.std.specs.List.{list_any};
 ghost use Rattle.std.specs.List.Sorted.{IsNonDecreasingBy};
-ghost use Rattle.metric_events.specs.Interval as interval;
-ghost use Rattle.series_cell.specs.Spans.{is_span_of, place_of, end_of_spans, hull_of, joined_spans};
+ghost use Rattle.series_cell.specs.Spans.{is_span_of, place_of, end_of_spans, hull_of, joined_spans, AreInOrder};
 
 use metric_events::span::Span;
 
@@ -54,26 +53,16 @@ pub fn end_or(spans: &[BatchSpan], before: u64) -> u64
     spans[spans.len() - 1].span.end()
 }
 
-fn joined_to(span: Span, other: Option<Span>) -> Span
-    ensures { result ≡ interval.joined_to span other }
-{
-    match other {
-        None => span,
-        Some(other) => span.hull(&other),
-    }
-}
-
-/// From the first start to the last end.
+/// From the first start to the last end, of spans in order of time.
 pub fn hull(spans: &[BatchSpan]) -> Option<Span>
-    ensures { result ≡ hull_of spans.now }
+    ensures { AreInOrder spans.now → result ≡ hull_of spans.now }
 {
-    let mut span = None;
-    let mut i = spans.len();
-    while i > 0 {
-        i -= 1;
-        span = Some(joined_to(spans[i].span, span));
+    if spans.is_empty() {
+        return None;
     }
-    span
+    let first = spans[0].span;
+    let last = spans[spans.len() - 1].span;
+    Some(first.hull(&last))
 }
 
 /// Takes the first spans out. Takes no memory.
@@ -86,10 +75,10 @@ pub fn drop_first(spans: &mut Vec<BatchSpan>, count: usize)
     spans.truncate(spans.len() - count);
 }
 
-/// Makes the spans one, from the first start to the last end and of no batch, where there is
-/// one. Takes no memory.
+/// Makes spans in order of time one, from the first start to the last end and of no batch, where
+/// there is one. Takes no memory.
 pub fn join_all(spans: &mut Vec<BatchSpan>)
-    ensures items { spans.new.items ≡ joined_spans (hull_of spans.old.items) }
+    ensures items { AreInOrder spans.old.items → spans.new.items ≡ joined_spans (hull_of spans.old.items) }
     ensures room { vec_capacity spans.old - vec_len spans.old ≤ vec_capacity spans.new - vec_len spans.new }
 {
     match hull(spans.as_slice()) {

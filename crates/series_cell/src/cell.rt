@@ -280,13 +280,15 @@ impl Cell {
     pub fn stored_span(&self) -> Option<Span>
         ensures { result ≡ home_hull self.now }
     {
-        hull(spans_from(&self.kept.spans, self.kept.cut))
+        let kept = self.kept.as_ref();
+        hull(spans_from(&kept.spans, kept.cut))
     }
 
     /// From the first start to the last end of what is in flight.
     pub fn flight_span(&self) -> Option<Span>
         ensures { result ≡ flight_hull self.now }
     {
-        hull(spans_to(&self.kept.spans, self.kept.cut))
+        let kept = self.kept.as_ref();
+        hull(spans_to(&kept.spans, kept.cut))
     }
 }

@@ -7,6 +7,7 @@ use Rattle.series_cell.proofs.ByPlace.{cleared_row}
 use Rattle.series_cell.proofs.Lent.{lent_cell, lent_view}
 use Rattle.series_cell.proofs.Sizes.{sized}
 use Rattle.series_cell.proofs.Carrying.{stands_carried, handed, hands_on}
+use Rattle.series_cell.proofs.Standing.{home_in_order}
 use Rattle.series_cell.proofs.cell.Cell.carry.Goals as goal
 
 pub copy_from_slice-requires : goal.copy_from_slice-requires
@@ -31,7 +32,7 @@ invariant_of-self c =
           (c.copy_from_slice.ensures.items ∙ c.as_slice.ensures.value)
           (cleared_row i.acknowledged.items _ _ i.acknowledged.len c.deref_mut.ensures.value c.clear.auto.words c.clear.ensures i.acknowledged.ok.0 ∙ ap zeros s.acknowledged)
           (cleared_row i.dropped.items _ _ i.dropped.len c.deref_mut-2.ensures.value c.clear-2.auto.words c.clear-2.ensures i.dropped.ok.0 ∙ ap zeros s.dropped)
-          (c.join_all.ensures.items ∙ ap (λ n. joined_spans (hull_of (drop n i.spans.items))) (sym none))
+          (c.join_all.ensures.items (home_in_order v own.0 h i.spans.items (ap (λ n. drop n i.spans.items) (sym none))) ∙ ap (λ n. joined_spans (hull_of (drop n i.spans.items))) (sym none))
           (c.frontier-frontier.ensures ∙ ap end_of (sym is)),
     )
 
@@ -50,5 +51,5 @@ returns-clause-stands c = λ t k.
     (c.copy_from_slice.ensures.items ∙ c.as_slice.ensures.value)
     (cleared_row i.acknowledged.items _ _ i.acknowledged.len c.deref_mut.ensures.value c.clear.auto.words c.clear.ensures i.acknowledged.ok.0 ∙ ap zeros s.acknowledged)
     (cleared_row i.dropped.items _ _ i.dropped.len c.deref_mut-2.ensures.value c.clear-2.auto.words c.clear-2.ensures i.dropped.ok.0 ∙ ap zeros s.dropped)
-    (c.join_all.ensures.items ∙ ap (λ n. joined_spans (hull_of (drop n i.spans.items))) (sym none))
+    (c.join_all.ensures.items (home_in_order v own.0 h i.spans.items (ap (λ n. drop n i.spans.items) (sym none))) ∙ ap (λ n. joined_spans (hull_of (drop n i.spans.items))) (sym none))
     (c.frontier-frontier.ensures ∙ ap end_of (sym is))

@@ -8,7 +8,7 @@ use Rattle.series_cell.specs.Spans.{place_of}
 use Rattle.series_cell.proofs.ByPlace.{taken_row, part_le}
 use Rattle.series_cell.proofs.Lent.{lent_view}
 use Rattle.series_cell.proofs.Sizes.{sized}
-use Rattle.series_cell.proofs.Standing.{stands_remove, taken_from, parted, span_inside, home_ascends}
+use Rattle.series_cell.proofs.Standing.{stands_remove, taken_from, parted, span_inside, home_in_order}
 use Rattle.series_cell.proofs.cell.Cell.remove.Goals as goal
 
 pub sub_from-requires-clause-same : goal.sub_from-requires-clause-same
@@ -67,7 +67,7 @@ remove-requires c =
     let t = taken_from v c.args.batch c.args.point.now g.0 g.1.0 h in
     let s = sized v _ h in
     let at : c.find_start.result ≡ place_of c.args.point.now.span.start (drop i.cut i.spans.items) =
-    c.find_start.ensures.value (home_ascends v _ h c.spans_from.result.now (c.spans_from.ensures ∙ ap (drop i.cut) c.deref.ensures.value))
+    c.find_start.ensures.value (home_in_order v _ h c.spans_from.result.now (c.spans_from.ensures ∙ ap (drop i.cut) c.deref.ensures.value)).ends
     ∙ (ap (λ n. place_of n c.spans_from.result.now) (c.start.ensures ∙ ap (λ (t : Interval). t.start) c.span.ensures)
     ∙ ap (place_of c.args.point.now.span.start) (c.spans_from.ensures ∙ ap (drop i.cut) c.deref.ensures.value)) in
     let inside = span_inside v g.0 g.1.0 (admitted c.args.batch i.owner c.args.point.now) h (parted v g.0 g.1.0 (admitted c.args.batch i.owner c.args.point.now) h refl) in
@@ -83,7 +83,7 @@ invariant_of-self c =
     let t = taken_from v c.args.batch c.args.point.now g.0 g.1.0 h in
     let s = sized v _ h in
     let at : c.find_start.result ≡ place_of c.args.point.now.span.start (drop i.cut i.spans.items) =
-    c.find_start.ensures.value (home_ascends v _ h c.spans_from.result.now (c.spans_from.ensures ∙ ap (drop i.cut) c.deref.ensures.value))
+    c.find_start.ensures.value (home_in_order v _ h c.spans_from.result.now (c.spans_from.ensures ∙ ap (drop i.cut) c.deref.ensures.value)).ends
     ∙ (ap (λ n. place_of n c.spans_from.result.now) (c.start.ensures ∙ ap (λ (t : Interval). t.start) c.span.ensures)
     ∙ ap (place_of c.args.point.now.span.start) (c.spans_from.ensures ∙ ap (drop i.cut) c.deref.ensures.value)) in (
       g.0 ++ g.1.0,
@@ -102,7 +102,7 @@ returns-clause-stands c = λ before after k.
     let t = taken_from v c.args.batch c.args.point.now before after h in
     let s = sized v _ h in
     let at : c.find_start.result ≡ place_of c.args.point.now.span.start (drop i.cut i.spans.items) =
-    c.find_start.ensures.value (home_ascends v _ h c.spans_from.result.now (c.spans_from.ensures ∙ ap (drop i.cut) c.deref.ensures.value))
+    c.find_start.ensures.value (home_in_order v _ h c.spans_from.result.now (c.spans_from.ensures ∙ ap (drop i.cut) c.deref.ensures.value)).ends
     ∙ (ap (λ n. place_of n c.spans_from.result.now) (c.start.ensures ∙ ap (λ (t : Interval). t.start) c.span.ensures)
     ∙ ap (place_of c.args.point.now.span.start) (c.spans_from.ensures ∙ ap (drop i.cut) c.deref.ensures.value)) in
     stands_remove v c.args.batch c.args.point.now before after _ _ _ _ h
