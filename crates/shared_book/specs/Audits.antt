@@ -1,8 +1,11 @@
 -- Whether what the seats were told is the journal.
-use Rattle.std.specs.Prelude.{◌≡◌, ℕ, ◌+◌, ◌<◌, ◌==◌, ◌||◌, Bool, true, false, List, [], ◌∷◌, length, sum_by}
+use Rattle.std.specs.Prelude.{◌≡◌, ℕ, ◌<◌, ◌==◌, ◌||◌, Bool, true, false, List, [], ◌∷◌, ◌++◌, length, slice_index, sum_by}
+use Rattle.std.specs.List.{All, Any}
 use Rattle.metric_events.specs.declared.entry.Entry.{Entry}
 use Rattle.metric_events.specs.declared.event.Event.{Event}
 use Rattle.metric_events.specs.declared.event.Event.TheVariants.{Admit, Undo, Confirm, Take, Settle, Drop, GiveBack, Quarantine, Lift}
+use Rattle.shared_book.specs.declared.receipt.Receipt.{Receipt}
+use Rattle.shared_book.specs.declared.seat.TheConstants.{MAX_SEATS}
 use Rattle.shared_book.specs.Receipts.{Told, receipts_of}
 
 -- a seat's receipts are those of the entries that name it, each once, in order
@@ -12,6 +15,16 @@ IsMatched entries t = t.receipts ≡ receipts_of t.number 0 entries
 -- a seat has fewer receipts than entries name it
 abbrev pub IsShort : List Entry → Told → Type 0
 IsShort entries t = length t.receipts < length (receipts_of t.number 0 entries)
+
+-- a seat's receipts begin with those of the entries that name it
+abbrev pub IsBegun : List Entry → Told → Type 0
+IsBegun entries t = (rest : List Receipt) × (t.receipts ≡ receipts_of t.number 0 entries ++ rest)
+
+-- how many of these entries name each number of a seat, and whether the receipts of each of these seats begin with theirs
+pub record IsTallied (entries : List Entry) (seats : List Told) (named : List ℕ) (same : Bool) : Type 0 where
+  pub counted : (n : ℕ) → n < MAX_SEATS → slice_index named n ≡ length (receipts_of n 0 entries)
+  pub begun : same ≡ true → All (λ t. t.number < MAX_SEATS → IsBegun entries t) seats
+  pub differs : same ≡ false → Any (λ t. ¬ (IsBegun entries t)) seats
 
 -- the number is on one of the seats
 abbrev pub is_seated : ℕ → List Told → Bool

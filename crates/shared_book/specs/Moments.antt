@@ -1,5 +1,5 @@
 -- What a call on a shared book says of the journal, which others change too.
-use Rattle.std.specs.Prelude.{◌≡◌, ℕ, ◌<◌, ◌≤◌, List, length}
+use Rattle.std.specs.Prelude.{◌≡◌, ℕ, ◌<◌, ◌≤◌, length}
 use Rattle.std.specs.List.{All}
 use Rattle.metric_events.specs.History.{History}
 use Rattle.metric_events.specs.Legal.{IsLegal}
@@ -11,6 +11,7 @@ use Rattle.metric_events.specs.declared.event.Event.TheVariants.{Take}
 use Rattle.delta_book.specs.Journal.{Journal, history, IsNumbered, Appends}
 use Rattle.delta_book.specs.Flushes.{IsTaken}
 use Rattle.delta_book.specs.declared.flush.Flush.{Flush}
+use Rattle.shared_book.specs.declared.seat.TheConstants.{MAX_SEATS}
 use Rattle.shared_book.specs.Receipts.{Told, told_also, receipt_of}
 
 -- an entry of one of so many seats
@@ -22,9 +23,10 @@ pub record IsKept (seats : ℕ) (j : Journal) (total : ℕ) : Type 0 where
   pub of_seats : All (IsOfSeat seats) j.entries
   pub counted : length j.entries ≡ total
 
--- what a seat is: its number is one of so many, it has one part of the ledger, which counts its receipts, and there is room for all of a round
+-- what a seat is: its number is one of so many, which are few, it has one part of the ledger, which counts its receipts, and there is room for all of a round
 pub record IsSeat (seats number parts amount receipts room : ℕ) : Type 0 where
   pub numbered : number < seats
+  pub few : seats ≤ MAX_SEATS
   pub one_part : parts ≡ 1
   pub counted : amount ≡ receipts
   pub roomy : MAX_ENTRIES ≤ room

@@ -1,5 +1,5 @@
 -- What a seat was told, and what it should have been told by a journal.
-use Rattle.std.specs.Prelude.{ℕ, zero, suc, ◌+◌, ◌==◌, List, [], ◌∷◌, ◌++◌, Some, None, if◌then◌else◌}
+use Rattle.std.specs.Prelude.{◌≡◌, ℕ, zero, suc, ◌+◌, ◌==◌, List, [], ◌∷◌, ◌++◌, drop, Some, None, if◌then◌else◌}
 use Rattle.std.specs.declared.option.Option.{Option}
 use Rattle.metric_events.specs.declared.batch.Batch.{Batch}
 use Rattle.metric_events.specs.declared.entry.Entry.{Entry}
@@ -68,6 +68,10 @@ receipts_of number index [] = []
 receipts_of number index (e ∷ es) =
     if e.seat == number then receipt_of index e.event ∷ receipts_of number (index + 1) es
     else receipts_of number (index + 1) es
+
+-- the receipt stands at this place of the list
+abbrev pub IsNext : List Receipt → ℕ → Receipt → Type 0
+IsNext receipts at receipt = drop at receipts ≡ receipt ∷ drop (at + 1) receipts
 
 -- seats 0, 1, .. that were told nothing
 abbrev pub fresh_seats : ℕ → List Told

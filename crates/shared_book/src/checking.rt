@@ -3,8 +3,8 @@ ghost use Rattle.std.specs.List.{All, Any};
 ghost use Rattle.shared_book.specs.Audits.{IsMatched, IsShort};
 
 use crate::audit_fault::AuditFault;
-use crate::matching::{count_named, is_matched};
 use crate::seat::Seat;
+use crate::tally::Tally;
 use delta_book::book::Book;
 use std::sync::ledger::Ledger;
 
@@ -19,16 +19,20 @@ pub fn check<L: Ledger>(book: &Book, seats: &[Seat<L>]) -> Result<(), AuditFault
     ensures stray { IfErr result (λ e. e ≡ AuditFault.StrayEntry → Any (λ s. ¬ (IsMatched book.now.entries s)) seats.now) }
     ensures either { IfErr result (λ e. e ≢ AuditFault.SeatOut) }
 {
-    let journal = book.journal();
+    let tally = Tally::of(book.journal(), seats);
+    let mut same = tally.same;
     for seat in seats {
-        if seat.receipts().len() < count_named(journal, seat.number()) {
+        let told = seat.receipts().len();
+        let named = tally.named[seat.number() as usize];
+        if told < named {
             return Err(AuditFault::MissingReceipt);
         }
-    }
-    for seat in seats {
-        if !is_matched(journal, seat.number(), seat.receipts()) {
-            return Err(AuditFault::StrayEntry);
+        if named < told {
+            same = false;
         }
+    }
+    if !same {
+        return Err(AuditFault::StrayEntry);
     }
     Ok(())
 }

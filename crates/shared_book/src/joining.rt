@@ -7,7 +7,7 @@ ghost use Rattle.shared_book.specs.Receipts.{fresh_seats};
 ghost use Rattle.shared_book.specs.Audits.{is_seated, AllSeated, points_in, admitted_points};
 
 use crate::audit::Audit;
-use crate::seat::Seat;
+use crate::seat::{MAX_SEATS, Seat};
 use delta_book::book::Book;
 use metric_events::entry::Entry;
 use metric_events::event::Event;
@@ -24,6 +24,7 @@ pub fn make_seats<L: Ledger>(
     requires parts { whole.parts ≡ L.parts }
     requires amount { whole.amount ≡ 0 }
     requires seats { L.parts ≡ seats }
+    requires few { seats ≤ MAX_SEATS }
     ensures { IfOk result (λ v. v.items ≡ fresh_seats seats) }
 {
     let mut whole = whole;

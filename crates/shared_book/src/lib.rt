@@ -15,3 +15,4 @@ mod matching;
 pub mod receipt;
 pub mod seat;
 pub mod shared;
+mod tally;

@@ -1,13 +1,14 @@
 //! Receipts beside the entries of a journal.
-ghost use Rattle.std.specs.Prelude.{◌≡◌, ◌≤◌, ◌↔◌, IsTrue, length};
-ghost use Rattle.shared_book.specs.Receipts.{number_of, body_of, receipt_of, receipts_of};
+ghost use Rattle.std.specs.Prelude.{◌≡◌, ◌↔◌, IsTrue, false};
+ghost use Rattle.std.specs.List.{All, Any};
+ghost use Rattle.shared_book.specs.Receipts.{number_of, body_of, receipt_of, IsNext};
 
 use crate::event_kind::EventKind;
 use crate::receipt::Receipt;
+use crate::seat::Seat;
 use metric_events::batch::Batch;
-use metric_events::entry::Entry;
 use metric_events::event::Event;
-use metric_events::limits::MAX_ENTRIES;
+use std::sync::ledger::Ledger;
 
 /// The batch or the flush that an event names, 0 where it names a sender.
 fn number_in(event: &Event) -> u64
@@ -48,33 +49,28 @@ fn is_receipt_of(receipt: &Receipt, index: u64, event: &Event) -> bool
         && is_body_of(&receipt.body, event)
 }
 
-/// How many entries name a seat.
-pub fn count_named(journal: &[Entry], seat: u16) -> usize
-    ensures { result ≡ length (receipts_of seat 0 journal.now) }
+/// Whether the receipt at a place of these is that of an event.
+fn is_next(receipts: &[Receipt], at: usize, index: u64, event: &Event) -> bool
+    ensures { IsTrue result ↔ IsNext receipts.now at (receipt_of index event.now) }
 {
-    let mut count = 0;
-    for entry in journal {
-        if entry.seat == seat {
-            count += 1;
-        }
-    }
-    count
+    at < receipts.len() && is_receipt_of(&receipts[at], index, event)
 }
 
-/// Whether receipts are those of the entries that name a seat.
-pub fn is_matched(journal: &[Entry], seat: u16, receipts: &[Receipt]) -> bool
-    requires { length journal.now ≤ MAX_ENTRIES }
-    ensures { IsTrue result ↔ (receipts.now ≡ receipts_of seat 0 journal.now) }
+/// Whether each seat of this number has the receipt of an event there.
+pub fn are_next<L: Ledger>(
+    seats: &[Seat<L>],
+    number: u16,
+    at: usize,
+    index: u64,
+    event: &Event,
+) -> bool
+    ensures all { IsTrue result → All (λ s. s.number ≡ number → IsNext s.receipts at (receipt_of index event.now)) seats.now }
+    ensures any { result ≡ false → Any (λ s. (s.number ≡ number) × ¬ (IsNext s.receipts at (receipt_of index event.now))) seats.now }
 {
-    let mut at = 0;
-    for place in 0..journal.len() {
-        let entry = &journal[place];
-        if entry.seat == seat {
-            if at == receipts.len() || !is_receipt_of(&receipts[at], place as u64, &entry.event) {
-                return false;
-            }
-            at += 1;
+    for seat in seats {
+        if seat.number() == number && !is_next(seat.receipts(), at, index, event) {
+            return false;
         }
     }
-    at == receipts.len()
+    true
 }

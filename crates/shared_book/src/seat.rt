@@ -39,6 +39,7 @@ impl<L: Ledger> Seat<L> {
     /// A seat that was told nothing, with room for all receipts of a round.
     pub(crate) fn new(alloc: Global, number: u16, share: Share<L>) -> Result<Seat<L>, AllocError>
         requires number { number < L.parts }
+        requires few { L.parts ≤ MAX_SEATS }
         requires parts { share.parts ≡ 1 }
         requires amount { share.amount ≡ 0 }
         ensures { IfOk result (λ seat. seat ≡ told_of number []) }
@@ -55,6 +56,7 @@ impl<L: Ledger> Seat<L> {
     pub fn number(&self) -> u16
         ensures value { result ≡ self.now.number }
         ensures below { result < L.parts }
+        ensures few { result < MAX_SEATS }
     {
         self.number
     }

@@ -1,4 +1,4 @@
-use Rattle.std.proofs.Common.{◌≡◌, ◌≤◌, arith, vec_len}
+use Rattle.std.proofs.Common.{◌≡◌, arith, vec_len}
 use Rattle.std.proofs.lemmas.Grind.{common_steps}
 use Rattle.shared_book.proofs.Seats.{seated_enough}
 use Rattle.shared_book.proofs.joining.join_shares.Goals as goal
