@@ -10,7 +10,8 @@ is crates/growths/stdout. For each k from 1 until a run meets no refusal:
   - With all from k on refused the lines are those of the full run up to a call that finds no memory,
     and then those of the calls that take none, which are answered as ever.
   - No call says that something changed, and none but the last ones ends the program.
-  - Where its first book finds no memory the program ends with `growths: no memory`, and no line.
+  - Where the two books that it keeps find no memory the program ends with `growths: no memory`, and no
+    line.
 The last line tells the counts, and the status is 0 where nothing was wrong.
 """
 import os
@@ -22,7 +23,7 @@ from refusing import HERE, Counts, Refusing, in_turn
 MARK = "no memory: "
 CUT = "the calls end here"
 # What a call is made on. Its growths are those of calls that stand in lines of their own.
-SHARED = {"the value", "the batch", "the sender", "Book::totals", "Book::past"}
+SHARED = {"the value", "the batch", "the sender", "Book::totals", "Book::past", "SharedBook::totals"}
 
 
 def ends_of(lines):

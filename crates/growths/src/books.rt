@@ -1,15 +1,15 @@
 //! Calls of a book: without memory its journal and its totals are as before, and the same call goes
 //! through.
-ghost use Rattle.std.specs.Prelude.{◌≤◌};
+ghost use Rattle.std.specs.Prelude.{◌≡◌, ◌≤◌, [], IfOk, OnOk};
 
-use crate::bodies::{LATER, MIXED};
-use crate::making::{batch_of, name_of, text_of};
+use crate::bodies::{LATER, MIXED, SUMS};
+use crate::tables;
 use crate::telling::{no_memory, tell, tell_number};
+use crate::twice::{batch_twice, copy_twice, print_request, print_text, sender_twice, tell_back};
 use delta_book::book::Book;
 use delta_book::faults::{AdmitFault, QuarantineFault, RoundFault, TakeFault};
 use delta_book::flush::Flush;
-use metric_events::batch::Batch;
-use out_texts::{past_text, report_text, request_text};
+use out_texts::{past_text, report_text};
 use std::alloc::{AllocError, Global};
 
 /// The seat of all events.
@@ -17,7 +17,7 @@ const SEAT: u16 = 0;
 
 /// What a book shows: how many entries it has, and its report.
 #[derive(Drop)]
-struct Shown {
+pub struct Shown {
     entries: usize,
     report: Vec<u8>,
 }
@@ -28,7 +28,7 @@ fn report_of(alloc: Global, book: &Book) -> Result<Vec<u8>, AllocError> {
 }
 
 /// What a book shows, which is asked for twice where it finds no memory.
-fn look_at(rt: &HostRuntime, alloc: Global, book: &Book) -> Result<Shown, AllocError> {
+pub fn look_at(rt: &impl Print, alloc: Global, book: &Book) -> Result<Shown, AllocError> {
     for _ in 0..2 {
         match report_of(alloc, book) {
             Ok(report) => {
@@ -43,7 +43,7 @@ fn look_at(rt: &HostRuntime, alloc: Global, book: &Book) -> Result<Shown, AllocE
 
 /// Tells that a call found no memory, and whether the book is as before; of the report where that
 /// finds memory.
-fn refused(rt: &HostRuntime, alloc: Global, call: &str, book: &Book, before: &Shown) {
+pub fn refused(rt: &impl Print, alloc: Global, call: &str, book: &Book, before: &Shown) {
     let same = match report_of(alloc, book) {
         Ok(report) => report == before.report,
         Err(_) => true,
@@ -51,7 +51,7 @@ fn refused(rt: &HostRuntime, alloc: Global, call: &str, book: &Book, before: &Sh
     no_memory(rt, call, same && book.journal().len() == before.entries);
 }
 
-fn made(rt: &HostRuntime, alloc: Global) -> Result<Book, AllocError> {
+fn made(rt: &impl Print, alloc: Global) -> Result<Book, AllocError> {
     for _ in 0..2 {
         match Book::new(alloc) {
             Ok(book) => {
@@ -64,28 +64,7 @@ fn made(rt: &HostRuntime, alloc: Global) -> Result<Book, AllocError> {
     Err(AllocError)
 }
 
-/// A batch of a body, which is made again where it finds no memory.
-fn batch_twice(rt: &HostRuntime, alloc: Global, body: &[u8]) -> Result<Batch, AllocError> {
-    for _ in 0..2 {
-        match batch_of(alloc, body) {
-            Ok(batch) => return Ok(batch),
-            Err(_) => no_memory(rt, "the batch", true),
-        }
-    }
-    Err(AllocError)
-}
-
-fn copy_twice(rt: &HostRuntime, alloc: Global, batch: &Batch) -> Result<Batch, AllocError> {
-    for _ in 0..2 {
-        match batch.copy(alloc) {
-            Ok(copy) => return Ok(copy),
-            Err(_) => no_memory(rt, "the batch", true),
-        }
-    }
-    Err(AllocError)
-}
-
-fn admit(rt: &HostRuntime, alloc: Global, book: &mut Book, body: &[u8]) -> Result<(), AllocError> {
+fn admit(rt: &impl Print, alloc: Global, book: &mut Book, body: &[u8]) -> Result<(), AllocError> {
     let before = look_at(rt, alloc, book)?;
     let mut batch = batch_twice(rt, alloc, body)?;
     let copy = copy_twice(rt, alloc, &batch)?;
@@ -109,14 +88,7 @@ fn admit(rt: &HostRuntime, alloc: Global, book: &mut Book, body: &[u8]) -> Resul
     Err(AllocError)
 }
 
-/// Tells where a batch that is handed back is another one.
-fn tell_back(rt: &HostRuntime, back: &Batch, copy: &Batch) {
-    if !back.is_same(copy) {
-        tell(rt, "the batch that came back is", false);
-    }
-}
-
-fn take(rt: &HostRuntime, alloc: Global, book: &mut Book, most: usize) -> Result<Flush, AllocError>
+fn take(rt: &impl Print, alloc: Global, book: &mut Book, most: usize) -> Result<Flush, AllocError>
     requires low { 1 ≤ most }
     requires high { most ≤ 1000 }
 {
@@ -134,13 +106,10 @@ fn take(rt: &HostRuntime, alloc: Global, book: &mut Book, most: usize) -> Result
     Err(AllocError)
 }
 
-fn quarantine(rt: &HostRuntime, alloc: Global, book: &mut Book) -> Result<(), AllocError> {
+fn quarantine(rt: &impl Print, alloc: Global, book: &mut Book) -> Result<(), AllocError> {
     let before = look_at(rt, alloc, book)?;
     for _ in 0..2 {
-        let Ok(sender) = name_of(alloc, b"H") else {
-            no_memory(rt, "the sender", true);
-            continue;
-        };
+        let sender = sender_twice(rt, alloc)?;
         match book.quarantine(SEAT, sender) {
             Ok(()) => {
                 tell(rt, "Book::quarantine", true);
@@ -153,7 +122,9 @@ fn quarantine(rt: &HostRuntime, alloc: Global, book: &mut Book) -> Result<(), Al
     Err(AllocError)
 }
 
-fn close_round(rt: &HostRuntime, alloc: Global, book: &mut Book) -> Result<(), AllocError> {
+fn close_round(rt: &impl Print, alloc: Global, book: &mut Book) -> Result<(), AllocError>
+    ensures { OnOk result (book.new.entries ≡ []) }
+{
     let before = look_at(rt, alloc, book)?;
     for _ in 0..2 {
         match book.close_round() {
@@ -168,29 +139,7 @@ fn close_round(rt: &HostRuntime, alloc: Global, book: &mut Book) -> Result<(), A
     Err(AllocError)
 }
 
-/// Prints a text behind the name of the call that made it.
-fn print_text(
-    rt: &HostRuntime,
-    alloc: Global,
-    call: &str,
-    bytes: Vec<u8>,
-) -> Result<(), AllocError> {
-    let text = text_of(alloc, bytes)?;
-    let _ = println!(rt; "{call} {text}");
-    Ok(())
-}
-
-fn print_request(rt: &HostRuntime, alloc: Global, flush: &Flush) -> Result<(), AllocError> {
-    for _ in 0..2 {
-        match request_text(alloc, flush) {
-            Ok(bytes) => return print_text(rt, alloc, "request_text", bytes),
-            Err(_) => no_memory(rt, "request_text", true),
-        }
-    }
-    Err(AllocError)
-}
-
-fn print_report(rt: &HostRuntime, alloc: Global, book: &Book) -> Result<(), AllocError> {
+fn print_report(rt: &impl Print, alloc: Global, book: &Book) -> Result<(), AllocError> {
     let now = look_at(rt, alloc, book)?;
     print_text(rt, alloc, "report_text", now.report)
 }
@@ -200,7 +149,7 @@ fn past_of(alloc: Global, book: &Book) -> Result<Vec<u8>, AllocError> {
     past_text(alloc, rows.as_slice())
 }
 
-fn print_past(rt: &HostRuntime, alloc: Global, book: &Book) -> Result<(), AllocError> {
+fn print_past(rt: &impl Print, alloc: Global, book: &Book) -> Result<(), AllocError> {
     for _ in 0..2 {
         match past_of(alloc, book) {
             Ok(bytes) => return print_text(rt, alloc, "past_text", bytes),
@@ -211,7 +160,7 @@ fn print_past(rt: &HostRuntime, alloc: Global, book: &Book) -> Result<(), AllocE
 }
 
 /// The first round: a batch is taken and settled.
-fn first_round(rt: &HostRuntime, alloc: Global, book: &mut Book) -> Result<(), AllocError> {
+fn first_round(rt: &impl Print, alloc: Global, book: &mut Book) -> Result<(), AllocError> {
     admit(rt, alloc, book, MIXED)?;
     tell(rt, "Book::confirm", book.confirm(SEAT, 1).is_ok());
     let flush = take(rt, alloc, book, 1)?;
@@ -221,7 +170,7 @@ fn first_round(rt: &HostRuntime, alloc: Global, book: &mut Book) -> Result<(), A
 }
 
 /// All calls, over two rounds.
-pub fn two_rounds(rt: &HostRuntime, alloc: Global) -> Result<(), AllocError> {
+pub fn two_rounds(rt: &impl Print, alloc: Global) -> Result<(), AllocError> {
     let mut book = made(rt, alloc)?;
     first_round(rt, alloc, &mut book)?;
     quarantine(rt, alloc, &mut book)?;
@@ -230,5 +179,17 @@ pub fn two_rounds(rt: &HostRuntime, alloc: Global) -> Result<(), AllocError> {
     let flush = take(rt, alloc, &mut book, 1000)?;
     print_request(rt, alloc, &flush)?;
     print_past(rt, alloc, &book)?;
-    print_report(rt, alloc, &book)
+    print_report(rt, alloc, &book)?;
+    tables::make_all(rt, alloc, &book)
+}
+
+/// A book whose second round has no entry yet.
+pub fn second_round(rt: &impl Print, alloc: Global) -> Result<Book, AllocError>
+    ensures { IfOk result (λ book. book.entries ≡ []) }
+{
+    let mut book = made(rt, alloc)?;
+    admit(rt, alloc, &mut book, SUMS)?;
+    tell(rt, "Book::confirm", book.confirm(SEAT, 1).is_ok());
+    close_round(rt, alloc, &mut book)?;
+    Ok(book)
 }

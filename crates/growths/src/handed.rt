@@ -21,7 +21,7 @@ pub const CALLS: [&str; 4] = [
 ];
 
 /// Makes a call on a value of its own.
-pub fn make(rt: &HostRuntime, alloc: Global, call: &str) -> Result<(), AllocError> {
+pub fn make(rt: &impl Print, alloc: Global, call: &str) -> Result<(), AllocError> {
     match call {
         "SeriesId::share" => share(rt, alloc),
         "Points::push" => push(rt, alloc),
@@ -49,7 +49,7 @@ fn own_series(alloc: Global) -> Result<SeriesId, AllocError> {
 }
 
 /// An identity that is handed back is shared at the second call.
-fn share(rt: &HostRuntime, alloc: Global) -> Result<(), AllocError> {
+fn share(rt: &impl Print, alloc: Global) -> Result<(), AllocError> {
     let mut series = own_series(alloc)?;
     let same = own_series(alloc)?;
     for _ in 0..2 {
@@ -68,7 +68,7 @@ fn share(rt: &HostRuntime, alloc: Global) -> Result<(), AllocError> {
 }
 
 /// Points that found no room for one more are as before.
-fn push(rt: &HostRuntime, alloc: Global) -> Result<(), AllocError> {
+fn push(rt: &impl Print, alloc: Global) -> Result<(), AllocError> {
     let mut points = Points::new(alloc);
     let sums = points_of(alloc, SUMS)?;
     for point in sums.as_slice() {
@@ -79,7 +79,7 @@ fn push(rt: &HostRuntime, alloc: Global) -> Result<(), AllocError> {
 }
 
 fn push_one(
-    rt: &HostRuntime,
+    rt: &impl Print,
     alloc: Global,
     points: &mut Points,
     point: &Point,
@@ -96,7 +96,7 @@ fn push_one(
 }
 
 /// A cell without room for a point is as before.
-fn put(rt: &HostRuntime, alloc: Global) -> Result<(), AllocError> {
+fn put(rt: &impl Print, alloc: Global) -> Result<(), AllocError> {
     let point = first_point(alloc, MIXED)?;
     let series = point.series().copy(alloc)?;
     let mut cell = Cell::new(alloc, name_of(alloc, b"A")?, series)?;
@@ -125,7 +125,7 @@ fn put(rt: &HostRuntime, alloc: Global) -> Result<(), AllocError> {
 }
 
 /// A cell without room for more points is as before.
-fn reserve(rt: &HostRuntime, alloc: Global) -> Result<(), AllocError> {
+fn reserve(rt: &impl Print, alloc: Global) -> Result<(), AllocError> {
     let mut cell = Cell::new(alloc, name_of(alloc, b"A")?, own_series(alloc)?)?;
     for _ in 0..2 {
         match cell.reserve(100) {

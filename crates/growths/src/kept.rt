@@ -7,6 +7,7 @@ use crate::making::{batch_of, name_of};
 use crate::telling::{tell, tell_number};
 use delta_book::book::Book;
 use metric_events::sender_name::SenderName;
+use series_cell::cell::Cell;
 use std::alloc::{AllocError, Global};
 
 /// The seat of all events.
@@ -57,8 +58,21 @@ fn acknowledged(book: &Book) -> u64 {
     u64::try_from(book.acknowledged()).unwrap_or(u64::MAX)
 }
 
-/// Ends all that is open, and tells each answer.
-pub fn end(rt: &HostRuntime, kept: Kept) {
+/// Whether these cells are those of the first batch's points: the first settled, the second dropped,
+/// and the third given back.
+fn are_ended(cells: &[Cell]) -> bool {
+    match cells {
+        [x, y, z] => {
+            x.acknowledged() == [1, 1, 0].as_slice()
+                && y.dropped() == [1, 2, 0].as_slice()
+                && z.stored() == [1, 0, 3].as_slice()
+        }
+        _ => false,
+    }
+}
+
+/// Ends all that is open, tells each answer, and leaves the book.
+pub fn end(rt: &impl Print, kept: Kept) -> Book {
     let Kept { mut book, held } = kept;
     tell(rt, "end: settle", book.settle(SEAT, 1).is_ok());
     tell(rt, "end: drop_flush", book.drop_flush(SEAT, 2).is_ok());
@@ -74,4 +88,6 @@ pub fn end(rt: &HostRuntime, kept: Kept) {
     tell(rt, "end: settle again", book.settle(SEAT, 1).is_err());
     tell_number(rt, "end: journal", book.journal().len() as u64);
     tell_number(rt, "end: acknowledged", acknowledged(&book));
+    tell(rt, "end: cells", are_ended(book.cells()));
+    book
 }

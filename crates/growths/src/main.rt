@@ -3,19 +3,29 @@
 //! two runs can be compared. `tests/refused_libraries.py` refuses each growth in turn.
 #![tactic(auto)]
 
+ghost use Rattle.std.specs.Prelude.{◌≡◌};
+
 mod bodies;
 mod books;
 mod handed;
 mod kept;
 mod making;
+mod parts;
+mod shared_calls;
+mod shared_kept;
+mod tables;
 mod telling;
+mod twice;
 mod values;
 
 use std::alloc::{AllocError, Global};
+use std::marker::Brand;
 use std::process::ExitCode;
+use std::sync::Wait;
+use std::sync::ledger::{Blank, Ledger};
 
 /// Makes a call, and makes it again where it finds no memory.
-fn make(rt: &HostRuntime, alloc: Global, call: &str) -> Result<(), AllocError> {
+fn make(rt: &impl Print, alloc: Global, call: &str) -> Result<(), AllocError> {
     for _ in 0..2 {
         match values::answer_of(alloc, call) {
             Ok(answer) => {
@@ -29,7 +39,7 @@ fn make(rt: &HostRuntime, alloc: Global, call: &str) -> Result<(), AllocError> {
 }
 
 /// Makes a call on a value, and makes that value again where it finds no memory.
-fn make_handed(rt: &HostRuntime, alloc: Global, call: &str) -> Result<(), AllocError> {
+fn make_handed(rt: &impl Print, alloc: Global, call: &str) -> Result<(), AllocError> {
     for _ in 0..2 {
         match handed::make(rt, alloc, call) {
             Ok(()) => return Ok(()),
@@ -40,25 +50,40 @@ fn make_handed(rt: &HostRuntime, alloc: Global, call: &str) -> Result<(), AllocE
 }
 
 /// All calls, as far as they find memory at the second time.
-fn make_all(rt: &HostRuntime, alloc: Global) -> Result<(), AllocError> {
+fn make_all<R: Print + Wait>(rt: &R, alloc: Global) -> Result<(), AllocError> {
     for call in values::CALLS {
         make(rt, alloc, call)?;
     }
     for call in handed::CALLS {
         make_handed(rt, alloc, call)?;
     }
-    books::two_rounds(rt, alloc)
+    books::two_rounds(rt, alloc)?;
+    shared_calls::make_all(rt, alloc)
+}
+
+/// All calls, and where they end before the last one.
+pub fn make_calls<R: Print + Wait>(rt: &R, alloc: Global) {
+    if make_all(rt, alloc).is_err() {
+        let _ = println!(rt; "the calls end here");
+    }
+}
+
+/// Makes what is kept, then all calls, and ends what is kept.
+fn run<L: Ledger, R: Print + Wait>(rt: &R, alloc: Global, blank: Blank) -> Result<(), AllocError>
+    requires name { blank.name ≡ L.name }
+    requires ledger { blank.parts ≡ L.parts }
+    requires parts { blank.parts ≡ 2 }
+{
+    let kept = kept::prepare(alloc)?;
+    shared_kept::calls_beside::<L, R>(rt, alloc, blank, kept)
 }
 
 fn main(rt: HostRuntime) -> ExitCode {
-    let alloc = rt.alloc();
-    let Ok(kept) = kept::prepare(alloc) else {
-        let _ = eprintln!(rt; "growths: no memory");
-        return ExitCode::from(1);
-    };
-    if make_all(&rt, alloc).is_err() {
-        let _ = println!(rt; "the calls end here");
+    match run::<Brand, _>(&rt, rt.alloc(), Blank::new(2)) {
+        Ok(()) => ExitCode::SUCCESS,
+        Err(_) => {
+            let _ = eprintln!(rt; "growths: no memory");
+            ExitCode::from(1)
+        }
     }
-    kept::end(&rt, kept);
-    ExitCode::SUCCESS
 }

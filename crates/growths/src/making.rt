@@ -45,3 +45,8 @@ pub fn text_of(alloc: Global, bytes: Vec<u8>) -> Result<String, AllocError> {
         Err(_) => String::from_str(alloc, "no text"),
     }
 }
+
+/// Whether two values are one, told in a word.
+pub fn told(alloc: Global, same: bool) -> Result<String, AllocError> {
+    String::from_str(alloc, if same { "same" } else { "other" })
+}

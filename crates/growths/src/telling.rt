@@ -1,13 +1,13 @@
 //! The lines that are printed. A line that can't be printed is left out.
 
 /// Tells that a call was answered, and whether what it left is right.
-pub fn tell(rt: &HostRuntime, call: &str, right: bool) {
+pub fn tell(rt: &impl Print, call: &str, right: bool) {
     let word = if right { "right" } else { "wrong" };
     let _ = println!(rt; "{call} {word}");
 }
 
 /// Tells that a call found no memory, and whether all is as before.
-pub fn no_memory(rt: &HostRuntime, call: &str, unchanged: bool) {
+pub fn no_memory(rt: &impl Print, call: &str, unchanged: bool) {
     let change = if unchanged {
         ""
     } else {
@@ -17,6 +17,6 @@ pub fn no_memory(rt: &HostRuntime, call: &str, unchanged: bool) {
 }
 
 /// Tells that a call was answered by this number.
-pub fn tell_number(rt: &HostRuntime, call: &str, number: u64) {
+pub fn tell_number(rt: &impl Print, call: &str, number: u64) {
     let _ = println!(rt; "{call} {number}");
 }

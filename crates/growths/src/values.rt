@@ -1,7 +1,8 @@
 //! Calls that make a value of what they are lent: identities, events, texts and messages. Each is made
 //! on values of its own, so that what it leaves is what it answers.
 use crate::bodies::{CHUNKED, LATER, MIXED, SUMS, WAIT};
-use crate::making::{batch_of, first_point, name_of, points_of, text_of};
+use crate::making::{batch_of, first_point, name_of, points_of, text_of, told};
+use crate::parts;
 use back_answers::Act;
 use byte_ends::Script;
 use http_edge::{Decoder, HttpFault, read_message, read_response};
@@ -13,8 +14,15 @@ use series_id::{AttrFault, AttrSet, AttrValue, Kind, Scalar, SeriesId, Text};
 use std::alloc::{AllocError, Global};
 
 /// The calls, in the order in which they are made.
-pub const CALLS: [&str; 27] = [
+pub const CALLS: [&str; 34] = [
     "Text::copy",
+    "Scalar::copy",
+    "Scalars::copy",
+    "Attribute::copy",
+    "Bounds::copy",
+    "Row::copy",
+    "row_of",
+    "SeriesList::copy",
     "AttrSet::from_pairs",
     "AttrValue::copy",
     "Kind::copy",
@@ -42,11 +50,6 @@ pub const CALLS: [&str; 27] = [
     "read_response",
     "Decoder::feed",
 ];
-
-/// Whether two values are one, told in a word.
-fn told(alloc: Global, same: bool) -> Result<String, AllocError> {
-    String::from_str(alloc, if same { "same" } else { "other" })
-}
 
 fn text(alloc: Global, text: &str) -> Result<Text, AllocError> {
     Ok(Text::new(String::from_str(alloc, text)?))
@@ -259,7 +262,7 @@ fn event_answer(alloc: Global, call: &str) -> Result<String, AllocError> {
         "Points::copy" => points_copy(alloc),
         "Batch::copy" => batch_copy(alloc),
         "Cell::new" => cell_new(alloc),
-        _ => String::from_str(alloc, "no such call"),
+        _ => parts::answer_of(alloc, call),
     }
 }
 

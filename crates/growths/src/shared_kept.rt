@@ -1,0 +1,163 @@
+//! A shared book that is made before the calls, as the kept one, and ends beside that one, by calls that
+//! take no memory.
+ghost use Rattle.std.specs.Prelude.{◌≡◌, ◌≤◌};
+
+use crate::bodies::{FOURTH, SUMS};
+use crate::kept::{self, Kept};
+use crate::make_calls;
+use crate::making::{batch_of, name_of};
+use crate::telling::{tell, tell_number};
+use delta_book::book::Book;
+use metric_events::sender_name::SenderName;
+use shared_book::audit_fault::AuditFault;
+use shared_book::checking::check;
+use shared_book::seat::Seat;
+use shared_book::shared::SharedBook;
+use std::alloc::{AllocError, Global};
+use std::sync::Wait;
+use std::sync::ledger::{Blank, Ledger};
+
+fn admit<L: Ledger>(
+    rt: &impl Wait,
+    alloc: Global,
+    shared: &SharedBook<L>,
+    seat: &mut Seat<L>,
+    body: &[u8],
+) -> Result<(), AllocError> {
+    let batch = batch_of(alloc, body)?;
+    if batch.points.as_slice().is_empty() {
+        return Err(AllocError);
+    }
+    match shared.admit(rt, seat, batch) {
+        Ok(_) => Ok(()),
+        Err(_) => Err(AllocError),
+    }
+}
+
+fn take_one<L: Ledger>(
+    rt: &impl Wait,
+    shared: &SharedBook<L>,
+    seat: &mut Seat<L>,
+) -> Result<(), AllocError> {
+    match shared.take(rt, seat, 1) {
+        Ok(Some(_)) => Ok(()),
+        _ => Err(AllocError),
+    }
+}
+
+/// The same entries as those of the kept book.
+fn fill<L: Ledger>(
+    rt: &impl Wait,
+    alloc: Global,
+    shared: &SharedBook<L>,
+    seat: &mut Seat<L>,
+) -> Result<(), AllocError> {
+    admit(rt, alloc, shared, seat, SUMS)?;
+    for _ in 0..3 {
+        take_one(rt, shared, seat)?;
+    }
+    admit(rt, alloc, shared, seat, FOURTH)?;
+    match shared.quarantine(rt, seat, name_of(alloc, b"H")?) {
+        Ok(()) => Ok(()),
+        Err(_) => Err(AllocError),
+    }
+}
+
+/// Ends all that is open, in the kept book's order, and tells each answer.
+fn end_calls<L: Ledger, R: Print + Wait>(
+    rt: &R,
+    shared: &SharedBook<L>,
+    seat: &mut Seat<L>,
+    held: &SenderName,
+) {
+    let settled = shared.settle(rt, seat, 1).is_ok();
+    tell(rt, "end: SharedBook::settle", settled);
+    let dropped = shared.drop_flush(rt, seat, 2).is_ok();
+    tell(rt, "end: SharedBook::drop_flush", dropped);
+    let back = shared.give_back(rt, seat, 3).is_ok();
+    tell(rt, "end: SharedBook::give_back", back);
+    let undone = shared.undo(rt, seat, 2).is_ok();
+    tell(rt, "end: SharedBook::undo", undone);
+    let refused = shared.undo(rt, seat, 1).is_err();
+    tell(rt, "end: SharedBook::undo of a taken batch", refused);
+    let confirmed = shared.confirm(rt, seat, 1).is_ok();
+    tell(rt, "end: SharedBook::confirm", confirmed);
+    let lifted = shared.lift(rt, seat, held).is_ok();
+    tell(rt, "end: SharedBook::lift", lifted);
+    tell_number(rt, "end: Seat::receipts", seat.receipts().len() as u64);
+}
+
+/// The end of the sharing, which is refused without the second seat.
+fn finish<L: Ledger>(
+    rt: &impl Print,
+    shared: SharedBook<L>,
+    seats: Vec<Seat<L>>,
+    idle: Seat<L>,
+) -> Result<(), AllocError> {
+    let (shared, seats) = match shared.finish(seats) {
+        Err((AuditFault::SeatOut, shared, seats)) => (shared, seats),
+        _ => return Err(AllocError),
+    };
+    tell(
+        rt,
+        "end: SharedBook::finish without a seat",
+        seats.len() == 1,
+    );
+    let mut seats = seats;
+    seats.push(idle)?;
+    match shared.finish(seats) {
+        Ok((book, audit)) => {
+            let right = audit.events == book.journal().len() as u128
+                && audit.admitted == 4
+                && audit.acknowledged == 1;
+            tell(rt, "end: SharedBook::finish", right);
+            Ok(())
+        }
+        Err(_) => Err(AllocError),
+    }
+}
+
+/// Compares the first seat with the kept book, which has the same entries, and ends the sharing.
+fn compare<L: Ledger>(
+    rt: &impl Print,
+    book: &Book,
+    shared: SharedBook<L>,
+    seats: Vec<Seat<L>>,
+    idle: Seat<L>,
+) {
+    tell(rt, "end: check", check(book, seats.as_slice()).is_ok());
+    if finish(rt, shared, seats, idle).is_err() {
+        tell(rt, "end: SharedBook::finish", false);
+    }
+}
+
+/// Shares a book beside the kept one, has all calls made, and ends both.
+pub fn calls_beside<L: Ledger, R: Print + Wait>(
+    rt: &R,
+    alloc: Global,
+    blank: Blank,
+    kept: Kept,
+) -> Result<(), AllocError>
+    requires name { blank.name ≡ L.name }
+    requires ledger { blank.parts ≡ L.parts }
+    requires parts { blank.parts ≡ 2 }
+{
+    let Ok((shared, seats)) = SharedBook::<L>::new(alloc, Book::new(alloc)?, blank, 2) else {
+        return Err(AllocError);
+    };
+    let mut seats = seats;
+    let (Some(idle), Some(mut seat)) = (seats.pop(), seats.pop()) else {
+        return Err(AllocError);
+    };
+    fill(rt, alloc, &shared, &mut seat)?;
+    let held = name_of(alloc, b"H")?;
+    make_calls(rt, alloc);
+    let book = kept::end(rt, kept);
+    end_calls(rt, &shared, &mut seat, &held);
+    if seats.push(seat).is_err() {
+        tell(rt, "end: the room of a seat is", false);
+        return Ok(());
+    }
+    compare(rt, &book, shared, seats, idle);
+    Ok(())
+}
