@@ -2,22 +2,25 @@
 //! calls that take no memory.
 ghost use Rattle.std.specs.Prelude.{◌≤◌};
 
-use crate::bodies::{FOURTH, SUMS};
-use crate::making::{batch_of, name_of};
+use crate::bodies::{FOURTH, MIXED, SUMS};
+use crate::making::{batch_of, first_point, name_of};
 use crate::telling::{tell, tell_number};
 use delta_book::book::Book;
 use metric_events::sender_name::SenderName;
 use series_cell::cell::Cell;
+use series_id::SeriesId;
 use std::alloc::{AllocError, Global};
 
 /// The seat of all events.
 const SEAT: u16 = 0;
 
-/// A book with two open batches, three live flushes of the first, and a held sender.
+/// A book with two open batches, three live flushes of the first, and a held sender; and an identity
+/// that is shared, with one attribute of its resource.
 #[derive(Drop)]
 pub struct Kept {
     book: Book,
     held: SenderName,
+    shared: SeriesId,
 }
 
 fn admit(alloc: Global, book: &mut Book, body: &[u8]) -> Result<(), AllocError> {
@@ -50,7 +53,8 @@ pub fn prepare(alloc: Global) -> Result<Kept, AllocError> {
         return Err(AllocError);
     }
     let held = name_of(alloc, b"H")?;
-    Ok(Kept { book, held })
+    let shared = first_point(alloc, MIXED)?.series().copy(alloc)?;
+    Ok(Kept { book, held, shared })
 }
 
 /// How many points were acknowledged, as far as 64 bits tell it.
@@ -71,9 +75,21 @@ fn are_ended(cells: &[Cell]) -> bool {
     }
 }
 
+/// Whether a shared identity, and the set of its resource, is copied.
+fn is_copied(alloc: Global, series: &SeriesId) -> bool {
+    match (series.copy(alloc), series.resource().copy(alloc)) {
+        (Ok(copy), Ok(set)) => copy.is_same(series) && set.pairs().len() == 1,
+        _ => false,
+    }
+}
+
 /// Ends all that is open, tells each answer, and leaves the book.
-pub fn end(rt: &impl Print, kept: Kept) -> Book {
-    let Kept { mut book, held } = kept;
+pub fn end(rt: &impl Print, alloc: Global, kept: Kept) -> Book {
+    let Kept {
+        mut book,
+        held,
+        shared,
+    } = kept;
     tell(rt, "end: settle", book.settle(SEAT, 1).is_ok());
     tell(rt, "end: drop_flush", book.drop_flush(SEAT, 2).is_ok());
     tell(rt, "end: give_back", book.give_back(SEAT, 3).is_ok());
@@ -89,5 +105,6 @@ pub fn end(rt: &impl Print, kept: Kept) -> Book {
     tell_number(rt, "end: journal", book.journal().len() as u64);
     tell_number(rt, "end: acknowledged", acknowledged(&book));
     tell(rt, "end: cells", are_ended(book.cells()));
+    tell(rt, "end: copies of an identity", is_copied(alloc, &shared));
     book
 }

@@ -152,7 +152,7 @@ pub fn calls_beside<L: Ledger, R: Print + Wait>(
     fill(rt, alloc, &shared, &mut seat)?;
     let held = name_of(alloc, b"H")?;
     make_calls(rt, alloc);
-    let book = kept::end(rt, kept);
+    let book = kept::end(rt, alloc, kept);
     end_calls(rt, &shared, &mut seat, &held);
     if seats.push(seat).is_err() {
         tell(rt, "end: the room of a seat is", false);
