@@ -11,14 +11,14 @@ use Rattle.shared_book.specs.Receipts.{Told, receipt_of, receipts_of, IsNext}
 use Rattle.shared_book.specs.Audits.{IsBegun, IsTallied}
 
 -- the receipts that an entry at a place adds
-abbrev pub added : ℕ → ℕ → Entry → List Receipt
+abbrev added : ℕ → ℕ → Entry → List Receipt
 added n place e = if e.seat == n then receipt_of place e.event ∷ [] else []
 
 more_after : (b : Bool) (r : Receipt) (xs ys zs : List Receipt) → xs ≡ ys ++ zs → (if b then r ∷ xs else xs) ≡ (if b then r ∷ ys else ys) ++ zs
 more_after true r xs ys zs e = ap (λ v. r ∷ v) e
 more_after false r xs ys zs e = e
 
-pub receipts_more : (n i : ℕ) (es : List Entry) (e : Entry) → receipts_of n i (es ++ e ∷ []) ≡ receipts_of n i es ++ added n (i + length es) e
+receipts_more : (n i : ℕ) (es : List Entry) (e : Entry) → receipts_of n i (es ++ e ∷ []) ≡ receipts_of n i es ++ added n (i + length es) e
 receipts_more n i [] e = let z : i + 0 ≡ i = omega arith in rw z
 receipts_more n i (x ∷ es) e =
     let z : i + 1 + length es ≡ i + suc (length es) = omega arith in
@@ -30,7 +30,7 @@ pub one_more : (journal : List Entry) (place : ℕ) (e : Entry) → place < leng
 one_more journal place e within is = take_more journal place e within ∙ ap (λ v. take place journal ++ v ∷ []) (sym is)
 
 -- what an entry adds to those before it
-abbrev pub after : ℕ → List Entry → Entry → List Receipt
+abbrev after : ℕ → List Entry → Entry → List Receipt
 after n es e = added n (length es) e
 
 receipts_after : (n : ℕ) (es : List Entry) (e : Entry) → receipts_of n 0 (es ++ e ∷ []) ≡ receipts_of n 0 es ++ after n es e
@@ -46,13 +46,13 @@ few_receipts n i [] = omega arith
 few_receipts n i (x ∷ es) = few_after (x.seat == n) (receipt_of i x.event) _ _ (few_receipts n (i + 1) es)
 
 -- what begins with these and has this next begins with these and this
-pub begun_more : (told these rest : List Receipt) (r : Receipt) → told ≡ these ++ rest → IsNext told (length these) r → told ≡ (these ++ r ∷ []) ++ drop (length these + 1) told
+begun_more : (told these rest : List Receipt) (r : Receipt) → told ≡ these ++ rest → IsNext told (length these) r → told ≡ (these ++ r ∷ []) ++ drop (length these + 1) told
 begun_more told these rest r e next =
     let left : drop (length these) told ≡ rest = rw e (drop_at these rest (length these) refl) in
     rw append_assoc (e ∙ ap (λ v. these ++ v) (sym left ∙ next))
 
 -- and the other way round
-pub next_of_more : (told these rest : List Receipt) (r : Receipt) → told ≡ (these ++ r ∷ []) ++ rest → IsNext told (length these) r
+next_of_more : (told these rest : List Receipt) (r : Receipt) → told ≡ (these ++ r ∷ []) ++ rest → IsNext told (length these) r
 next_of_more told these rest r e =
     let whole : told ≡ these ++ (r ∷ rest) = rw append_assoc at e in
     let left : drop (length these) told ≡ r ∷ rest = rw whole (drop_at these (r ∷ rest) (length these) refl) in
