@@ -3,7 +3,6 @@ use crate::caller::Caller;
 use crate::channels::{Channels, Work};
 use crate::fault::GatewayFault;
 use crate::worker::work;
-use crossbeam_channel::Sender;
 use gateway_options::ServeOptions;
 use shared_book::seat::Seat;
 use shared_book::shared::SharedBook;
@@ -24,13 +23,17 @@ fn work_of(channels: &Channels, flushers: u16, number: u16) -> Result<Work, Gate
     }
 }
 
-/// Accepts so many connections and hands them to the receivers. May wait for a free one.
+/// Accepts so many connections where all workers have started, and hands them to the receivers. May
+/// wait for a free one. Drops all these ends of the channels.
 fn accept_all<R: Wait>(
     rt: &R,
+    started: Result<(), GatewayFault>,
+    channels: Channels,
     listener: &TcpListener,
     connections: u64,
-    hand: Sender<Caller>,
 ) -> Result<(), GatewayFault> {
+    started?;
+    let hand = channels.into_hand();
     for _ in 0..connections {
         let Ok((stream, _)) = listener.accept() else {
             return Err(GatewayFault::CannotAccept);
@@ -76,30 +79,25 @@ pub fn serve_beside<
     thread::scope(thread::scope_env(), rt, |scope| {
         let channels = Channels::new(alloc)?;
         let mut running = Vec::new(alloc);
-        let mut outcome = Ok(());
+        let mut started = Ok(());
         for seat in seats {
             let Ok(task) = work_of(&channels, options.flushers, seat.number()) else {
-                outcome = Err(GatewayFault::NoMemory);
+                started = Err(GatewayFault::NoMemory);
                 break;
             };
             let Ok(worker) = scope.spawn(move || work(rt, alloc, shared, seat, options, task))
             else {
-                outcome = Err(GatewayFault::CannotStart);
+                started = Err(GatewayFault::CannotStart);
                 break;
             };
             if running.push(worker).is_err() {
-                outcome = Err(GatewayFault::NoMemory);
+                started = Err(GatewayFault::NoMemory);
                 break;
             }
         }
-        let hand = channels.into_hand();
-        if outcome.is_ok() {
-            outcome = accept_all(rt, listener, connections, hand);
-        } else {
-            drop(hand);
-        }
+        let served = accept_all(rt, started, channels, listener, connections);
         let seats = join_all(rt, alloc, running);
-        outcome?;
+        served?;
         seats
     })
 }

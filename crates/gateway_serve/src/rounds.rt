@@ -1,5 +1,7 @@
 //! Rounds: the book is shared anew after so many connections.
-ghost use Rattle.std.specs.Prelude.{◌≡◌, ◌+◌, ◌<◌, ◌≤◌, [], OnOk};
+ghost use Rattle.std.specs.Prelude.{◌≡◌, ◌+◌, ◌<◌, ◌≤◌, [], IfOk, OnOk};
+ghost use Rattle.delta_book.specs.Journal.{history};
+ghost use Rattle.metric_events.specs.Legal.{IsLegal};
 
 use crate::crew::serve_beside;
 use crate::fault::GatewayFault;
@@ -33,6 +35,7 @@ fn round_over<
     requires ledger { (blank.name ≡ L.name) × (blank.parts ≡ L.parts) }
     requires parts { blank.parts ≡ options.now.receivers + options.now.flushers }
     requires empty { book.entries ≡ [] }
+    ensures legal { IfOk result (λ r. IsLegal (history r.0)) }
 {
     let seats = options.receivers + options.flushers;
     let Ok((shared, seats)) = SharedBook::<L>::new(alloc, book, blank, seats) else {
@@ -55,6 +58,7 @@ fn one_round<R: Net<Listener = TcpListener, Stream = TcpStream> + Threads + Wait
     connections: u64,
 ) -> Result<(Book, Audit), GatewayFault>
     requires empty { book.entries ≡ [] }
+    ensures legal { IfOk result (λ r. IsLegal (history r.0)) }
 {
     let parts = u64::from(options.receivers) + u64::from(options.flushers);
     let blank = Blank::new(parts);
@@ -88,7 +92,9 @@ pub fn serve_rounds<R: Net<Listener = TcpListener, Stream = TcpStream> + Threads
     alloc: Global,
     listener: &TcpListener,
     options: &ServeOptions<'_>,
-) -> Result<(Book, Sums), GatewayFault> {
+) -> Result<(Book, Sums), GatewayFault>
+    ensures legal { IfOk result (λ r. IsLegal (history r.0)) }
+{
     let Ok(new) = Book::new(alloc) else {
         return Err(GatewayFault::NoMemory);
     };

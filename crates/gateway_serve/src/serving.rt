@@ -4,7 +4,6 @@ ghost use Rattle.delta_book.specs.Journal.{history};
 ghost use Rattle.delta_book.specs.Totals.{totals_rows};
 ghost use Rattle.gateway_serve.specs.Ended.{IsEnding};
 ghost use Rattle.gateway_serve.specs.LastLine.{last_line};
-ghost use Rattle.metric_events.specs.Legal.{IsLegal};
 ghost use Rattle.out_texts.specs.Report.{report_text as written_report};
 
 use crate::fault::GatewayFault;
@@ -21,10 +20,8 @@ use std::thread::Threads;
 
 /// The report of a book, and the line of the sums.
 fn ending_of(alloc: Global, book: &Book, sums: Sums) -> Result<Vec<u8>, AllocError>
-    ensures text { IfOk result (λ text. text.items ≡ written_report (totals_rows (history book.now)) ++ last_line sums) }
-    ensures legal { IsLegal (history book.now) }
+    ensures { IfOk result (λ text. text.items ≡ written_report (totals_rows (history book.now)) ++ last_line sums) }
 {
-    let _ = book.journal();
     let rows = book.totals()?;
     let mut text = report_text(alloc, rows.as_slice())?;
     put_last_line(&mut text, sums)?;
