@@ -92,13 +92,17 @@ fn put(rt: &impl Abort, cell: &mut Cell, point: &Point, batch: u64)
     assert!(rt; put.is_ok(), "memory");
 }
 
+fn expect_row(rt: &impl Abort, row: &[u64], want: &[u64], name: &str) {
+    assert_eq!(rt; row, want, "{name}");
+}
+
 /// The five rows are these: accepted, stored, in flight, acknowledged, dropped.
 fn expect_rows(rt: &impl Abort, cell: &Cell, rows: [[u64; 3]; 5]) {
-    assert_eq!(rt; cell.accepted(), &rows[0][..], "accepted");
-    assert_eq!(rt; cell.stored(), &rows[1][..], "stored");
-    assert_eq!(rt; cell.in_flight(), &rows[2][..], "in flight");
-    assert_eq!(rt; cell.acknowledged(), &rows[3][..], "acknowledged");
-    assert_eq!(rt; cell.dropped(), &rows[4][..], "dropped");
+    expect_row(rt, cell.accepted(), &rows[0], "accepted");
+    expect_row(rt, cell.stored(), &rows[1], "stored");
+    expect_row(rt, cell.in_flight(), &rows[2], "in flight");
+    expect_row(rt, cell.acknowledged(), &rows[3], "acknowledged");
+    expect_row(rt, cell.dropped(), &rows[4], "dropped");
 }
 
 /// A span is from this start to that end, or there is none.
@@ -153,28 +157,44 @@ fn a_flush_comes_back_and_a_batch_is_undone(rt: HostRuntime) -> Result<(), Fail>
     Ok(())
 }
 
-/// What is in flight lands for good, then the next round begins.
-fn land_and_carry(rt: &impl Abort, cell: &mut Cell, points: [&Point; 4])
-    requires { Stands cell.old [] }
-{
-    put(rt, cell, points[0], 1);
+/// Puts a point as `put` does, of which nothing more is to be known.
+fn bring(rt: &impl Abort, cell: &mut Cell, point: &Point, batch: u64) {
+    put(rt, cell, point, batch);
+}
+
+/// Takes all that is at home, where nothing is in flight.
+fn lift(rt: &impl Abort, cell: &mut Cell, flush: u64) {
     assert!(rt; !cell.is_flying());
-    cell.lift_off(1);
+    cell.lift_off(flush);
+}
+
+/// Begins the next round with what is at home.
+fn carry(rt: &impl Abort, cell: &mut Cell) {
+    assert!(rt; !cell.is_flying() && cell.frontier() > 0);
+    cell.carry();
+}
+
+/// What is in flight lands for good, once with the back end and once dropped.
+fn land_twice(rt: &impl Abort, cell: &mut Cell, points: [&Point; 4]) {
+    bring(rt, cell, points[0], 1);
+    lift(rt, cell, 1);
     cell.acknowledge();
-    put(rt, cell, points[1], 2);
-    assert!(rt; !cell.is_flying());
-    cell.lift_off(2);
-    put(rt, cell, points[2], 3);
+    bring(rt, cell, points[1], 2);
+    lift(rt, cell, 2);
+    bring(rt, cell, points[2], 3);
     cell.discard();
-    put(rt, cell, points[3], 4);
+    bring(rt, cell, points[3], 4);
     expect_rows(
         rt,
         cell,
         [[4, 20, 1], [2, 12, 1], [0, 0, 0], [1, 5, 0], [1, 3, 0]],
     );
     assert_eq!(rt; cell.frontier(), 60);
-    assert!(rt; !cell.is_flying() && cell.frontier() > 0);
-    cell.carry();
+}
+
+/// The next round begins with what is at home, and the one after it with nothing.
+fn carry_twice(rt: &impl Abort, cell: &mut Cell) {
+    carry(rt, cell);
     expect_rows(
         rt,
         cell,
@@ -182,11 +202,9 @@ fn land_and_carry(rt: &impl Abort, cell: &mut Cell, points: [&Point; 4])
     );
     expect_span(rt, cell.stored_span(), Some((30, 60)));
     assert_eq!(rt; cell.frontier(), 60);
-    assert!(rt; !cell.is_flying() && cell.frontier() > 0);
-    cell.lift_off(3);
+    lift(rt, cell, 3);
     cell.acknowledge();
-    assert!(rt; !cell.is_flying() && cell.frontier() > 0);
-    cell.carry();
+    carry(rt, cell);
     expect_rows(rt, cell, [[0, 0, 0]; 5]);
     assert!(rt; !cell.has_stored());
     assert_eq!(rt; cell.frontier(), 60);
@@ -200,7 +218,8 @@ fn a_round_begins_with_what_is_at_home(rt: HostRuntime) -> Result<(), Fail> {
     let c = counted(alloc, 30, 40, 12)?;
     let d = counted(alloc, 50, 60, -1)?;
     let mut cell = empty_cell(alloc, series(alloc, Kind::Sum { monotonic: false })?)?;
-    land_and_carry(&rt, &mut cell, [&a, &b, &c, &d]);
+    land_twice(&rt, &mut cell, [&a, &b, &c, &d]);
+    carry_twice(&rt, &mut cell);
     Ok(())
 }
 
@@ -210,7 +229,7 @@ fn room_is_made_beforehand(rt: HostRuntime) -> Result<(), Fail> {
     let alloc = rt.alloc();
     let point = counted(alloc, 10, 20, 5)?;
     let mut cell = empty_cell(alloc, series(alloc, Kind::Sum { monotonic: false })?)?;
-    put(&rt, &mut cell, &point, 1);
+    bring(&rt, &mut cell, &point, 1);
     cell.reserve(100)?;
     expect_rows(
         &rt,
@@ -224,11 +243,24 @@ fn room_is_made_beforehand(rt: HostRuntime) -> Result<(), Fail> {
 /// The first word, the third and fourth and the last of a row, and all of them added up.
 fn expect_ends(rt: &impl Abort, row: &[u64], points: u64) {
     assert!(rt; row.len() > 4);
-    assert_eq!(rt; row[0], points);
-    assert_eq!(rt; u128::from(row[2]), 9 * u128::from(points));
-    assert_eq!(rt; u128::from(row[3]), 3 * u128::from(points));
-    assert_eq!(rt; row[row.len() - 1], points);
-    assert_eq!(rt; total(row), 14 * u128::from(points), "{} words", row.len());
+    let ends = [row[0], row[2], row[3], row[row.len() - 1]].map(u128::from);
+    let points = u128::from(points);
+    assert_eq!(rt; ends, [points, 9 * points, 3 * points, points]);
+    assert_eq!(rt; total(row), 14 * points, "{} words", row.len());
+}
+
+/// A flush takes two points and is dropped: each row that they are in, and none that they left.
+fn move_rows(rt: &impl Abort, cell: &mut Cell, first: &Point, second: &Point) {
+    bring(rt, cell, first, 1);
+    bring(rt, cell, second, 1);
+    expect_ends(rt, cell.stored(), 2);
+    lift(rt, cell, 1);
+    assert!(rt; is_zero(cell.stored()));
+    expect_ends(rt, cell.in_flight(), 2);
+    cell.discard();
+    assert!(rt; is_zero(cell.in_flight()));
+    expect_ends(rt, cell.dropped(), 2);
+    expect_ends(rt, cell.accepted(), 2);
 }
 
 /// Rows of 8, 12 and 259 words, so with each tail after the full eights.
@@ -239,17 +271,7 @@ fn rows_of_each_length_move(rt: HostRuntime) -> Result<(), Fail> {
         let first = spread(alloc, bounds, 10)?;
         let second = spread(alloc, bounds, 20)?;
         let mut cell = empty_cell(alloc, first.series().copy(alloc)?)?;
-        put(&rt, &mut cell, &first, 1);
-        put(&rt, &mut cell, &second, 1);
-        expect_ends(&rt, cell.stored(), 2);
-        assert!(&rt; !cell.is_flying());
-        cell.lift_off(1);
-        assert!(&rt; is_zero(cell.stored()));
-        expect_ends(&rt, cell.in_flight(), 2);
-        cell.discard();
-        assert!(&rt; is_zero(cell.in_flight()));
-        expect_ends(&rt, cell.dropped(), 2);
-        expect_ends(&rt, cell.accepted(), 2);
+        move_rows(&rt, &mut cell, &first, &second);
     }
     Ok(())
 }

@@ -49,12 +49,11 @@ fn sum(rt: &impl Abort, alloc: Global, start: u64, end: u64, value: i64) -> Poin
     Point::sum(alloc, series, start, end, value).expect(rt, "a point")
 }
 
-/// The row of a sum's point of this value is this.
-fn expect_row(rt: &impl Abort, alloc: Global, value: i64, row: &[u64]) {
-    let point = sum(rt, alloc, 10, 20, value);
-    assert_eq!(rt; point.row(), row, "at {value}");
-    assert_eq!(rt; point.span().start(), 10);
-    assert_eq!(rt; point.span().end(), 20);
+/// The point is of the series `x`, covers 10 to 20, and has this row.
+fn expect_row(rt: &impl Abort, point: &Point, row: &[u64]) {
+    assert_eq!(rt; point.row(), row);
+    let span = point.span();
+    assert_eq!(rt; (span.start(), span.end()), (10, 20));
     assert_eq!(rt; point.series().name().as_str(), "x");
 }
 
@@ -120,11 +119,15 @@ fn expect_name(rt: &impl Abort, alloc: Global, bytes: &[u8], want: Option<NameFa
 
 /// The point has the fields of the other, which is as one that adds up.
 fn expect_same(rt: &impl Abort, mine: &Point, its: &MergedPoint) {
-    assert!(rt; mine.series().is_same(its.series()));
-    assert_eq!(rt; mine.span().start(), its.span().start());
-    assert_eq!(rt; mine.span().end(), its.span().end());
-    assert_eq!(rt; mine.row(), its.row());
-    assert!(rt; mine.as_merged().is_same(its));
+    let (span, other) = (mine.span(), its.span());
+    let sames = [
+        mine.series().is_same(its.series()),
+        span.start() == other.start(),
+        span.end() == other.end(),
+        mine.row() == its.row(),
+        mine.as_merged().is_same(its),
+    ];
+    assert_eq!(rt; sames, [true; 5]);
 }
 
 /// The parts of a point make one that adds up, of the same series, span and row.
@@ -135,6 +138,14 @@ fn expect_remade(rt: &impl Abort, alloc: Global, point: &Point, row: &[u64]) {
     let remade = MergedPoint::new(series, merged.span(), Row::new(words));
     assert_eq!(rt; remade.row(), row);
     expect_same(rt, point, &remade);
+}
+
+/// The spans follow each other in this order, and together cover 10 to 30.
+fn expect_order(rt: &impl Abort, early: Span, later: Span) {
+    let order = (early.precedes(&later), later.precedes(&early));
+    assert_eq!(rt; order, (true, false));
+    let hull = later.hull(&early);
+    assert_eq!(rt; (hull.start(), hull.end()), (10, 30));
 }
 
 #[test]
@@ -158,10 +169,7 @@ fn spans_and_hulls(rt: HostRuntime) -> Result<(), Fail> {
     }
     let early = Span::new(10, 20).ok_or("no span")?;
     let later = Span::new(20, 30).ok_or("no span")?;
-    assert!(rt; early.precedes(&later));
-    assert!(rt; !later.precedes(&early));
-    let hull = later.hull(&early);
-    assert_eq!(rt; (hull.start(), hull.end()), (10, 30));
+    expect_order(&rt, early, later);
     Ok(())
 }
 
@@ -193,11 +201,15 @@ fn copies_of_names(rt: HostRuntime) {
 #[test]
 fn rows_of_sums(rt: HostRuntime) {
     let alloc = rt.alloc();
-    expect_row(&rt, alloc, 0, &[1, 0, 0]);
-    expect_row(&rt, alloc, 7, &[1, 7, 0]);
-    expect_row(&rt, alloc, -3, &[1, 0, 3]);
-    expect_row(&rt, alloc, i64::MAX, &[1, 9223372036854775807, 0]);
-    expect_row(&rt, alloc, -i64::MAX, &[1, 0, 9223372036854775807]);
+    for (value, row) in [
+        (0, [1, 0, 0]),
+        (7, [1, 7, 0]),
+        (-3, [1, 0, 3]),
+        (i64::MAX, [1, 9223372036854775807, 0]),
+        (-i64::MAX, [1, 0, 9223372036854775807]),
+    ] {
+        expect_row(&rt, &sum(&rt, alloc, 10, 20, value), &row);
+    }
 }
 
 #[test]
@@ -273,47 +285,57 @@ fn rows_of_histograms(rt: HostRuntime) {
 fn faults_of_histograms(rt: HostRuntime) {
     let alloc = rt.alloc();
     let most = 18446744073709551615;
-    let fault = histogram(&rt, alloc, &[1], 20, 8, None, &[1]).err();
-    assert_eq!(rt; fault, Some(PointFault::BadSpan));
-    let fault = histogram(&rt, alloc, &[1, 2, 3], 10, 8, None, &[1, 2, 0, 4]).err();
-    assert_eq!(rt; fault, Some(PointFault::BucketMismatch));
-    let fault = histogram(&rt, alloc, &[1], 10, 0, None, &[]).err();
-    assert_eq!(rt; fault, Some(PointFault::BucketMismatch));
-    let fault = histogram(&rt, alloc, &[1], 10, 8, None, &[8]).err();
-    assert_eq!(rt; fault, Some(PointFault::BucketMismatch));
-    let fault = histogram(&rt, alloc, &[], 10, 1, Some(9007199254740993), &[1]).err();
-    assert_eq!(rt; fault, Some(PointFault::TooLarge));
-    let fault = histogram(&rt, alloc, &[0], 10, most, None, &[most, 1]).err();
-    assert_eq!(rt; fault, Some(PointFault::BucketMismatch));
-    let fault = histogram(&rt, alloc, &[0], 10, 0, None, &[most, 1]).err();
-    assert_eq!(rt; fault, Some(PointFault::BucketMismatch));
+    let mismatch = PointFault::BucketMismatch;
+    let cases: [(&[i64], u64, u64, Option<u64>, &[u64], PointFault); 7] = [
+        (&[1], 20, 8, None, &[1], PointFault::BadSpan),
+        (&[1, 2, 3], 10, 8, None, &[1, 2, 0, 4], mismatch),
+        (&[1], 10, 0, None, &[], mismatch),
+        (&[1], 10, 8, None, &[8], mismatch),
+        (
+            &[],
+            10,
+            1,
+            Some(9007199254740993),
+            &[1],
+            PointFault::TooLarge,
+        ),
+        (&[0], 10, most, None, &[most, 1], mismatch),
+        (&[0], 10, 0, None, &[most, 1], mismatch),
+    ];
+    for (bounds, start, count, sum, buckets, want) in cases {
+        let fault = histogram(&rt, alloc, bounds, start, count, sum, buckets).err();
+        assert_eq!(rt; fault, Some(want), "of {count} at {start}");
+    }
+}
+
+/// A batch of the sender `shop`: a sum's point of each value, one after another.
+fn shop_batch(rt: &impl Abort, alloc: Global, values: &[i64]) -> Batch {
+    let mut points = Points::new(alloc);
+    for (value, start) in values.iter().zip([10u64, 20]) {
+        let point = sum(rt, alloc, start, start.saturating_add(10), *value);
+        points.push(point).expect(rt, "memory");
+    }
+    let sender = SenderName::new(alloc, b"shop").expect(rt, "a name");
+    Batch { sender, points }
+}
+
+/// The second batch of two points has all that the first has.
+fn expect_copy(rt: &impl Abort, batch: &Batch, copy: &Batch) {
+    assert!(rt; copy.sender.is_same(&batch.sender));
+    assert_eq!(rt; copy.points.as_slice().len(), 2);
+    for (mine, its) in batch.points.as_slice().iter().zip(copy.points.as_slice()) {
+        expect_same(rt, mine, its.as_merged());
+    }
+    assert!(rt; batch.is_same(copy));
 }
 
 #[test]
 fn copies_of_batches(rt: HostRuntime) {
     let alloc = rt.alloc();
-    let sender = SenderName::new(alloc, b"shop").expect(&rt, "a name");
-    let mut points = Points::new(alloc);
-    points
-        .push(sum(&rt, alloc, 10, 20, 7))
-        .expect(&rt, "memory");
-    points
-        .push(sum(&rt, alloc, 20, 30, -3))
-        .expect(&rt, "memory");
-    let batch = Batch { sender, points };
+    let batch = shop_batch(&rt, alloc, &[7, -3]);
     let copy = batch.copy(alloc).expect(&rt, "memory");
-    assert!(rt; copy.sender.is_same(&batch.sender));
-    assert_eq!(rt; copy.points.as_slice().len(), 2);
-    for (mine, its) in batch.points.as_slice().iter().zip(copy.points.as_slice()) {
-        expect_same(&rt, mine, its.as_merged());
-    }
-    assert!(rt; batch.is_same(&copy));
-    let sender = SenderName::new(alloc, b"shop").expect(&rt, "a name");
-    let mut points = Points::new(alloc);
-    points
-        .push(sum(&rt, alloc, 10, 20, 8))
-        .expect(&rt, "memory");
-    assert!(rt; !batch.is_same(&Batch { sender, points }));
+    expect_copy(&rt, &batch, &copy);
+    assert!(rt; !batch.is_same(&shop_batch(&rt, alloc, &[8])));
 }
 
 #[test]
@@ -363,6 +385,11 @@ fn shared_series(rt: &impl Abort, alloc: Global, monotonic: bool) -> SeriesId {
     shared
 }
 
+/// So many own the identity that is adopted, and the other one is owned once.
+fn expect_owners(rt: &impl Abort, shared: &SeriesId, other: &SeriesId, owners: usize) {
+    assert_eq!(rt; (shared.owners(), other.owners()), (owners, 1));
+}
+
 #[test]
 fn points_adopt_equal_identities(rt: HostRuntime) {
     let alloc = rt.alloc();
@@ -370,19 +397,18 @@ fn points_adopt_equal_identities(rt: HostRuntime) {
     let other = shared_series(&rt, alloc, true);
     let mut point = sum(&rt, alloc, 10, 20, 7);
     point.adopt(&other);
-    assert_eq!(rt; other.owners(), 1);
+    expect_owners(&rt, &shared, &other, 1);
     point.adopt(&shared);
-    assert_eq!(rt; shared.owners(), 2);
-    assert_eq!(rt; point.row(), [1, 7, 0].as_slice());
+    expect_owners(&rt, &shared, &other, 2);
+    expect_row(&rt, &point, &[1, 7, 0]);
     let mut points = Points::new(alloc);
     points
         .push(sum(&rt, alloc, 20, 30, 8))
         .expect(&rt, "memory");
     points.adopt(0, &shared);
     points.adopt(0, &other);
-    assert_eq!(rt; shared.owners(), 3);
-    assert_eq!(rt; other.owners(), 1);
+    expect_owners(&rt, &shared, &other, 3);
     let copy = points.copy(alloc).expect(&rt, "memory");
-    assert_eq!(rt; shared.owners(), 4);
+    expect_owners(&rt, &shared, &other, 4);
     assert!(rt; copy.is_same(&points));
 }

@@ -41,28 +41,36 @@ fn expect_sums(rt: &impl Abort, a: &mut [u64], b: &mut [u64])
     expect_words(rt, b, 0, 0);
 }
 
+/// Whether the sums of two rows are at most this.
+fn expect_fits(rt: &impl Abort, a: &[u64], b: &[u64], most: u64, want: bool)
+    requires { length a.now ≡ length b.now }
+{
+    assert_eq!(rt; fits(a, b, most), want, "{} words", a.len());
+}
+
+/// Whether all words are 0, and what they add up to.
+fn expect_total(rt: &impl Abort, words: &[u64], want: u64) {
+    let seen = (is_zero(words), total(words));
+    assert_eq!(rt;
+        seen,
+        (want == 0, u128::from(want)),
+        "{} words",
+        words.len()
+    );
+}
+
 /// One word alone, at a place, is seen by each test; and no word once all are 0.
 fn expect_seen(rt: &impl Abort, words: &mut [u64], zeros: &[u64], at: usize)
     requires { length words.old ≡ length zeros.now }
 {
     clear(words);
-    assert!(rt; is_zero(words), "{} words", words.len());
-    assert_eq!(rt; total(words), 0);
+    expect_total(rt, words, 0);
     assert!(rt; at < words.len());
     words[at] = MOST;
-    assert!(rt; !is_zero(words), "word {at} of {}", words.len());
-    assert_eq!(rt; total(words), u128::from(MOST));
-    assert!(rt; fits(words, zeros, MOST), "word {at} of {}", words.len());
-    assert!(rt;
-        !fits(words, zeros, MOST - 1),
-        "word {at} of {}",
-        words.len()
-    );
-    assert!(rt;
-        !fits(zeros, words, MOST - 1),
-        "word {at} of {}",
-        words.len()
-    );
+    expect_total(rt, words, MOST);
+    expect_fits(rt, words, zeros, MOST, true);
+    expect_fits(rt, words, zeros, MOST - 1, false);
+    expect_fits(rt, zeros, words, MOST - 1, false);
 }
 
 /// The sum of 2^64 - 1 and 1 at a place is over any limit, though its word would be 0.
@@ -72,9 +80,9 @@ fn expect_carry(rt: &impl Abort, words: &mut [u64], ones: &[u64], at: usize)
     clear(words);
     assert!(rt; at < words.len());
     words[at] = MOST;
-    assert!(rt; !fits(words, ones, MOST), "word {at} of {}", words.len());
+    expect_fits(rt, words, ones, MOST, false);
     words[at] = MOST - 1;
-    assert!(rt; fits(words, ones, MOST), "word {at} of {}", words.len());
+    expect_fits(rt, words, ones, MOST, true);
 }
 
 #[test]

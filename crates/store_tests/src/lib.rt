@@ -4,7 +4,11 @@
 #![tactic(auto)]
 
 #[cfg(test)]
+mod bodies;
+#[cfg(test)]
 mod book;
+#[cfg(test)]
+mod call;
 #[cfg(test)]
 mod cells;
 #[cfg(test)]

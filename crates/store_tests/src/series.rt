@@ -72,24 +72,31 @@ fn histogram(rt: &impl Abort, alloc: Global, bounds: &[i64]) -> Kind {
     Kind::histogram(bounds.to_vec(alloc).expect(rt, "memory")).expect(rt, "a kind")
 }
 
-/// The set of one pair of texts.
-fn one_pair(rt: &impl Abort, alloc: Global, key: &str, value: &str) -> AttrSet {
+/// Pairs of these keys and texts.
+fn listed(rt: &impl Abort, alloc: Global, texts: &[(&str, &str)]) -> Vec<(Text, AttrValue)> {
     let mut pairs = Vec::new(alloc);
-    push(rt, alloc, &mut pairs, key, value);
-    AttrSet::from_pairs(alloc, pairs).expect(rt, "a set")
+    for (key, value) in texts {
+        push(rt, alloc, &mut pairs, key, value);
+    }
+    pairs
+}
+
+/// The set of these keys and texts.
+fn set_of(rt: &impl Abort, alloc: Global, texts: &[(&str, &str)]) -> AttrSet {
+    AttrSet::from_pairs(alloc, listed(rt, alloc, texts)).expect(rt, "a set")
 }
 
 /// A series with these texts and a kind.
 fn series(rt: &impl Abort, alloc: Global, resource: &str, name: &str, kind: Kind) -> SeriesId {
     let id = SeriesId::new(
-        one_pair(rt, alloc, "host", resource),
+        set_of(rt, alloc, &[("host", resource)]),
         text(rt, alloc, "lib"),
         text(rt, alloc, "2.1"),
         AttrSet::empty(alloc),
         text(rt, alloc, name),
         text(rt, alloc, "By"),
         kind,
-        one_pair(rt, alloc, "path", "/"),
+        set_of(rt, alloc, &[("path", "/")]),
     );
     id.expect(rt, "a series")
 }
@@ -163,16 +170,18 @@ fn bounds_are_checked_in_order(rt: HostRuntime) {
     for (bounds, fault) in cases {
         assert_eq!(rt; bounds_fault(&rt, alloc, &bounds), fault, "at {bounds:?}");
     }
-    assert_eq!(rt; bounds_fault(&rt, alloc, &[]), None);
     let many = [9007199254740993; 256];
-    assert_eq!(rt;
-        bounds_fault(&rt, alloc, &many),
-        Some(KindFault::TooManyBounds)
-    );
-    assert_eq!(rt;
-        bounds_fault(&rt, alloc, &many[..MAX_BOUNDS]),
-        Some(KindFault::BoundTooLarge)
-    );
+    for (bounds, fault) in [
+        (0, None),
+        (256, Some(KindFault::TooManyBounds)),
+        (MAX_BOUNDS, Some(KindFault::BoundTooLarge)),
+    ] {
+        assert_eq!(rt;
+            bounds_fault(&rt, alloc, &many[..bounds]),
+            fault,
+            "of {bounds}"
+        );
+    }
 }
 
 #[test]
@@ -220,31 +229,24 @@ fn texts_of_attributes_are_short(rt: HostRuntime) {
 #[test]
 fn keys_stand_once(rt: HostRuntime) {
     let alloc = rt.alloc();
-    let mut pairs = Vec::new(alloc);
-    push(&rt, alloc, &mut pairs, "a", "x");
-    push(&rt, alloc, &mut pairs, "b", "x");
-    push(&rt, alloc, &mut pairs, "a", "y");
-    assert_eq!(rt;
-        AttrSet::from_pairs(alloc, pairs).err(),
-        Some(AttrFault::DuplicateKey)
-    );
+    let pairs = listed(&rt, alloc, &[("a", "x"), ("b", "x"), ("a", "y")]);
+    let fault = AttrSet::from_pairs(alloc, pairs).err();
+    assert_eq!(rt; fault, Some(AttrFault::DuplicateKey));
+}
+
+/// A series with these attributes has two of them, of which the first has the key `a`.
+fn ordered(rt: &impl Abort, alloc: Global, texts: &[(&str, &str)]) -> SeriesId {
+    let set = set_of(rt, alloc, texts);
+    assert_eq!(rt; set.pairs().len(), 2);
+    assert_eq!(rt; set.pairs()[0].key.as_str(), "a");
+    plain_series(rt, alloc, set, Kind::Sum { monotonic: true })
 }
 
 #[test]
 fn attribute_order_means_nothing(rt: HostRuntime) {
     let alloc = rt.alloc();
-    let mut one = Vec::new(alloc);
-    push(&rt, alloc, &mut one, "b", "1");
-    push(&rt, alloc, &mut one, "a", "x");
-    let mut other = Vec::new(alloc);
-    push(&rt, alloc, &mut other, "a", "x");
-    push(&rt, alloc, &mut other, "b", "1");
-    let one = AttrSet::from_pairs(alloc, one).expect(&rt, "a set");
-    let other = AttrSet::from_pairs(alloc, other).expect(&rt, "a set");
-    assert_eq!(rt; one.pairs().len(), 2);
-    assert_eq!(rt; one.pairs()[0].key.as_str(), "a");
-    let one = plain_series(&rt, alloc, one, Kind::Sum { monotonic: true });
-    let other = plain_series(&rt, alloc, other, Kind::Sum { monotonic: true });
+    let one = ordered(&rt, alloc, &[("b", "1"), ("a", "x")]);
+    let other = ordered(&rt, alloc, &[("a", "x"), ("b", "1")]);
     assert!(rt; one.is_same(&other));
 }
 
@@ -306,9 +308,12 @@ fn kinds_are_ordered(rt: HostRuntime) {
 
 /// Looks at the order of two series, the first of which is to come first.
 fn check_order(rt: &impl Abort, first: &SeriesId, second: &SeriesId) {
-    assert_eq!(rt; first.cmp(second), Ordering::Less);
-    assert!(rt; first.is_before(second));
-    assert!(rt; !second.is_before(first));
+    let order = (
+        first.cmp(second),
+        first.is_before(second),
+        second.is_before(first),
+    );
+    assert_eq!(rt; order, (Ordering::Less, true, false));
     assert!(rt; first != second);
 }
 
@@ -328,19 +333,22 @@ fn names_come_before_kinds(rt: HostRuntime) {
     check_order(&rt, &first, &second);
 }
 
+fn check_text(rt: &impl Abort, text: &Text, want: &str) {
+    assert_eq!(rt; text.as_str(), want);
+}
+
 /// Looks at the texts of `series`.
 fn check_texts(rt: &impl Abort, id: &SeriesId) {
-    assert_eq!(rt; id.scope_name().as_str(), "lib");
+    check_text(rt, id.scope_name(), "lib");
     assert_eq!(rt; id.scope_version().as_bytes(), b"2.1".as_slice());
-    assert_eq!(rt; id.name().as_str(), "requests");
-    assert_eq!(rt; id.unit().as_str(), "By");
+    check_text(rt, id.name(), "requests");
+    check_text(rt, id.unit(), "By");
 }
 
 /// Looks at the sets of `series`.
 fn check_sets(rt: &impl Abort, id: &SeriesId) {
-    assert_eq!(rt; id.resource().pairs().len(), 1);
-    assert_eq!(rt; id.scope_attrs().pairs().len(), 0);
-    assert_eq!(rt; id.attrs().pairs().len(), 1);
+    let sets = [id.resource(), id.scope_attrs(), id.attrs()];
+    assert_eq!(rt; sets.map(|set| set.pairs().len()), [1, 0, 1]);
 }
 
 #[test]
@@ -379,11 +387,15 @@ fn rows_fit_their_kind(rt: HostRuntime) {
 fn texts_of_series_are_short(rt: HostRuntime) {
     let alloc = rt.alloc();
     let long = Some(IdFault::TextTooLong);
-    assert_eq!(rt; texts_fault(&rt, alloc, [4097, 0, 0, 0]), long);
-    assert_eq!(rt; texts_fault(&rt, alloc, [0, 4097, 0, 0]), long);
-    assert_eq!(rt; texts_fault(&rt, alloc, [0, 0, 4097, 0]), long);
-    assert_eq!(rt; texts_fault(&rt, alloc, [0, 0, 0, 4097]), long);
-    assert_eq!(rt; texts_fault(&rt, alloc, [MAX_TEXT; 4]), None);
+    for (lengths, fault) in [
+        ([4097, 0, 0, 0], long),
+        ([0, 4097, 0, 0], long),
+        ([0, 0, 4097, 0], long),
+        ([0, 0, 0, 4097], long),
+        ([MAX_TEXT; 4], None),
+    ] {
+        assert_eq!(rt; texts_fault(&rt, alloc, lengths), fault, "of {lengths:?}");
+    }
 }
 
 /// Takes only what threads may share and pass on.
@@ -399,20 +411,24 @@ fn threads_may_share_series(rt: HostRuntime) {
 
 /// Looks at how many own the parts of an identity, and the pairs of its resource.
 fn check_owners(rt: &impl Abort, id: &SeriesId, parts: usize, pairs: usize) {
-    assert_eq!(rt; id.owners(), parts);
-    assert_eq!(rt; id.resource().owners(), pairs);
+    assert_eq!(rt; (id.owners(), id.resource().owners()), (parts, pairs));
+}
+
+/// Looks at how many own the one pair of a set.
+fn check_set(rt: &impl Abort, set: &AttrSet, owners: usize) {
+    assert_eq!(rt; (set.owners(), set.pairs().len()), (owners, 1));
 }
 
 #[test]
 fn sets_share_their_pairs(rt: HostRuntime) {
     let alloc = rt.alloc();
-    let set = one_pair(&rt, alloc, "host", "h1");
-    assert_eq!(rt; set.owners(), 1);
+    let set = set_of(&rt, alloc, &[("host", "h1")]);
+    check_set(&rt, &set, 1);
     let copy = set.copy(alloc).expect(&rt, "memory");
-    assert_eq!(rt; set.owners(), 2);
-    assert_eq!(rt; copy.pairs().len(), 1);
+    check_set(&rt, &set, 2);
+    check_set(&rt, &copy, 2);
     drop(set);
-    assert_eq!(rt; copy.owners(), 1);
+    check_set(&rt, &copy, 1);
 }
 
 #[test]
@@ -445,9 +461,12 @@ fn shared_identities_are_one(rt: HostRuntime) {
 
 /// Looks at whether two series share a resource, a scope and a stream.
 fn check_shares(rt: &impl Abort, first: &SeriesId, second: &SeriesId, shares: [bool; 3]) {
-    assert_eq!(rt; first.shares_resource(second), shares[0]);
-    assert_eq!(rt; first.shares_scope(second), shares[1]);
-    assert_eq!(rt; first.shares_stream(second), shares[2]);
+    let shared = [
+        first.shares_resource(second),
+        first.shares_scope(second),
+        first.shares_stream(second),
+    ];
+    assert_eq!(rt; shared, shares);
 }
 
 #[test]

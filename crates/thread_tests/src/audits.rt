@@ -14,7 +14,7 @@ use std::sync::Wait;
 use std::sync::ledger::{Blank, Ledger};
 use std::test::Fail;
 
-// A book with one entry of this seat: a batch of one point with this value.
+/// A book with one entry of this seat: a batch of one point with this value.
 fn book_of(rt: &impl Abort, alloc: Global, seat: u16, value: i64) -> Result<Book, Fail> {
     let mut book = Book::new(alloc)?;
     let body = body(alloc, "A", "req", (10, 20), value)?;
@@ -23,32 +23,39 @@ fn book_of(rt: &impl Abort, alloc: Global, seat: u16, value: i64) -> Result<Book
     Ok(book)
 }
 
-// A seat that was told nothing, beside an entry of its own and beside one of another.
-fn check_fresh<L: Ledger>(rt: &impl Abort, alloc: Global, seats: &[Seat<L>]) -> Result<(), Fail> {
-    assert_eq!(rt; check(&Book::new(alloc)?, seats), Ok(()));
-    assert_eq!(rt; check(&book_of(rt, alloc, 1, 5)?, seats), Ok(()));
-    assert_eq!(rt;
-        check(&book_of(rt, alloc, 0, 5)?, seats),
-        Err(AuditFault::MissingReceipt)
-    );
-    Ok(())
-}
+/// The seat and the value of a book's one entry, or a book without an entry, and what the check
+/// finds of it.
+type Case = (Option<(u16, i64)>, Result<(), AuditFault>);
 
-// A seat that was told of one batch, beside no entry, the same, another batch, and another seat's.
-fn check_told<L: Ledger>(rt: &impl Abort, alloc: Global, seats: &[Seat<L>]) -> Result<(), Fail> {
-    assert_eq!(rt;
-        check(&Book::new(alloc)?, seats),
-        Err(AuditFault::StrayEntry)
-    );
-    assert_eq!(rt; check(&book_of(rt, alloc, 0, 5)?, seats), Ok(()));
-    assert_eq!(rt;
-        check(&book_of(rt, alloc, 0, 6)?, seats),
-        Err(AuditFault::StrayEntry)
-    );
-    assert_eq!(rt;
-        check(&book_of(rt, alloc, 1, 5)?, seats),
-        Err(AuditFault::StrayEntry)
-    );
+/// A seat that was told nothing, beside an entry of its own and beside one of another.
+const FRESH: &[Case] = &[
+    (None, Ok(())),
+    (Some((1, 5)), Ok(())),
+    (Some((0, 5)), Err(AuditFault::MissingReceipt)),
+];
+
+/// A seat that was told of one batch, beside no entry, the same, another batch, and another
+/// seat's.
+const TOLD: &[Case] = &[
+    (None, Err(AuditFault::StrayEntry)),
+    (Some((0, 5)), Ok(())),
+    (Some((0, 6)), Err(AuditFault::StrayEntry)),
+    (Some((1, 5)), Err(AuditFault::StrayEntry)),
+];
+
+fn expect_checks<L: Ledger>(
+    rt: &impl Abort,
+    alloc: Global,
+    seats: &[Seat<L>],
+    cases: &[Case],
+) -> Result<(), Fail> {
+    for (entry, want) in cases {
+        let book = match *entry {
+            Some((seat, value)) => book_of(rt, alloc, seat, value)?,
+            None => Book::new(alloc)?,
+        };
+        assert_eq!(rt; check(&book, seats), *want, "beside {entry:?}");
+    }
     Ok(())
 }
 
@@ -60,13 +67,13 @@ fn one_seat<L: Ledger, R: Wait + Abort>(rt: &R, alloc: Global, blank: Blank) -> 
     let Ok((shared, seats)) = SharedBook::<L>::new(alloc, Book::new(alloc)?, blank, 1) else {
         return Err(Fail::from("no seats"));
     };
-    check_fresh(rt, alloc, seats.as_slice())?;
+    expect_checks(rt, alloc, seats.as_slice(), FRESH)?;
     let mut seats = seats;
     let mut seat = seats.pop().ok_or("no seat")?;
     let body = body(alloc, "A", "req", (10, 20), 5)?;
     assert_eq!(rt; admitted(rt, &shared, &mut seat, body), Ok(1));
     seats.push(seat)?;
-    check_told(rt, alloc, seats.as_slice())
+    expect_checks(rt, alloc, seats.as_slice(), TOLD)
 }
 
 #[test]

@@ -9,7 +9,11 @@ mod audits;
 #[cfg(test)]
 mod bodies;
 #[cfg(test)]
+mod call;
+#[cfg(test)]
 mod held;
+#[cfg(test)]
+mod pair;
 #[cfg(test)]
 mod rounds;
 #[cfg(test)]

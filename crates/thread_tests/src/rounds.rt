@@ -2,6 +2,7 @@
 ghost use Rattle.std.specs.Prelude.{◌≡◌, [], IfOk};
 
 use crate::bodies::{admitted, four_bodies};
+use crate::pair::{ended, two_seats};
 use delta_book::book::Book;
 use metric_events::batch::Batch;
 use shared_book::audit::Audit;
@@ -15,7 +16,7 @@ use std::sync::ledger::{Blank, Ledger};
 use std::test::Fail;
 use std::thread::{Threads, join};
 
-// The seat, once all batches are admitted and confirmed from it.
+/// The seat, once all batches are admitted and confirmed from it.
 fn confirm_all<L: Ledger, R: Wait + Abort>(
     rt: &R,
     shared: &SharedBook<L>,
@@ -41,36 +42,37 @@ fn first_round<L: Ledger + Send + Sync, R: Threads + Wait + Abort + Sync>(
     requires ledger { blank.parts ≡ L.parts }
     requires parts { blank.parts ≡ 2 }
 {
-    let Ok((shared, seats)) = SharedBook::<L>::new(alloc, Book::new(alloc)?, blank, 2) else {
-        return Err(Fail::from("no seats"));
-    };
-    let mut seats = seats;
-    let one = seats.pop().ok_or("no seat")?;
-    let zero = seats.pop().ok_or("no seat")?;
+    let (shared, zero, one) = two_seats::<L>(alloc, blank)?;
     let of_a = four_bodies(alloc, "a")?;
     let of_b = four_bodies(alloc, "b")?;
-    let (zero, one) = join(
+    let seats = join(
         rt,
         || confirm_all(rt, &shared, zero, of_a),
         || confirm_all(rt, &shared, one, of_b),
     );
-    seats.push(zero)?;
-    seats.push(one)?;
-    let Ok((book, audit)) = shared.finish(seats) else {
-        return Err(Fail::from("the first audit failed"));
+    let (book, audit) = ended(alloc, shared, seats)?;
+    let wanted = Audit {
+        events: 16,
+        admitted: 8,
+        acknowledged: 0,
     };
-    assert_eq!(rt;
-        audit,
-        Audit {
-            events: 16,
-            admitted: 8,
-            acknowledged: 0
-        }
-    );
+    assert_eq!(rt; audit, wanted);
     Ok(book)
 }
 
-// One seat takes and settles all that the round before has left.
+/// All that was left goes out, and is settled.
+fn take_and_settle<L: Ledger, R: Wait + Abort>(
+    rt: &R,
+    shared: &SharedBook<L>,
+    seat: &mut Seat<L>,
+) -> Result<(), Fail> {
+    let flush = shared.take(rt, seat, 10)?.ok_or("nothing was taken")?;
+    assert_eq!(rt; flush.points.len(), 2);
+    assert_eq!(rt; shared.settle(rt, seat, flush.number), Ok(()));
+    Ok(())
+}
+
+/// One seat takes and settles all that the round before has left.
 fn second_round<L: Ledger, R: Wait + Abort>(
     rt: &R,
     alloc: Global,
@@ -87,9 +89,7 @@ fn second_round<L: Ledger, R: Wait + Abort>(
     };
     let mut seats = seats;
     let mut seat = seats.pop().ok_or("no seat")?;
-    let flush = shared.take(rt, &mut seat, 10)?.ok_or("nothing was taken")?;
-    assert_eq!(rt; flush.points.len(), 2);
-    assert_eq!(rt; shared.settle(rt, &mut seat, flush.number), Ok(()));
+    take_and_settle(rt, &shared, &mut seat)?;
     seats.push(seat)?;
     let Ok((book, audit)) = shared.finish(seats) else {
         return Err(Fail::from("the second audit failed"));

@@ -2,6 +2,7 @@
 ghost use Rattle.std.specs.Prelude.{◌≡◌};
 
 use crate::bodies::{admitted, four_bodies};
+use crate::pair::{ended, two_seats};
 use delta_book::book::Book;
 use metric_events::batch::Batch;
 use shared_book::audit::Audit;
@@ -17,7 +18,7 @@ use std::sync::ledger::{Blank, Ledger};
 use std::test::Fail;
 use std::thread::{Threads, join};
 
-// The seat, once all batches are admitted from it.
+/// The seat, once all batches are admitted from it.
 fn admit_all<L: Ledger, R: Wait + Abort>(
     rt: &R,
     shared: &SharedBook<L>,
@@ -35,31 +36,23 @@ fn admit_all<L: Ledger, R: Wait + Abort>(
     seat
 }
 
-// Without one seat there is no end; with both there is.
+/// Without one seat there is no end; with both there is.
 fn ends_with_both<L: Ledger>(
     rt: &impl Abort,
+    alloc: Global,
     shared: SharedBook<L>,
     zero: Seat<L>,
     one: Seat<L>,
-    seats: Vec<Seat<L>>,
 ) -> Result<(Book, Audit), Fail> {
-    let mut seats = seats;
+    let mut seats = Vec::new(alloc);
     seats.push(one)?;
-    let (fault, shared, seats) = match shared.finish(seats) {
-        Ok(_) => return Err(Fail::from("ended without a seat")),
-        Err(back) => back,
-    };
-    assert_eq!(rt; fault, AuditFault::SeatOut);
-    assert_eq!(rt; seats.len(), 1);
-    let mut seats = seats;
-    seats.push(zero)?;
-    match shared.finish(seats) {
-        Ok(ended) => Ok(ended),
-        Err(_) => Err(Fail::from("the audit failed")),
-    }
+    let (fault, shared, mut seats) = shared.finish(seats).err().ok_or("ended without a seat")?;
+    assert_eq!(rt; (fault, seats.len()), (AuditFault::SeatOut, 1));
+    let one = seats.pop().ok_or("no seat")?;
+    ended(alloc, shared, (one, zero))
 }
 
-fn two_seats<L: Ledger + Send + Sync, R: Threads + Wait + Abort + Sync>(
+fn four_admissions<L: Ledger + Send + Sync, R: Threads + Wait + Abort + Sync>(
     rt: &R,
     alloc: Global,
     blank: Blank,
@@ -68,12 +61,7 @@ fn two_seats<L: Ledger + Send + Sync, R: Threads + Wait + Abort + Sync>(
     requires ledger { blank.parts ≡ L.parts }
     requires parts { blank.parts ≡ 2 }
 {
-    let Ok((shared, seats)) = SharedBook::<L>::new(alloc, Book::new(alloc)?, blank, 2) else {
-        return Err(Fail::from("no seats"));
-    };
-    let mut seats = seats;
-    let one = seats.pop().ok_or("no seat")?;
-    let zero = seats.pop().ok_or("no seat")?;
+    let (shared, zero, one) = two_seats::<L>(alloc, blank)?;
     let of_a = four_bodies(alloc, "a")?;
     let of_b = four_bodies(alloc, "b")?;
     let (zero, one) = join(
@@ -81,20 +69,17 @@ fn two_seats<L: Ledger + Send + Sync, R: Threads + Wait + Abort + Sync>(
         || admit_all(rt, &shared, zero, of_a),
         || admit_all(rt, &shared, one, of_b),
     );
-    let (book, audit) = ends_with_both(rt, shared, zero, one, seats)?;
-    assert_eq!(rt;
-        audit,
-        Audit {
-            events: 8,
-            admitted: 8,
-            acknowledged: 0
-        }
-    );
-    assert_eq!(rt; book.journal().len(), 8);
+    let (book, audit) = ends_with_both(rt, alloc, shared, zero, one)?;
+    let wanted = Audit {
+        events: 8,
+        admitted: 8,
+        acknowledged: 0,
+    };
+    assert_eq!(rt; (audit, book.journal().len()), (wanted, 8));
     Ok(())
 }
 
 #[test]
 fn two_seats_of_four_admissions(rt: HostRuntime) -> Result<(), Fail> {
-    two_seats::<Brand, _>(&rt, rt.alloc(), Blank::new(2))
+    four_admissions::<Brand, _>(&rt, rt.alloc(), Blank::new(2))
 }

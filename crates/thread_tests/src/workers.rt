@@ -2,6 +2,7 @@
 ghost use Rattle.std.specs.Prelude.{◌≡◌};
 
 use crate::held::{ACCEPTED, After, Fixed, Flags, Hold, Scripted, comes_up};
+use crate::pair::{ended, two_seats};
 use back_answers::{Act, Answer};
 use crossbeam_channel::{Receiver, Sender, bounded};
 use delta_book::book::Book;
@@ -39,24 +40,6 @@ const NO_FLUSHER: &[u8] =
 const SETTLED: &[u8] =
     b"HTTP/1.1 200 OK\r\nContent-Type: application/json\r\nContent-Length: 42\r\nConnection: close\r\n\r\n{\"act\":\"settled\",\"flush\":\"1\",\"points\":\"1\"}";
 
-/// Two seats of a book of their own.
-fn two_seats<L: Ledger>(
-    alloc: Global,
-    blank: Blank,
-) -> Result<(SharedBook<L>, Seat<L>, Seat<L>), Fail>
-    requires name { blank.name ≡ L.name }
-    requires ledger { blank.parts ≡ L.parts }
-    requires parts { blank.parts ≡ 2 }
-{
-    let book = Book::new(alloc)?;
-    let (shared, mut seats) = SharedBook::<L>::new(alloc, book, blank, 2)
-        .ok()
-        .ok_or("no seats")?;
-    let second = seats.pop().ok_or("no seat")?;
-    let first = seats.pop().ok_or("no seat")?;
-    Ok((shared, first, second))
-}
-
 /// The audit of the seats finds so many events, points that were admitted and points that were acknowledged.
 fn audits<L: Ledger, R: Abort>(
     rt: &R,
@@ -65,16 +48,9 @@ fn audits<L: Ledger, R: Abort>(
     seats: (Seat<L>, Seat<L>),
     wanted: (u128, u128, u128),
 ) -> Result<(), Fail> {
-    let mut list = Vec::new(alloc);
-    list.push(seats.0)?;
-    list.push(seats.1)?;
-    match shared.finish(list) {
-        Ok((_, audit)) => {
-            assert_eq!(rt; (audit.events, audit.admitted, audit.acknowledged), wanted);
-            Ok(())
-        }
-        Err(_) => Err(Fail::from("the audit failed")),
-    }
+    let (_, audit) = ended(alloc, shared, seats)?;
+    assert_eq!(rt; (audit.events, audit.admitted, audit.acknowledged), wanted);
+    Ok(())
 }
 
 /// Serves the connections from a seat.
@@ -167,6 +143,45 @@ fn one_order<R: Wait>(rt: &R, alloc: Global) -> Result<(Receiver<Order>, Receive
     Ok((orders, turn))
 }
 
+/// The seat, once a receiver has served one connection of these bytes from it, with this response.
+fn answered<L: Ledger, R: Wait + Abort>(
+    rt: &R,
+    alloc: Global,
+    shared: &SharedBook<L>,
+    seat: Seat<L>,
+    orders: Option<Sender<Order>>,
+    bytes: &[u8],
+    response: &[u8],
+) -> Result<Seat<L>, Fail> {
+    let told = AtomicBool::new(false);
+    let connection = one_connection(rt, alloc, Scripted::new(bytes, response, &told))?;
+    let seat = receive(rt, alloc, shared, seat, orders, connection, &mut NoPace);
+    assert!(rt; told.load(Ordering::SeqCst));
+    Ok(seat)
+}
+
+/// A batch is served once flush 1 is held before it is sent, and the flush is settled.
+fn serve_and_flush<L: Ledger + Send + Sync, R: Threads + Wait + Clock + Abort + Sync>(
+    rt: &R,
+    alloc: Global,
+    shared: &SharedBook<L>,
+    seats: (Seat<L>, Seat<L>),
+    flags: &Flags,
+) -> Result<(Seat<L>, Seat<L>), Fail> {
+    let (first, second) = seats;
+    let (orders, turn) = one_order(rt, alloc)?;
+    let later = one_connection(rt, alloc, Scripted::new(OTHER, ACCEPTED, &flags.free))?;
+    let seats = join(
+        rt,
+        || receive_after(rt, alloc, shared, first, later, flags),
+        || flush_held(rt, alloc, shared, second, orders, flags),
+    );
+    assert!(rt; !flags.late.load(Ordering::SeqCst));
+    assert!(rt; flags.free.load(Ordering::SeqCst));
+    assert_eq!(rt; turn.recv(rt).ok(), Some(settled()));
+    Ok(seats)
+}
+
 /// Flush 1 is held before it is sent until batch 2 has been answered.
 fn a_batch_while_a_flush_is_sent<L: Ledger + Send + Sync, R: Threads + Wait + Clock + Abort + Sync>(
     rt: &R,
@@ -178,22 +193,9 @@ fn a_batch_while_a_flush_is_sent<L: Ledger + Send + Sync, R: Threads + Wait + Cl
     requires parts { blank.parts ≡ 2 }
 {
     let (shared, first, second) = two_seats::<L>(alloc, blank)?;
-    let flags = Flags::new();
-    let batch = one_connection(rt, alloc, Scripted::new(POSTED, ACCEPTED, &flags.free))?;
-    let first = receive(rt, alloc, &shared, first, None, batch, &mut NoPace);
-    assert!(rt; flags.free.swap(false, Ordering::SeqCst));
-    let (orders, turn) = one_order(rt, alloc)?;
-    let later = one_connection(rt, alloc, Scripted::new(OTHER, ACCEPTED, &flags.free))?;
-    let (first, second) = join(
-        rt,
-        || receive_after(rt, alloc, &shared, first, later, &flags),
-        || flush_held(rt, alloc, &shared, second, orders, &flags),
-    );
-    assert!(rt; !flags.late.load(Ordering::SeqCst));
-    assert!(rt; flags.free.load(Ordering::SeqCst));
-    let made = turn.recv(rt).ok().ok_or("no turn")?;
-    assert_eq!(rt; made, settled());
-    audits(rt, alloc, shared, (first, second), (6, 2, 1))
+    let first = answered(rt, alloc, &shared, first, None, POSTED, ACCEPTED)?;
+    let seats = serve_and_flush(rt, alloc, &shared, (first, second), &Flags::new())?;
+    audits(rt, alloc, shared, seats, (6, 2, 1))
 }
 
 /// The turn of flush 1 of one point, which was taken.
@@ -217,6 +219,36 @@ fn feed<'a, R: Wait + Clock>(
     to.send(rt, first).is_ok() && comes_up(rt, held) && to.send(rt, second).is_ok()
 }
 
+/// Two connections, of which the first is held in its body until the second has been answered.
+fn serve_two<L: Ledger + Send + Sync, R: Threads + Wait + Clock + Abort + Sync>(
+    rt: &R,
+    alloc: Global,
+    shared: &SharedBook<L>,
+    seats: (Seat<L>, Seat<L>),
+    flags: &Flags,
+) -> Result<(Seat<L>, Seat<L>), Fail> {
+    let (first, second) = seats;
+    let answered = AtomicBool::new(false);
+    let (to, connections) = bounded(alloc, CHANNEL_PLACES)?;
+    let others = connections.clone()?;
+    let posted = Scripted::new(POSTED, ACCEPTED, &answered);
+    let other = Scripted::new(OTHER, ACCEPTED, &flags.free);
+    let (first, (second, fed)) = join(
+        rt,
+        || receive_held(rt, alloc, shared, first, connections, flags),
+        || {
+            join(
+                rt,
+                || receive_held(rt, alloc, shared, second, others, flags),
+                || feed(rt, to, posted, &flags.held, other),
+            )
+        },
+    );
+    assert!(rt; fed && !flags.late.load(Ordering::SeqCst));
+    assert!(rt; answered.load(Ordering::SeqCst) && flags.free.load(Ordering::SeqCst));
+    Ok((first, second))
+}
+
 /// Connection 1 is held in its body until connection 2 has been answered.
 fn a_connection_while_another_is_held<
     L: Ledger + Send + Sync,
@@ -227,26 +259,40 @@ fn a_connection_while_another_is_held<
     requires parts { blank.parts ≡ 2 }
 {
     let (shared, first, second) = two_seats::<L>(alloc, blank)?;
-    let flags = Flags::new();
-    let answered = AtomicBool::new(false);
-    let (to, connections) = bounded(alloc, CHANNEL_PLACES)?;
-    let others = connections.clone()?;
-    let posted = Scripted::new(POSTED, ACCEPTED, &answered);
-    let other = Scripted::new(OTHER, ACCEPTED, &flags.free);
-    let (first, (second, fed)) = join(
+    let seats = serve_two(rt, alloc, &shared, (first, second), &Flags::new())?;
+    audits(rt, alloc, shared, seats, (4, 2, 0))
+}
+
+/// The seat, once a receiver with no flusher and one whose flusher has gone have answered.
+fn order_from_nobody<L: Ledger, R: Wait + Abort>(
+    rt: &R,
+    alloc: Global,
+    shared: &SharedBook<L>,
+    seat: Seat<L>,
+) -> Result<Seat<L>, Fail> {
+    let seat = answered(rt, alloc, shared, seat, None, FLUSH, NO_FLUSHER)?;
+    let (to, orders) = bounded(alloc, CHANNEL_PLACES)?;
+    drop(orders);
+    answered(rt, alloc, shared, seat, Some(to), FLUSH, NO_FLUSHER)
+}
+
+/// The seat, once an order that was dropped without a turn has been answered.
+fn order_and_drop<L: Ledger + Send + Sync, R: Threads + Wait + Abort + Sync>(
+    rt: &R,
+    alloc: Global,
+    shared: &SharedBook<L>,
+    seat: Seat<L>,
+) -> Result<Seat<L>, Fail> {
+    let told = AtomicBool::new(false);
+    let (to, orders) = bounded::<Order, _>(alloc, CHANNEL_PLACES)?;
+    let flush = one_connection(rt, alloc, Scripted::new(FLUSH, NO_FLUSHER, &told))?;
+    let (seat, taken) = join(
         rt,
-        || receive_held(rt, alloc, &shared, first, connections, &flags),
-        || {
-            join(
-                rt,
-                || receive_held(rt, alloc, &shared, second, others, &flags),
-                || feed(rt, to, posted, &flags.held, other),
-            )
-        },
+        || receive(rt, alloc, shared, seat, Some(to), flush, &mut NoPace),
+        || orders.recv(rt).is_ok(),
     );
-    assert!(rt; fed && !flags.late.load(Ordering::SeqCst));
-    assert!(rt; answered.load(Ordering::SeqCst) && flags.free.load(Ordering::SeqCst));
-    audits(rt, alloc, shared, (first, second), (4, 2, 0))
+    assert!(rt; taken && told.load(Ordering::SeqCst));
+    Ok(seat)
 }
 
 /// Orders that nobody takes, and one that is dropped without a turn.
@@ -260,28 +306,33 @@ fn orders_of_nobody<L: Ledger + Send + Sync, R: Threads + Wait + Abort + Sync>(
     requires parts { blank.parts ≡ 2 }
 {
     let (shared, first, second) = two_seats::<L>(alloc, blank)?;
-    let told = AtomicBool::new(false);
-    let flush = one_connection(rt, alloc, Scripted::new(FLUSH, NO_FLUSHER, &told))?;
-    let first = receive(rt, alloc, &shared, first, None, flush, &mut NoPace);
-    assert!(rt; told.swap(false, Ordering::SeqCst));
-    let (to, orders) = bounded(alloc, CHANNEL_PLACES)?;
-    drop(orders);
-    let flush = one_connection(rt, alloc, Scripted::new(FLUSH, NO_FLUSHER, &told))?;
-    let first = receive(rt, alloc, &shared, first, Some(to), flush, &mut NoPace);
-    assert!(rt; told.swap(false, Ordering::SeqCst));
-    let (to, orders) = bounded::<Order, _>(alloc, CHANNEL_PLACES)?;
-    let flush = one_connection(rt, alloc, Scripted::new(FLUSH, NO_FLUSHER, &told))?;
-    let (first, taken) = join(
-        rt,
-        || receive(rt, alloc, &shared, first, Some(to), flush, &mut NoPace),
-        || orders.recv(rt).is_ok(),
-    );
-    assert!(rt; taken && told.load(Ordering::SeqCst));
+    let first = order_from_nobody(rt, alloc, &shared, first)?;
+    let first = order_and_drop(rt, alloc, &shared, first)?;
     audits(rt, alloc, shared, (first, second), (0, 0, 0))
 }
 
 /// An order over the channel is answered by the turn that the flusher makes, which ends once the
 /// receiver has ended.
+fn order_and_flush<L: Ledger + Send + Sync, R: Threads + Wait + Abort + Sync>(
+    rt: &R,
+    alloc: Global,
+    shared: &SharedBook<L>,
+    seats: (Seat<L>, Seat<L>),
+) -> Result<(Seat<L>, Seat<L>), Fail> {
+    let (first, second) = seats;
+    let told = AtomicBool::new(false);
+    let order = one_connection(rt, alloc, Scripted::new(FLUSH, SETTLED, &told))?;
+    let (to, orders) = bounded(alloc, CHANNEL_PLACES)?;
+    let seats = join(
+        rt,
+        || receive(rt, alloc, shared, first, Some(to), order, &mut NoPace),
+        || flush(rt, alloc, shared, second, orders, &mut NoPace),
+    );
+    assert!(rt; told.load(Ordering::SeqCst));
+    Ok(seats)
+}
+
+/// The point of a batch is sent by an order, and settled.
 fn an_order_is_made<L: Ledger + Send + Sync, R: Threads + Wait + Abort + Sync>(
     rt: &R,
     alloc: Global,
@@ -292,18 +343,9 @@ fn an_order_is_made<L: Ledger + Send + Sync, R: Threads + Wait + Abort + Sync>(
     requires parts { blank.parts ≡ 2 }
 {
     let (shared, first, second) = two_seats::<L>(alloc, blank)?;
-    let (posted, told) = (AtomicBool::new(false), AtomicBool::new(false));
-    let batch = one_connection(rt, alloc, Scripted::new(POSTED, ACCEPTED, &posted))?;
-    let first = receive(rt, alloc, &shared, first, None, batch, &mut NoPace);
-    let order = one_connection(rt, alloc, Scripted::new(FLUSH, SETTLED, &told))?;
-    let (to, orders) = bounded(alloc, CHANNEL_PLACES)?;
-    let (first, second) = join(
-        rt,
-        || receive(rt, alloc, &shared, first, Some(to), order, &mut NoPace),
-        || flush(rt, alloc, &shared, second, orders, &mut NoPace),
-    );
-    assert!(rt; posted.load(Ordering::SeqCst) && told.load(Ordering::SeqCst));
-    audits(rt, alloc, shared, (first, second), (4, 1, 1))
+    let first = answered(rt, alloc, &shared, first, None, POSTED, ACCEPTED)?;
+    let seats = order_and_flush(rt, alloc, &shared, (first, second))?;
+    audits(rt, alloc, shared, seats, (4, 1, 1))
 }
 
 #[test]

@@ -1,4 +1,4 @@
 use Rattle.thread_tests.proofs.scripts.an_undo_after_a_take.Given as goal
 
-abbrev pub ghosts-undo_after_take : goal.ghosts-undo_after_take
-ghosts-undo_after_take g a = record { name = a.blank.name; parts = a.blank.parts }
+abbrev pub ghosts-one_seat : goal.ghosts-one_seat
+ghosts-one_seat g a = record { name = a.blank.name; parts = a.blank.parts }

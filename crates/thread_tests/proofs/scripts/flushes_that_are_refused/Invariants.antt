@@ -1,4 +1,4 @@
 use Rattle.thread_tests.proofs.scripts.flushes_that_are_refused.Given as goal
 
-abbrev pub ghosts-refused_flushes : goal.ghosts-refused_flushes
-ghosts-refused_flushes g a = record { name = a.blank.name; parts = a.blank.parts }
+abbrev pub ghosts-one_seat : goal.ghosts-one_seat
+ghosts-one_seat g a = record { name = a.blank.name; parts = a.blank.parts }

@@ -1,4 +1,4 @@
 use Rattle.thread_tests.proofs.scripts.the_first_path.Given as goal
 
-abbrev pub ghosts-first_path : goal.ghosts-first_path
-ghosts-first_path g a = record { name = a.blank.name; parts = a.blank.parts }
+abbrev pub ghosts-one_seat : goal.ghosts-one_seat
+ghosts-one_seat g a = record { name = a.blank.name; parts = a.blank.parts }

@@ -1,0 +1,113 @@
+//! Series, points, senders and batches, named by numbers.
+ghost use Rattle.std.specs.Prelude.{◌≡◌, IfOk};
+ghost use Rattle.metric_events.specs.PointFaults.{IsSum};
+
+use metric_events::batch::Batch;
+use metric_events::point::Point;
+use metric_events::points::Points;
+use metric_events::sender_name::SenderName;
+use series_id::{AttrSet, Kind, SeriesId, Text};
+use std::alloc::Global;
+use std::test::Fail;
+
+/// A series in a scope of this name: early fields that differ make long runs short.
+pub fn series(alloc: Global, name: usize, kind: Kind) -> Result<SeriesId, Fail>
+    ensures { IfOk result (λ x. x.kind ≡ kind) }
+{
+    Ok(SeriesId::new(
+        AttrSet::empty(alloc),
+        Text::new(format!(in alloc; "{name}")?),
+        Text::new(String::new(alloc)),
+        AttrSet::empty(alloc),
+        Text::new(String::new(alloc)),
+        Text::new(String::new(alloc)),
+        kind,
+        AttrSet::empty(alloc),
+    )?)
+}
+
+/// A sum's point of this series, over so many nanoseconds.
+pub fn counted(
+    alloc: Global,
+    name: usize,
+    start: u64,
+    length: u64,
+    value: i64,
+) -> Result<Point, Fail> {
+    let series = series(alloc, name, Kind::Sum { monotonic: false })?;
+    Ok(Point::sum(alloc, series, start, start.saturating_add(length), value)?)
+}
+
+/// A histogram's point of this series with one bound, over ten nanoseconds, with the sum 9 and
+/// the buckets 2 and 1.
+fn bucketed(alloc: Global, name: usize, start: u64) -> Result<Point, Fail> {
+    let series = series(alloc, name, Kind::histogram([5].to_vec(alloc)?)?)?;
+    let buckets = [2, 1].to_vec(alloc)?;
+    Ok(Point::histogram(
+        alloc,
+        series,
+        start,
+        start.saturating_add(10),
+        3,
+        Some(9),
+        buckets,
+    )?)
+}
+
+pub fn sender(alloc: Global, name: usize) -> Result<SenderName, Fail> {
+    let text = format!(in alloc; "sender.{name}")?;
+    Ok(SenderName::new(alloc, text.as_bytes())?)
+}
+
+/// A batch of sender 0: for each series from one up to another a point of value 1 over a
+/// nanosecond.
+pub fn ones(alloc: Global, from: usize, to: usize, start: u64) -> Result<Batch, Fail> {
+    let mut points = Points::new(alloc);
+    for name in from..to {
+        points.push(counted(alloc, name, start, 1, 1)?)?;
+    }
+    Ok(Batch {
+        sender: sender(alloc, 0)?,
+        points,
+    })
+}
+
+/// A batch of one point of series 1 over ten nanoseconds.
+pub fn single(alloc: Global, sent_by: usize, start: u64, value: i64) -> Result<Batch, Fail> {
+    let mut points = Points::new(alloc);
+    points.push(counted(alloc, 1, start, 10, value)?)?;
+    let sender = sender(alloc, sent_by)?;
+    Ok(Batch { sender, points })
+}
+
+/// A point of the histogram's series 2 from one time on, and one of the sum's series 1 from
+/// another.
+fn push_both(
+    alloc: Global,
+    points: &mut Points,
+    starts: (u64, u64),
+    value: i64,
+) -> Result<(), Fail> {
+    points.push(bucketed(alloc, 2, starts.0)?)?;
+    points.push(counted(alloc, 1, starts.1, 10, value)?)?;
+    Ok(())
+}
+
+/// A batch of two points of a histogram's series and two of a sum's.
+pub fn mixed(alloc: Global) -> Result<Batch, Fail> {
+    let mut points = Points::new(alloc);
+    push_both(alloc, &mut points, (10, 10), 5)?;
+    push_both(alloc, &mut points, (30, 20), -7)?;
+    let sender = sender(alloc, 0)?;
+    Ok(Batch { sender, points })
+}
+
+/// A batch of one point of this series, with the value 1.
+pub fn batch_of(alloc: Global, series: SeriesId, start: u64) -> Result<Batch, Fail>
+    requires { IsSum series.kind }
+{
+    let mut points = Points::new(alloc);
+    points.push(Point::sum(alloc, series, start, start.saturating_add(1), 1)?)?;
+    let sender = sender(alloc, 0)?;
+    Ok(Batch { sender, points })
+}

@@ -1,0 +1,84 @@
+//! Calls of a book and what they answer, so that a test is a table of them.
+
+use crate::bodies::{ones, sender, single};
+use delta_book::book::Book;
+use delta_book::faults::{
+    AdmitFault, NotLive, NotOpen, NotQuarantined, QuarantineFault, RoundFault, TakeFault, UndoFault,
+};
+use metric_events::batch::Batch;
+use std::alloc::Global;
+use std::process::Abort;
+use std::test::Fail;
+
+/// A call by seat 7, and its answer. Senders and series are named by numbers, and times are in
+/// nanoseconds.
+#[derive(Clone, Copy)]
+pub enum Call {
+    /// Sender 0 brings a point of each series from a number up to another, from this time on.
+    Ones(usize, usize, u64, Result<u64, AdmitFault>),
+    /// This sender brings a point of series 1, from this time on, with this value.
+    Single(usize, u64, i64, Result<u64, AdmitFault>),
+    Undo(u64, Result<(), UndoFault>),
+    Confirm(u64, Result<(), NotOpen>),
+    /// One series, and the number of the flush that takes it.
+    Take(Result<Option<u64>, TakeFault>),
+    Settle(u64, Result<(), NotLive>),
+    DropFlush(u64, Result<(), NotLive>),
+    GiveBack(u64, Result<(), NotLive>),
+    Quarantine(usize, Result<(), QuarantineFault>),
+    Lift(usize, Result<(), NotQuarantined>),
+    Close(Result<u64, RoundFault>),
+    Round(u64),
+    Acknowledged(u128),
+    /// How many entries the journal has.
+    Entries(usize),
+}
+
+/// What becomes of a batch of some points.
+pub fn admitted(rt: &impl Abort, book: &mut Book, body: Batch) -> Result<u64, AdmitFault> {
+    assert!(rt; !body.points.as_slice().is_empty());
+    match book.admit(7, body) {
+        Ok(number) => Ok(number),
+        Err((fault, _)) => Err(fault),
+    }
+}
+
+/// The number of the flush that takes one series.
+fn taken(book: &mut Book) -> Result<Option<u64>, TakeFault> {
+    match book.take(7, 1)? {
+        Some(flush) => Ok(Some(flush.number)),
+        None => Ok(None),
+    }
+}
+
+/// Whether the book answers as it is to.
+fn is_answered(rt: &impl Abort, alloc: Global, book: &mut Book, call: Call) -> Result<bool, Fail> {
+    Ok(match call {
+        Call::Ones(from, to, start, want) => {
+            admitted(rt, book, ones(alloc, from, to, start)?) == want
+        }
+        Call::Single(sent_by, start, value, want) => {
+            admitted(rt, book, single(alloc, sent_by, start, value)?) == want
+        }
+        Call::Undo(batch, want) => book.undo(7, batch) == want,
+        Call::Confirm(batch, want) => book.confirm(7, batch) == want,
+        Call::Take(want) => taken(book) == want,
+        Call::Settle(flush, want) => book.settle(7, flush) == want,
+        Call::DropFlush(flush, want) => book.drop_flush(7, flush) == want,
+        Call::GiveBack(flush, want) => book.give_back(7, flush) == want,
+        Call::Quarantine(name, want) => book.quarantine(7, sender(alloc, name)?) == want,
+        Call::Lift(name, want) => book.lift(7, &sender(alloc, name)?) == want,
+        Call::Close(want) => book.close_round() == want,
+        Call::Round(want) => book.round() == want,
+        Call::Acknowledged(want) => book.acknowledged() == want,
+        Call::Entries(want) => book.journal().len() == want,
+    })
+}
+
+/// Makes the calls in turn, each of which is answered as it is to be.
+pub fn run(rt: &impl Abort, alloc: Global, book: &mut Book, calls: &[Call]) -> Result<(), Fail> {
+    for (at, call) in calls.iter().enumerate() {
+        assert!(rt; is_answered(rt, alloc, book, *call)?, "at call {at}");
+    }
+    Ok(())
+}
