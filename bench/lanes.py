@@ -1,0 +1,56 @@
+#!/usr/bin/env python3
+"""Prints how fast the kernels of rows are, beside plain loops in their place and a copy.
+
+    bench/lanes.py [PROGRAM]
+
+PROGRAM is crates/lane_bench/out/lane_bench, as `rt run` in crates/lane_bench leaves it, where none is
+named. A figure is the bytes of one row by the processor time of one call: that of a run of about a
+second, the least of three, less that of a run with no call. `total` is a plain loop itself. What is
+printed says what was measured here, and asserts nothing.
+"""
+
+import os
+import subprocess
+import sys
+
+KERNELS = ["copy", "fits", "add_into", "sub_from", "move_into", "total", "is_zero", "clear"]
+PLAIN = {"fits", "add_into", "sub_from", "move_into", "is_zero", "clear"}
+WORDS = [3, 11, 259]
+WORD_BYTES = 8
+CALLS_EACH_TIME = 2
+FIRST_TIMES = 200_000
+RUNS = 3
+
+
+def seconds(program, name, words, times):
+    """The processor time of a run."""
+    child = subprocess.Popen([program, name, str(words), str(times)], stdout=subprocess.DEVNULL)
+    _, status, usage = os.wait4(child.pid, 0)
+    if status != 0:
+        sys.exit(f"{program} {name} {words} {times} ended with status {status}")
+    return usage.ru_utime + usage.ru_stime
+
+
+def bytes_a_second(program, name, words):
+    """The bytes of one row by the processor time of one call."""
+    start = seconds(program, name, words, 0)
+    first = max(seconds(program, name, words, FIRST_TIMES) - start, 1e-4)
+    times = int(FIRST_TIMES / first)
+    took = min(seconds(program, name, words, times) for _ in range(RUNS)) - start
+    return words * WORD_BYTES * CALLS_EACH_TIME * times / took
+
+
+def main():
+    program = sys.argv[1] if len(sys.argv) > 1 else "crates/lane_bench/out/lane_bench"
+    print("GB/s       " + "".join(f"{words:>7} words   (plain)" for words in WORDS))
+    for kernel in KERNELS:
+        cells = ""
+        for words in WORDS:
+            cells += f"{bytes_a_second(program, kernel, words) / 1e9:13.1f}"
+            plain = kernel in PLAIN and bytes_a_second(program, f"plain_{kernel}", words) / 1e9
+            cells += f"{plain:10.1f}" if plain else " " * 10
+        print(f"{kernel:<11}{cells}")
+
+
+if __name__ == "__main__":
+    main()

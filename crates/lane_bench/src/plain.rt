@@ -1,0 +1,124 @@
+//! The plain loops, word by word, that the kernels are measured against.
+ghost use Rattle.std.specs.Prelude.{◌≡◌, length};
+
+/// A loop in a kernel's place.
+#[derive(Clone, Copy)]
+pub enum Loop {
+    Fits,
+    AddInto,
+    SubFrom,
+    MoveInto,
+    IsZero,
+    Clear,
+}
+
+impl Loop {
+    /// The loop of this name.
+    pub fn of_name(name: &str) -> Option<Loop> {
+        match name {
+            "plain_fits" => Some(Loop::Fits),
+            "plain_add_into" => Some(Loop::AddInto),
+            "plain_sub_from" => Some(Loop::SubFrom),
+            "plain_move_into" => Some(Loop::MoveInto),
+            "plain_is_zero" => Some(Loop::IsZero),
+            "plain_clear" => Some(Loop::Clear),
+            _ => None,
+        }
+    }
+}
+
+/// Whether each sum by place is at most `most`.
+fn fits(a: &[u64], b: &[u64], most: u64) -> bool
+    requires { length a.now ≡ length b.now }
+{
+    for k in 0..a.len() {
+        if b[k] > most || a[k] > most - b[k] {
+            return false;
+        }
+    }
+    true
+}
+
+/// Adds the words of `src` to those of `dst`, modulo 2^64.
+fn add_into(dst: &mut [u64], src: &[u64])
+    requires { length dst.old ≡ length src.now }
+{
+    for k in 0..dst.len() {
+        dst[k] = dst[k].wrapping_add(src[k]);
+    }
+}
+
+/// Takes the words of `src` away from those of `dst`, modulo 2^64.
+fn sub_from(dst: &mut [u64], src: &[u64])
+    requires { length dst.old ≡ length src.now }
+{
+    for k in 0..dst.len() {
+        dst[k] = dst[k].wrapping_sub(src[k]);
+    }
+}
+
+/// Adds the words of `src` to those of `dst`, modulo 2^64, and leaves 0 in `src`.
+fn move_into(dst: &mut [u64], src: &mut [u64])
+    requires { length dst.old ≡ length src.old }
+{
+    for k in 0..dst.len() {
+        dst[k] = dst[k].wrapping_add(src[k]);
+        src[k] = 0;
+    }
+}
+
+/// Whether every word is 0.
+fn is_zero(words: &[u64]) -> bool {
+    for k in 0..words.len() {
+        if words[k] != 0 {
+            return false;
+        }
+    }
+    true
+}
+
+/// Sets every word to 0.
+fn clear(words: &mut [u64]) {
+    for k in 0..words.len() {
+        words[k] = 0;
+    }
+}
+
+/// Runs a loop once, and says whether it answered as rows of 0 call for.
+fn step(plain: Loop, dst: &mut [u64], src: &mut [u64]) -> bool
+    requires { length dst.old ≡ length src.old }
+{
+    match plain {
+        Loop::Fits => fits(dst, src, u64::MAX),
+        Loop::AddInto => {
+            add_into(dst, src);
+            true
+        }
+        Loop::SubFrom => {
+            sub_from(dst, src);
+            true
+        }
+        Loop::MoveInto => {
+            move_into(dst, src);
+            true
+        }
+        Loop::IsZero => is_zero(dst),
+        Loop::Clear => {
+            clear(dst);
+            true
+        }
+    }
+}
+
+/// Runs a loop so many times over two rows of 0 that change places, and counts the answers that
+/// such rows call for.
+pub fn run(plain: Loop, dst: &mut [u64], src: &mut [u64], times: u64) -> u64
+    requires { length dst.old ≡ length src.old }
+{
+    let mut count = 0u64;
+    for _ in 0..times {
+        count = count.wrapping_add(u64::from(step(plain, dst, src)));
+        count = count.wrapping_add(u64::from(step(plain, src, dst)));
+    }
+    count
+}
