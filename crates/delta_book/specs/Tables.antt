@@ -32,6 +32,10 @@ pub record AreCells (cs : List CellView) (qs : List Accepted) : Type 0 where
   pub ids : map id_of cs ≡ series_in_order qs
   pub stand : AllStand cs qs
 
+-- the cells of some points
+abbrev pub AreSome : List CellView → Type 0
+AreSome cs = (qs : List Accepted) × AreCells cs qs
+
 -- the cells of some legal history
 abbrev pub AreBooked : List CellView → Type 0
 AreBooked cs = (E : History) × (IsLegal E × AreCells cs (points E))

@@ -135,13 +135,6 @@ fn remove_one(cells: &mut Vec<Cell>, point: &Point, number: u64)
     }
 }
 
-/// Takes out the cells that stand for no point.
-pub fn sweep(cells: &mut Vec<Cell>)
-    ensures { (qs : List Accepted) → IsTable cells.old.items qs → AreCells cells.new.items qs }
-{
-    cells.retain(|cell| cell.frontier() != 0);
-}
-
 /// Takes the points of a batch out again.
 pub fn remove_batch(cells: &mut Vec<Cell>, batch: &[Point], number: u64)
     requires { RemovesAll cells.old.items number batch.now }
