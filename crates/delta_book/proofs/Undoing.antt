@@ -10,7 +10,7 @@ use Rattle.metric_events.specs.declared.batch.Batch.{Batch}
 use Rattle.metric_events.specs.declared.event.Event.TheVariants.{Admit, Take}
 use Rattle.metric_events.proofs.Lists.{all_append, all_weaker, any_append_right}
 use Rattle.metric_events.proofs.Invariants.{new_points}
-use Rattle.delta_book.specs.Refusals.{undo_refusal, confirm_refusal}
+use Rattle.delta_book.specs.Refusals.{undo_refusal}
 
 same : (b : ℕ) → (b == b) ≡ true
 same b = search (rules, tests)
@@ -38,9 +38,6 @@ is_now_home b body E new =
 
 pub can_be_undone : (b : ℕ) (body : Batch) (E : History) → IsNewBatch b E → undo_refusal (E ▸ Admit b body) b ≡ None
 can_be_undone b body E new = rw (is_now_open b body E, is_now_home b body E new) refl
-
-pub can_be_confirmed : (b : ℕ) (body : Batch) (E : History) → confirm_refusal (E ▸ Admit b body) b ≡ None
-can_be_confirmed b body E = rw (is_now_open b body E) refl
 
 pub is_now_live : (f : ℕ) (series : List Identity) (E : History) → is_live f (live_flushes (E ▸ Take f series)) ≡ true
 is_now_live f series E = any_append_right (λ l. l.number == f) (live_flushes E) (record { number = f; series = series } ∷ []) (rw (same f) refl)

@@ -32,6 +32,10 @@ pub record AreCells (cs : List CellView) (qs : List Accepted) : Type 0 where
   pub ids : map id_of cs ≡ series_in_order qs
   pub stand : AllStand cs qs
 
+-- the cells of some points
+abbrev pub AreSome : List CellView → Type 0
+AreSome cs = (qs : List Accepted) × AreCells cs qs
+
 -- the cells of some legal history
 abbrev pub AreBooked : List CellView → Type 0
 AreBooked cs = (E : History) × (IsLegal E × AreCells cs (points E))
@@ -111,7 +115,7 @@ pub record IsTable (cs : List CellView) (qs : List Accepted) : Type 0 where
 
 -- the point is one of those of the batch that are at home
 abbrev pub RemovesFrom : List CellView → ℕ → DataPoint → Type 0
-RemovesFrom cs b p = (s : List ℕ) × ((before : List Accepted) × ((after : List Accepted) × IsTable cs (before ++ admitted b s p ∷ after)))
+RemovesFrom cs b p = (s : List ℕ) × ((before : List Accepted) × ((after : List Accepted) × AreCells cs (before ++ admitted b s p ∷ after)))
 
 abbrev pub RemovesAll : List CellView → ℕ → List DataPoint → Type 0
 RemovesAll cs b ps = (s : List ℕ) × ((before : List Accepted) × ((after : List Accepted) × AreCells cs (before ++ (map (admitted b s) ps ++ after))))

@@ -122,28 +122,16 @@ pub fn is_all_home(cells: &[Cell], batch: &[Point], number: u64) -> bool
     true
 }
 
-fn remove_one(cells: &mut [Cell], point: &Point, number: u64)
-    requires { RemovesFrom cells.old number point.now }
-    ensures { (s : List ℕ) (before after : List Accepted) → IsTable cells.old (before ++ admitted number s point.now ∷ after) → IsTable cells.new (before ++ after) }
+/// Takes a point out again, and its cell with the last one.
+fn remove_one(cells: &mut Vec<Cell>, point: &Point, number: u64)
+    requires { RemovesFrom cells.old.items number point.now }
+    ensures { (s : List ℕ) (before after : List Accepted) → AreCells cells.old.items (before ++ admitted number s point.now ∷ after) → AreCells cells.new.items (before ++ after) }
 {
     if let Some(i) = find_cell(cells, point.series()) {
         cells[i].remove(number, point);
-    }
-}
-
-/// Takes out the cells that stand for no point.
-pub fn sweep(cells: &mut Vec<Cell>)
-    ensures { (qs : List Accepted) → IsTable cells.old.items qs → AreCells cells.new.items qs }
-{
-    cells.retain(|cell| cell.frontier() != 0);
-}
-
-fn remove_points(cells: &mut [Cell], batch: &[Point], number: u64)
-    requires { RemovesAll cells.old number batch.now }
-    ensures { (s : List ℕ) (before after : List Accepted) → AreCells cells.old (before ++ (map (admitted number s) batch.now ++ after)) → IsTable cells.new (before ++ after) }
-{
-    for p in batch {
-        remove_one(cells, p, number);
+        if cells[i].frontier() == 0 {
+            cells.remove(i);
+        }
     }
 }
 
@@ -152,6 +140,7 @@ pub fn remove_batch(cells: &mut Vec<Cell>, batch: &[Point], number: u64)
     requires { RemovesAll cells.old.items number batch.now }
     ensures { (s : List ℕ) (before after : List Accepted) → AreCells cells.old.items (before ++ (map (admitted number s) batch.now ++ after)) → AreCells cells.new.items (before ++ after) }
 {
-    remove_points(cells, batch, number);
-    sweep(cells);
+    for p in batch {
+        remove_one(cells, p, number);
+    }
 }
