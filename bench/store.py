@@ -52,25 +52,31 @@ def seconds(program, lines):
     return usage.ru_utime + usage.ru_stime
 
 
+def each_of(program, before, calls):
+    """The processor time of one of these calls, made behind others."""
+    taken = seconds(program, before + calls) - seconds(program, before)
+    return f"{taken / len(calls) * 1e3:.1f} ms"
+
+
 def main():
     program = sys.argv[1] if len(sys.argv) > 1 else "bin/play"
     for series in SERIES:
-        before = filled(series)
-        base = seconds(program, before)
         admits = [thousand(series, time) for time in range(TIMES)]
-        each = (seconds(program, before + admits) - base) / TIMES
-        print(f"{series} series: an admit of {BATCH} points {each * 1e3:.1f} ms")
+        told = each_of(program, filled(series), admits)
+        print(f"{series} series: an admit of {BATCH} points {told}")
     before = filled(10_000)
-    base = seconds(program, before)
-    flushes = [line for f in range(1, TIMES + 1) for line in ("take 1000", f"back {f}")]
-    each = (seconds(program, before + flushes) - base) / TIMES
-    print(f"10000 series: take and back of 1000 series {each * 1e3:.1f} ms")
-    undos = []
-    for time in range(TIMES):
-        undos += [thousand(10_000, time), f"undo {len(before) + 1 + time}"]
-    each = (seconds(program, before + undos) - base) / TIMES
-    print(f"10000 series: admit and undo of 1000 points of as many series {each * 1e3:.1f} ms")
-    print(f"one batch of 10000 points of as many series {seconds(program, [admit(0, 10_000, 1)]):.2f} s")
+    first = len(before) + 1
+    admits = [thousand(10_000, time) for time in range(TIMES)]
+    undos = [f"undo {first + time}" for time in reversed(range(TIMES))]
+    takes = [f"take {BATCH}"] * TIMES
+    backs = [f"back {flush}" for flush in range(1, TIMES + 1)]
+    late = ["admit A " + " ".join(f"s{name:05} 1 2 1" for name in range(BATCH))] * TIMES
+    print(f"10000 series: an undo of {BATCH} points {each_of(program, before + admits, undos)}")
+    print(f"10000 series: a take of {BATCH} series {each_of(program, before, takes)}")
+    print(f"10000 series: a return of {BATCH} series {each_of(program, before + takes, backs)}")
+    print(f"10000 series: a refused batch of {BATCH} points {each_of(program, before, late)}")
+    whole = seconds(program, [admit(0, 10_000, 1)])
+    print(f"one batch of 10000 points of as many series {whole:.2f} s")
 
 
 if __name__ == "__main__":
