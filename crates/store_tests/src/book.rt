@@ -7,6 +7,7 @@ use crate::call::Call::{
     Settle, Single, Take, Undo,
 };
 use crate::call::{Call, admitted, run};
+use crate::look;
 use delta_book::book::Book;
 use delta_book::faults::{
     AdmitFault, NotLive, NotOpen, NotQuarantined, QuarantineFault, RoundFault, TakeFault, UndoFault,
@@ -68,7 +69,7 @@ fn expect_first_sender(rt: &impl Abort, name: &SenderName) {
 }
 
 fn expect_row(rt: &impl Abort, row: &Row, words: [u64; 3]) {
-    assert_eq!(rt; row.as_slice(), words.as_slice());
+    look::words(rt, row.as_slice(), &words, "of a series");
 }
 
 /// What the totals show after all that.
@@ -78,22 +79,18 @@ fn expect_totals(rt: &impl Abort, totals: &[SeriesTotals]) {
     expect_row(rt, &totals[0].acknowledged, [1, 1, 0]);
     expect_row(rt, &totals[0].stored, [0, 0, 0]);
     expect_row(rt, &totals[1].dropped, [1, 1, 0]);
-    assert_eq!(rt; totals[1].frontier, 2);
+    look::number(rt, totals[1].frontier, 2, "frontier");
     expect_first_sender(rt, &totals[1].owner);
-}
-
-fn expect_words(rt: &impl Abort, row: &[u64], words: [u64; 3]) {
-    assert_eq!(rt; row, words.as_slice());
 }
 
 /// The cells say the same: the batch that was undone left none, and nothing is away or at home.
 fn expect_cells(rt: &impl Abort, cells: &[Cell]) {
     assert_eq!(rt; cells.len(), 2);
-    expect_words(rt, cells[0].acknowledged(), [1, 1, 0]);
-    expect_words(rt, cells[0].stored(), [0, 0, 0]);
-    expect_words(rt, cells[1].accepted(), [1, 1, 0]);
-    expect_words(rt, cells[1].dropped(), [1, 1, 0]);
-    assert_eq!(rt; cells[1].frontier(), 2);
+    look::words(rt, cells[0].acknowledged(), &[1, 1, 0], "acknowledged");
+    look::words(rt, cells[0].stored(), &[0, 0, 0], "stored");
+    look::words(rt, cells[1].accepted(), &[1, 1, 0], "accepted");
+    look::words(rt, cells[1].dropped(), &[1, 1, 0], "dropped");
+    look::number(rt, cells[1].frontier(), 2, "frontier");
     expect_first_sender(rt, cells[1].owner());
 }
 
@@ -116,9 +113,8 @@ fn run_anew(rt: &impl Abort, alloc: Global, calls: &[Call]) -> Result<(), Fail> 
 
 /// The point has this row, and covers 10 to this end.
 fn expect_point(rt: &impl Abort, point: &FlushPoint, row: &[u64], start: u64, end: u64) {
-    assert_eq!(rt; point.row(), row);
-    let span = point.span();
-    assert_eq!(rt; (span.start(), span.end()), (start, end));
+    look::words(rt, point.row(), row, "of a point");
+    look::ends(rt, point.span(), (start, end));
 }
 
 /// One point of each kind's series, each over all of its time.
@@ -239,7 +235,7 @@ fn expect_opened(rt: &impl Abort, totals: &[SeriesTotals]) {
     assert_eq!(rt; totals.len(), 1);
     expect_row(rt, &totals[0].accepted, [0, 0, 0]);
     expect_first_sender(rt, &totals[0].owner);
-    assert_eq!(rt; totals[0].frontier, 20);
+    look::number(rt, totals[0].frontier, 20, "frontier");
 }
 
 fn expect_wide(rt: &impl Abort, row: &[u128], words: [u128; 3]) {
@@ -275,7 +271,7 @@ const THIRD_ROUND: &[Call] = &[
 
 /// What was at home goes out with what came.
 fn expect_both(rt: &impl Abort, flush: &Flush) {
-    assert_eq!(rt; flush.number, 3);
+    look::number(rt, flush.number, 3, "flush");
     let sent = flush.points.as_slice();
     assert_eq!(rt; sent.len(), 1);
     expect_point(rt, &sent[0], &[2, 9, 0], 20, 40);
@@ -359,7 +355,7 @@ fn expect_owners(
     owners: usize,
 ) {
     assert_eq!(rt; admitted(rt, book, body), Ok(number));
-    assert_eq!(rt; shared.owners(), owners);
+    look::count(rt, shared.owners(), owners, "owners");
 }
 
 // What is kept of a batch shares the identity of its cell: the point of its entry; and so does a
@@ -377,7 +373,7 @@ fn known_series_are_kept_once(rt: HostRuntime) -> Result<(), Fail> {
     let second = batch_of(alloc, series(alloc, 1, falling())?, 2)?;
     expect_owners(&rt, &mut book, second, 2, &shared, 4);
     let flush = book.take(7, 1)?.ok_or("nothing was taken")?;
-    assert_eq!(rt; flush.points.as_slice().len(), 1);
-    assert_eq!(rt; shared.owners(), 6);
+    look::count(&rt, flush.points.as_slice().len(), 1, "points");
+    look::count(&rt, shared.owners(), 6, "owners");
     Ok(())
 }

@@ -6,6 +6,7 @@ ghost use Rattle.metric_events.specs.Points.{admitted};
 ghost use Rattle.metric_events.specs.declared.accepted.Accepted.{Accepted};
 ghost use Rattle.series_cell.specs.Cells.{Stands, IsOfSame};
 
+use crate::look;
 use bucket_lanes::{fits, is_zero, total};
 use metric_events::point::Point;
 use metric_events::sender_name::SenderName;
@@ -92,17 +93,13 @@ fn put(rt: &impl Abort, cell: &mut Cell, point: &Point, batch: u64)
     assert!(rt; put.is_ok(), "memory");
 }
 
-fn expect_row(rt: &impl Abort, row: &[u64], want: &[u64], name: &str) {
-    assert_eq!(rt; row, want, "{name}");
-}
-
 /// The five rows are these: accepted, stored, in flight, acknowledged, dropped.
 fn expect_rows(rt: &impl Abort, cell: &Cell, rows: [[u64; 3]; 5]) {
-    expect_row(rt, cell.accepted(), &rows[0], "accepted");
-    expect_row(rt, cell.stored(), &rows[1], "stored");
-    expect_row(rt, cell.in_flight(), &rows[2], "in flight");
-    expect_row(rt, cell.acknowledged(), &rows[3], "acknowledged");
-    expect_row(rt, cell.dropped(), &rows[4], "dropped");
+    look::words(rt, cell.accepted(), &rows[0], "accepted");
+    look::words(rt, cell.stored(), &rows[1], "stored");
+    look::words(rt, cell.in_flight(), &rows[2], "in flight");
+    look::words(rt, cell.acknowledged(), &rows[3], "acknowledged");
+    look::words(rt, cell.dropped(), &rows[4], "dropped");
 }
 
 /// A span is from this start to that end, or there is none.
@@ -189,7 +186,7 @@ fn land_twice(rt: &impl Abort, cell: &mut Cell, points: [&Point; 4]) {
         cell,
         [[4, 20, 1], [2, 12, 1], [0, 0, 0], [1, 5, 0], [1, 3, 0]],
     );
-    assert_eq!(rt; cell.frontier(), 60);
+    look::number(rt, cell.frontier(), 60, "frontier");
 }
 
 /// The next round begins with what is at home, and the one after it with nothing.
@@ -201,13 +198,13 @@ fn carry_twice(rt: &impl Abort, cell: &mut Cell) {
         [[2, 12, 1], [2, 12, 1], [0, 0, 0], [0, 0, 0], [0, 0, 0]],
     );
     expect_span(rt, cell.stored_span(), Some((30, 60)));
-    assert_eq!(rt; cell.frontier(), 60);
+    look::number(rt, cell.frontier(), 60, "frontier");
     lift(rt, cell, 3);
     cell.acknowledge();
     carry(rt, cell);
     expect_rows(rt, cell, [[0, 0, 0]; 5]);
-    assert!(rt; !cell.has_stored());
-    assert_eq!(rt; cell.frontier(), 60);
+    look::holds(rt, !cell.has_stored(), "nothing is at home");
+    look::number(rt, cell.frontier(), 60, "frontier");
 }
 
 #[test]
@@ -255,10 +252,10 @@ fn move_rows(rt: &impl Abort, cell: &mut Cell, first: &Point, second: &Point) {
     bring(rt, cell, second, 1);
     expect_ends(rt, cell.stored(), 2);
     lift(rt, cell, 1);
-    assert!(rt; is_zero(cell.stored()));
+    look::holds(rt, is_zero(cell.stored()), "nothing is at home");
     expect_ends(rt, cell.in_flight(), 2);
     cell.discard();
-    assert!(rt; is_zero(cell.in_flight()));
+    look::holds(rt, is_zero(cell.in_flight()), "nothing is in flight");
     expect_ends(rt, cell.dropped(), 2);
     expect_ends(rt, cell.accepted(), 2);
 }

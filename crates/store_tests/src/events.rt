@@ -1,6 +1,7 @@
 ghost use Rattle.std.specs.Prelude.{◌≡◌};
 ghost use Rattle.metric_events.specs.PointFaults.{IsHistogram, IsSum};
 
+use crate::look;
 use metric_events::batch::Batch;
 use metric_events::laws::striking;
 use metric_events::merged_point::MergedPoint;
@@ -51,10 +52,9 @@ fn sum(rt: &impl Abort, alloc: Global, start: u64, end: u64, value: i64) -> Poin
 
 /// The point is of the series `x`, covers 10 to 20, and has this row.
 fn expect_row(rt: &impl Abort, point: &Point, row: &[u64]) {
-    assert_eq!(rt; point.row(), row);
-    let span = point.span();
-    assert_eq!(rt; (span.start(), span.end()), (10, 20));
-    assert_eq!(rt; point.series().name().as_str(), "x");
+    look::words(rt, point.row(), row, "of a sum");
+    look::ends(rt, point.span(), (10, 20));
+    look::text(rt, point.series().name().as_str(), "x");
 }
 
 /// A sum's point with this value is refused like this, or not at all.
@@ -108,7 +108,7 @@ fn expect_buckets(
     row: &[u64],
 ) {
     let point = histogram(rt, alloc, bounds, 10, count, sum, buckets).expect(rt, "a point");
-    assert_eq!(rt; point.row(), row, "of {count}");
+    look::words(rt, point.row(), row, "of a histogram");
 }
 
 /// The bytes are refused as a sender's name like this, or not at all.
@@ -136,16 +136,15 @@ fn expect_remade(rt: &impl Abort, alloc: Global, point: &Point, row: &[u64]) {
     let series = merged.series().copy(alloc).expect(rt, "memory");
     let words = merged.row().to_vec(alloc).expect(rt, "memory");
     let remade = MergedPoint::new(series, merged.span(), Row::new(words));
-    assert_eq!(rt; remade.row(), row);
+    look::words(rt, remade.row(), row, "of its parts");
     expect_same(rt, point, &remade);
 }
 
 /// The spans follow each other in this order, and together cover 10 to 30.
 fn expect_order(rt: &impl Abort, early: Span, later: Span) {
-    let order = (early.precedes(&later), later.precedes(&early));
-    assert_eq!(rt; order, (true, false));
-    let hull = later.hull(&early);
-    assert_eq!(rt; (hull.start(), hull.end()), (10, 30));
+    look::holds(rt, early.precedes(&later), "the earlier comes first");
+    look::holds(rt, !later.precedes(&early), "the later does not");
+    look::ends(rt, later.hull(&early), (10, 30));
 }
 
 #[test]
@@ -194,8 +193,8 @@ fn copies_of_names(rt: HostRuntime) {
     let other = SenderName::new(alloc, b"shopA").expect(&rt, "a name");
     let copy = name.copy(alloc).expect(&rt, "memory");
     assert_eq!(rt; copy.as_bytes(), b"shop".as_slice());
-    assert!(rt; name.is_same(&copy));
-    assert!(rt; !name.is_same(&other));
+    look::holds(&rt, name.is_same(&copy), "the same name");
+    look::holds(&rt, !name.is_same(&other), "another name");
 }
 
 #[test]
@@ -321,12 +320,12 @@ fn shop_batch(rt: &impl Abort, alloc: Global, values: &[i64]) -> Batch {
 
 /// The second batch of two points has all that the first has.
 fn expect_copy(rt: &impl Abort, batch: &Batch, copy: &Batch) {
-    assert!(rt; copy.sender.is_same(&batch.sender));
-    assert_eq!(rt; copy.points.as_slice().len(), 2);
+    look::holds(rt, copy.sender.is_same(&batch.sender), "the same sender");
+    look::count(rt, copy.points.as_slice().len(), 2, "points");
     for (mine, its) in batch.points.as_slice().iter().zip(copy.points.as_slice()) {
         expect_same(rt, mine, its.as_merged());
     }
-    assert!(rt; batch.is_same(copy));
+    look::holds(rt, batch.is_same(copy), "the same batch");
 }
 
 #[test]
@@ -335,7 +334,8 @@ fn copies_of_batches(rt: HostRuntime) {
     let batch = shop_batch(&rt, alloc, &[7, -3]);
     let copy = batch.copy(alloc).expect(&rt, "memory");
     expect_copy(&rt, &batch, &copy);
-    assert!(rt; !batch.is_same(&shop_batch(&rt, alloc, &[8])));
+    let other = shop_batch(&rt, alloc, &[8]);
+    look::holds(&rt, !batch.is_same(&other), "another batch");
 }
 
 #[test]
@@ -347,7 +347,7 @@ fn copies_of_lists(rt: HostRuntime) {
         .expect(&rt, "memory");
     let list = SeriesList::new(list);
     let copy = list.copy(alloc).expect(&rt, "memory");
-    assert_eq!(rt; copy.as_slice().len(), 1);
+    look::count(&rt, copy.as_slice().len(), 1, "series");
 }
 
 #[test]
@@ -356,7 +356,7 @@ fn copies_of_rows(rt: HostRuntime) {
     let words = [1, 2, 3].to_vec(alloc).expect(&rt, "memory");
     let row = Row::new(words);
     let copy = row.copy(alloc).expect(&rt, "memory");
-    assert_eq!(rt; copy.as_slice(), [1, 2, 3].as_slice());
+    look::words(&rt, copy.as_slice(), &[1, 2, 3], "of a copy");
 }
 
 #[test]
@@ -364,9 +364,9 @@ fn copies_of_points(rt: HostRuntime) {
     let alloc = rt.alloc();
     let point = sum(&rt, alloc, 10, 20, 7);
     let copy = point.copy(alloc).expect(&rt, "memory");
-    assert!(rt; point.is_same(&copy));
+    look::holds(&rt, point.is_same(&copy), "the same point");
     let other = sum(&rt, alloc, 10, 20, -7);
-    assert!(rt; !point.is_same(&other));
+    look::holds(&rt, !point.is_same(&other), "another point");
 }
 
 #[test]
@@ -381,13 +381,14 @@ fn points_of_parts(rt: HostRuntime) {
 fn shared_series(rt: &impl Abort, alloc: Global, monotonic: bool) -> SeriesId {
     let series = series(rt, alloc, Kind::Sum { monotonic });
     let shared = series.share(alloc).expect(rt, "memory");
-    assert_eq!(rt; shared.owners(), 1);
+    look::count(rt, shared.owners(), 1, "owners");
     shared
 }
 
 /// So many own the identity that is adopted, and the other one is owned once.
 fn expect_owners(rt: &impl Abort, shared: &SeriesId, other: &SeriesId, owners: usize) {
-    assert_eq!(rt; (shared.owners(), other.owners()), (owners, 1));
+    look::count(rt, shared.owners(), owners, "owners");
+    look::count(rt, other.owners(), 1, "owners of the other");
 }
 
 #[test]
@@ -410,5 +411,5 @@ fn points_adopt_equal_identities(rt: HostRuntime) {
     expect_owners(&rt, &shared, &other, 3);
     let copy = points.copy(alloc).expect(&rt, "memory");
     expect_owners(&rt, &shared, &other, 4);
-    assert!(rt; copy.is_same(&points));
+    look::holds(&rt, copy.is_same(&points), "the same points");
 }

@@ -16,4 +16,6 @@ mod events;
 #[cfg(test)]
 mod lanes;
 #[cfg(test)]
+mod look;
+#[cfg(test)]
 mod series;

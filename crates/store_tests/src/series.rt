@@ -1,3 +1,4 @@
+use crate::look;
 use series_id::limits::{MAX_ATTRIBUTES, MAX_BOUNDS, MAX_TEXT, MAX_VALUES};
 use series_id::{
     AttrFault, AttrSet, AttrValue, IdFault, Kind, KindFault, Scalar, Scalars, SeriesId, Text,
@@ -61,6 +62,10 @@ fn pair_fault(rt: &impl Abort, alloc: Global, key: Text, value: AttrValue) -> Op
         assert!(rt; false, "memory");
     }
     AttrSet::from_pairs(alloc, pairs).err()
+}
+
+fn check_fault(rt: &impl Abort, fault: Option<AttrFault>, want: Option<AttrFault>) {
+    assert_eq!(rt; fault, want);
 }
 
 /// The fault of these bounds.
@@ -188,9 +193,9 @@ fn bounds_are_checked_in_order(rt: HostRuntime) {
 fn sets_have_at_most_128_pairs(rt: HostRuntime) {
     let alloc = rt.alloc();
     let fault = AttrSet::from_pairs(alloc, pairs(&rt, alloc, 129)).err();
-    assert_eq!(rt; fault, Some(AttrFault::TooMany));
+    check_fault(&rt, fault, Some(AttrFault::TooMany));
     let set = AttrSet::from_pairs(alloc, pairs(&rt, alloc, 128)).expect(&rt, "a set");
-    assert_eq!(rt; set.pairs().len(), MAX_ATTRIBUTES);
+    look::count(&rt, set.pairs().len(), MAX_ATTRIBUTES, "pairs");
 }
 
 #[test]
@@ -202,14 +207,14 @@ fn lists_have_at_most_128_values(rt: HostRuntime) {
         long_text(&rt, alloc, 4097),
         empties(&rt, alloc, 129),
     );
-    assert_eq!(rt; fault, Some(AttrFault::TooMany));
+    check_fault(&rt, fault, Some(AttrFault::TooMany));
     let fault = pair_fault(
         &rt,
         alloc,
         text(&rt, alloc, "k"),
         empties(&rt, alloc, MAX_VALUES),
     );
-    assert_eq!(rt; fault, None);
+    check_fault(&rt, fault, None);
 }
 
 #[test]
@@ -222,7 +227,7 @@ fn texts_of_attributes_are_short(rt: HostRuntime) {
     ] {
         let value = AttrValue::One(Scalar::Text(long_text(&rt, alloc, value)));
         let got = pair_fault(&rt, alloc, long_text(&rt, alloc, key), value);
-        assert_eq!(rt; got, fault);
+        check_fault(&rt, got, fault);
     }
 }
 
@@ -231,14 +236,14 @@ fn keys_stand_once(rt: HostRuntime) {
     let alloc = rt.alloc();
     let pairs = listed(&rt, alloc, &[("a", "x"), ("b", "x"), ("a", "y")]);
     let fault = AttrSet::from_pairs(alloc, pairs).err();
-    assert_eq!(rt; fault, Some(AttrFault::DuplicateKey));
+    check_fault(&rt, fault, Some(AttrFault::DuplicateKey));
 }
 
 /// A series with these attributes has two of them, of which the first has the key `a`.
 fn ordered(rt: &impl Abort, alloc: Global, texts: &[(&str, &str)]) -> SeriesId {
     let set = set_of(rt, alloc, texts);
     assert_eq!(rt; set.pairs().len(), 2);
-    assert_eq!(rt; set.pairs()[0].key.as_str(), "a");
+    look::text(rt, set.pairs()[0].key.as_str(), "a");
     plain_series(rt, alloc, set, Kind::Sum { monotonic: true })
 }
 
@@ -247,7 +252,7 @@ fn attribute_order_means_nothing(rt: HostRuntime) {
     let alloc = rt.alloc();
     let one = ordered(&rt, alloc, &[("b", "1"), ("a", "x")]);
     let other = ordered(&rt, alloc, &[("a", "x"), ("b", "1")]);
-    assert!(rt; one.is_same(&other));
+    look::holds(&rt, one.is_same(&other), "the same series");
 }
 
 /// Looks at the order of series that are to ascend.
@@ -314,7 +319,7 @@ fn check_order(rt: &impl Abort, first: &SeriesId, second: &SeriesId) {
         second.is_before(first),
     );
     assert_eq!(rt; order, (Ordering::Less, true, false));
-    assert!(rt; first != second);
+    look::holds(rt, first != second, "two series");
 }
 
 #[test]
@@ -333,16 +338,12 @@ fn names_come_before_kinds(rt: HostRuntime) {
     check_order(&rt, &first, &second);
 }
 
-fn check_text(rt: &impl Abort, text: &Text, want: &str) {
-    assert_eq!(rt; text.as_str(), want);
-}
-
 /// Looks at the texts of `series`.
 fn check_texts(rt: &impl Abort, id: &SeriesId) {
-    check_text(rt, id.scope_name(), "lib");
+    look::text(rt, id.scope_name().as_str(), "lib");
     assert_eq!(rt; id.scope_version().as_bytes(), b"2.1".as_slice());
-    check_text(rt, id.name(), "requests");
-    check_text(rt, id.unit(), "By");
+    look::text(rt, id.name().as_str(), "requests");
+    look::text(rt, id.unit().as_str(), "By");
 }
 
 /// Looks at the sets of `series`.
@@ -362,7 +363,7 @@ fn copies_are_the_same_series(rt: HostRuntime) {
         histogram(&rt, alloc, &[0, 5, 10]),
     );
     let copy = id.copy(alloc).expect(&rt, "memory");
-    assert!(rt; copy.is_same(&id));
+    look::holds(&rt, copy.is_same(&id), "the same series");
     check_texts(&rt, &copy);
     check_sets(&rt, &copy);
 }
@@ -371,7 +372,7 @@ fn copies_are_the_same_series(rt: HostRuntime) {
 fn rows_fit_their_kind(rt: HostRuntime) {
     let alloc = rt.alloc();
     let sum = series(&rt, alloc, "h1", "requests", Kind::Sum { monotonic: true });
-    assert_eq!(rt; sum.row_len(), 3);
+    look::count(&rt, sum.row_len(), 3, "words of a sum");
     let histogram = series(
         &rt,
         alloc,
@@ -379,8 +380,8 @@ fn rows_fit_their_kind(rt: HostRuntime) {
         "requests",
         histogram(&rt, alloc, &[0, 5, 10]),
     );
-    assert_eq!(rt; histogram.row_len(), 7);
-    assert!(rt; sum.is_before(&histogram));
+    look::count(&rt, histogram.row_len(), 7, "words of a histogram");
+    look::holds(&rt, sum.is_before(&histogram), "sums come first");
 }
 
 #[test]
@@ -435,7 +436,7 @@ fn sets_share_their_pairs(rt: HostRuntime) {
 fn an_identity_alone_is_copied_once(rt: HostRuntime) {
     let alloc = rt.alloc();
     let own = series(&rt, alloc, "h1", "requests", Kind::Sum { monotonic: true });
-    assert!(rt; own.shared_copy().is_none());
+    look::holds(&rt, own.shared_copy().is_none(), "not shared");
     let copy = own.copy(alloc).expect(&rt, "memory");
     check_owners(&rt, &own, 1, 2);
     let again = copy.copy(alloc).expect(&rt, "memory");
@@ -455,7 +456,7 @@ fn shared_identities_are_one(rt: HostRuntime) {
     check_owners(&rt, &copy, 2, 1);
     let twice = shared.share(alloc).ok().expect(&rt, "memory");
     check_owners(&rt, &twice, 2, 1);
-    assert!(rt; twice.is_same(&copy));
+    look::holds(&rt, twice.is_same(&copy), "the same series");
     check_texts(&rt, &twice);
 }
 

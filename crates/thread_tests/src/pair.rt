@@ -1,13 +1,18 @@
-//! A book that two seats share, and its end.
+//! A book that two seats share, what they bring, and its end.
 ghost use Rattle.std.specs.Prelude.{◌≡◌};
 
+use crate::bodies::{admitted, four_bodies};
 use delta_book::book::Book;
+use metric_events::batch::Batch;
 use shared_book::audit::Audit;
 use shared_book::seat::Seat;
 use shared_book::shared::SharedBook;
 use std::alloc::Global;
+use std::process::Abort;
+use std::sync::Wait;
 use std::sync::ledger::{Blank, Ledger};
 use std::test::Fail;
+use std::thread::{Threads, join};
 
 /// Two seats of a book of their own.
 pub fn two_seats<L: Ledger>(
@@ -27,8 +32,16 @@ pub fn two_seats<L: Ledger>(
     Ok((shared, first, second))
 }
 
+/// The book and its audit with all seats.
+pub fn ended<L: Ledger>(shared: SharedBook<L>, seats: Vec<Seat<L>>) -> Result<(Book, Audit), Fail> {
+    match shared.finish(seats) {
+        Ok(ended) => Ok(ended),
+        Err(_) => Err(Fail::from("the audit failed")),
+    }
+}
+
 /// The book and its audit with both seats.
-pub fn ended<L: Ledger>(
+pub fn both_ended<L: Ledger>(
     alloc: Global,
     shared: SharedBook<L>,
     seats: (Seat<L>, Seat<L>),
@@ -36,8 +49,61 @@ pub fn ended<L: Ledger>(
     let mut list = Vec::new(alloc);
     list.push(seats.0)?;
     list.push(seats.1)?;
-    match shared.finish(list) {
-        Ok(ended) => Ok(ended),
-        Err(_) => Err(Fail::from("the audit failed")),
+    ended(shared, list)
+}
+
+/// What becomes of a batch once it is admitted.
+#[derive(Clone, Copy)]
+pub enum Then {
+    Leave,
+    Confirm,
+}
+
+fn bring<L: Ledger, R: Wait + Abort>(
+    rt: &R,
+    shared: &SharedBook<L>,
+    seat: &mut Seat<L>,
+    body: Batch,
+    then: Then,
+) {
+    match (admitted(rt, shared, seat, body), then) {
+        (Ok(number), Then::Confirm) => {
+            assert_eq!(rt; shared.confirm(rt, seat, number), Ok(()));
+        }
+        (Ok(_), Then::Leave) => {}
+        (Err(fault), _) => assert_eq!(rt; Some(fault), None),
     }
+}
+
+/// The seat, once all batches are admitted from it.
+fn bring_all<L: Ledger, R: Wait + Abort>(
+    rt: &R,
+    shared: &SharedBook<L>,
+    seat: Seat<L>,
+    bodies: Vec<Batch>,
+    then: Then,
+) -> Seat<L> {
+    let mut seat = seat;
+    for body in bodies {
+        bring(rt, shared, &mut seat, body, then);
+    }
+    seat
+}
+
+/// Both seats, once four batches are admitted from each, in a thread of its own.
+pub fn bring_from_both<L: Ledger + Send + Sync, R: Threads + Wait + Abort + Sync>(
+    rt: &R,
+    alloc: Global,
+    shared: &SharedBook<L>,
+    seats: (Seat<L>, Seat<L>),
+    then: Then,
+) -> Result<(Seat<L>, Seat<L>), Fail> {
+    let (zero, one) = seats;
+    let of_a = four_bodies(alloc, "a")?;
+    let of_b = four_bodies(alloc, "b")?;
+    Ok(join(
+        rt,
+        || bring_all(rt, shared, zero, of_a, then),
+        || bring_all(rt, shared, one, of_b, then),
+    ))
 }

@@ -1,10 +1,8 @@
 //! A round is shared by two threads, and the next one goes on with its book.
 ghost use Rattle.std.specs.Prelude.{◌≡◌, [], IfOk};
 
-use crate::bodies::{admitted, four_bodies};
-use crate::pair::{ended, two_seats};
+use crate::pair::{Then, both_ended, bring_from_both, ended, two_seats};
 use delta_book::book::Book;
-use metric_events::batch::Batch;
 use shared_book::audit::Audit;
 use shared_book::seat::Seat;
 use shared_book::shared::SharedBook;
@@ -14,24 +12,7 @@ use std::process::Abort;
 use std::sync::Wait;
 use std::sync::ledger::{Blank, Ledger};
 use std::test::Fail;
-use std::thread::{Threads, join};
-
-/// The seat, once all batches are admitted and confirmed from it.
-fn confirm_all<L: Ledger, R: Wait + Abort>(
-    rt: &R,
-    shared: &SharedBook<L>,
-    seat: Seat<L>,
-    bodies: Vec<Batch>,
-) -> Seat<L> {
-    let mut seat = seat;
-    for body in bodies {
-        match admitted(rt, shared, &mut seat, body) {
-            Ok(number) => assert_eq!(rt; shared.confirm(rt, &mut seat, number), Ok(())),
-            Err(fault) => assert_eq!(rt; Some(fault), None),
-        }
-    }
-    seat
-}
+use std::thread::Threads;
 
 fn first_round<L: Ledger + Send + Sync, R: Threads + Wait + Abort + Sync>(
     rt: &R,
@@ -43,14 +24,8 @@ fn first_round<L: Ledger + Send + Sync, R: Threads + Wait + Abort + Sync>(
     requires parts { blank.parts ≡ 2 }
 {
     let (shared, zero, one) = two_seats::<L>(alloc, blank)?;
-    let of_a = four_bodies(alloc, "a")?;
-    let of_b = four_bodies(alloc, "b")?;
-    let seats = join(
-        rt,
-        || confirm_all(rt, &shared, zero, of_a),
-        || confirm_all(rt, &shared, one, of_b),
-    );
-    let (book, audit) = ended(alloc, shared, seats)?;
+    let seats = bring_from_both(rt, alloc, &shared, (zero, one), Then::Confirm)?;
+    let (book, audit) = both_ended(alloc, shared, seats)?;
     let wanted = Audit {
         events: 16,
         admitted: 8,
@@ -91,9 +66,7 @@ fn second_round<L: Ledger, R: Wait + Abort>(
     let mut seat = seats.pop().ok_or("no seat")?;
     take_and_settle(rt, &shared, &mut seat)?;
     seats.push(seat)?;
-    let Ok((book, audit)) = shared.finish(seats) else {
-        return Err(Fail::from("the second audit failed"));
-    };
+    let (book, audit) = ended(shared, seats)?;
     assert_eq!(rt;
         audit,
         Audit {

@@ -7,12 +7,12 @@ use crate::call::Call::{
     Admit, Confirm, DropFlush, GiveBack, Lift, Quarantine, Rows, Series, Settle, Take, Undo,
 };
 use crate::call::{Call, run};
+use crate::pair::ended;
 use delta_book::book::Book;
 use delta_book::faults::{
     AdmitFault, NotLive, NotOpen, NotQuarantined, QuarantineFault, UndoFault,
 };
 use shared_book::audit::Audit;
-use shared_book::seat::Seat;
 use shared_book::shared::SharedBook;
 use std::alloc::Global;
 use std::marker::Brand;
@@ -22,20 +22,6 @@ use std::sync::ledger::{Blank, Ledger};
 use std::test::Fail;
 
 const NOTHING: [u64; 3] = [0, 0, 0];
-
-/// The audit with this one seat.
-fn ended<L: Ledger>(
-    shared: SharedBook<L>,
-    seats: Vec<Seat<L>>,
-    seat: Seat<L>,
-) -> Result<Audit, Fail> {
-    let mut seats = seats;
-    seats.push(seat)?;
-    match shared.finish(seats) {
-        Ok((_, audit)) => Ok(audit),
-        Err(_) => Err(Fail::from("the audit failed")),
-    }
-}
 
 /// Makes the calls from the one seat of a book, whose audit finds this at the end.
 fn one_seat<L: Ledger, R: Wait + Abort>(
@@ -55,7 +41,9 @@ fn one_seat<L: Ledger, R: Wait + Abort>(
     let mut seats = seats;
     let mut seat = seats.pop().ok_or("no seat")?;
     run(rt, alloc, &shared, &mut seat, calls)?;
-    assert_eq!(rt; ended(shared, seats, seat)?, wanted);
+    seats.push(seat)?;
+    let (_, audit) = ended(shared, seats)?;
+    assert_eq!(rt; audit, wanted);
     Ok(())
 }
 

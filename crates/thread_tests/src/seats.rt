@@ -1,10 +1,8 @@
 //! Two seats in two threads.
 ghost use Rattle.std.specs.Prelude.{◌≡◌};
 
-use crate::bodies::{admitted, four_bodies};
-use crate::pair::{ended, two_seats};
+use crate::pair::{Then, both_ended, bring_from_both, two_seats};
 use delta_book::book::Book;
-use metric_events::batch::Batch;
 use shared_book::audit::Audit;
 use shared_book::audit_fault::AuditFault;
 use shared_book::event_kind::EventKind;
@@ -16,24 +14,14 @@ use std::process::Abort;
 use std::sync::Wait;
 use std::sync::ledger::{Blank, Ledger};
 use std::test::Fail;
-use std::thread::{Threads, join};
+use std::thread::Threads;
 
-/// The seat, once all batches are admitted from it.
-fn admit_all<L: Ledger, R: Wait + Abort>(
-    rt: &R,
-    shared: &SharedBook<L>,
-    seat: Seat<L>,
-    bodies: Vec<Batch>,
-) -> Seat<L> {
-    let mut seat = seat;
-    for body in bodies {
-        assert!(rt; admitted(rt, shared, &mut seat, body).is_ok());
-    }
+/// The seat was told of admissions alone, each with its batch.
+fn expect_admissions<L: Ledger>(rt: &impl Abort, seat: &Seat<L>) {
     for receipt in seat.receipts() {
         assert!(rt; receipt.kind == EventKind::Admit);
         assert!(rt; receipt.body.is_some());
     }
-    seat
 }
 
 /// Without one seat there is no end; with both there is.
@@ -49,7 +37,7 @@ fn ends_with_both<L: Ledger>(
     let (fault, shared, mut seats) = shared.finish(seats).err().ok_or("ended without a seat")?;
     assert_eq!(rt; (fault, seats.len()), (AuditFault::SeatOut, 1));
     let one = seats.pop().ok_or("no seat")?;
-    ended(alloc, shared, (one, zero))
+    both_ended(alloc, shared, (one, zero))
 }
 
 fn four_admissions<L: Ledger + Send + Sync, R: Threads + Wait + Abort + Sync>(
@@ -62,13 +50,9 @@ fn four_admissions<L: Ledger + Send + Sync, R: Threads + Wait + Abort + Sync>(
     requires parts { blank.parts ≡ 2 }
 {
     let (shared, zero, one) = two_seats::<L>(alloc, blank)?;
-    let of_a = four_bodies(alloc, "a")?;
-    let of_b = four_bodies(alloc, "b")?;
-    let (zero, one) = join(
-        rt,
-        || admit_all(rt, &shared, zero, of_a),
-        || admit_all(rt, &shared, one, of_b),
-    );
+    let (zero, one) = bring_from_both(rt, alloc, &shared, (zero, one), Then::Leave)?;
+    expect_admissions(rt, &zero);
+    expect_admissions(rt, &one);
     let (book, audit) = ends_with_both(rt, alloc, shared, zero, one)?;
     let wanted = Audit {
         events: 8,

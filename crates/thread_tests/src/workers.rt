@@ -2,7 +2,7 @@
 ghost use Rattle.std.specs.Prelude.{◌≡◌};
 
 use crate::held::{ACCEPTED, After, Fixed, Flags, Hold, Scripted, comes_up};
-use crate::pair::{ended, two_seats};
+use crate::pair::{both_ended, two_seats};
 use back_answers::{Act, Answer};
 use crossbeam_channel::{Receiver, Sender, bounded};
 use delta_book::book::Book;
@@ -48,7 +48,7 @@ fn audits<L: Ledger, R: Abort>(
     seats: (Seat<L>, Seat<L>),
     wanted: (u128, u128, u128),
 ) -> Result<(), Fail> {
-    let (_, audit) = ended(alloc, shared, seats)?;
+    let (_, audit) = both_ended(alloc, shared, seats)?;
     assert_eq!(rt; (audit.events, audit.admitted, audit.acknowledged), wanted);
     Ok(())
 }

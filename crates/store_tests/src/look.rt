@@ -1,0 +1,32 @@
+//! What tests look at: each of these ends a test that sees something else.
+
+use metric_events::span::Span;
+use std::process::Abort;
+
+pub fn holds(rt: &impl Abort, fact: bool, what: &str) {
+    assert!(rt; fact, "{what}");
+}
+
+/// So many of something.
+pub fn count(rt: &impl Abort, got: usize, want: usize, what: &str) {
+    assert_eq!(rt; got, want, "{what}");
+}
+
+/// A number that a book gave, or a time.
+pub fn number(rt: &impl Abort, got: u64, want: u64, what: &str) {
+    assert_eq!(rt; got, want, "{what}");
+}
+
+/// The words of a row.
+pub fn words(rt: &impl Abort, row: &[u64], want: &[u64], what: &str) {
+    assert_eq!(rt; row, want, "{what}");
+}
+
+pub fn text(rt: &impl Abort, text: &str, want: &str) {
+    assert_eq!(rt; text, want);
+}
+
+/// The ends of a span.
+pub fn ends(rt: &impl Abort, span: Span, want: (u64, u64)) {
+    assert_eq!(rt; (span.start(), span.end()), want);
+}
