@@ -1,5 +1,5 @@
 //! A round is shared by two threads, and the next one goes on with its book.
-ghost use Rattle.std.specs.Prelude.{◌≡◌, [], IfOk};
+ghost use Rattle.std.specs.Prelude.{◌≡◌, []};
 
 use crate::pair::{Then, both_ended, bring_from_both, ended, two_seats};
 use delta_book::book::Book;

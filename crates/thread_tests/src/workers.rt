@@ -5,7 +5,6 @@ use crate::held::{ACCEPTED, After, Fixed, Flags, Hold, Scripted, comes_up};
 use crate::pair::{both_ended, two_seats};
 use back_answers::{Act, Answer};
 use crossbeam_channel::{Receiver, Sender, bounded};
-use delta_book::book::Book;
 use gate_workers::{
     CHANNEL_PLACES, NoPace, Order, Pace, SharedKeeper, Spot, Turn, flusher_loop, receiver_loop,
 };
