@@ -135,12 +135,13 @@ fn remove_one(cells: &mut Vec<Cell>, point: &Point, number: u64)
     }
 }
 
-/// Takes the points of a batch out again.
+/// Takes the points of a batch out again, the last one first: cells that it opened in series
+/// order then go from the end, and move no other.
 pub fn remove_batch(cells: &mut Vec<Cell>, batch: &[Point], number: u64)
     requires { RemovesAll cells.old.items number batch.now }
     ensures { (s : List ℕ) (before after : List Accepted) → AreCells cells.old.items (before ++ (map (admitted number s) batch.now ++ after)) → AreCells cells.new.items (before ++ after) }
 {
-    for p in batch {
-        remove_one(cells, p, number);
+    for k in 0..batch.len() {
+        remove_one(cells, &batch[batch.len() - 1 - k], number);
     }
 }
