@@ -15,7 +15,9 @@ import sys
 import tempfile
 
 BATCH = 1_000
-TIMES = 5
+TIMES = 200
+FLUSHES = 10
+RUNS = 3
 SERIES = [100, 10_000]
 
 
@@ -41,7 +43,12 @@ def thousand(series, time):
 
 
 def seconds(program, lines):
-    """The processor time of a run over these lines."""
+    """The processor time of a run over these lines, the least of some runs."""
+    return min(run(program, lines) for _ in range(RUNS))
+
+
+def run(program, lines):
+    """The processor time of one run."""
     with tempfile.TemporaryFile() as stdin:
         stdin.write("".join(line + "\n" for line in lines).encode())
         stdin.seek(0)
@@ -55,7 +62,7 @@ def seconds(program, lines):
 def each_of(program, before, calls):
     """The processor time of one of these calls, made behind others."""
     taken = seconds(program, before + calls) - seconds(program, before)
-    return f"{taken / len(calls) * 1e3:.1f} ms"
+    return f"{taken / len(calls) * 1e3:.2f} ms"
 
 
 def main():
@@ -68,8 +75,8 @@ def main():
     first = len(before) + 1
     admits = [thousand(10_000, time) for time in range(TIMES)]
     undos = [f"undo {first + time}" for time in reversed(range(TIMES))]
-    takes = [f"take {BATCH}"] * TIMES
-    backs = [f"back {flush}" for flush in range(1, TIMES + 1)]
+    takes = [f"take {BATCH}"] * FLUSHES
+    backs = [f"back {flush}" for flush in range(1, FLUSHES + 1)]
     late = ["admit A " + " ".join(f"s{name:05} 1 2 1" for name in range(BATCH))] * TIMES
     print(f"10000 series: an undo of {BATCH} points {each_of(program, before + admits, undos)}")
     print(f"10000 series: a take of {BATCH} series {each_of(program, before, takes)}")
