@@ -1,14 +1,11 @@
 -- A batch goes into the cells, point by point.
-use Rattle.std.specs.Prelude.{◌≡◌, ℕ, zero, suc, ◌+◌, ◌-◌, ◌^◌, ◌<◌, true, not, List, [], ◌∷◌, ◌++◌, map, if◌then◌else◌, nat_lt, slice_index, Some, None}
+use Rattle.std.specs.Prelude.{◌≡◌, ℕ, zero, suc, ◌+◌, ◌^◌, ◌<◌, true, not, List, [], ◌∷◌, if◌then◌else◌, nat_lt, slice_index, Some, None}
 use Rattle.std.specs.declared.option.Option.{Option}
 use Rattle.series_id.specs.Identity.{Identity}
 use Rattle.series_id.specs.Order.{series_before}
-use Rattle.bucket_lanes.specs.ByPlace.{Fits}
 use Rattle.metric_events.specs.DataPoint.{DataPoint}
-use Rattle.metric_events.specs.Points.{admitted}
 use Rattle.metric_events.specs.Senders.{same_sender}
 use Rattle.metric_events.specs.Series.{frontier}
-use Rattle.metric_events.specs.Legal.{is_too_large}
 use Rattle.metric_events.specs.declared.accepted.Accepted.{Accepted}
 use Rattle.series_cell.specs.Cells.{CellView, end_of}
 use Rattle.delta_book.specs.Batches.{word_of}
@@ -16,7 +13,7 @@ use Rattle.delta_book.specs.Refusals.{has_other_writer, batch_fault}
 use Rattle.delta_book.specs.declared.faults.AdmitFault.{AdmitFault}
 use Rattle.delta_book.specs.declared.faults.AdmitFault.TheVariants.{OtherWriter, OutOfOrder}
 use Rattle.delta_book.specs.declared.stop.Stop.{Stop}
-use Rattle.delta_book.specs.declared.stop.Stop.TheVariants.{Fault, Wide, NoMemory}
+use Rattle.delta_book.specs.declared.stop.Stop.TheVariants.{Fault, NoMemory}
 
 -- a series goes in before cell i: after those that come before it
 abbrev pub IsGap : List CellView → ℕ → Identity → Type 0
@@ -30,26 +27,22 @@ fault_at c s i p =
     if not (same_sender c.owner s) then Some (OtherWriter i)
     else (if nat_lt p.span.start (end_of c) then Some (OutOfOrder i (end_of c)) else None)
 
--- no fault keeps the point from its cell: the sum is too wide, or memory is wanting
-abbrev pub IsStuck : Stop → CellView → DataPoint → Type 0
-IsStuck (Fault f) c p = ⊥
-IsStuck Wide c p = Fits (2 ^ 64 - 1) c.accepted p.row → ⊥
-IsStuck NoMemory c p = Unit {0}
-
 -- what keeps the point at place i of a batch from coming after these
 abbrev pub next_fault : List Accepted → List ℕ → ℕ → DataPoint → Option AdmitFault
 next_fault qs s i p =
     if has_other_writer qs p.series s then Some (OtherWriter i)
     else (if nat_lt p.span.start (frontier p.series qs) then Some (OutOfOrder i (frontier p.series qs)) else None)
 
--- what stops the point at place i of a batch after these: its fault, a word of the sum past 64 bits, or want of memory
+-- a word of the sum with the point would be past 64 bits
+abbrev pub IsWide : List Accepted → DataPoint → Type 0
+IsWide qs p = ((k : ℕ) → word_of p.series k qs + slice_index p.row k < 2 ^ 64) → ⊥
+
+-- what stops the point at place i of a batch after these: its fault, or want of memory
 abbrev pub StopsAt : Stop → List Accepted → List ℕ → ℕ → DataPoint → Type 0
 StopsAt (Fault f) qs s i p = next_fault qs s i p ≡ Some f
-StopsAt Wide qs s i p = ((k : ℕ) → word_of p.series k qs + slice_index p.row k < 2 ^ 64) → ⊥
 StopsAt NoMemory qs s i p = Unit {0}
 
--- what stops a batch after these: its refusal, a sum that is too large, or want of memory
+-- what stops a batch after these: its refusal, or want of memory
 abbrev pub Stops : Stop → List Accepted → List ℕ → List DataPoint → Type 0
 Stops (Fault f) qs s ps = batch_fault qs s ps ≡ Some f
-Stops Wide qs s ps = is_too_large (qs ++ map (admitted 0 s) ps) ps ≡ true
 Stops NoMemory qs s ps = Unit {0}

@@ -1,18 +1,17 @@
 //! A batch enters the cells, or is refused and leaves nothing.
-ghost use Rattle.std.specs.Prelude.{◌≡◌, ℕ, ◌≤◌, ◌++◌, List, true, map, length, OnOk, OnErr, IfErr, None, Some, unwrap_or};
+ghost use Rattle.std.specs.Prelude.{◌≡◌, ℕ, ◌≤◌, ◌++◌, List, map, length, OnOk, OnErr, IfErr, None, unwrap_or};
 ghost use Rattle.std.specs.List.{All};
 ghost use Rattle.metric_events.specs.DataPoint.{IsPoint};
 ghost use Rattle.metric_events.specs.Points.{admitted};
-ghost use Rattle.metric_events.specs.Legal.{is_too_large};
 ghost use Rattle.metric_events.specs.declared.limits.TheConstants.{MAX_SERIES};
 ghost use Rattle.metric_events.specs.declared.accepted.Accepted.{Accepted};
 ghost use Rattle.delta_book.specs.declared.faults.AdmitFault.TheVariants.{NoMemory};
 ghost use Rattle.delta_book.specs.AtHome.{AreAccepted};
-ghost use Rattle.delta_book.specs.Refusals.{batch_fault, limit_fault};
+ghost use Rattle.delta_book.specs.Refusals.{batch_fault};
 ghost use Rattle.delta_book.specs.Tables.{AreCells, AreBooked, AreSome};
 ghost use Rattle.delta_book.specs.Puts.{Stops};
 
-use crate::admission::{count_series, find_fault};
+use crate::admission::find_fault;
 use crate::faults::AdmitFault;
 use crate::limiting::find_limit;
 use crate::passing::find_passed;
@@ -49,29 +48,6 @@ fn put_within(
     Ok(())
 }
 
-/// The limit that a batch of a too large sum passes.
-fn limit_of_large(cells: &[Cell], batch: &[Point]) -> AdmitFault
-    requires { length cells.now ≤ MAX_SERIES }
-    ensures { (b : ℕ) (s : List ℕ) (qs : List Accepted) → AreCells cells.now qs → is_too_large (qs ++ map (admitted b s) batch.now) batch.now ≡ true → Some result ≡ limit_fault (qs ++ map (admitted b s) batch.now) batch.now }
-{
-    if count_series(cells, batch) > MAX_SERIES {
-        AdmitFault::TooManySeries
-    } else {
-        AdmitFault::TooLarge
-    }
-}
-
-/// The refusal of a batch of a too large sum.
-fn refusal_of_large(cells: &[Cell], sender: &SenderName, batch: &[Point]) -> AdmitFault
-    requires { length cells.now ≤ MAX_SERIES }
-    ensures { (qs : List Accepted) → AreCells cells.now qs → is_too_large (qs ++ map (admitted 0 sender.now) batch.now) batch.now ≡ true → Some result ≡ batch_fault qs sender.now batch.now }
-{
-    match find_fault(cells, sender, batch) {
-        Some(fault) => fault,
-        None => limit_of_large(cells, batch),
-    }
-}
-
 /// The refusal of a batch, found without putting any of it, which takes no memory.
 fn find_refusal(cells: &[Cell], sender: &SenderName, batch: &[Point]) -> Option<AdmitFault>
     requires few { length cells.now ≤ MAX_SERIES }
@@ -94,7 +70,6 @@ fn refusal(cells: &[Cell], sender: &SenderName, batch: &[Point], stop: Stop) -> 
 {
     match stop {
         Stop::Fault(fault) => fault,
-        Stop::Wide => refusal_of_large(cells, sender, batch),
         Stop::NoMemory => find_refusal(cells, sender, batch).unwrap_or(AdmitFault::NoMemory),
     }
 }

@@ -1,11 +1,13 @@
 //! The limits that are passed, read off the cells when a batch has been put.
-ghost use Rattle.std.specs.Prelude.{◌≡◌, ℕ, ◌++◌, List, not, true, map, length};
+ghost use Rattle.std.specs.Prelude.{◌≡◌, ℕ, ◌++◌, List, not, true, map, length, nat_lt, if◌then◌else◌};
 ghost use Rattle.std.specs.List.{list_any};
 ghost use Rattle.metric_events.specs.Rows as rows;
 ghost use Rattle.metric_events.specs.Points.{admitted};
-ghost use Rattle.metric_events.specs.Series.{is_of};
+ghost use Rattle.metric_events.specs.Series.{is_of, series_count};
 ghost use Rattle.metric_events.specs.Legal.{is_over, is_too_large};
+ghost use Rattle.metric_events.specs.declared.limits.TheConstants.{MAX_SERIES};
 ghost use Rattle.metric_events.specs.declared.accepted.Accepted.{Accepted};
+ghost use Rattle.delta_book.specs.declared.faults.AdmitFault.TheVariants.{TooManySeries, TooLarge};
 ghost use Rattle.delta_book.specs.Batches.{has_large, words_of};
 ghost use Rattle.delta_book.specs.Refusals.{limit_fault};
 ghost use Rattle.delta_book.specs.Tables.{AreCells};
@@ -83,4 +85,15 @@ pub fn find_passed(cells: &[Cell], batch: &[Point]) -> Option<AdmitFault>
         return Some(AdmitFault::TooLarge);
     }
     None
+}
+
+/// The limit that is passed with a batch of a too large sum among the cells.
+pub fn limit_of_large(cells: &[Cell]) -> AdmitFault
+    ensures { (qs : List Accepted) → AreCells cells.now qs → result ≡ (if nat_lt MAX_SERIES (series_count qs) then TooManySeries else TooLarge) }
+{
+    if MAX_SERIES < cells.len() {
+        AdmitFault::TooManySeries
+    } else {
+        AdmitFault::TooLarge
+    }
 }

@@ -1,42 +1,76 @@
 //! The points of a batch go into the cells one after another. Where one can't, those before it
 //! are taken out again, which takes no memory; so a batch needs no search among its own points.
-ghost use Rattle.std.specs.Prelude.{◌≡◌, ℕ, ◌<◌, ◌≤◌, ◌++◌, ◌∷◌, [], List, length, map, true, OnOk, OnErr, IfOk, IfErr, None};
+//! From a sum past 64 bits on only the spans go in, since a later point may be what refuses the
+//! batch; then all of it goes again.
+ghost use Rattle.std.specs.Prelude.{◌≡◌, ℕ, ◌-◌, ◌<◌, ◌≤◌, ◌^◌, ◌++◌, ◌∷◌, [], List, length, map, true, OnOk, OnErr, IfOk, IfErr, None};
 ghost use Rattle.series_id.specs.Identity.{row_length};
+ghost use Rattle.bucket_lanes.specs.ByPlace.{Fits};
 ghost use Rattle.metric_events.specs.Points.{admitted};
 ghost use Rattle.metric_events.specs.Series.{is_ascending};
+ghost use Rattle.metric_events.specs.Legal.{is_too_large};
 ghost use Rattle.metric_events.specs.declared.accepted.Accepted.{Accepted};
 ghost use Rattle.series_cell.specs.Cells.{Stands, IsOfSame, end_of};
 ghost use Rattle.delta_book.specs.Refusals.{point_fault};
 ghost use Rattle.delta_book.specs.Tables.{AreCells, AreSome, IdAt, id_of};
-ghost use Rattle.delta_book.specs.Puts.{IsGap, IsStuck, Stops, StopsAt, fault_at, next_fault};
+ghost use Rattle.delta_book.specs.Parts.{IsPutBy, part_of, worded};
+ghost use Rattle.delta_book.specs.Puts.{IsGap, IsWide, Stops, StopsAt, fault_at, next_fault};
 
 use crate::admission::points_to;
 use crate::faults::AdmitFault;
+use crate::part::{Part, part_at, whole_to};
+use crate::passing::limit_of_large;
 use crate::stop::Stop;
-use crate::table::{find_place, remove_batch};
+use crate::table::{find_place, remove_points};
 use bucket_lanes::fits;
 use metric_events::point::Point;
 use metric_events::sender_name::SenderName;
 use series_cell::cell::Cell;
 use std::alloc::{AllocError, Global};
 
-/// Puts a point into the cell of its series, after all that is there.
-fn put_in(cell: &mut Cell, point: &Point, number: u64) -> Result<(), Stop>
+/// What of a point is put: its span alone where that is asked for, and where a word of the sum
+/// would be past 64 bits.
+fn part_for(cell: &Cell, point: &Point, part: Part) -> Part
+    requires { length cell.now.accepted ≡ row_length point.now.series.kind }
+    ensures asked { IsPutBy part result (Fits (2 ^ 64 - 1) cell.now.accepted point.now.row → ⊥) }
+    ensures fits { result ≡ Part.Whole → Fits (2 ^ 64 - 1) cell.now.accepted point.now.row }
+{
+    match part {
+        Part::Whole if fits(cell.accepted(), point.row(), u64::MAX) => Part::Whole,
+        _ => Part::Span,
+    }
+}
+
+/// Puts this of a point into the cell of its series, after all that is there.
+fn put_part(cell: &mut Cell, point: &Point, part: Part, number: u64) -> Result<(), AllocError>
+    requires series { point.now.series ≡ cell.old.id }
+    requires order { end_of cell.old ≤ point.now.span.start }
+    requires fits { part ≡ Part.Whole → Fits (2 ^ 64 - 1) cell.old.accepted point.now.row }
+    ensures put { OnOk result ((qs : List Accepted) → Stands cell.old qs → Stands cell.new (qs ++ admitted number cell.old.owner (part_of part point.now) ∷ [])) }
+    ensures kept { OnErr result ((qs : List Accepted) → Stands cell.old qs → Stands cell.new qs) }
+    ensures same { IsOfSame cell.old cell.new }
+{
+    match part {
+        Part::Whole => cell.put(point, number),
+        Part::Span => cell.put_span(point, number),
+    }
+}
+
+/// Puts a point into the cell of its series, and answers what of it was put.
+fn put_in(cell: &mut Cell, point: &Point, part: Part, number: u64) -> Result<Part, Stop>
     requires series { point.now.series ≡ cell.old.id }
     requires order { end_of cell.old ≤ point.now.span.start }
     requires long { length cell.old.accepted ≡ row_length cell.old.id.kind }
-    ensures put { OnOk result ((qs : List Accepted) → Stands cell.old qs → Stands cell.new (qs ++ admitted number cell.old.owner point.now ∷ [])) }
+    ensures put { IfOk result (λ put. (qs : List Accepted) → Stands cell.old qs → Stands cell.new (qs ++ admitted number cell.old.owner (part_of put point.now) ∷ [])) }
+    ensures asked { IfOk result (λ put. IsPutBy part put (Fits (2 ^ 64 - 1) cell.old.accepted point.now.row → ⊥)) }
     ensures kept { OnErr result ((qs : List Accepted) → Stands cell.old qs → Stands cell.new qs) }
     ensures same { IsOfSame cell.old cell.new }
-    ensures stop { IfErr result (λ e. IsStuck e cell.old point.now) }
+    ensures stop { IfErr result (λ e. e ≡ Stop.NoMemory) }
 {
-    if !fits(cell.accepted(), point.row(), u64::MAX) {
-        return Err(Stop::Wide);
-    }
-    if cell.put(point, number).is_err() {
+    let put = part_for(cell, point, part);
+    if put_part(cell, point, put, number).is_err() {
         return Err(Stop::NoMemory);
     }
-    Ok(())
+    Ok(put)
 }
 
 /// What a cell says against a point of its series at this place of a batch.
@@ -60,12 +94,14 @@ fn put_at(
     sender: &SenderName,
     point: &Point,
     place: usize,
+    part: Part,
     number: u64,
-) -> Result<(), Stop>
+) -> Result<Part, Stop>
     requires inside { i < length cells.old }
     requires there { IdAt cells.old i point.now.series }
     requires some { AreSome cells.old }
-    ensures put { OnOk result ((qs : List Accepted) → AreCells cells.old qs → AreCells cells.new (qs ++ admitted number sender.now point.now ∷ [])) }
+    ensures put { IfOk result (λ put. (qs : List Accepted) → AreCells cells.old qs → AreCells cells.new (qs ++ admitted number sender.now (part_of put point.now) ∷ [])) }
+    ensures asked { IfOk result (λ put. (qs : List Accepted) → AreCells cells.old qs → IsPutBy part put (IsWide qs point.now)) }
     ensures kept { OnErr result ((qs : List Accepted) → AreCells cells.old qs → AreCells cells.new qs) }
     ensures next { OnOk result ((qs : List Accepted) → AreCells cells.old qs → next_fault qs sender.now place point.now ≡ None) }
     ensures stop { IfErr result (λ e. (qs : List Accepted) → AreCells cells.old qs → StopsAt e qs sender.now place point.now) }
@@ -73,7 +109,7 @@ fn put_at(
     if let Some(fault) = find_at(&cells[i], sender, point, place) {
         return Err(Stop::Fault(fault));
     }
-    put_in(&mut cells[i], point, number)
+    put_in(&mut cells[i], point, part, number)
 }
 
 /// A cell of no point.
@@ -92,11 +128,13 @@ fn open_at(
     i: usize,
     sender: &SenderName,
     point: &Point,
+    part: Part,
     number: u64,
-) -> Result<(), Stop>
+) -> Result<Part, Stop>
     requires inside { i ≤ length cells.old.items }
     requires gap { is_ascending (map id_of cells.old.items) ≡ true → IsGap cells.old.items i point.now.series }
-    ensures put { OnOk result ((qs : List Accepted) → AreCells cells.old.items qs → AreCells cells.new.items (qs ++ admitted number sender.now point.now ∷ [])) }
+    ensures put { IfOk result (λ put. (qs : List Accepted) → AreCells cells.old.items qs → AreCells cells.new.items (qs ++ admitted number sender.now (part_of put point.now) ∷ [])) }
+    ensures asked { IfOk result (λ put. (qs : List Accepted) → AreCells cells.old.items qs → IsPutBy part put (IsWide qs point.now)) }
     ensures kept { OnErr result ((qs : List Accepted) → AreCells cells.old.items qs → AreCells cells.new.items qs) }
     ensures next { OnOk result ((place : ℕ) (qs : List Accepted) → AreCells cells.old.items qs → next_fault qs sender.now place point.now ≡ None) }
     ensures stop { IfErr result (λ e. (place : ℕ) (qs : List Accepted) → AreCells cells.old.items qs → StopsAt e qs sender.now place point.now) }
@@ -104,38 +142,73 @@ fn open_at(
     let Ok(mut cell) = new_cell(alloc, sender, point) else {
         return Err(Stop::NoMemory);
     };
-    if let Err(stop) = put_in(&mut cell, point, number) {
-        return Err(stop);
-    }
+    let Ok(put) = put_in(&mut cell, point, part, number) else {
+        return Err(Stop::NoMemory);
+    };
     let Ok(()) = cells.insert(i, cell) else {
         return Err(Stop::NoMemory);
     };
-    Ok(())
+    Ok(put)
 }
 
-/// Puts the point at this place of a batch, those before it being there.
+/// Puts the point at this place of a batch, those before it being there, and answers what of it
+/// was put.
 fn put_next(
     alloc: Global,
     cells: &mut Vec<Cell>,
     sender: &SenderName,
     point: &Point,
     place: usize,
+    part: Part,
     number: u64,
-) -> Result<(), Stop>
+) -> Result<Part, Stop>
     requires { AreSome cells.old.items }
-    ensures put { OnOk result ((qs : List Accepted) → AreCells cells.old.items qs → AreCells cells.new.items (qs ++ admitted number sender.now point.now ∷ [])) }
+    ensures put { IfOk result (λ put. (qs : List Accepted) → AreCells cells.old.items qs → AreCells cells.new.items (qs ++ admitted number sender.now (part_of put point.now) ∷ [])) }
+    ensures asked { IfOk result (λ put. (qs : List Accepted) → AreCells cells.old.items qs → IsPutBy part put (IsWide qs point.now)) }
     ensures kept { OnErr result ((qs : List Accepted) → AreCells cells.old.items qs → AreCells cells.new.items qs) }
     ensures next { OnOk result ((qs : List Accepted) → AreCells cells.old.items qs → next_fault qs sender.now place point.now ≡ None) }
     ensures stop { IfErr result (λ e. (qs : List Accepted) → AreCells cells.old.items qs → StopsAt e qs sender.now place point.now) }
 {
     match find_place(cells, point.series()) {
-        Ok(i) => put_at(cells, i, sender, point, place, number),
-        Err(i) => open_at(alloc, cells, i, sender, point, number),
+        Ok(i) => put_at(cells, i, sender, point, place, part, number),
+        Err(i) => open_at(alloc, cells, i, sender, point, part, number),
     }
 }
 
 /// Puts the points of a batch at home, or none of them: at the first that can't come, and where
-/// a sum is past 64 bits or memory is wanting, those before it go again.
+/// memory is wanting, those before it go again. Answers how many, from the first on, have their
+/// words: all, or those before a sum that is past 64 bits. The others are there by their spans,
+/// which tell whether a later point can come.
+fn put_points(
+    alloc: Global,
+    cells: &mut Vec<Cell>,
+    sender: &SenderName,
+    batch: &[Point],
+    number: u64,
+) -> Result<usize, Stop>
+    requires { AreSome cells.old.items }
+    ensures put { IfOk result (λ whole. (qs : List Accepted) → AreCells cells.old.items qs → AreCells cells.new.items (qs ++ map (admitted number sender.now) (worded whole batch.now))) }
+    ensures none { OnOk result ((qs : List Accepted) → AreCells cells.old.items qs → point_fault qs sender.now 0 batch.now ≡ None) }
+    ensures large { IfOk result (λ whole. whole < length batch.now → (qs : List Accepted) → AreCells cells.old.items qs → is_too_large (qs ++ map (admitted 0 sender.now) batch.now) batch.now ≡ true) }
+    ensures kept { OnErr result ((qs : List Accepted) → AreCells cells.old.items qs → AreCells cells.new.items qs) }
+    ensures stop { IfErr result (λ e. (qs : List Accepted) → AreCells cells.old.items qs → Stops e qs sender.now batch.now) }
+{
+    let mut whole = batch.len();
+    for (i, point) in batch.iter().enumerate() {
+        let part = part_at(whole, i);
+        match put_next(alloc, cells, sender, point, i, part, number) {
+            Ok(put) => whole = whole_to(whole, i, put),
+            Err(stop) => {
+                remove_points(cells, points_to(batch, i), whole, number);
+                return Err(stop);
+            }
+        }
+    }
+    Ok(whole)
+}
+
+/// Puts the points of a batch at home, or none of them where one can't come, a sum is past 64
+/// bits or memory is wanting.
 pub fn put_all(
     alloc: Global,
     cells: &mut Vec<Cell>,
@@ -149,11 +222,14 @@ pub fn put_all(
     ensures kept { OnErr result ((qs : List Accepted) → AreCells cells.old.items qs → AreCells cells.new.items qs) }
     ensures stop { IfErr result (λ e. (qs : List Accepted) → AreCells cells.old.items qs → Stops e qs sender.now batch.now) }
 {
-    for (i, point) in batch.iter().enumerate() {
-        if let Err(stop) = put_next(alloc, cells, sender, point, i, number) {
-            remove_batch(cells, points_to(batch, i), number);
-            return Err(stop);
-        }
+    let whole = match put_points(alloc, cells, sender, batch, number) {
+        Ok(whole) => whole,
+        Err(stop) => return Err(stop),
+    };
+    if whole < batch.len() {
+        let fault = limit_of_large(cells);
+        remove_points(cells, batch, whole, number);
+        return Err(Stop::Fault(fault));
     }
     Ok(())
 }

@@ -5,7 +5,5 @@ use crate::faults::AdmitFault;
 pub enum Stop {
     /// This is what refuses the batch.
     Fault(AdmitFault),
-    /// A word of a series' sum is past 64 bits.
-    Wide,
     NoMemory,
 }

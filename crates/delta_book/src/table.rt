@@ -6,11 +6,13 @@ ghost use Rattle.metric_events.specs.Series.{of_series, is_ascending};
 ghost use Rattle.metric_events.specs.Standing.{stands};
 ghost use Rattle.metric_events.specs.Legal.{are_distinct, is_batch_home};
 ghost use Rattle.metric_events.specs.declared.accepted.Accepted.{Accepted};
-ghost use Rattle.series_cell.specs.Cells.{Stands, IsOfSame, AreTogether, is_of_batch, lifted};
+ghost use Rattle.series_cell.specs.Cells.{Stands, IsOfSame, AreTogether, HasHome, is_of_batch, lifted};
 ghost use Rattle.metric_events.specs.Points.{admitted};
 ghost use Rattle.delta_book.specs.Tables.{AreCells, IsTable, IsEntered, RemovesFrom, RemovesAll, IdAt, id_of, on_series};
+ghost use Rattle.delta_book.specs.Parts.{part_of, worded};
 ghost use Rattle.delta_book.specs.Puts.{IsGap};
 
+use crate::part::{Part, part_at};
 use metric_events::place::Place;
 use metric_events::point::Point;
 use series_cell::cell::Cell;
@@ -122,26 +124,47 @@ pub fn is_all_home(cells: &[Cell], batch: &[Point], number: u64) -> bool
     true
 }
 
-/// Takes a point out again, and its cell with the last one.
-fn remove_one(cells: &mut Vec<Cell>, point: &Point, number: u64)
-    requires { RemovesFrom cells.old.items number point.now }
-    ensures { (s : List ℕ) (before after : List Accepted) → AreCells cells.old.items (before ++ admitted number s point.now ∷ after) → AreCells cells.new.items (before ++ after) }
+/// Takes what there is of a point out of its cell again.
+fn remove_part(cell: &mut Cell, point: &Point, part: Part, number: u64)
+    requires { HasHome cell.old number (part_of part point.now) }
+    ensures stands { (before after : List Accepted) → Stands cell.old (before ++ admitted number cell.old.owner (part_of part point.now) ∷ after) → Stands cell.new (before ++ after) }
+    ensures same { IsOfSame cell.old cell.new }
+{
+    match part {
+        Part::Whole => cell.remove(number, point),
+        Part::Span => cell.remove_span(number, point),
+    }
+}
+
+/// Takes what there is of a point out again, and its cell with the last one.
+fn remove_one(cells: &mut Vec<Cell>, point: &Point, part: Part, number: u64)
+    requires { RemovesFrom cells.old.items number (part_of part point.now) }
+    ensures { (s : List ℕ) (before after : List Accepted) → AreCells cells.old.items (before ++ admitted number s (part_of part point.now) ∷ after) → AreCells cells.new.items (before ++ after) }
 {
     if let Some(i) = find_cell(cells, point.series()) {
-        cells[i].remove(number, point);
+        remove_part(&mut cells[i], point, part, number);
         if cells[i].frontier() == 0 {
             cells.remove(i);
         }
     }
 }
 
-/// Takes the points of a batch out again, the last one first: cells that it opened in series
-/// order then go from the end, and move no other.
+/// Takes the points of a batch out again, of which the first ones have their words. The last
+/// one goes first: cells that it opened in series order then go from the end, and move no other.
+pub fn remove_points(cells: &mut Vec<Cell>, batch: &[Point], whole: usize, number: u64)
+    requires { RemovesAll cells.old.items number (worded whole batch.now) }
+    ensures { (s : List ℕ) (before after : List Accepted) → AreCells cells.old.items (before ++ (map (admitted number s) (worded whole batch.now) ++ after)) → AreCells cells.new.items (before ++ after) }
+{
+    for k in 0..batch.len() {
+        let i = batch.len() - 1 - k;
+        remove_one(cells, &batch[i], part_at(whole, i), number);
+    }
+}
+
+/// Takes the points of a batch out again, each with its words.
 pub fn remove_batch(cells: &mut Vec<Cell>, batch: &[Point], number: u64)
     requires { RemovesAll cells.old.items number batch.now }
     ensures { (s : List ℕ) (before after : List Accepted) → AreCells cells.old.items (before ++ (map (admitted number s) batch.now ++ after)) → AreCells cells.new.items (before ++ after) }
 {
-    for k in 0..batch.len() {
-        remove_one(cells, &batch[batch.len() - 1 - k], number);
-    }
+    remove_points(cells, batch, batch.len(), number);
 }

@@ -8,6 +8,7 @@ use Rattle.std.proofs.lemmas.List.Elements.{filter-append}
 use Rattle.std.proofs.Math.Seq.{drop-append_seam}
 use Rattle.series_id.specs.Identity.{Identity, row_length}
 use Rattle.metric_events.specs.DataPoint.{DataPoint, IsPoint}
+use Rattle.metric_events.specs.Interval.{IsInterval}
 use Rattle.metric_events.specs.Rows.{add_rows, zeros}
 use Rattle.metric_events.specs.Points.{at, admitted, is_home, is_in_flight, is_acknowledged, is_dropped, landed}
 use Rattle.metric_events.specs.Series.{row_sum}
@@ -16,9 +17,9 @@ use Rattle.metric_events.specs.declared.place.Place.{Place}
 use Rattle.metric_events.specs.declared.place.Place.TheVariants.{Home, InFlight, Acknowledged, Dropped}
 use Rattle.metric_events.specs.declared.accepted.Accepted.{Accepted}
 use Rattle.metric_events.proofs.Lists.{all_append, all_first, all_last}
-use Rattle.metric_events.proofs.Sums.{row_sum-append, row_sum_long, add_rows-comm, add_rows-zeros}
+use Rattle.metric_events.proofs.Sums.{row_sum-append, row_sum_long, add_rows-comm, add_rows-zeros, length-zeros}
 use Rattle.metric_events.specs.Legal.{is_batch_home}
-use Rattle.series_cell.specs.Cells.{CellView, Stands, AllOwn, InOrder, greatest_end, is_landed, lifted, end_of, AreTogether, is_of_batch, is_other_or_off}
+use Rattle.series_cell.specs.Cells.{CellView, Stands, AllOwn, InOrder, greatest_end, is_landed, lifted, end_of, AreTogether, bare, is_of_batch, is_other_or_off}
 use Rattle.series_cell.specs.Spans.{span_of, end_of_spans, place_of, is_span_of, AreInOrder}
 use Rattle.series_cell.specs.declared.batch_span.BatchSpan.{BatchSpan}
 use Rattle.series_cell.proofs.Points.{all_own-append, all_own_first, all_own_last, all_own-map, sum_length, moves_at, moves_landed, moves_lifted, sum-moved, sum_out, row_sum_push, last_end, in_order_push, in_order-map, in_order_without, in_order_first, in_order_last, all_end_by, spans_in_order, last_greatest, greatest_end-append, greatest_end-map, spans_end, spans_moved, all_at, filter_at, filter_off, landed-gone, landed-home, landed-away, lifted-gone, lifted-home, past, place_at, remove_at}
@@ -50,8 +51,8 @@ end_is c qs h =
     omega (arith, h.landed, rest_end c qs h, last_greatest c.owner c.id (h.away ++ h.home) (rest_own c qs h) h.ordered, ap greatest_end h.parts, greatest_end-append h.gone (h.away ++ h.home))
 
 -- a point put at home
-pub stands_put : (c : CellView) (p : DataPoint) (b : ℕ) (qs : List Accepted) (accepted stored : List ℕ) (spans : List BatchSpan) (spare : ℕ) → Stands c qs → IsPoint p → p.series ≡ c.id → end_of c ≤ p.span.start → accepted ≡ add_rows c.accepted p.row → stored ≡ add_rows c.stored p.row → spans ≡ c.spans ++ span_of (admitted b c.owner p) ∷ [] → Stands (record c { accepted = accepted; stored = stored; spans = spans; spare = spare }) (qs ++ admitted b c.owner p ∷ [])
-stands_put c p b qs accepted stored spans spare h is same late ea es em =
+pub stands_put : (c : CellView) (p : DataPoint) (b : ℕ) (qs : List Accepted) (accepted stored : List ℕ) (spans : List BatchSpan) (spare : ℕ) → Stands c qs → IsInterval p.span → length p.row ≡ row_length p.series.kind → p.series ≡ c.id → end_of c ≤ p.span.start → accepted ≡ add_rows c.accepted p.row → stored ≡ add_rows c.stored p.row → spans ≡ c.spans ++ span_of (admitted b c.owner p) ∷ [] → Stands (record c { accepted = accepted; stored = stored; spans = spans; spare = spare }) (qs ++ admitted b c.owner p ∷ [])
+stands_put c p b qs accepted stored spans spare h interval long same late ea es em =
     let a = admitted b c.owner p in
     record {
       gone = h.gone;
@@ -61,7 +62,7 @@ stands_put c p b qs accepted stored spans spare h is same late ea es em =
       are_gone = h.are_gone;
       are_away = h.are_away;
       are_home = all_append (stands is_home) h.home (a ∷ []) h.are_home refl;
-      own = all_own-append c.owner c.id qs (a ∷ []) h.own (record { series = same; sender = refl; span = is.merged.span; long = is.merged.long ∙ ap (λ (x : Identity). row_length x.kind) same }, tt);
+      own = all_own-append c.owner c.id qs (a ∷ []) h.own (record { series = same; sender = refl; span = interval; long = long ∙ ap (λ (x : Identity). row_length x.kind) same }, tt);
       ordered = subst InOrder (append_assoc h.away h.home (a ∷ [])) (in_order_push c.owner c.id 0 (h.away ++ h.home) a (rest_own c qs h) h.ordered (omega (arith, late, rest_end c qs h)));
       accepted = ea ∙ (ap (λ r. add_rows r p.row) h.accepted ∙ sym (row_sum_push (row_length c.id.kind) qs a));
       stored = es ∙ (ap (λ r. add_rows r p.row) h.stored ∙ sym (row_sum_push (row_length c.id.kind) h.home a));
@@ -442,7 +443,21 @@ stands_lift_as c f qs in_flight stored cut h none ef es e =
 
 pub stands_put_as : (c : CellView) (s : List ℕ) (p : DataPoint) (b : ℕ) (qs : List Accepted) (accepted stored : List ℕ) (spans : List BatchSpan) (spare : ℕ) → s ≡ c.owner → Stands c qs → IsPoint p → p.series ≡ c.id → end_of c ≤ p.span.start → accepted ≡ add_rows c.accepted p.row → stored ≡ add_rows c.stored p.row → spans ≡ c.spans ++ span_of (admitted b c.owner p) ∷ [] → Stands (record c { accepted = accepted; stored = stored; spans = spans; spare = spare }) (qs ++ admitted b s p ∷ [])
 stands_put_as c s p b qs accepted stored spans spare e h is same late ea es em =
-    subst (λ t. Stands (record c { accepted = accepted; stored = stored; spans = spans; spare = spare }) (qs ++ admitted b t p ∷ [])) (sym e) (stands_put c p b qs accepted stored spans spare h is same late ea es em)
+    subst (λ t. Stands (record c { accepted = accepted; stored = stored; spans = spans; spare = spare }) (qs ++ admitted b t p ∷ [])) (sym e) (stands_put c p b qs accepted stored spans spare h is.merged.span is.merged.long same late ea es em)
+
+-- a span put at home alone: the rows stay
+pub stands_put_span : (c : CellView) (s : List ℕ) (p : DataPoint) (b : ℕ) (qs : List Accepted) (spans : List BatchSpan) (spare : ℕ) → s ≡ c.owner → Stands c qs → IsInterval p.span → p.series ≡ c.id → end_of c ≤ p.span.start → spans ≡ c.spans ++ span_of (admitted b c.owner p) ∷ [] → Stands (record c { spans = spans; spare = spare }) (qs ++ admitted b s (bare p) ∷ [])
+stands_put_span c s p b qs spans spare e h interval same late em =
+    let w = sized_rows c qs h in
+    let n : row_length p.series.kind ≡ row_length c.id.kind = ap (λ (x : Identity). row_length x.kind) same in
+    subst (λ t. Stands (record c { spans = spans; spare = spare }) (qs ++ admitted b t (bare p) ∷ [])) (sym e)
+    (stands_put c (bare p) b qs c.accepted c.stored spans spare h interval (length-zeros (row_length p.series.kind)) same late (unchanged c.accepted (row_length p.series.kind) (w.0 ∙ sym n)) (unchanged c.stored (row_length p.series.kind) (w.1 ∙ sym n)) em)
+  where
+    unchanged : (row : List ℕ) (n : ℕ) → length row ≡ n → row ≡ add_rows row (zeros n)
+    unchanged row n l = sym (add_rows-comm row (zeros n) ∙ add_rows-zeros n row (omega (arith, l)))
+
+    sized_rows : (c : CellView) (qs : List Accepted) → Stands c qs → (length c.accepted ≡ row_length c.id.kind) × (length c.stored ≡ row_length c.id.kind)
+    sized_rows c qs h = (ap length h.accepted ∙ sum_length c.owner c.id qs h.own, ap length h.stored ∙ sum_length c.owner c.id h.home (home_own c qs h))
 
 -- the rows that a point at home is taken from
 pub record Taken (c : CellView) (p : DataPoint) (all home : List Accepted) : Type 0 where
@@ -466,6 +481,17 @@ taken_from c b p before after h =
       stored_long = sum_length c.owner c.id (q.between ++ after) (all_own-append c.owner c.id q.between after (all_own_first c.owner c.id q.between (a ∷ after) home) one.1);
       long = one.0.long;
     }
+
+-- a span taken out alone: the rows stay
+pub stands_remove_span : (c : CellView) (b : ℕ) (p : DataPoint) (before after : List Accepted) (spans : List BatchSpan) (spare : ℕ) → (h : Stands c (before ++ admitted b c.owner (bare p) ∷ after)) → spans ≡ remove c.spans (c.cut + place_of p.span.start (drop c.cut c.spans)) → Stands (record c { spans = spans; spare = spare }) (before ++ after)
+stands_remove_span c b p before after spans spare h em =
+    let t = taken_from c b (bare p) before after h in
+    stands_remove c b (bare p) before after c.accepted c.stored spans spare h
+    (t.accepted ∙ without (row_length p.series.kind) _ (t.accepted_long ∙ (sym t.long ∙ length-zeros (row_length p.series.kind))))
+    (t.stored ∙ without (row_length p.series.kind) _ (t.stored_long ∙ (sym t.long ∙ length-zeros (row_length p.series.kind)))) em
+  where
+    without : (n : ℕ) (row : List ℕ) → length row ≡ n → add_rows (zeros n) row ≡ row
+    without n row l = add_rows-zeros n row (omega (arith, l))
 
 pub stands_none : (c : CellView) → c.accepted ≡ zeros (row_length c.id.kind) → c.stored ≡ zeros (row_length c.id.kind) → c.in_flight ≡ zeros (row_length c.id.kind) → c.acknowledged ≡ zeros (row_length c.id.kind) → c.dropped ≡ zeros (row_length c.id.kind) → c.spans ≡ [] → c.cut ≡ 0 → c.landed ≡ 0 → Stands c []
 stands_none c ea es ef ek ed em ec el = record {

@@ -5,6 +5,7 @@ use Rattle.std.specs.declared.option.Option.{Option}
 use Rattle.series_id.specs.Identity.{Identity, row_length}
 use Rattle.metric_events.specs.Interval.{Interval, IsInterval}
 use Rattle.metric_events.specs.DataPoint.{DataPoint}
+use Rattle.metric_events.specs.Rows.{zeros}
 use Rattle.metric_events.specs.Points.{is_home, is_in_flight, is_acknowledged, is_dropped, at, admitted, mark, carried_of}
 use Rattle.metric_events.specs.Legal.{is_batch_home}
 use Rattle.metric_events.specs.Series.{row_sum}
@@ -100,6 +101,10 @@ flight_hull c = hull_of (take c.cut c.spans)
 -- where a flush leaves a point
 abbrev pub lifted : ℕ → Accepted → Accepted
 lifted f a = if is_home a.place then at (InFlight f) a else a
+
+-- the point without its words: of its series and span, with a row of zeros
+abbrev pub bare : DataPoint → DataPoint
+bare p = record { series = p.series; span = p.span; row = zeros (row_length p.series.kind) }
 
 -- another cell of the same sender and series
 pub record IsOfSame (c d : CellView) : Type 0 where

@@ -7,7 +7,7 @@ ghost use Rattle.metric_events.specs.Legal.{is_batch_home};
 ghost use Rattle.metric_events.specs.declared.place.Place.TheVariants.{Home, Acknowledged, Dropped};
 ghost use Rattle.metric_events.specs.declared.accepted.Accepted.{Accepted};
 ghost use Rattle.metric_events.specs.declared.opened_series.OpenedSeries.{OpenedSeries};
-ghost use Rattle.series_cell.specs.Cells.{Stands, IsCell, IsOfSame, HasHome, HandsOn, AreTogether, is_of_batch, end_of, home_hull, flight_hull, lifted, opened_with};
+ghost use Rattle.series_cell.specs.Cells.{Stands, IsCell, IsOfSame, HasHome, HandsOn, AreTogether, is_of_batch, bare, end_of, home_hull, flight_hull, lifted, opened_with};
 
 use crate::batch_span::{
     BatchSpan, drop_first, end_or, find_start, has_batch, hull, join_all, spans_from, spans_to,
@@ -108,6 +108,26 @@ impl Cell {
         Ok(())
     }
 
+    /// Puts the span of a point of a batch at home, without its words: the rows stay. It takes
+    /// memory only where there is no room to spare; without memory nothing changes.
+    pub fn put_span(&mut self, point: &Point, batch: u64) -> Result<(), AllocError>
+        requires series { point.now.series ≡ self.old.id }
+        requires order { end_of self.old ≤ point.now.span.start }
+        ensures ok { OnOk result ((qs : List Accepted) → Stands self.old qs → Stands self.new (qs ++ admitted batch self.old.owner (bare point.now) ∷ [])) }
+        ensures same { IsOfSame self.old self.new }
+        ensures flush { self.new.flush ≡ self.old.flush }
+        ensures room { 1 ≤ self.old.spare → IsOk result }
+        ensures spare { self.old.spare ≤ self.new.spare + 1 }
+        ensures err { OnErr result ((qs : List Accepted) → Stands self.old qs → Stands self.new qs) }
+    {
+        let kept = self.kept.as_mut();
+        kept.spans.reserve(1)?;
+        let span = point.span();
+        let _end = span.end();
+        kept.spans.push_reserved(BatchSpan { span, batch });
+        Ok(())
+    }
+
     /// Whether no point of a batch here is away. Asked of a batch that has a point here, and
     /// whose points here are in one place.
     pub fn can_remove(&self, batch: u64) -> bool
@@ -130,6 +150,20 @@ impl Cell {
         sub_from(&mut kept.accepted, point.row());
         sub_from(&mut kept.stored, point.row());
         kept.spans.remove(at);
+    }
+
+    /// Takes a point of a batch, whose span alone is at home, out again: the rows stay.
+    pub fn remove_span(&mut self, batch: u64, point: &Point)
+        requires { HasHome self.old batch (bare point.now) }
+        ensures stands { (before after : List Accepted) → Stands self.old (before ++ admitted batch self.old.owner (bare point.now) ∷ after) → Stands self.new (before ++ after) }
+        ensures same { IsOfSame self.old self.new }
+        ensures spare { self.old.spare ≤ self.new.spare }
+    {
+        let _batch = batch;
+        let kept = self.kept.as_mut();
+        let home = spans_from(&kept.spans, kept.cut);
+        let place = kept.cut + find_start(home, point.span().start());
+        kept.spans.remove(place);
     }
 
     /// Sends what is at home away with a flush.

@@ -1,8 +1,0 @@
-use Rattle.std.proofs.Common.{ℕ, ◌-◌, ◌++◌, List, length, map, take}
-use Rattle.metric_events.specs.Points.{admitted}
-use Rattle.metric_events.specs.declared.accepted.Accepted.{Accepted}
-use Rattle.delta_book.specs.Tables.{AreCells}
-use Rattle.delta_book.proofs.table.remove_batch.Given as goal
-
-abbrev pub invariant-loop-k : goal.invariant-loop-k
-invariant-loop-k l = (s : List ℕ) (before after : List Accepted) → AreCells l.fn.cells.items (before ++ (map (admitted l.number s) l.batch ++ after)) → AreCells l.cells.items (before ++ (map (admitted l.number s) (take (length l.batch - l.k) l.batch) ++ after))
