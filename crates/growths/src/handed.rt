@@ -13,10 +13,11 @@ use series_id::{AttrSet, Kind, SeriesId, Text};
 use std::alloc::{AllocError, Global};
 
 /// The calls, in the order in which they are made.
-pub const CALLS: [&str; 4] = [
+pub const CALLS: [&str; 5] = [
     "SeriesId::share",
     "Points::push",
     "Cell::put",
+    "Cell::put_span",
     "Cell::reserve",
 ];
 
@@ -26,6 +27,7 @@ pub fn make(rt: &impl Print, alloc: Global, call: &str) -> Result<(), AllocError
         "SeriesId::share" => share(rt, alloc),
         "Points::push" => push(rt, alloc),
         "Cell::put" => put(rt, alloc),
+        "Cell::put_span" => put_span(rt, alloc),
         _ => reserve(rt, alloc),
     }
 }
@@ -117,8 +119,31 @@ fn put(rt: &impl Print, alloc: Global) -> Result<(), AllocError> {
             Err(_) => no_memory(
                 rt,
                 "Cell::put",
+    "Cell::put_span",
                 is_zero(cell.accepted()) && cell.frontier() == 0,
             ),
+        }
+    }
+    Err(AllocError)
+}
+
+/// A cell without room for the span of a point is as before.
+fn put_span(rt: &impl Print, alloc: Global) -> Result<(), AllocError> {
+    let point = first_point(alloc, MIXED)?;
+    let series = point.series().copy(alloc)?;
+    let mut cell = Cell::new(alloc, name_of(alloc, b"A")?, series)?;
+    for _ in 0..2 {
+        if !cell.id().is_same(point.series()) || cell.frontier() > point.span().start() {
+            tell(rt, "Cell::put_span", false);
+            return Ok(());
+        }
+        match cell.put_span(&point, 1) {
+            Ok(()) => {
+                let is_there = cell.frontier() == point.span().end();
+                tell(rt, "Cell::put_span", is_there && is_zero(cell.accepted()));
+                return Ok(());
+            }
+            Err(_) => no_memory(rt, "Cell::put_span", cell.frontier() == 0),
         }
     }
     Err(AllocError)
