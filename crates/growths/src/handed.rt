@@ -119,7 +119,7 @@ fn put(rt: &impl Print, alloc: Global) -> Result<(), AllocError> {
             Err(_) => no_memory(
                 rt,
                 "Cell::put",
-    "Cell::put_span",
+                "Cell::put_span",
                 is_zero(cell.accepted()) && cell.frontier() == 0,
             ),
         }
