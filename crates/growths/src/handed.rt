@@ -119,7 +119,6 @@ fn put(rt: &impl Print, alloc: Global) -> Result<(), AllocError> {
             Err(_) => no_memory(
                 rt,
                 "Cell::put",
-                "Cell::put_span",
                 is_zero(cell.accepted()) && cell.frontier() == 0,
             ),
         }
