@@ -159,6 +159,14 @@ fn bring(rt: &impl Abort, cell: &mut Cell, point: &Point, batch: u64) {
     put(rt, cell, point, batch);
 }
 
+/// Puts the span of a point that is of the cell's series and after its frontier.
+fn bring_span(rt: &impl Abort, cell: &mut Cell, point: &Point, batch: u64) {
+    assert!(rt; cell.id().is_same(point.series()), "another series");
+    assert!(rt; cell.frontier() <= point.span().start(), "out of order");
+    let put = cell.put_span(point, batch);
+    assert!(rt; put.is_ok(), "memory");
+}
+
 /// Takes all that is at home, where nothing is in flight.
 fn lift(rt: &impl Abort, cell: &mut Cell, flush: u64) {
     assert!(rt; !cell.is_flying());
@@ -234,6 +242,25 @@ fn room_is_made_beforehand(rt: HostRuntime) -> Result<(), Fail> {
         [[1, 5, 0], [1, 5, 0], [0, 0, 0], [0, 0, 0], [0, 0, 0]],
     );
     expect_span(&rt, cell.stored_span(), Some((10, 20)));
+    Ok(())
+}
+
+/// A point that comes by its span alone: the rows stay, and the span is at home.
+#[test]
+fn a_span_comes_without_its_words(rt: HostRuntime) -> Result<(), Fail> {
+    let alloc = rt.alloc();
+    let whole = counted(alloc, 10, 20, 5)?;
+    let spanned = counted(alloc, 20, 30, 7)?;
+    let mut cell = empty_cell(alloc, series(alloc, Kind::Sum { monotonic: false })?)?;
+    bring(&rt, &mut cell, &whole, 1);
+    bring_span(&rt, &mut cell, &spanned, 2);
+    expect_rows(
+        &rt,
+        &cell,
+        [[1, 5, 0], [1, 5, 0], [0, 0, 0], [0, 0, 0], [0, 0, 0]],
+    );
+    expect_span(&rt, cell.stored_span(), Some((10, 30)));
+    assert_eq!(&rt; cell.frontier(), 30);
     Ok(())
 }
 

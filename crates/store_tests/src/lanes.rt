@@ -1,10 +1,9 @@
 //! What no clause says of the kernels: that they run, over rows of every length up to 259 words,
 //! so with no full eight, with full eights alone and with each tail, and see a carry out of a word.
-ghost use Rattle.std.specs.Prelude.{◌≡◌, ◌≤◌, length};
+ghost use Rattle.std.specs.Prelude.{◌≡◌, length};
 
 use bucket_lanes::{add_into, clear, fits, is_zero, move_into, sub_from, total};
 use std::process::Abort;
-use std::test::Fail;
 
 const MOST: u64 = 18_446_744_073_709_551_615;
 
