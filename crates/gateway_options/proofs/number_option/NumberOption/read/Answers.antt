@@ -1,4 +1,4 @@
-use Rattle.std.proofs.Common.{◌≡◌, ◌≤◌, ◌∙◌, ℕ, Option, Some, None, sym, ap, arith}
+use Rattle.std.proofs.Common.{◌≡◌, ◌≤◌, ◌∙◌, ℕ, Option, Some, None, sym, ap, ap₂, arith}
 use Rattle.std.specs.Prelude.{option_and_then}
 use Rattle.clap.specs.Words.{first_of, found_of, rows_of}
 use Rattle.clap.proofs.WalkLemmas.{first_value-rows}
@@ -19,6 +19,6 @@ returns c =
     let bytes = c.as_bytes.ensures.value in
     let bound = c.from.ensures in
     let told = c.in_ok-number.ensures in
-    let written : number_up_to most text ≡ Some c.in_ok-number.number = cc in
+    let written : number_up_to most text ≡ Some c.in_ok-number.number = ap₂ number_up_to (sym bound) (sym bytes) ∙ sym told in
     let read : option_and_then (number_up_to most) (first_of name (rows_of found)) ≡ Some c.in_ok-number.number = ap (option_and_then (number_up_to most)) value ∙ written in
     ((read, omega (arith, c.if-number-from.false)), within most (number text) c.in_ok-number.number written)
