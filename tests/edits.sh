@@ -24,6 +24,14 @@ for folder in ${*:-$(ls crates)}; do
     total=$((total + $(ls "$crate/must-fail" | wc -l)))
 done
 
+# The libraries that these crates stand on are built first, one after another: runs side by side
+# would build one library twice, and one run could find the other's half removed.
+for name in $names; do sed -n "s/^$name://p" crates.txt; done | tr ' ' '\n' | sort -u |
+    while read -r below; do
+        [ ! -d "crates/$below/src" ] || (cd "crates/$below" && rt lib > out.log 2>&1) ||
+            { cat "crates/$below/out.log" >&2; exit 2; }
+    done
+
 # A crate each for as many processors as there are. What is not told as refused counts as not.
 for name in $names; do echo "$name"; done |
     xargs -P "$(nproc)" -I NAME sh -c 'rt must-fail NAME > NAME.log 2>&1 || true; cat NAME.log'
