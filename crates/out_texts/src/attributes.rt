@@ -4,6 +4,7 @@ ghost use Rattle.std.specs.Prelude.{◌≡◌, map, IfOk, codes, string_bytes};
 ghost use Rattle.serde_json.specs.View.{view, items_view, items_of};
 ghost use Rattle.out_texts.specs.Attributes.{scalar_value, attr_value, attribute_value, attributes_value};
 
+use crate::objects::Object;
 use serde_json::{Value, json};
 use series_id::{AttrSet, AttrValue, Attribute, Scalar};
 use std::alloc::{AllocError, Global};
@@ -13,13 +14,14 @@ fn scalar_value(alloc: Global, scalar: &Scalar) -> Result<Value, AllocError>
     ensures { IfOk result (λ v. view v ≡ scalar_value scalar.now) }
 {
     match scalar {
-        Scalar::Empty => return json!(in alloc; {}),
-        Scalar::Truth(truth) => return json!(in alloc; {"boolValue": *truth}),
-        Scalar::Int(number) => {
-            let text = number.to_string(alloc)?;
-            return json!(in alloc; {"intValue": text});
-        }
-        Scalar::Text(text) => return json!(in alloc; {"stringValue": text.as_str()}),
+        Scalar::Empty => Object::new(alloc).finish(),
+        Scalar::Truth(truth) => Object::new(alloc)
+            .value("boolValue", Value::from(*truth))
+            .finish(),
+        Scalar::Int(number) => Object::new(alloc).signed("intValue", *number).finish(),
+        Scalar::Text(text) => Object::new(alloc)
+            .text("stringValue", text.as_str())
+            .finish(),
     }
 }
 
@@ -51,7 +53,10 @@ fn attribute_value(alloc: Global, attribute: &Attribute) -> Result<Value, AllocE
     ensures { IfOk result (λ v. view v ≡ attribute_value attribute.now) }
 {
     let value = attr_value(alloc, &attribute.value)?;
-    json!(in alloc; {"key": attribute.key.as_str(), "value": value})
+    Object::new(alloc)
+        .text("key", attribute.key.as_str())
+        .value("value", value)
+        .finish()
 }
 
 fn attribute_values(alloc: Global, pairs: &[Attribute]) -> Result<Vec<Value>, AllocError>

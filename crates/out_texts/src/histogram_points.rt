@@ -9,8 +9,9 @@ ghost use Rattle.metric_events.specs.PointFaults.{IsHistogram};
 ghost use Rattle.out_texts.specs.Points as spec;
 
 use crate::attributes::attributes_value;
+use crate::objects::Object;
 use delta_book::flush_point::FlushPoint;
-use serde_json::{Value, json};
+use serde_json::Value;
 use std::alloc::{AllocError, Global};
 
 /// The sum of the buckets, which are within their limit.
@@ -70,11 +71,16 @@ fn histogram_data(
 ) -> Result<Value, AllocError>
     ensures { IfOk result (λ v. view v ≡ spec.histogram_data (view attributes) (array (items_view counts.items)) (string_bytes count) (array (items_view bounds.items)) (string_bytes start) total (string_bytes end)) }
 {
+    let point = Object::new(alloc)
+        .value("attributes", attributes)
+        .value("bucketCounts", Value::from(counts))
+        .value("count", Value::from(count))
+        .value("explicitBounds", Value::from(bounds))
+        .value("startTimeUnixNano", Value::from(start))
+        .value("timeUnixNano", Value::from(end));
     match total {
-        None =>
-            return json!(in alloc; {"attributes": attributes, "bucketCounts": counts, "count": count, "explicitBounds": bounds, "startTimeUnixNano": start, "timeUnixNano": end}),
-        Some(sum) =>
-            return json!(in alloc; {"attributes": attributes, "bucketCounts": counts, "count": count, "explicitBounds": bounds, "startTimeUnixNano": start, "sum": sum, "timeUnixNano": end}),
+        None => point.finish(),
+        Some(sum) => point.value("sum", Value::from(sum)).finish(),
     }
 }
 

@@ -9,6 +9,7 @@ mod histogram_points;
 mod json_text;
 pub mod laws;
 mod level;
+mod objects;
 mod past;
 mod points;
 mod report;

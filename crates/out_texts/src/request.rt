@@ -13,6 +13,7 @@ ghost use Rattle.out_texts.specs.Request as spec;
 use crate::attributes::attributes_value;
 use crate::json_text::text_of;
 use crate::level::Level;
+use crate::objects::Object;
 use crate::points::{keep_limits, point_values};
 use crate::runs::run;
 use delta_book::flush::Flush;
@@ -31,15 +32,18 @@ fn metric_value(
     ensures { IfOk result (λ v. view v ≡ spec.metric_value series.now points.now) }
 {
     let values = point_values(alloc, points)?;
-    let name = series.name().as_str();
-    let unit = series.unit().as_str();
+    let metric = Object::new(alloc)
+        .text("name", series.name().as_str())
+        .text("unit", series.unit().as_str());
+    let data = Object::new(alloc)
+        .value("aggregationTemporality", Value::from(1u64))
+        .value("dataPoints", Value::from(values));
     match series.kind() {
         Kind::Sum { monotonic } => {
-            return json!(in alloc; {"name": name, "sum": {"aggregationTemporality": 1u64, "dataPoints": values, "isMonotonic": *monotonic}, "unit": unit});
+            let data = data.value("isMonotonic", Value::from(*monotonic));
+            metric.object("sum", data).finish()
         }
-        Kind::Histogram { .. } => {
-            return json!(in alloc; {"histogram": {"aggregationTemporality": 1u64, "dataPoints": values}, "name": name, "unit": unit});
-        }
+        Kind::Histogram { .. } => metric.object("histogram", data).finish(),
     }
 }
 
@@ -65,7 +69,14 @@ fn scope_value(alloc: Global, series: &SeriesId, points: &[FlushPoint]) -> Resul
 {
     let metrics = metric_values(alloc, points)?;
     let attributes = attributes_value(alloc, series.scope_attrs())?;
-    json!(in alloc; {"metrics": metrics, "scope": {"attributes": attributes, "name": series.scope_name().as_str(), "version": series.scope_version().as_str()}})
+    let scope = Object::new(alloc)
+        .value("attributes", attributes)
+        .text("name", series.scope_name().as_str())
+        .text("version", series.scope_version().as_str());
+    Object::new(alloc)
+        .value("metrics", Value::from(metrics))
+        .object("scope", scope)
+        .finish()
 }
 
 /// The scopes of these points, neighbours of one scope together.
@@ -94,7 +105,11 @@ fn resource_value(
 {
     let scopes = scope_values(alloc, points)?;
     let attributes = attributes_value(alloc, series.resource())?;
-    json!(in alloc; {"resource": {"attributes": attributes}, "scopeMetrics": scopes})
+    let resource = Object::new(alloc).value("attributes", attributes);
+    Object::new(alloc)
+        .object("resource", resource)
+        .value("scopeMetrics", Value::from(scopes))
+        .finish()
 }
 
 /// The resources of these points, neighbours of one resource together.

@@ -5,7 +5,8 @@ ghost use Rattle.serde_json.specs.View.{view};
 ghost use Rattle.out_texts.specs.Answers as spec;
 
 use crate::json_text::text_of;
-use serde_json::{Value, json};
+use crate::objects::Object;
+use serde_json::Value;
 use std::alloc::{AllocError, Global};
 
 #[tactic(auto, unfolding(crate::specs::Answers::success_value))]
@@ -13,10 +14,14 @@ fn success_value(alloc: Global, foreign: u64) -> Result<Value, AllocError>
     ensures { IfOk result (λ v. view v ≡ spec.success_value foreign) }
 {
     if foreign == 0 {
-        return json!(in alloc; {});
+        return Object::new(alloc).finish();
     }
-    let count = foreign.to_string(alloc)?;
-    json!(in alloc; {"partialSuccess": {"errorMessage": "points outside the profile", "rejectedDataPoints": count}})
+    let partial = Object::new(alloc)
+        .text("errorMessage", "points outside the profile")
+        .decimal("rejectedDataPoints", foreign);
+    Object::new(alloc)
+        .object("partialSuccess", partial)
+        .finish()
 }
 
 /// The body of an answer to a request that was taken, but for so many points outside the profile

@@ -7,8 +7,9 @@ ghost use Rattle.metric_events.specs.PointFaults.{IsSum};
 ghost use Rattle.out_texts.specs.Points as spec;
 
 use crate::attributes::attributes_value;
+use crate::objects::Object;
 use delta_book::flush_point::FlushPoint;
-use serde_json::{Value, json};
+use serde_json::Value;
 use std::alloc::{AllocError, Global};
 
 /// What a sum's row adds up to: what was added less what was taken away.
@@ -26,9 +27,11 @@ pub(crate) fn sum_point_value(alloc: Global, point: &FlushPoint) -> Result<Value
     requires { IsSum point.now.series.kind }
     ensures { IfOk result (λ v. view v ≡ spec.sum_point_value point.now) }
 {
-    let value = sum_of(point.row()).to_string(alloc)?;
     let attributes = attributes_value(alloc, point.series().attrs())?;
-    let start = point.span().start().to_string(alloc)?;
-    let end = point.span().end().to_string(alloc)?;
-    json!(in alloc; {"asInt": value, "attributes": attributes, "startTimeUnixNano": start, "timeUnixNano": end})
+    Object::new(alloc)
+        .signed("asInt", sum_of(point.row()))
+        .value("attributes", attributes)
+        .decimal("startTimeUnixNano", point.span().start())
+        .decimal("timeUnixNano", point.span().end())
+        .finish()
 }

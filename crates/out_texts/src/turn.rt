@@ -5,8 +5,9 @@ ghost use Rattle.serde_json.specs.View.{view};
 ghost use Rattle.out_texts.specs.Answers as spec;
 
 use crate::json_text::text_of;
+use crate::objects::Object;
 use back_answers::Act;
-use serde_json::{Value, json};
+use serde_json::Value;
 use std::alloc::{AllocError, Global};
 
 fn act_name(act: Act) -> &'static str
@@ -29,15 +30,13 @@ fn turn_value(
 ) -> Result<Value, AllocError>
     ensures { IfOk result (λ v. view v ≡ spec.turn_value flush points act after) }
 {
-    let name = act_name(act);
-    let number = flush.to_string(alloc)?;
-    let count = points.to_string(alloc)?;
+    let told = Object::new(alloc)
+        .text("act", act_name(act))
+        .decimal("flush", flush)
+        .decimal("points", points);
     match after {
-        None => return json!(in alloc; {"act": name, "flush": number, "points": count}),
-        Some(seconds) => {
-            let wait = seconds.to_string(alloc)?;
-            return json!(in alloc; {"act": name, "flush": number, "points": count, "retryAfter": wait});
-        }
+        None => told.finish(),
+        Some(seconds) => told.decimal("retryAfter", seconds).finish(),
     }
 }
 
