@@ -9,8 +9,8 @@ ghost use Rattle.out_texts.specs.Objects.{HasMembers};
 use serde_json::{Map, Value};
 use std::alloc::{AllocError, Global};
 
-/// An object as its members are put, or none once memory was refused. The ways of a function that
-/// writes by `?` are checked each for what they free: here a refusal shows in `finish` alone.
+/// An object as its members are put, or none once memory was refused. A refusal shows in `finish`
+/// alone, so nothing has to be freed between two members.
 #[derive(Drop)]
 pub(crate) struct Object {
     alloc: Global,
