@@ -21,6 +21,8 @@ import sys
 import threading
 import time
 
+from loopback import free_port
+
 SENDERS = 8
 POSTS = 250
 FLUSHES = 50
@@ -88,13 +90,6 @@ def ask(port, method, path, body=None, sender=None):
     text = answer.read().decode()
     connection.close()
     return answer.status, text
-
-
-def free_port():
-    """One that nobody listens on."""
-    with socket.socket() as other:
-        other.bind(("127.0.0.1", 0))
-        return other.getsockname()[1]
 
 
 def start(program, port, back_end, connections, *options):

@@ -44,6 +44,9 @@ same_bytes() {
     fi
 }
 
+# Where nobody listens: the port on which a server throws away what it gets. No gateway is given it.
+nobody=127.0.0.1:9
+
 # free_port: one that nobody listens on
 free_port() {
     python3 -c 'import socket; s = socket.socket(); s.bind(("127.0.0.1", 0)); print(s.getsockname()[1])'
@@ -177,13 +180,13 @@ same_bytes 'what it dropped' "$folder/wanted" "$folder/request-3"
 
 stored='series req monotonic owner A frontier 20 accepted 1,5,0 acknowledged 0,0,0 dropped 0,0,0 in-flight 0,0,0 stored 1,5,0 quarantined 0,0,0
 end'
-start "127.0.0.1:$(free_port)" 2
+start "$nobody" 2
 ask 'a body for nobody' '{} 200' -H "$json" -H 'x-sender: A' -d "$(body 10 20 5)" "$at/v1/metrics"
 ask 'a flush to nobody' '{"act":"returned","flush":"1","points":"1"} 200' -X POST "$at/flush"
 gateway_ended 'nobody' "$stored
 admitted 1 acknowledged 0"
 
-start "127.0.0.1:$(free_port)" 3 --flush-series 1
+start "$nobody" 3 --flush-series 1
 ask 'a series' '{} 200' -H "$json" -d "$(body 10 20 5)" "$at/v1/metrics"
 ask 'another series' '{} 200' -H "$json" -d "$(body 10 20 5 | sed s/req/res/)" "$at/v1/metrics"
 ask 'a flush of one series' '{"act":"returned","flush":"1","points":"1"} 200' -X POST "$at/flush"
@@ -192,7 +195,7 @@ series res monotonic owner - frontier 20 accepted 1,5,0 acknowledged 0,0,0 dropp
 end
 admitted 2 acknowledged 0'
 
-start "127.0.0.1:$(free_port)" 3 --round 1
+start "$nobody" 3 --round 1
 ask 'a body in a round of its own' '{} 200' -H "$json" -H 'x-sender: A' -d "$(body 10 20 5)" "$at/v1/metrics"
 ask 'the same body in the next round' '{"message":"out of order: point 0, frontier 20"} 400' \
     -H "$json" -H 'x-sender: A' -d "$(body 10 20 5)" "$at/v1/metrics"
@@ -239,32 +242,31 @@ faulty() {
     same "$what, standard error" "$wanted" "$(head -1 "$folder/errors")"
 }
 
-nobody='--backend 127.0.0.1:9'
 faulty 'no such subcommand' "error: unrecognized subcommand 'sing'" sing
-faulty 'no number of connections' 'error: the following required arguments were not provided:' serve $nobody
+faulty 'no number of connections' 'error: the following required arguments were not provided:' serve --backend "$nobody"
 faulty 'too many connections' "error: invalid value '1000001' for '--connections <connections>': 1000001 is not in 0..=1000000" \
-    serve $nobody --connections 1000001
+    serve --backend "$nobody" --connections 1000001
 faulty 'flushes of no series' "error: invalid value '0' for '--flush-series <flush-series>': 0 is not in 1..=1000" \
-    serve $nobody --connections 0 --flush-series 0
+    serve --backend "$nobody" --connections 0 --flush-series 0
 faulty 'a call for help' "Usage: $(basename "$program") serve [OPTIONS] --backend <backend> --connections <connections>" serve --help
 
-run serve $nobody --connections 0 --listen 127.0.0.1:0
+run serve --backend "$nobody" --connections 0 --listen 127.0.0.1:0
 ended 'no connection' 0 'end
 admitted 0 acknowledged 0' ''
-run serve $nobody --connections 1 --listen nowhere
+run serve --backend "$nobody" --connections 1 --listen nowhere
 ended 'no address' 1 '' 'gateway: cannot listen'
-start "127.0.0.1:9" 1
-run serve $nobody --connections 1 --listen "127.0.0.1:$port"
+start "$nobody" 1
+run serve --backend "$nobody" --connections 1 --listen "127.0.0.1:$port"
 ended 'an address that is taken' 1 '' 'gateway: cannot listen'
 kill "$gateway"
 wait "$gateway" 2> /dev/null
 gateway=
 # Its three ends and the listener are all that it may open.
-(ulimit -n 4 && exec "$program" serve $nobody --connections 1 --listen 127.0.0.1:0) \
+(ulimit -n 4 && exec "$program" serve --backend "$nobody" --connections 1 --listen 127.0.0.1:0) \
     > "$folder/printed" 2> "$folder/errors"
 status=$?
 ended 'no room for a connection' 1 '' 'gateway: cannot accept'
-timeout 20 "$program" serve $nobody --connections 0 --listen 127.0.0.1:0 >&- 2> "$folder/errors"
+timeout 20 "$program" serve --backend "$nobody" --connections 0 --listen 127.0.0.1:0 >&- 2> "$folder/errors"
 status=$?
 same 'closed output, status' 1 "$status"
 same 'closed output, standard error' 'gateway: cannot write' "$(cat "$folder/errors")"
