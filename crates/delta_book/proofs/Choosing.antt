@@ -1,7 +1,9 @@
 -- The cells that are ready are of the series that may be taken.
-use Rattle.std.proofs.Common.{◌≡◌, ◌≢◌, ℕ, ◌==◌, Bool, true, false, cond, not, ◌&&◌, ◌||◌, List, [], ◌∷◌, map, filter, take, refl, ap, sym, ◌∙◌, subst, inl, inr}
+use Rattle.std.proofs.Common.{◌≡◌, ◌≢◌, ℕ, ◌==◌, Bool, true, false, cond, not, ◌&&◌, ◌||◌, List, [], ◌∷◌, ◌++◌, map, filter, take, drop, length, refl, ap, sym, ◌∙◌, subst, inl, inr}
 use Rattle.std.specs.Prelude.{nat_lt}
 use Rattle.std.specs.List.{list_all, list_any}
+use Rattle.std.proofs.lemmas.List.{take-append-drop, take_at, map-append}
+use Rattle.std.proofs.lemmas.List.Elements.{filter-append}
 use Rattle.std.proofs.lemmas.Bool.{and_parts, and_from, or_parts, or_left, or_cases}
 use Rattle.series_id.specs.Identity.{Identity}
 use Rattle.series_id.specs.Order.{same_series, series_before}
@@ -258,3 +260,10 @@ tied qs live r h = record { tied = λ x. both x (is_in_live live x) (list_any (s
     both x false false a b = a ∙ sym b
     both x true false a b = absurd (let q : true ≡ false = sym (live_flies qs x live h a) ∙ b in cc)
     both x false true a b = absurd (let q : true ≡ false = sym (flies_live qs x live r b) ∙ a in cc)
+
+-- so many of the first cells are ready, and these are the first
+pub first_upto : (held : List (List ℕ)) (cs : List CellView) (i n : ℕ) → length (ready_ids held (take i cs)) ≡ n → ready_ids held (take i cs) ≡ first_ready held n cs
+first_upto held cs i n e =
+    let parts : ready_ids held cs ≡ ready_ids held (take i cs) ++ ready_ids held (drop i cs) =
+    ap (ready_ids held) (sym (take-append-drop i cs)) ∙ (ap (map id_of) (filter-append (is_ready held) (take i cs) (drop i cs)) ∙ map-append id_of (filter (is_ready held) (take i cs)) (filter (is_ready held) (drop i cs))) in
+    sym (ap (take n) parts ∙ take_at (ready_ids held (take i cs)) (ready_ids held (drop i cs)) n e)
