@@ -17,7 +17,9 @@ import tempfile
 BATCH = 1_000
 TIMES = 200
 FLUSHES = 10
-RUNS = 3
+TAKES = 60
+ROUNDS = 4
+RUNS = 7
 SERIES = [100, 10_000]
 
 
@@ -27,9 +29,16 @@ def admit(first, count, start):
     return "admit A " + " ".join(words)
 
 
-def filled(series):
-    """Batches that bring so many series."""
-    return [admit(first, min(BATCH, series - first), 1) for first in range(0, series, BATCH)]
+def filled(series, start=1):
+    """Batches that bring a point of each of so many series."""
+    return [admit(first, min(BATCH, series - first), start) for first in range(0, series, BATCH)]
+
+
+def round_of(series, number):
+    """A round of one point of each of so many series, in batches that are confirmed."""
+    admits = filled(series, number)
+    first = (number - 1) * len(admits) + 1
+    return admits + [f"confirm {batch}" for batch in range(first, first + len(admits))]
 
 
 def thousand(series, time):
@@ -82,6 +91,13 @@ def main():
     print(f"10000 series: a take of {BATCH} series {each_of(program, before, takes)}")
     print(f"10000 series: a return of {BATCH} series {each_of(program, before + takes, backs)}")
     print(f"10000 series: a refused batch of {BATCH} points {each_of(program, before, late)}")
+    few = ["take 1"] * TAKES
+    print(f"10000 series: a take of 1 series {each_of(program, before, few)}")
+    rounds = []
+    for number in range(1, ROUNDS + 1):
+        rounds += round_of(10_000, number)
+        print(f"10000 series: the close of round {number} {each_of(program, rounds, ['round'])}")
+        rounds.append("round")
     whole = seconds(program, [admit(0, 10_000, 1)])
     print(f"one batch of 10000 points of as many series {whole:.2f} s")
 
