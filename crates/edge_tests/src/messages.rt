@@ -337,6 +337,30 @@ fn a_failing_writer(rt: HostRuntime) -> Result<(), Fail> {
 }
 
 #[test]
+fn calls_of_a_writer(rt: HostRuntime) -> Result<(), Fail> {
+    // One call for what fits 1,024 bytes; else one for the head of 91 bytes, and one for the body.
+    let kind = "application/json";
+    let spaces = [b' '; 2_000];
+    let once = [Step::AtMost(4_096), Step::Fail];
+    for (size, written) in [
+        (2, Written::All),
+        (930, Written::All),
+        (940, Written::Part(91)),
+    ] {
+        let mut tape = Tape::new(rt.alloc(), &once);
+        let done = write_response(&mut tape, StatusCode::OK, kind, None, &spaces[..size]);
+        assert_eq!(rt; done, written, "{size} bytes");
+    }
+    let twice = [Step::AtMost(4_096), Step::AtMost(4_096), Step::Fail];
+    for size in [940, 1_024, 1_025, 2_000] {
+        let mut tape = Tape::new(rt.alloc(), &twice);
+        let done = write_response(&mut tape, StatusCode::OK, kind, None, &spaces[..size]);
+        assert_eq!(rt; done, Written::All, "{size} bytes");
+    }
+    Ok(())
+}
+
+#[test]
 fn a_written_post(rt: HostRuntime) -> Result<(), Fail> {
     let mut tape = Tape::new(rt.alloc(), &[]);
     assert_eq!(rt;

@@ -12,5 +12,6 @@ pub mod FinishLemmas
 pub mod AnswerLemmas
 pub mod ReadLemmas
 pub mod WriteLemmas
+pub mod JoinLemmas
 pub mod TextLemmas
 pub mod ReplyLemmas

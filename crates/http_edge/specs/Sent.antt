@@ -1,5 +1,5 @@
 -- How much of a text was written.
-use Rattle.std.specs.Prelude.{◌≡◌, ℕ, ◌<◌, List, take, length, Option}
+use Rattle.std.specs.Prelude.{◌≡◌, ℕ, ◌<◌, List, take, length, Option, zero, suc}
 use Rattle.std.specs.Io.KnownBytes.{Appends, Keeps}
 use Rattle.http_edge.specs.declared.written.Written.{Written}
 use Rattle.http_edge.specs.declared.written.Written.TheVariants.{All, None_, Part}
@@ -15,3 +15,8 @@ abbrev pub Failed : (ℕ → ℕ) → ℕ → ℕ → Written → Type 0
 Failed one_more old new All = new ≡ old
 Failed one_more old new None_ = new ≡ one_more old
 Failed one_more old new (Part n) = new ≡ one_more old
+
+-- what is told where so many bytes were taken, and not all
+abbrev pub cut_after : ℕ → Written
+cut_after zero = None_
+cut_after (suc n) = Part (suc n)
