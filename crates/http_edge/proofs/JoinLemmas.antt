@@ -1,41 +1,75 @@
--- Bytes are held before they are written.
-use Rattle.std.proofs.Common.{◌≡◌, ℕ, ◌+◌, ◌<◌, List, [], ◌∷◌, ◌++◌, length, take, get_or, Option, Some, None, sym, ap, subst, ◌∙◌, append_assoc, arith, zero, suc}
+-- Bytes wait before they are written.
+use Rattle.std.proofs.Common.{◌≡◌, ℕ, ◌+◌, ◌<◌, List, [], ◌∷◌, ◌++◌, length, take, get_or, Option, Some, None, sym, ap, subst, ◌∙◌, append_assoc, arith, zero, suc, zero-add}
 use Rattle.std.specs.Io.KnownBytes.{Appends, Keeps}
 use Rattle.std.proofs.KnownBytes.{Appends-trans}
-use Rattle.std.proofs.lemmas.List.{append-nil, length-append, take_all, take_more}
+use Rattle.std.proofs.lemmas.List.{append-nil, length-append, take_more, take-append-le}
 use Rattle.std.proofs.lemmas.List.Concat.{flat_map-append, flat_map-cons}
 use Rattle.std.specs.List.{flat_map}
-use Rattle.http_edge.specs.Sent.{Sent, cut_after}
+use Rattle.http_edge.specs.declared.joined.Joined.{Joined}
+use Rattle.http_edge.specs.declared.written.Written.{Written}
+use Rattle.http_edge.specs.declared.written.Written.TheVariants.{All, None_, Part}
+use Rattle.http_edge.specs.Sent.{Sent, IsCut, Ends, cut_after}
+use Rattle.http_edge.specs.Joined.{waiting, Passes}
 use Rattle.http_edge.proofs.WriteLemmas.{part_taken}
 
--- the sink took the first bytes of the text, so many, and the others are held
-pub record Joins (old new : Option (List ℕ)) (text : List ℕ) (sent : ℕ) (held : List ℕ) : Type 0 where
-  pub done : List ℕ
-  pub long : length done ≡ sent
-  pub taken : Appends old new done
-  pub rest : text ≡ done ++ held
+appends_none : (o : Option (List ℕ)) → Appends o o []
+appends_none None = tt
+appends_none (Some x) = sym (append-nil x)
 
-pub joins_length : (o n : Option (List ℕ)) (text : List ℕ) (sent : ℕ) (held : List ℕ) → Joins o n text sent held → length text ≡ sent + length held
-joins_length o n text sent held j = ap length j.rest ∙ (length-append j.done held ∙ ap (λ k. k + length held) j.long)
+-- more waits
+pub waits : (o : Option (List ℕ)) (j k : Joined) (part : List ℕ) → waiting k ≡ waiting j ++ part → k.sent ≡ j.sent → Passes o o j.sent k (waiting j ++ part)
+waits o j k part is same = record { done = []; taken = appends_none o; rest = sym is; count = omega (arith, same) }
 
--- more is held
-pub joins_more : (o n : Option (List ℕ)) (text : List ℕ) (sent : ℕ) (held part : List ℕ) → Joins o n text sent held → Joins o n (text ++ part) sent (held ++ part)
-joins_more o n text sent held part j =
-    record { done = j.done; long = j.long; taken = j.taken; rest = ap (λ x. x ++ part) j.rest ∙ append_assoc j.done held part }
+pub passes_length : (o n : Option (List ℕ)) (sent : ℕ) (j : Joined) (bytes : List ℕ) → Passes o n sent j bytes → j.sent + length (waiting j) ≡ sent + length bytes
+passes_length o n sent j bytes p = omega (arith, p.count, ap length p.rest, length-append p.done (waiting j))
 
--- what is held is written
-pub joins_written : (o m n : Option (List ℕ)) (text : List ℕ) (sent : ℕ) (held : List ℕ) → Joins o m text sent held → Appends m n held → Joins o n text (sent + length held) []
-joins_written o m n text sent held j a = record {
-  done = j.done ++ held;
-  long = length-append j.done held ∙ ap (λ k. k + length held) j.long;
-  taken = Appends-trans o m n j.done held j.taken a;
-  rest = j.rest ∙ sym (append-nil (j.done ++ held));
+-- some bytes behind others
+pub passes_then : (o m n : Option (List ℕ)) (sent : ℕ) (j k : Joined) (bytes part : List ℕ) → Passes o m sent j bytes → Passes m n j.sent k (waiting j ++ part) → Passes o n sent k (bytes ++ part)
+passes_then o m n sent j k bytes part p q = record {
+  done = p.done ++ q.done;
+  taken = Appends-trans o m n p.done q.done p.taken q.taken;
+  rest = ap (λ x. x ++ part) p.rest ∙ (append_assoc p.done (waiting j) part ∙ (ap (λ x. p.done ++ x) q.rest ∙ sym (append_assoc p.done q.done (waiting k))));
+  count = omega (arith, p.count, q.count, length-append p.done q.done);
 }
 
--- all of what is held is written
-pub joins_out : (o m n : Option (List ℕ)) (text : List ℕ) (sent : ℕ) (held : List ℕ) (k : ℕ) → Joins o m text sent held → Appends m n (take k held) → k ≡ length held → Joins o n text (sent + k) []
-joins_out o m n text sent held k j a e =
-    rw e (joins_written o m n text sent held j (subst (Appends m n) (take_all k held (omega (arith, e))) a))
+-- cut in what came behind
+pub passes_cut : (o m n : Option (List ℕ)) (sent : ℕ) (j : Joined) (bytes part : List ℕ) (w : Written) → Passes o m sent j bytes → IsCut m n j.sent (waiting j ++ part) w → IsCut o n sent (bytes ++ part) w
+passes_cut o m n sent j bytes part w p c =
+    let whole : bytes ++ part ≡ p.done ++ (waiting j ++ part) = ap (λ x. x ++ part) p.rest ∙ append_assoc p.done (waiting j) part in
+    let first : take (length p.done + c.many) (bytes ++ part) ≡ p.done ++ take c.many (waiting j ++ part) =
+    ap (take (length p.done + c.many)) (whole ∙ ap (λ x. p.done ++ x) (sym (append-nil (waiting j ++ part)))) ∙ part_taken p.done (waiting j ++ part) [] c.many (omega (arith, c.fewer)) in
+    record {
+      many = length p.done + c.many;
+      fewer = omega (arith, c.fewer, ap length whole, length-append p.done (waiting j ++ part));
+      taken = subst (Appends o n) (sym first) (Appends-trans o m n p.done (take c.many (waiting j ++ part)) p.taken c.taken);
+      told_is = c.told_is ∙ ap cut_after (omega (arith, p.count));
+    }
+
+none_waits : (j : Joined) → j.len ≡ 0 → waiting j ≡ []
+none_waits j e = ap (λ k. take k j.bytes) e
+
+-- a part that was written at once, where none waits
+pub passes_at_once : (o m n : Option (List ℕ)) (sent : ℕ) (j k : Joined) (bytes part : List ℕ) → Passes o m sent j bytes → j.len ≡ 0 → k.len ≡ 0 → k.sent ≡ j.sent + length part → Appends m n part → Passes o n sent k (bytes ++ part)
+passes_at_once o m n sent j k bytes part p e f count a = passes_then o m n sent j k bytes part p (record {
+  done = part;
+  taken = a;
+  rest = ap (λ x. x ++ part) (none_waits j e) ∙ (sym (append-nil part) ∙ ap (λ x. part ++ x) (sym (none_waits k f)));
+  count = count;
+})
+
+-- cut in a part that was written at once, where none waits
+pub cut_at_once : (o m n : Option (List ℕ)) (sent : ℕ) (j : Joined) (bytes part : List ℕ) (w : Written) → Passes o m sent j bytes → j.len ≡ 0 → IsCut m n j.sent part w → IsCut o n sent (bytes ++ part) w
+cut_at_once o m n sent j bytes part w p e c =
+    passes_cut o m n sent j bytes part w p (subst (λ (x : List ℕ). IsCut m n j.sent x w) (sym (ap (λ x. x ++ part) (none_waits j e))) c)
+
+-- cut before what would have come behind
+pub cut_before : (o n : Option (List ℕ)) (sent : ℕ) (bytes later : List ℕ) (w : Written) → IsCut o n sent bytes w → IsCut o n sent (bytes ++ later) w
+cut_before o n sent bytes later w c = record {
+  many = c.many;
+  fewer = omega (arith, c.fewer, length-append bytes later);
+  taken = subst (Appends o n) (sym (take-append-le c.many bytes later (omega (arith, c.fewer)))) c.taken;
+  told_is = c.told_is;
+}
 
 kept : (o n : Option (List ℕ)) → Appends o n [] → Keeps o n
 kept None n a = tt
@@ -46,17 +80,18 @@ told : (o n : Option (List ℕ)) (full : List ℕ) (k : ℕ) → Appends o n (ta
 told o n full zero a l = kept o n a
 told o n full (suc k) a l = (a, omega arith, l)
 
--- only some of what is held was written, and the call behind them failed
-pub joins_cut : (o m n : Option (List ℕ)) (text later full : List ℕ) (sent : ℕ) (held : List ℕ) (k : ℕ) → Joins o m text sent held → full ≡ text ++ later → Appends m n (take k held) → k < length held → Sent o n full (cut_after (sent + k))
-joins_cut o m n text later full sent held k j e a l =
-    let whole : full ≡ j.done ++ (held ++ later) = e ∙ (ap (λ x. x ++ later) j.rest ∙ append_assoc j.done held later) in
-    let first : take (sent + k) full ≡ j.done ++ take k held = ap (take (sent + k)) whole ∙ (ap (λ i. take (i + k) (j.done ++ (held ++ later))) (sym j.long) ∙ part_taken j.done held later k (omega (arith, l))) in
-    told o n full (sent + k) (subst (Appends o n) (sym first) (Appends-trans o m n j.done (take k held) j.taken a))
-    (omega (arith, l, j.long, ap length whole, length-append j.done (held ++ later), length-append held later))
+sent_cut : (o n : Option (List ℕ)) (full : List ℕ) (w : Written) → IsCut o n 0 full w → Sent o n full w
+sent_cut o n full w c = rw (c.told_is, zero-add) (told o n full c.many c.taken c.fewer)
 
--- the same, of equal ends
-pub joins_so : (o m n : Option (List ℕ)) (text whole : List ℕ) (s t : ℕ) (h k : List ℕ) → Joins o n text t k → m ≡ n → whole ≡ text → s ≡ t → h ≡ k → Joins o m whole s h
-joins_so o m n text whole s t h k j em ew es eh = rw (em, ew, es, eh) j
+-- cut in one of the parts
+pub sent_cut_in : (o m n : Option (List ℕ)) (j : Joined) (before part later full : List ℕ) (w : Written) → Passes o m 0 j before → IsCut m n j.sent (waiting j ++ part) w → full ≡ before ++ (part ++ later) → Sent o n full w
+sent_cut_in o m n j before part later full w p c e = rw (e, ← append_assoc before part later) (sent_cut o n ((before ++ part) ++ later) w (cut_before o n 0 (before ++ part) later w (passes_cut o m n 0 j before part w p c)))
+
+-- at the end of the parts
+pub sent_at_end : (o m n : Option (List ℕ)) (j : Joined) (full : List ℕ) (w : Written) → Passes o m 0 j full → Ends m n j.sent (waiting j) w → Sent o n full w
+sent_at_end o m n j full All p a = subst (Appends o n) (sym p.rest) (Appends-trans o m n p.done (waiting j) p.taken a)
+sent_at_end o m n j full None_ p c = sent_cut_in o m n j full [] [] full None_ p (rw append-nil c) (sym (append-nil full))
+sent_at_end o m n j full (Part k) p c = sent_cut_in o m n j full [] [] full (Part k) p (rw append-nil c) (sym (append-nil full))
 
 -- one part more
 pub next_part : {X : Type 0} (f : X → List ℕ) (xs : List X) (i : ℕ) (x : X) → i < length xs → flat_map f (take (i + 1) xs) ≡ flat_map f (take i xs) ++ f (get_or xs i x)

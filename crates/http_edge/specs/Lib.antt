@@ -12,5 +12,6 @@ pub mod Find
 pub mod Finish
 pub mod Delivery
 pub mod Sent
+pub mod Joined
 pub mod Texts
 pub mod Reply

@@ -1,5 +1,5 @@
 -- How much of a text was written.
-use Rattle.std.specs.Prelude.{◌≡◌, ℕ, ◌<◌, List, take, length, Option, zero, suc}
+use Rattle.std.specs.Prelude.{◌≡◌, ℕ, ◌+◌, ◌<◌, List, take, length, Option, zero, suc}
 use Rattle.std.specs.Io.KnownBytes.{Appends, Keeps}
 use Rattle.http_edge.specs.declared.written.Written.{Written}
 use Rattle.http_edge.specs.declared.written.Written.TheVariants.{All, None_, Part}
@@ -20,3 +20,16 @@ Failed one_more old new (Part n) = new ≡ one_more old
 abbrev pub cut_after : ℕ → Written
 cut_after zero = None_
 cut_after (suc n) = Part (suc n)
+
+-- the sink took so many of the bytes, not all, behind those that were sent, and that is told
+pub record IsCut (old new : Option (List ℕ)) (sent : ℕ) (bytes : List ℕ) (told : Written) : Type 0 where
+  pub many : ℕ
+  pub fewer : many < length bytes
+  pub taken : Appends old new (take many bytes)
+  pub told_is : told ≡ cut_after (sent + many)
+
+-- the sink took all of the bytes, or was cut
+abbrev pub Ends : Option (List ℕ) → Option (List ℕ) → ℕ → List ℕ → Written → Type 0
+Ends old new sent bytes All = Appends old new bytes
+Ends old new sent bytes None_ = IsCut old new sent bytes None_
+Ends old new sent bytes (Part n) = IsCut old new sent bytes (Part n)

@@ -11,6 +11,7 @@ mod fault;
 mod framing;
 mod head;
 mod header;
+mod joined;
 mod laws;
 mod limits;
 mod machine;

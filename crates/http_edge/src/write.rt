@@ -1,93 +1,29 @@
 //! Writes messages (RFC 9112, sections 3 to 6).
-ghost use Rattle.std.specs.Prelude.{◌≡◌, ◌≤◌, ◌<◌, ◌+◌, ◌^◌, ◌++◌, length, take, [], IfSome, option_map, unwrap_or};
+ghost use Rattle.std.specs.Prelude.{◌≡◌, ◌<◌, ◌+◌, ◌^◌, length, [], IfSome, option_map, unwrap_or};
 ghost use Rattle.std.specs.List.{flat_map};
 ghost use Rattle.http.specs.StatusCode.{reason_phrase};
-ghost use Rattle.std.specs.Io.KnownBytes.{Appends};
-ghost use Rattle.http_edge.specs.Sent.{Sent, Failed, cut_after};
-ghost use Rattle.http_edge.specs.declared.write.TheConstants.{HELD};
+ghost use Rattle.http_edge.specs.Sent.{Sent, Failed};
 ghost use Rattle.http_edge.specs.Texts.{plain_response, allowing_response, response_text, post_text};
 
+use crate::joined::Joined;
 use crate::written::Written;
 use byte_ends::Sink;
 use http::StatusCode;
 use itoa::Buffer;
 
-/// Writes until all is taken or a call fails, and answers how much was taken.
-fn write_bytes<K: Sink>(sink: &mut K, bytes: &[u8]) -> usize
-    ensures within { result ≤ length bytes.now }
-    ensures taken { Appends (K.contents sink.old) (K.contents sink.new) (take result bytes.now) }
-    ensures failed { result < length bytes.now → K.failures sink.new ≡ K.one_more (K.failures sink.old) }
-    ensures well { result ≡ length bytes.now → K.failures sink.new ≡ K.failures sink.old }
-{
-    let mut at = 0;
-    while at < bytes.len() {
-        match sink.write(&bytes[at..]) {
-            Ok(n) => at += n,
-            Err(_) => return at,
-        }
-    }
-    at
-}
-
-/// How many bytes are joined before they are written.
-const HELD: usize = 1024;
-
-/// How it stands after so many bytes were taken, and none after them.
-fn cut_at(sent: usize) -> Written
-    ensures { result ≡ cut_after sent }
-{
-    if sent == 0 {
-        Written::None_
-    } else {
-        Written::Part(sent)
-    }
-}
-
-/// Keeps these bytes behind the first ones.
-fn hold(held: &mut [u8; HELD], count: usize, bytes: &[u8])
-    requires { count + length bytes.now ≤ HELD }
-    ensures { take (count + length bytes.now) held.new ≡ take count held.old ++ bytes.now }
-{
-    held[count..count + bytes.len()].copy_from_slice(bytes);
-}
-
-/// Writes the parts, one behind the other. Short ones are joined and written together; what has no
-/// room there is written after what is held, a long part by itself.
+/// Writes the parts, one behind the other: short ones in one call, as far as they can be joined.
 fn write_parts<K: Sink>(sink: &mut K, parts: &[&[u8]]) -> Written
     requires { length (flat_map (λ p. p.now) parts.now) < 2 ^ 64 }
     ensures text { Sent (K.contents sink.old) (K.contents sink.new) (flat_map (λ p. p.now) parts.now) result }
     ensures failed { Failed K.one_more (K.failures sink.old) (K.failures sink.new) result }
 {
-    let mut held = [0u8; HELD];
-    let mut count = 0usize;
-    let mut sent = 0usize;
+    let mut joined = Joined::new();
     for part in parts {
-        let bytes: &[u8] = part;
-        if bytes.len() > HELD - count {
-            let n = write_bytes(sink, &held[..count]);
-            sent += n;
-            if n < count {
-                return cut_at(sent);
-            }
-            count = 0;
-        }
-        if bytes.len() > HELD {
-            let n = write_bytes(sink, bytes);
-            sent += n;
-            if n < bytes.len() {
-                return cut_at(sent);
-            }
-        } else {
-            hold(&mut held, count, bytes);
-            count += bytes.len();
+        if let Err(cut) = joined.put(sink, part) {
+            return cut;
         }
     }
-    let n = write_bytes(sink, &held[..count]);
-    sent += n;
-    if n < count {
-        return cut_at(sent);
-    }
-    Written::All
+    joined.end(sink)
 }
 
 /// The phrase that `http` gives to a status, which is empty where it gives none.

@@ -1,0 +1,15 @@
+-- What is written of bytes that are joined.
+use Rattle.std.specs.Prelude.{◌≡◌, ℕ, ◌+◌, List, ◌++◌, take, length, Option}
+use Rattle.std.specs.Io.KnownBytes.{Appends}
+use Rattle.http_edge.specs.declared.joined.Joined.{Joined}
+
+-- the bytes that wait
+abbrev pub waiting : Joined → List ℕ
+waiting j = take j.len j.bytes
+
+-- the sink took the first of the bytes, behind so many that were sent, and the others wait
+pub record Passes (old new : Option (List ℕ)) (sent : ℕ) (to : Joined) (bytes : List ℕ) : Type 0 where
+  pub done : List ℕ
+  pub taken : Appends old new done
+  pub rest : bytes ≡ done ++ waiting to
+  pub count : to.sent ≡ sent + length done
