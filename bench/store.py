@@ -17,7 +17,7 @@ import tempfile
 BATCH = 1_000
 TIMES = 200
 FLUSHES = 10
-TAKES = 60
+PAIRS = 5_000
 ROUNDS = 4
 RUNS = 7
 SERIES = [100, 10_000]
@@ -71,7 +71,7 @@ def run(program, lines):
 def each_of(program, before, calls):
     """The processor time of one of these calls, made behind others."""
     taken = seconds(program, before + calls) - seconds(program, before)
-    return f"{taken / len(calls) * 1e3:.2f} ms"
+    return f"{taken / len(calls) * 1e3:.3f} ms"
 
 
 def main():
@@ -91,8 +91,8 @@ def main():
     print(f"10000 series: a take of {BATCH} series {each_of(program, before, takes)}")
     print(f"10000 series: a return of {BATCH} series {each_of(program, before + takes, backs)}")
     print(f"10000 series: a refused batch of {BATCH} points {each_of(program, before, late)}")
-    few = ["take 1"] * TAKES
-    print(f"10000 series: a take of 1 series {each_of(program, before, few)}")
+    pairs = [f"take 1\nback {flush}" for flush in range(1, PAIRS + 1)]
+    print(f"10000 series: a take of 1 series and its return {each_of(program, before, pairs)}")
     rounds = []
     for number in range(1, ROUNDS + 1):
         rounds += round_of(10_000, number)

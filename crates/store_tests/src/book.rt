@@ -1,6 +1,9 @@
 //! What no clause says of the book: that each call succeeds where memory is ample, and at which
 //! count each limit lies.
 
+ghost use Rattle.std.specs.Prelude.{◌≤◌};
+ghost use Rattle.metric_events.specs.declared.limits.TheConstants.{MAX_TAKEN};
+
 use crate::bodies::{batch_of, mixed, series};
 use crate::call::Call::{
     Acknowledged, Close, Confirm, DropFlush, Entries, GiveBack, Lift, Ones, Quarantine, Round,
@@ -133,6 +136,26 @@ fn a_flush_of_two_series(rt: HostRuntime) -> Result<(), Fail> {
     let flush = book.take(7, 1000)?.ok_or("nothing was taken")?;
     expect_two(&rt, flush.points.as_slice());
     Ok(())
+}
+
+/// Takes up to so many series, and so many have a point in the flush.
+fn expect_taken(rt: &impl Abort, book: &mut Book, max: usize, points: usize) -> Result<(), Fail>
+    requires low { 1 ≤ max }
+    requires high { max ≤ MAX_TAKEN }
+{
+    let flush = book.take(7, max)?.ok_or("nothing was taken")?;
+    look::count(rt, flush.points.as_slice().len(), points, "points");
+    Ok(())
+}
+
+// A flush takes as many series as one may: of 1,001 that are ready 1,000, and then the last one.
+#[test]
+fn a_flush_of_a_thousand_series(rt: HostRuntime) -> Result<(), Fail> {
+    let alloc = rt.alloc();
+    let mut book = Book::new(alloc)?;
+    run(&rt, alloc, &mut book, &[Ones(0, 1001, 1, Ok(1))])?;
+    expect_taken(&rt, &mut book, 1000, 1000)?;
+    expect_taken(&rt, &mut book, 1000, 1)
 }
 
 // 64 flushes are live, and the 65th is refused; where no series is left, there is nothing to take.
