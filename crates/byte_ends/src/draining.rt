@@ -5,7 +5,7 @@ ghost use Rattle.byte_ends.specs.Drained.{IsDrained};
 use crate::{Failed, Source};
 
 /// How many bytes are asked for at once.
-const PIECE: usize = 4096;
+const PIECE: usize = 16_384;
 
 /// Reads and throws away at most so many bytes, to the end or to a failure. Takes no memory.
 /// A connection that is closed with unread bytes is reset, and its peer may lose what it was sent.

@@ -164,7 +164,7 @@ fn gives_and_fails<'a>(bytes: &'a [u8], each: usize, steps: &'a mut [Step]) -> S
 #[test]
 fn a_reader_is_not_asked_again(rt: HostRuntime) -> Result<(), Fail> {
     let reply = b"HTTP/1.1 200 OK\r\nContent-Length: 9\r\n\r\n";
-    for each in [1, 2, 7, 4_096] {
+    for each in [1, 2, 7, 16_384] {
         let mut steps = [Step::Fail; 128];
         let mut source = gives_and_fails(CHUNKED, each, &mut steps);
         let Ok(request) = read_message(rt.alloc(), &mut source) else {

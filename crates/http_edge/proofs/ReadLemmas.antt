@@ -10,6 +10,7 @@ use Rattle.http_edge.specs.declared.request.Request.{Request}
 use Rattle.http_edge.specs.Message.{Message}
 use Rattle.http_edge.specs.Reading.{BeginsWith, NotYet}
 use Rattle.http_edge.specs.Answer.{Answers, Explains, Fails}
+use Rattle.http_edge.specs.declared.limits.TheConstants.{MAX_PIECE}
 use Rattle.http_edge.specs.Delivery.{SaysFault, Says, StopsReading, IsClosed}
 use Rattle.http_edge.specs.Holds.{Progress, Holds, fault_in}
 use Rattle.http_edge.proofs.FaultLemmas.{fails_more}
@@ -86,7 +87,7 @@ says (Some bytes) r x closed = says_of r bytes closed x
 
 -- ---- how far it is read
 
-pub stops_after : (old now next : Option (List ℕ)) (p : Progress) (fed piece : List ℕ) → Fed old now p fed → Consumes now next piece → length piece ≤ 4096 → StopsReading NotYet old next
+pub stops_after : (old now next : Option (List ℕ)) (p : Progress) (fed piece : List ℕ) → Fed old now p fed → Consumes now next piece → length piece ≤ MAX_PIECE → StopsReading NotYet old next
 stops_after old now next p fed piece so took short = (fed, piece, known_more old now next fed piece so.known took, short, so.open_)
 
 -- where there is no byte, nothing was fed

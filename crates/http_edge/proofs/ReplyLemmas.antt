@@ -13,6 +13,7 @@ use Rattle.http_edge.specs.declared.reply.Reply.{Reply}
 use Rattle.http_edge.specs.Message.{Header}
 use Rattle.http_edge.specs.Framing.{is_named, values_of}
 use Rattle.http_edge.specs.Reply.{Told, first, told_by, told_in, BeginsSaying, NoReply, ExplainsReply, AnswersReply, LastsFor, SaysReplyFault, SaysReply, DeliversReply, IsClosedReply}
+use Rattle.http_edge.specs.declared.limits.TheConstants.{MAX_PIECE}
 use Rattle.http_edge.specs.Delivery.{StopsReading}
 use Rattle.http_edge.proofs.FieldLemmas.{values_of-append, values_of_more}
 use Rattle.http_edge.proofs.ListLemmas.{front_of}
@@ -207,7 +208,7 @@ grows (Some bytes) (Some left) (Some more) kept piece front back new so took cut
     let f : (kept ++ (front ++ back)) ++ more ≡ new ++ (back ++ more) = ap (λ x. x ++ more) (sym (append_assoc kept front back)) ∙ append_assoc (kept ++ front) back more ∙ ap (λ x. x ++ (back ++ more)) (sym is) in
     record { all = (back ++ more, e ∙ f); some = omega (arith, ap length is, length-append kept front, some) }
 
-pub stops_after : (old now next : Option (List ℕ)) (kept piece : List ℕ) → Kept old now kept → Consumes now next piece → length piece ≤ 4096 → StopsReading NoReply old next
+pub stops_after : (old now next : Option (List ℕ)) (kept piece : List ℕ) → Kept old now kept → Consumes now next piece → length piece ≤ MAX_PIECE → StopsReading NoReply old next
 stops_after old now next kept piece so took short = (kept, piece, known_more old now next kept piece so.known took, short, λ k after b. so.none k after b.reads)
 
 pub said : (old : Option (List ℕ)) (new : List ℕ) (r : Reply) → Grows old new → BeginsSaying new (told_in r) → Said old (Ok r)

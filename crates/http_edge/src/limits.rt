@@ -16,4 +16,4 @@ pub const MAX_LINE: usize = 1_024;
 pub const MAX_TRAILER: usize = 16_384;
 
 /// The most bytes that one call asks a source for.
-pub const MAX_PIECE: usize = 4_096;
+pub const MAX_PIECE: usize = 16_384;

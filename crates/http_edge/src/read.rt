@@ -45,7 +45,7 @@ fn read_pieces<S: Source>(alloc: Global, source: &mut S) -> Result<Request, Http
 ///
 /// Exactly one call failed at Io, and none at any other answer. The source is not read again once a
 /// message is there, or a size that is too long: what was read before the last call, which asks for
-/// 4,096 bytes, begins with neither. Bytes behind the message that were read with it are thrown away.
+/// 16,384 bytes, begins with neither. Bytes behind the message that were read with it are thrown away.
 /// A source that never ends is cut off by the limits.
 pub fn read_message<S: Source>(alloc: Global, source: &mut S) -> Result<Request, HttpFault>
     ensures says { IfSome (S.remaining source.old) (λ bytes. Says bytes result) }

@@ -104,7 +104,7 @@ fn read_head<S: Source>(alloc: Global, source: &mut S) -> Result<Reply, HttpFaul
 ///   head, and why. No other fault comes.
 ///
 /// Exactly one call failed at Io, and none at any other answer. The source is not read again once a head
-/// is there: what was read before the last call, which asks for 4,096 bytes, begins with none. Bytes
+/// is there: what was read before the last call, which asks for 16,384 bytes, begins with none. Bytes
 /// behind the head that were read with it are thrown away. A source that never ends is cut off by the
 /// limits.
 pub fn read_response<S: Source>(alloc: Global, source: &mut S) -> Result<Reply, HttpFault>

@@ -2,6 +2,7 @@ use Rattle.std.proofs.Common.{◌<◌, ◌≤◌, [], refl, ◌++◌, length, ta
 use Rattle.std.specs.Io.KnownBytes.{Consumes}
 use Rattle.std.proofs.lemmas.List.{length-take-le}
 use Rattle.std.proofs.lemmas.Result.{err_from_is_err_and}
+use Rattle.http_edge.specs.declared.limits.TheConstants.{MAX_PIECE}
 use Rattle.http_edge.specs.Answer.{Tells}
 use Rattle.http_edge.proofs.ReadLemmas.{begins, goes_on, known_more, at_message, at_fault, closed_at_end, not_closed, stops_after}
 use Rattle.http_edge.proofs.read.read_pieces.Goals as goal
@@ -88,7 +89,7 @@ returns-then-n-eq0-clause-stops g c =
     let r0 = g.S.Source.remaining c.args.source.now in
     let r1 = g.S.Source.remaining c.pieces.source in
     let r2 = g.S.Source.remaining c.read.new.self in
-    let short : length (take c.in-Ok.n c.read.new.buf) ≤ 4096 = omega (arith, length-take-le c.in-Ok.n c.read.new.buf c.in-Ok.ensures.bound, c.in-Ok.ensures.bound, c.read.auto.buf) in
+    let short : length (take c.in-Ok.n c.read.new.buf) ≤ MAX_PIECE = omega (arith, length-take-le c.in-Ok.n c.read.new.buf c.in-Ok.ensures.bound, c.in-Ok.ensures.bound, c.read.auto.buf) in
     stops_after r0 r1 r2 c.pieces.decoder c.pieces.invariant.so_far.0 (take c.in-Ok.n c.read.new.buf) c.pieces.invariant.so_far.1 c.in-Ok.ensures.bytes.0 short
 
 pub returns-in_err-step-clause-stops : goal.returns-in_err-step-clause-stops
@@ -96,7 +97,7 @@ returns-in_err-step-clause-stops g c =
     let r0 = g.S.Source.remaining c.args.source.now in
     let r1 = g.S.Source.remaining c.pieces.source in
     let r2 = g.S.Source.remaining c.read.new.self in
-    let short : length (take c.in-Ok.n c.read.new.buf) ≤ 4096 = omega (arith, length-take-le c.in-Ok.n c.read.new.buf c.in-Ok.ensures.bound, c.in-Ok.ensures.bound, c.read.auto.buf) in
+    let short : length (take c.in-Ok.n c.read.new.buf) ≤ MAX_PIECE = omega (arith, length-take-le c.in-Ok.n c.read.new.buf c.in-Ok.ensures.bound, c.in-Ok.ensures.bound, c.read.auto.buf) in
     stops_after r0 r1 r2 c.pieces.decoder c.pieces.invariant.so_far.0 (take c.in-Ok.n c.read.new.buf) c.pieces.invariant.so_far.1 c.in-Ok.ensures.bytes.0 short
 
 pub returns-then-branch-clause-stops : goal.returns-then-branch-clause-stops
@@ -104,5 +105,5 @@ returns-then-branch-clause-stops g c =
     let r0 = g.S.Source.remaining c.args.source.now in
     let r1 = g.S.Source.remaining c.pieces.source in
     let r2 = g.S.Source.remaining c.read.new.self in
-    let short : length (take c.in-Ok.n c.read.new.buf) ≤ 4096 = omega (arith, length-take-le c.in-Ok.n c.read.new.buf c.in-Ok.ensures.bound, c.in-Ok.ensures.bound, c.read.auto.buf) in
+    let short : length (take c.in-Ok.n c.read.new.buf) ≤ MAX_PIECE = omega (arith, length-take-le c.in-Ok.n c.read.new.buf c.in-Ok.ensures.bound, c.in-Ok.ensures.bound, c.read.auto.buf) in
     stops_after r0 r1 r2 c.pieces.decoder c.pieces.invariant.so_far.0 (take c.in-Ok.n c.read.new.buf) c.pieces.invariant.so_far.1 c.in-Ok.ensures.bytes.0 short
