@@ -1,8 +1,8 @@
 //! A decoder of messages that come in pieces.
-ghost use Rattle.std.specs.Prelude.{◌≡◌, ◌+◌, ◌≤◌, ◌++◌, List, ℕ, Some, None, [], length, true, false, Ok, Err};
+ghost use Rattle.std.specs.Prelude.{◌≡◌, ◌≢◌, ◌+◌, ◌≤◌, ◌++◌, List, ℕ, Some, None, [], length, true, false, Ok, Err};
 ghost use Rattle.std.specs.Result.{result_err};
 ghost use Rattle.http_edge.specs.Message.{Message};
-ghost use Rattle.http_edge.specs.Reading.{BeginsWith};
+ghost use Rattle.http_edge.specs.Reading.{BeginsWith, NotYet};
 ghost use Rattle.http_edge.specs.Answer.{Answers, Tells};
 ghost use Rattle.http_edge.specs.Holds.{fault_in, content_in, kept, most_to_come, most_of_a_message, Holds};
 
@@ -89,6 +89,7 @@ impl Decoder {
     pub fn finish(self) -> Result<Request, HttpFault>
         ensures answers { (bytes : List ℕ) → Holds self bytes → Answers bytes result }
         ensures closed { Holds self [] → fault_in self ≡ None → result ≡ Err HttpFault.Closed }
+        ensures cut { (bytes : List ℕ) → Holds self bytes → fault_in self ≡ None → bytes ≢ [] → NotYet bytes → result ≡ Err HttpFault.Truncated }
         ensures again { (e : HttpFault) → fault_in self ≡ Some e → result ≡ Err e }
     {
         let Decoder { alloc, machine } = self;

@@ -1,9 +1,10 @@
 //! The machine that reads a message from pieces of its bytes.
-ghost use Rattle.std.specs.Prelude.{◌≡◌, ◌+◌, ◌≤◌, ◌<◌, ◌++◌, List, ℕ, Some, None, [], length, true, Ok, Err, IfOk, IfErr};
+ghost use Rattle.std.specs.Prelude.{◌≡◌, ◌≢◌, ◌+◌, ◌≤◌, ◌<◌, ◌++◌, List, ℕ, Some, None, [], length, true, Ok, Err, IfOk, IfErr};
 ghost use Rattle.std.specs.Result.{result_err};
 ghost use Rattle.http_edge.specs.Answer.{Fails, Answers};
 ghost use Rattle.httparse.specs.Grammar.{RequestHead, HasNoRequest};
 ghost use Rattle.http_edge.specs.Message.{IsHeadAt};
+ghost use Rattle.http_edge.specs.Reading.{NotYet};
 ghost use Rattle.http_edge.specs.Body.{stand_of, is_whole, IsOpen, Reaches, Refuses};
 ghost use Rattle.http_edge.specs.Finish.{IsRequestOf};
 ghost use Rattle.http_edge.specs.Holds.{progress_of, start, fault_in, content_in, kept, is_done, IsSound, Holds, TakesHead, Advances, Stops, IsFramed, Starts};
@@ -84,6 +85,7 @@ impl Machine {
         ensures answers { (bytes : List ℕ) → Holds (progress_of self) bytes → Answers bytes result }
         ensures again { (e : HttpFault) → fault_in (progress_of self) ≡ Some e → result ≡ Err e }
         ensures closed { Holds (progress_of self) [] → fault_in (progress_of self) ≡ None → result ≡ Err HttpFault.Closed }
+        ensures cut { (bytes : List ℕ) → Holds (progress_of self) bytes → fault_in (progress_of self) ≡ None → bytes ≢ [] → NotYet bytes → result ≡ Err HttpFault.Truncated }
     {
         match self {
             Machine::Failed(fault) => Err(fault),

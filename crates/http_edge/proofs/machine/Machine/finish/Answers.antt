@@ -1,4 +1,4 @@
-use Rattle.std.proofs.Common.{ℕ, List, [], sym, subst, ◌∙◌}
+use Rattle.std.proofs.Common.{ℕ, List, [], sym, subst, ◌∙◌, Some}
 use Rattle.http_edge.specs.declared.phase.Phase.{Phase}
 use Rattle.http_edge.specs.Message.{IsHeadAt}
 use Rattle.http_edge.specs.Body.{stand_of}
@@ -26,6 +26,17 @@ returns-else-not-is_whole-clause-answers c = λ bytes h.
     let P : Phase → Type 0 = λ p. IsBehind head (at p content part) bytes x.0 x.1 in
     let Q : List ℕ → Type 0 = λ s. IsHeadAt s x.0 [] in
     answers_of c.whole_request.result bytes content x.0 (c.whole_request.ensures x.0 (subst Q (sym c.deref.ensures.value) x.2.at)) (whole_in_body head bytes x.1 content part x.0 (subst P whole x.2))
+
+pub returns-else-not-is_whole-clause-cut : goal.returns-else-not-is_whole-clause-cut
+returns-else-not-is_whole-clause-cut c = λ bytes h fine some none.
+    let head = c.in-InBody.head.items in
+    let content = c.in-InBody.body.content.items in
+    let part = c.in-InBody.body.part.items in
+    let x = rw c.in-InBody.is at h in
+    let whole = whole_is c.in-InBody.body.phase (sym c.is_whole.ensures ∙ c.if-not-is_whole.false) in
+    let P : Phase → Type 0 = λ p. IsBehind head (at p content part) bytes x.0 x.1 in
+    let b = whole_in_body head bytes x.1 content part x.0 (subst P whole x.2) in
+    absurd (none b.0 (Some b.1) b.2)
 
 pub returns-then-not-is_whole-clause-closed : goal.returns-then-not-is_whole-clause-closed
 returns-then-not-is_whole-clause-closed c = λ h fine. let x = rw c.in-InBody.is at h in absurd (some_fed c.in-InBody.head.items (stand_of c.in-InBody.body) x)
