@@ -8,6 +8,7 @@ use std::io::Read;
 pub struct FromReader<R> {
     reader: R,
     failures: u64,
+    given: usize,
 }
 
 impl<R: Read> FromReader<R> {
@@ -22,6 +23,7 @@ impl<R: Read> FromReader<R> {
         FromReader {
             reader,
             failures: 0,
+            given: 0,
         }
     }
 }
@@ -35,10 +37,16 @@ impl<R: Read> Source for FromReader<R> {
 
     ghost one_more = { next_count };
 
+    ghost given = { λ s. s.given };
+
     fn read(&mut self, buf: &mut [u8]) -> Result<usize, Failed> {
         match self.reader.read(buf) {
-            Ok(n) => Ok(n),
+            Ok(n) => {
+                self.given = n;
+                Ok(n)
+            }
             Err(_) => {
+                self.given = 0;
                 self.failures = self.failures.wrapping_add(1);
                 Err(Failed)
             }

@@ -9,6 +9,7 @@ pub struct Script<'a> {
     bytes: &'a [u8],
     steps: &'a [Step],
     failures: u64,
+    given: usize,
 }
 
 impl<'a> Script<'a> {
@@ -24,6 +25,7 @@ impl<'a> Script<'a> {
             bytes,
             steps,
             failures: 0,
+            given: 0,
         }
     }
 
@@ -38,7 +40,7 @@ impl<'a> Script<'a> {
 impl Source for Script<'_> {
     ghost use Rattle.std.specs.Prelude.{◌≤◌, min, drop, length, IfOk, is_err};
     ghost use Rattle.std.specs.Option.{option_map};
-    ghost use Rattle.std.specs.Result.{result_ok};
+    ghost use Rattle.std.specs.Result.{result_ok, result_unwrap_or};
     ghost use Rattle.byte_ends.specs.Counts.{counted, next_count, next_count-differs};
     ghost use Rattle.byte_ends.specs.Ends.{Gave};
     ghost use Rattle.byte_ends.specs.Parts.{script_bytes, script_steps};
@@ -50,13 +52,17 @@ impl Source for Script<'_> {
 
     ghost one_more = { next_count };
 
+    ghost given = { λ s. s.given };
+
     fn read(&mut self, buf: &mut [u8]) -> Result<usize, Failed>
         ensures bound { IfOk result (λ n. n ≤ length buf.new) }
         ensures bytes { Gave (⟦<Self as Source>⟧.remaining self.old) (⟦<Self as Source>⟧.remaining self.new) result buf.new }
         ensures failed { ⟦<Self as Source>⟧.failures self.new ≡ counted next_count (is_err result) (⟦<Self as Source>⟧.failures self.old) }
+        ensures given { ⟦<Self as Source>⟧.given self.new ≡ result_unwrap_or result 0 }
         ensures step { result_ok result ≡ option_map (λ most. min most (length (script_bytes self.old))) (read_limit (script_steps self.old) (length buf.old)) }
         ensures steps { script_steps self.new ≡ drop 1 (script_steps self.old) }
     {
+        self.given = 0;
         let mut most = buf.len();
         if let Some((step, later)) = self.steps.split_first() {
             self.steps = later;
@@ -75,6 +81,7 @@ impl Source for Script<'_> {
         let (front, rest) = self.bytes.split_at(n);
         buf[..n].copy_from_slice(front);
         self.bytes = rest;
+        self.given = n;
         Ok(n)
     }
 

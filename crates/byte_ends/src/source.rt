@@ -1,4 +1,5 @@
 ghost use Rattle.std.specs.Prelude.{◌≡◌, ◌≢◌, ◌≤◌, Option, List, ℕ, None, length, IfOk, is_err};
+ghost use Rattle.std.specs.Result.{result_unwrap_or};
 ghost use Rattle.byte_ends.specs.Ends.{Gave};
 ghost use Rattle.byte_ends.specs.Counts.{counted};
 
@@ -15,12 +16,16 @@ pub trait Source {
     /// The count after one more. An end whose counter is bounded begins again.
     ghost one_more: { ℕ → ℕ };
 
+    /// How many bytes the last call gave: none, where it failed.
+    ghost given: { Self → ℕ };
+
     /// Reads some bytes to the front of the buffer, and tells how many. It tells 0 only at the
     /// end of the bytes, or for an empty buffer. A call that fails loses no byte.
     fn read(&mut self, buf: &mut [u8]) -> Result<usize, Failed>
         ensures bound { IfOk result (λ n. n ≤ length buf.new) }
         ensures bytes { Gave (remaining self.old) (remaining self.new) result buf.new }
-        ensures failed { failures self.new ≡ counted one_more (is_err result) (failures self.old) };
+        ensures failed { failures self.new ≡ counted one_more (is_err result) (failures self.old) }
+        ensures given { given self.new ≡ result_unwrap_or result 0 };
 
     /// A failed call is always told by the count.
     ghost tells_one_more: { (n : ℕ) → one_more n ≢ n };

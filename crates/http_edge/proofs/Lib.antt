@@ -10,6 +10,7 @@ pub mod MachineLemmas
 pub mod Unique
 pub mod FinishLemmas
 pub mod AnswerLemmas
+pub mod SourceLemmas
 pub mod ReadLemmas
 pub mod WriteLemmas
 pub mod JoinLemmas

@@ -3,19 +3,19 @@ use Rattle.std.proofs.Common.{◌≡◌, ◌≢◌, ℕ, ◌<◌, ◌≤◌, Lis
 use Rattle.std.specs.Prelude.{Result, IfSome, ◌⊎◌}
 use Rattle.std.proofs.Common.{Ok, inl, inr}
 use Rattle.std.proofs.lemmas.List.{length-append, nil_from_length}
-use Rattle.std.specs.Io.KnownBytes.{Consumes}
+use Rattle.std.specs.Io.KnownBytes.{Consumes, IsAtEnd}
 use Rattle.http_edge.specs.declared.fault.HttpFault.{HttpFault}
 use Rattle.http_edge.specs.declared.fault.HttpFault.TheVariants.{Closed, BadHead, TooManyHeaders, HeadTooLong, BadLength, BodyTooLong, BadChunk, Truncated, Io, NoMemory}
 use Rattle.http_edge.specs.declared.request.Request.{Request}
 use Rattle.http_edge.specs.Message.{Message}
 use Rattle.http_edge.specs.Reading.{BeginsWith, NotYet}
 use Rattle.http_edge.specs.Answer.{Answers, Explains, Fails}
-use Rattle.http_edge.specs.declared.limits.TheConstants.{MAX_PIECE}
 use Rattle.http_edge.specs.Delivery.{SaysFault, Says, StopsReading, IsClosed}
 use Rattle.http_edge.specs.Holds.{Progress, Holds, fault_in}
 use Rattle.http_edge.proofs.FaultLemmas.{fails_more}
 use Rattle.http_edge.proofs.MachineLemmas.{not_yet_in_head, start_is_sound}
 use Rattle.http_edge.proofs.AnswerLemmas.{silent, answers_later}
+use Rattle.http_edge.proofs.SourceLemmas.{known_more}
 
 -- the bytes at first are those that were fed and those that are left
 pub record Fed (old now : Option (List ℕ)) (p : Progress) (fed : List ℕ) : Type 0 where
@@ -33,13 +33,6 @@ unclosed e bytes closed not_closed not_io h = elim (closed h) [ inl is ↦ not_c
 pub begins : (old : Option (List ℕ)) (p : Progress) → Holds p [] → fault_in p ≡ None → Fed old old p []
 begins None p holds fine = record { holds = holds; known = tt; fine = fine; open_ = nothing_yet }
 begins (Some bytes) p holds fine = record { holds = holds; known = refl; fine = fine; open_ = nothing_yet }
-
-pub known_more : (old now next : Option (List ℕ)) (fed piece : List ℕ) → Consumes old now fed → Consumes now next piece
-    → Consumes old next (fed ++ piece)
-known_more None now next fed piece known took = tt
-known_more (Some bytes) None next fed piece known took = absurd known
-known_more (Some bytes) (Some left) None fed piece known took = absurd took
-known_more (Some bytes) (Some left) (Some more) fed piece known took = known ∙ ap (λ x. fed ++ x) took ∙ sym (append_assoc fed piece more)
 
 pub goes_on : (old now next : Option (List ℕ)) (p q : Progress) (fed piece : List ℕ) → Fed old now p fed → Consumes now next piece → Holds q (fed ++ piece) → fault_in q ≡ None → NotYet (fed ++ piece) → Fed old next q (fed ++ piece)
 goes_on old now next p q fed piece so took holds fine none = record { holds = holds; known = known_more old now next fed piece so.known took; fine = fine; open_ = none }
@@ -87,8 +80,13 @@ says (Some bytes) r x closed = says_of r bytes closed x
 
 -- ---- how far it is read
 
-pub stops_after : (old now next : Option (List ℕ)) (p : Progress) (fed piece : List ℕ) → Fed old now p fed → Consumes now next piece → length piece ≤ MAX_PIECE → StopsReading NotYet old next
-stops_after old now next p fed piece so took short = (fed, piece, known_more old now next fed piece so.known took, short, so.open_)
+pub stops_after : (old now next : Option (List ℕ)) (given : ℕ) (p : Progress) (fed piece : List ℕ) → Fed old now p fed → Consumes now next piece → length piece ≤ given → StopsReading NotYet old next given
+stops_after old now next given p fed piece so took short = (fed, piece, known_more old now next fed piece so.known took, short, so.open_)
+
+-- where a message was fed, it is not cut
+pub not_cut : (old next : Option (List ℕ)) (fed : List ℕ) (m : Message) (r : Result Request HttpFault) → BeginsWith fed m → Answers fed r → IfSome old (λ _. r ≡ Err Truncated → IsAtEnd next)
+not_cut None next fed m r b a = tt
+not_cut (Some bytes) next fed m r b a = λ e. let x : Explains Truncated fed = subst (Answers fed) e a in absurd (x.1 b.0 (Some b.1) b.2)
 
 -- where there is no byte, nothing was fed
 pub closed_at_end : (old now : Option (List ℕ)) (p : Progress) (fed : List ℕ) (r : Result Request HttpFault) → Fed old now p fed → (Holds p [] → fault_in p ≡ None → r ≡ Err Closed) → IfSome old (λ bytes. bytes ≡ [] → IsClosed r)

@@ -13,8 +13,8 @@ use Rattle.http_edge.specs.declared.reply.Reply.{Reply}
 use Rattle.http_edge.specs.Message.{Header}
 use Rattle.http_edge.specs.Framing.{is_named, values_of}
 use Rattle.http_edge.specs.Reply.{Told, first, told_by, told_in, BeginsSaying, NoReply, ExplainsReply, AnswersReply, LastsFor, SaysReplyFault, SaysReply, DeliversReply, IsClosedReply}
-use Rattle.http_edge.specs.declared.limits.TheConstants.{MAX_PIECE}
 use Rattle.http_edge.specs.Delivery.{StopsReading}
+use Rattle.http_edge.proofs.SourceLemmas.{known_more}
 use Rattle.http_edge.proofs.FieldLemmas.{values_of-append, values_of_more}
 use Rattle.http_edge.proofs.ListLemmas.{front_of}
 use Rattle.http_edge.proofs.HeadLemmas.{long_or_front}
@@ -187,13 +187,6 @@ pub begins : (old : Option (List ℕ)) → Kept old old []
 begins None = record { known = tt; none = none_at_first; short = omega arith }
 begins (Some bytes) = record { known = refl; none = none_at_first; short = omega arith }
 
-known_more : (old now next : Option (List ℕ)) (kept piece : List ℕ) → Consumes old now kept → Consumes now next piece
-    → Consumes old next (kept ++ piece)
-known_more None now next kept piece known took = tt
-known_more (Some bytes) None next kept piece known took = absurd known
-known_more (Some bytes) (Some left) None kept piece known took = absurd took
-known_more (Some bytes) (Some left) (Some more) kept piece known took = known ∙ ap (λ x. kept ++ x) took ∙ sym (append_assoc kept piece more)
-
 -- the front of a piece was kept
 pub record Grows (old : Option (List ℕ)) (new : List ℕ) : Type 0 where
   pub all : IfSome old (λ bytes. (left : List ℕ) × (bytes ≡ new ++ left))
@@ -208,8 +201,8 @@ grows (Some bytes) (Some left) (Some more) kept piece front back new so took cut
     let f : (kept ++ (front ++ back)) ++ more ≡ new ++ (back ++ more) = ap (λ x. x ++ more) (sym (append_assoc kept front back)) ∙ append_assoc (kept ++ front) back more ∙ ap (λ x. x ++ (back ++ more)) (sym is) in
     record { all = (back ++ more, e ∙ f); some = omega (arith, ap length is, length-append kept front, some) }
 
-pub stops_after : (old now next : Option (List ℕ)) (kept piece : List ℕ) → Kept old now kept → Consumes now next piece → length piece ≤ MAX_PIECE → StopsReading NoReply old next
-stops_after old now next kept piece so took short = (kept, piece, known_more old now next kept piece so.known took, short, λ k after b. so.none k after b.reads)
+pub stops_after : (old now next : Option (List ℕ)) (given : ℕ) (kept piece : List ℕ) → Kept old now kept → Consumes now next piece → length piece ≤ given → StopsReading NoReply old next given
+stops_after old now next given kept piece so took short = (kept, piece, known_more old now next kept piece so.known took, short, λ k after b. so.none k after b.reads)
 
 pub said : (old : Option (List ℕ)) (new : List ℕ) (r : Reply) → Grows old new → BeginsSaying new (told_in r) → Said old (Ok r)
 said None new r g b = tt

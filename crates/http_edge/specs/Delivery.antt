@@ -3,7 +3,6 @@ use Rattle.std.specs.Prelude.{◌≡◌, ◌≢◌, ◌⊎◌, ℕ, ◌≤◌, L
 use Rattle.std.specs.Io.KnownBytes.{Consumes}
 use Rattle.http_edge.specs.declared.fault.HttpFault.{HttpFault}
 use Rattle.http_edge.specs.declared.fault.HttpFault.TheVariants.{Closed, BodyTooLong, Io, NoMemory}
-use Rattle.http_edge.specs.declared.limits.TheConstants.{MAX_PIECE}
 use Rattle.http_edge.specs.declared.request.Request.{Request}
 use Rattle.http_edge.specs.Message.{Message}
 use Rattle.http_edge.specs.Reading.{BeginsWith, IsTooLong, NotYet}
@@ -27,9 +26,9 @@ abbrev pub Says : List ℕ → Result Request HttpFault → Type 0
 Says bytes (Ok r) = BeginsWith bytes (message_in r)
 Says bytes (Err e) = SaysFault e bytes
 
--- what was read before the last piece is all Open: nothing was read once it was not
-abbrev pub StopsReading : (List ℕ → Type 0) → Option (List ℕ) → Option (List ℕ) → Type 0
-StopsReading Open old new = (before : List ℕ) × (last : List ℕ) × Consumes old new (before ++ last) × (length last ≤ MAX_PIECE) × Open before
+-- what was read before the last call, which gave so many bytes, is Open: nothing was read once it was not
+abbrev pub StopsReading : (List ℕ → Type 0) → Option (List ℕ) → Option (List ℕ) → ℕ → Type 0
+StopsReading Open old new given = (before : List ℕ) × (last : List ℕ) × Consumes old new (before ++ last) × (length last ≤ given) × Open before
 
 -- a message at the front is answered, unless a call failed or memory ran out
 abbrev pub Delivers : List ℕ → Result Request HttpFault → Type 0

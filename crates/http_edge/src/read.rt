@@ -2,6 +2,7 @@
 ghost use Rattle.std.specs.Prelude.{◌≡◌, ◌≢◌, ◌⊎◌, [], Err, IfSome};
 ghost use Rattle.http_edge.specs.Reading.{NotYet};
 ghost use Rattle.http_edge.specs.Answer.{Answers};
+ghost use Rattle.std.specs.Io.KnownBytes.{IsAtEnd};
 ghost use Rattle.http_edge.specs.Delivery.{Says, StopsReading, IsClosed};
 
 use crate::decoder::Decoder;
@@ -15,7 +16,8 @@ use std::alloc::Global;
 fn read_pieces<S: Source>(alloc: Global, source: &mut S) -> Result<Request, HttpFault>
     ensures answer { IfSome (S.remaining source.old) (λ bytes. (result ≡ Err HttpFault.Io) ⊎ Answers bytes result) }
     ensures closed { IfSome (S.remaining source.old) (λ bytes. bytes ≡ [] → IsClosed result) }
-    ensures stops { StopsReading NotYet (S.remaining source.old) (S.remaining source.new) }
+    ensures stops { StopsReading NotYet (S.remaining source.old) (S.remaining source.new) (S.given source.new) }
+    ensures truncated { IfSome (S.remaining source.old) (λ _. result ≡ Err HttpFault.Truncated → IsAtEnd (S.remaining source.new)) }
     ensures io { result ≡ Err HttpFault.Io → S.failures source.new ≡ S.one_more (S.failures source.old) }
     ensures well { result ≢ Err HttpFault.Io → S.failures source.new ≡ S.failures source.old }
 {
@@ -43,13 +45,14 @@ fn read_pieces<S: Source>(alloc: Global, source: &mut S) -> Result<Request, Http
 /// - Io, that a call failed, and of the bytes nothing;
 /// - each other fault, that there is a byte, that they begin with no message, and why.
 ///
+/// Truncated comes at the end of the source alone, so that one that never ends is cut off by the limits.
 /// Exactly one call failed at Io, and none at any other answer. The source is not read again once a
-/// message is there, or a size that is too long: what was read before the last call, which asks for
-/// 16,384 bytes, begins with neither. Bytes behind the message that were read with it are thrown away.
-/// A source that never ends is cut off by the limits.
+/// message is there, or a size that is too long: what was read before the last call begins with neither.
+/// Bytes behind the message that came with its last ones are thrown away.
 pub fn read_message<S: Source>(alloc: Global, source: &mut S) -> Result<Request, HttpFault>
     ensures says { IfSome (S.remaining source.old) (λ bytes. Says bytes result) }
-    ensures stops { StopsReading NotYet (S.remaining source.old) (S.remaining source.new) }
+    ensures stops { StopsReading NotYet (S.remaining source.old) (S.remaining source.new) (S.given source.new) }
+    ensures truncated { IfSome (S.remaining source.old) (λ _. result ≡ Err HttpFault.Truncated → IsAtEnd (S.remaining source.new)) }
     ensures io { result ≡ Err HttpFault.Io → S.failures source.new ≡ S.one_more (S.failures source.old) }
     ensures well { result ≢ Err HttpFault.Io → S.failures source.new ≡ S.failures source.old }
 {

@@ -2,6 +2,7 @@
 ghost use Rattle.std.specs.Prelude.{◌≡◌, ◌≢◌, ◌≤◌, ◌⊎◌, [], length, map, All, Err, IfOk, IfSome, option_map};
 ghost use Rattle.httparse.specs.Spans.{header_bytes, IsHeaderWithin};
 ghost use Rattle.http_edge.specs.Framing.{values_of};
+ghost use Rattle.std.specs.Io.KnownBytes.{IsAtEnd};
 ghost use Rattle.http_edge.specs.Delivery.{StopsReading};
 ghost use Rattle.http_edge.specs.Reply.{first, NoReply, AnswersReply, LooksForReply, SaysReply, IsClosedReply};
 
@@ -68,7 +69,8 @@ fn look_for_reply(alloc: Global, buf: &[u8]) -> Result<Option<Reply>, HttpFault>
 fn read_head<S: Source>(alloc: Global, source: &mut S) -> Result<Reply, HttpFault>
     ensures answer { IfSome (S.remaining source.old) (λ bytes. (result ≡ Err HttpFault.Io) ⊎ AnswersReply bytes result) }
     ensures closed { IfSome (S.remaining source.old) (λ bytes. bytes ≡ [] → IsClosedReply result) }
-    ensures stops { StopsReading NoReply (S.remaining source.old) (S.remaining source.new) }
+    ensures stops { StopsReading NoReply (S.remaining source.old) (S.remaining source.new) (S.given source.new) }
+    ensures truncated { IfSome (S.remaining source.old) (λ _. result ≡ Err HttpFault.Truncated → IsAtEnd (S.remaining source.new)) }
     ensures io { result ≡ Err HttpFault.Io → S.failures source.new ≡ S.one_more (S.failures source.old) }
     ensures well { result ≢ Err HttpFault.Io → S.failures source.new ≡ S.failures source.old }
 {
@@ -103,13 +105,14 @@ fn read_head<S: Source>(alloc: Global, source: &mut S) -> Result<Reply, HttpFaul
 /// - BadHead, TooManyHeaders, HeadTooLong and Truncated, that there is a byte, that they begin with no
 ///   head, and why. No other fault comes.
 ///
+/// Truncated comes at the end of the source alone, so that one that never ends is cut off by the limits.
 /// Exactly one call failed at Io, and none at any other answer. The source is not read again once a head
-/// is there: what was read before the last call, which asks for 16,384 bytes, begins with none. Bytes
-/// behind the head that were read with it are thrown away. A source that never ends is cut off by the
-/// limits.
+/// is there: what was read before the last call begins with none. Bytes behind the head that came with
+/// its last ones are thrown away.
 pub fn read_response<S: Source>(alloc: Global, source: &mut S) -> Result<Reply, HttpFault>
     ensures says { IfSome (S.remaining source.old) (λ bytes. SaysReply bytes result) }
-    ensures stops { StopsReading NoReply (S.remaining source.old) (S.remaining source.new) }
+    ensures stops { StopsReading NoReply (S.remaining source.old) (S.remaining source.new) (S.given source.new) }
+    ensures truncated { IfSome (S.remaining source.old) (λ _. result ≡ Err HttpFault.Truncated → IsAtEnd (S.remaining source.new)) }
     ensures io { result ≡ Err HttpFault.Io → S.failures source.new ≡ S.one_more (S.failures source.old) }
     ensures well { result ≢ Err HttpFault.Io → S.failures source.new ≡ S.failures source.old }
 {

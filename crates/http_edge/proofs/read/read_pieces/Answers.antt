@@ -2,9 +2,9 @@ use Rattle.std.proofs.Common.{◌<◌, ◌≤◌, [], refl, ◌++◌, length, ta
 use Rattle.std.specs.Io.KnownBytes.{Consumes}
 use Rattle.std.proofs.lemmas.List.{length-take-le}
 use Rattle.std.proofs.lemmas.Result.{err_from_is_err_and}
-use Rattle.http_edge.specs.declared.limits.TheConstants.{MAX_PIECE}
 use Rattle.http_edge.specs.Answer.{Tells}
-use Rattle.http_edge.proofs.ReadLemmas.{begins, goes_on, known_more, at_message, at_fault, closed_at_end, not_closed, stops_after}
+use Rattle.http_edge.proofs.ReadLemmas.{begins, goes_on, at_message, at_fault, closed_at_end, not_closed, stops_after, not_cut}
+use Rattle.http_edge.proofs.SourceLemmas.{known_more, at_end}
 use Rattle.http_edge.proofs.read.read_pieces.Goals as goal
 
 pub pieces-init : goal.pieces-init
@@ -89,21 +89,35 @@ returns-then-n-eq0-clause-stops g c =
     let r0 = g.S.Source.remaining c.args.source.now in
     let r1 = g.S.Source.remaining c.pieces.source in
     let r2 = g.S.Source.remaining c.read.new.self in
-    let short : length (take c.in-Ok.n c.read.new.buf) ≤ MAX_PIECE = omega (arith, length-take-le c.in-Ok.n c.read.new.buf c.in-Ok.ensures.bound, c.in-Ok.ensures.bound, c.read.auto.buf) in
-    stops_after r0 r1 r2 c.pieces.decoder c.pieces.invariant.so_far.0 (take c.in-Ok.n c.read.new.buf) c.pieces.invariant.so_far.1 c.in-Ok.ensures.bytes.0 short
+    let short : length (take c.in-Ok.n c.read.new.buf) ≤ g.S.Source.given c.read.new.self = omega (arith, length-take-le c.in-Ok.n c.read.new.buf c.in-Ok.ensures.bound, c.in-Ok.ensures.given) in
+    stops_after r0 r1 r2 (g.S.Source.given c.read.new.self) c.pieces.decoder c.pieces.invariant.so_far.0 (take c.in-Ok.n c.read.new.buf) c.pieces.invariant.so_far.1 c.in-Ok.ensures.bytes.0 short
 
 pub returns-in_err-step-clause-stops : goal.returns-in_err-step-clause-stops
 returns-in_err-step-clause-stops g c =
     let r0 = g.S.Source.remaining c.args.source.now in
     let r1 = g.S.Source.remaining c.pieces.source in
     let r2 = g.S.Source.remaining c.read.new.self in
-    let short : length (take c.in-Ok.n c.read.new.buf) ≤ MAX_PIECE = omega (arith, length-take-le c.in-Ok.n c.read.new.buf c.in-Ok.ensures.bound, c.in-Ok.ensures.bound, c.read.auto.buf) in
-    stops_after r0 r1 r2 c.pieces.decoder c.pieces.invariant.so_far.0 (take c.in-Ok.n c.read.new.buf) c.pieces.invariant.so_far.1 c.in-Ok.ensures.bytes.0 short
+    let short : length (take c.in-Ok.n c.read.new.buf) ≤ g.S.Source.given c.read.new.self = omega (arith, length-take-le c.in-Ok.n c.read.new.buf c.in-Ok.ensures.bound, c.in-Ok.ensures.given) in
+    stops_after r0 r1 r2 (g.S.Source.given c.read.new.self) c.pieces.decoder c.pieces.invariant.so_far.0 (take c.in-Ok.n c.read.new.buf) c.pieces.invariant.so_far.1 c.in-Ok.ensures.bytes.0 short
 
 pub returns-then-branch-clause-stops : goal.returns-then-branch-clause-stops
 returns-then-branch-clause-stops g c =
     let r0 = g.S.Source.remaining c.args.source.now in
     let r1 = g.S.Source.remaining c.pieces.source in
     let r2 = g.S.Source.remaining c.read.new.self in
-    let short : length (take c.in-Ok.n c.read.new.buf) ≤ MAX_PIECE = omega (arith, length-take-le c.in-Ok.n c.read.new.buf c.in-Ok.ensures.bound, c.in-Ok.ensures.bound, c.read.auto.buf) in
-    stops_after r0 r1 r2 c.pieces.decoder c.pieces.invariant.so_far.0 (take c.in-Ok.n c.read.new.buf) c.pieces.invariant.so_far.1 c.in-Ok.ensures.bytes.0 short
+    let short : length (take c.in-Ok.n c.read.new.buf) ≤ g.S.Source.given c.read.new.self = omega (arith, length-take-le c.in-Ok.n c.read.new.buf c.in-Ok.ensures.bound, c.in-Ok.ensures.given) in
+    stops_after r0 r1 r2 (g.S.Source.given c.read.new.self) c.pieces.decoder c.pieces.invariant.so_far.0 (take c.in-Ok.n c.read.new.buf) c.pieces.invariant.so_far.1 c.in-Ok.ensures.bytes.0 short
+
+pub returns-then-n-eq0-clause-truncated : goal.returns-then-n-eq0-clause-truncated
+returns-then-n-eq0-clause-truncated g c =
+    let none = c.if-n-eq0.true in
+    at_end (g.S.Source.remaining c.args.source.now) (g.S.Source.remaining c.pieces.source) (g.S.Source.remaining c.read.new.self) c.pieces.invariant.so_far.0 _ c.pieces.invariant.so_far.1.known (rw none at c.in-Ok.ensures.bytes.0)
+    (c.in-Ok.ensures.bytes.1 none (omega (arith, c.read.auto.buf)))
+
+pub returns-then-branch-clause-truncated : goal.returns-then-branch-clause-truncated
+returns-then-branch-clause-truncated g c =
+    let fed = c.pieces.invariant.so_far.0 in
+    let so = c.pieces.invariant.so_far.1 in
+    let piece = take c.in-Ok.n c.read.new.buf in
+    let told : Tells (fed ++ piece) (Ok true) = rw c.if-branch.true at (c.in_ok-step.ensures.tells fed so.holds) in
+    not_cut (g.S.Source.remaining c.args.source.now) (g.S.Source.remaining c.read.new.self) (fed ++ piece) told.0 c.finish-then-branch.result told.1 (c.finish-then-branch.ensures.answers (fed ++ piece) (c.step.ensures.holds fed so.holds))

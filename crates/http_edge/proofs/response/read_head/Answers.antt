@@ -1,9 +1,9 @@
 use Rattle.std.proofs.Common.{◌≡◌, ◌<◌, ◌≤◌, ◌++◌, ℕ, List, length, take, drop, ap, arith, subst, sym, refl, ◌∙◌}
 use Rattle.std.proofs.lemmas.List.{length-take-le, take-append-drop, take-take}
 use Rattle.std.proofs.lemmas.Result.{err_from_is_err_and}
-use Rattle.http_edge.specs.declared.limits.TheConstants.{MAX_PIECE}
 use Rattle.http_edge.specs.Reply.{LastsFor, ExplainsReply}
 use Rattle.http_edge.proofs.ListLemmas.{grown}
+use Rattle.http_edge.proofs.SourceLemmas.{at_end}
 use Rattle.http_edge.proofs.ReplyLemmas.{begins, grows, refused, said, stops_after}
 use Rattle.http_edge.proofs.response.read_head.Goals as goal
 
@@ -56,21 +56,27 @@ returns-then-is_err-clause-stops g c =
     let r0 = g.S.Source.remaining c.args.source.now in
     let r1 = g.S.Source.remaining c.pieces.source in
     let r2 = g.S.Source.remaining c.read.new.self in
-    let short : length (take c.in-Ok.n c.read.new.buf) ≤ MAX_PIECE = omega (arith, length-take-le c.in-Ok.n c.read.new.buf c.in-Ok.ensures.bound, c.in-Ok.ensures.bound, c.read.auto.buf) in
-    stops_after r0 r1 r2 c.pieces.kept.items (take c.in-Ok.n c.read.new.buf) c.pieces.invariant.so_far c.in-Ok.ensures.bytes.0 short
+    let short : length (take c.in-Ok.n c.read.new.buf) ≤ g.S.Source.given c.read.new.self = omega (arith, length-take-le c.in-Ok.n c.read.new.buf c.in-Ok.ensures.bound, c.in-Ok.ensures.given) in
+    stops_after r0 r1 r2 (g.S.Source.given c.read.new.self) c.pieces.kept.items (take c.in-Ok.n c.read.new.buf) c.pieces.invariant.so_far c.in-Ok.ensures.bytes.0 short
 
 pub returns-in_err-reply-clause-stops : goal.returns-in_err-reply-clause-stops
 returns-in_err-reply-clause-stops g c =
     let r0 = g.S.Source.remaining c.args.source.now in
     let r1 = g.S.Source.remaining c.pieces.source in
     let r2 = g.S.Source.remaining c.read.new.self in
-    let short : length (take c.in-Ok.n c.read.new.buf) ≤ MAX_PIECE = omega (arith, length-take-le c.in-Ok.n c.read.new.buf c.in-Ok.ensures.bound, c.in-Ok.ensures.bound, c.read.auto.buf) in
-    stops_after r0 r1 r2 c.pieces.kept.items (take c.in-Ok.n c.read.new.buf) c.pieces.invariant.so_far c.in-Ok.ensures.bytes.0 short
+    let short : length (take c.in-Ok.n c.read.new.buf) ≤ g.S.Source.given c.read.new.self = omega (arith, length-take-le c.in-Ok.n c.read.new.buf c.in-Ok.ensures.bound, c.in-Ok.ensures.given) in
+    stops_after r0 r1 r2 (g.S.Source.given c.read.new.self) c.pieces.kept.items (take c.in-Ok.n c.read.new.buf) c.pieces.invariant.so_far c.in-Ok.ensures.bytes.0 short
 
 pub returns-in-Some-clause-stops : goal.returns-in-Some-clause-stops
 returns-in-Some-clause-stops g c =
     let r0 = g.S.Source.remaining c.args.source.now in
     let r1 = g.S.Source.remaining c.pieces.source in
     let r2 = g.S.Source.remaining c.read.new.self in
-    let short : length (take c.in-Ok.n c.read.new.buf) ≤ MAX_PIECE = omega (arith, length-take-le c.in-Ok.n c.read.new.buf c.in-Ok.ensures.bound, c.in-Ok.ensures.bound, c.read.auto.buf) in
-    stops_after r0 r1 r2 c.pieces.kept.items (take c.in-Ok.n c.read.new.buf) c.pieces.invariant.so_far c.in-Ok.ensures.bytes.0 short
+    let short : length (take c.in-Ok.n c.read.new.buf) ≤ g.S.Source.given c.read.new.self = omega (arith, length-take-le c.in-Ok.n c.read.new.buf c.in-Ok.ensures.bound, c.in-Ok.ensures.given) in
+    stops_after r0 r1 r2 (g.S.Source.given c.read.new.self) c.pieces.kept.items (take c.in-Ok.n c.read.new.buf) c.pieces.invariant.so_far c.in-Ok.ensures.bytes.0 short
+
+pub returns-then-n-eq0-clause-truncated : goal.returns-then-n-eq0-clause-truncated
+returns-then-n-eq0-clause-truncated g c =
+    let none = c.if-n-eq0.true in
+    at_end (g.S.Source.remaining c.args.source.now) (g.S.Source.remaining c.pieces.source) (g.S.Source.remaining c.read.new.self) c.pieces.kept.items _ c.pieces.invariant.so_far.known (rw none at c.in-Ok.ensures.bytes.0)
+    (c.in-Ok.ensures.bytes.1 none (omega (arith, c.read.auto.buf)))
