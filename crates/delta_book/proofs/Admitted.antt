@@ -18,7 +18,6 @@ use Rattle.metric_events.proofs.Lists.{any_none, both_at}
 use Rattle.delta_book.specs.Journal.{Journal, history, admits, IsNumbered}
 use Rattle.delta_book.specs.Refusals.{batch_fault, door_refusal, first_of}
 use Rattle.delta_book.proofs.Admitting.{may_admit_now}
-use Rattle.delta_book.proofs.Refusing.{refusal_parts}
 use Rattle.delta_book.specs.Batches.{is_point_of, word_of, word_in}
 use Rattle.delta_book.specs.Tables.{AreOpen, At}
 use Rattle.delta_book.specs.declared.open.Open.{Open}
@@ -41,9 +40,8 @@ pub may_be_put : (xs view : Journal) (n : ℕ) (body : Batch) (ps : List DataPoi
 may_be_put xs view n body ps v m numbered some made door p none =
     subst (λ k. MayAdmit (history xs) (k + 1) body) (sym m)
     (may_admit_now (history xs) body numbered some made
-    (refusal_parts (history xs) body
-    ∙ (ap (λ o. first_of o (batch_fault (points (history xs)) body.sender body.points)) (ap (λ ys. door_refusal (history ys) body.sender) v ∙ sym door)
-    ∙ (ap (λ (ys : List DataPoint). batch_fault (points (history xs)) body.sender ys) (sym p) ∙ none))))
+    (ap (λ o. first_of o (batch_fault (points (history xs)) body.sender body.points)) (ap (λ ys. door_refusal (history ys) body.sender) v ∙ sym door)
+    ∙ (ap (λ (ys : List DataPoint). batch_fault (points (history xs)) body.sender ys) (sym p) ∙ none)))
 
 pub opened_push : (xs ys : List Entry) (x : Entry) (os rs os' : List Open) (bs : List ℕ) (b n : ℕ) (body : Batch) → AreOpen xs os bs → ys ≡ xs ++ x ∷ [] → x.event ≡ Admit b body → n ≡ length xs → rs ≡ os → os' ≡ rs ++ record { number = b; entry = n } ∷ [] → AreOpen ys os' (bs ++ b ∷ [])
 opened_push xs ys x os rs os' bs b n body h e v l r o =

@@ -1,20 +1,16 @@
 -- Which refusal applies to a batch, from what is kept.
 use Rattle.std.proofs.Common.{◌≡◌, ◌<◌, ◌≤◌, ◌⊎◌, ℕ, Bool, true, false, cond, ◌&&◌, List, length, refl, arith, inl, inr, Some, None}
-use Rattle.std.specs.declared.option.Option.{Option}
 use Rattle.std.specs.Prelude.{nat_lt}
 use Rattle.std.proofs.lemmas.Bool.{le-ltb, lt-ltb}
 use Rattle.metric_events.specs.History.{History}
-use Rattle.metric_events.specs.Points.{points}
 use Rattle.metric_events.specs.Running.{open_batches, held_senders}
 use Rattle.metric_events.specs.Legal.{is_held}
 use Rattle.metric_events.specs.declared.limits.TheConstants.{MAX_OPEN}
-use Rattle.metric_events.specs.declared.batch.Batch.{Batch}
 use Rattle.metric_events.specs.declared.entry.Entry.{Entry}
-use Rattle.delta_book.specs.Refusals.{admit_refusal, batch_fault, door_refusal, first_of, has_room}
+use Rattle.delta_book.specs.Refusals.{door_refusal, has_room}
 use Rattle.delta_book.specs.Tables.{AreOpen}
 use Rattle.delta_book.specs.declared.open.Open.{Open}
-use Rattle.delta_book.specs.declared.faults.AdmitFault.{AdmitFault}
-use Rattle.delta_book.specs.declared.faults.AdmitFault.TheVariants.{Quarantined, Full}
+use Rattle.delta_book.specs.declared.faults.AdmitFault.TheVariants.{Full}
 use Rattle.delta_book.proofs.Opened.{open_length}
 
 pub full_refusal : (E : History) (s : List ℕ) (es : List Entry) (os : List Open) → AreOpen es os (open_batches E) → is_held s (held_senders E) ≡ false → (MAX_OPEN ≤ length os) ⊎ (has_room E ≡ false) → Some Full ≡ door_refusal E s
@@ -31,12 +27,3 @@ pub no_refusal : (E : History) (s : List ℕ) (es : List Entry) (os : List Open)
 no_refusal E s es os h free few room =
     let o : nat_lt (length (open_batches E)) MAX_OPEN ≡ true = lt-ltb (length (open_batches E)) MAX_OPEN (omega (arith, few, open_length es os (open_batches E) h)) in
     rw (free, o, room) refl
-
--- what keeps a batch out is found at the door, or else in its points
-pub refusal_parts : (E : History) (body : Batch) → admit_refusal E body ≡ first_of (door_refusal E body.sender) (batch_fault (points E) body.sender body.points)
-refusal_parts E body = both (is_held body.sender (held_senders E)) (nat_lt (length (open_batches E)) MAX_OPEN && has_room E) Quarantined Full (batch_fault (points E) body.sender body.points)
-  where
-    both : (u v : Bool) (x y : AdmitFault) (o : Option AdmitFault) → cond u (Some x) (cond v o (Some y)) ≡ first_of (cond u (Some x) (cond v None (Some y))) o
-    both true v x y o = refl
-    both false true x y o = refl
-    both false false x y o = refl

@@ -10,6 +10,10 @@ use Rattle.metric_events.specs.Legal.{Allowed, are_distinct, is_live}
 use Rattle.metric_events.specs.Choice.{is_cargo}
 use Rattle.series_id.specs.Identity.{Identity}
 use Rattle.metric_events.specs.declared.place.Place.{Place}
+use Rattle.metric_events.specs.declared.place.Place.TheVariants.{Home, InFlight, Acknowledged, Dropped}
+use Rattle.metric_events.specs.declared.event.Event.{Event}
+use Rattle.metric_events.specs.declared.event.Event.TheVariants.{Settle, Drop, GiveBack}
+use Rattle.delta_book.specs.Flushes.{EndsFlush}
 use Rattle.metric_events.specs.declared.limits.TheConstants.{MAX_ENTRIES, MAX_OPEN, MAX_LIVE}
 use Rattle.metric_events.specs.declared.accepted.Accepted.{Accepted}
 use Rattle.metric_events.specs.declared.flight.Flight.{Flight}
@@ -116,3 +120,29 @@ pub opened_after : (xs ys : List Entry) (x : Entry) (os os' : List Open) (bs : L
 opened_after xs ys x os os' bs b h e o =
     subst (λ zs. AreOpen zs os' (filter (is_another b) bs)) (sym e)
     (subst (λ ps. AreOpen (xs ++ x ∷ []) ps (filter (is_another b) bs)) (sym o) (open_closed (xs ++ x ∷ []) os bs b (open_more xs (x ∷ []) os bs h)))
+
+-- a flush that is live may end so
+pub may_end : (E : History) (f : ℕ) (q : Place) (e : Event) → EndsFlush f q e → is_live f (live_flushes E) ≡ true → Allowed E e
+may_end E f Acknowledged e k l = subst (Allowed E) (sym k) l
+may_end E f Dropped e k l = subst (Allowed E) (sym k) l
+may_end E f Home e k l = subst (Allowed E) (sym k) l
+may_end E f (InFlight g) e k l = absurd k
+
+pub not_flying : (f : ℕ) (q : Place) (e : Event) → EndsFlush f q e → is_flying q ≡ false
+not_flying f Acknowledged e k = refl
+not_flying f Dropped e k = refl
+not_flying f Home e k = refl
+not_flying f (InFlight g) e k = absurd k
+
+-- a flush has ended
+pub stored_end : (cs cs' : List CellView) (os ls ls' : List Open) (hs : List (List ℕ)) (xs ys : Journal) (oc lc lc' cap cap' a t : ℕ) (f : ℕ) (q : Place) (x : Entry) → EndsFlush f q x.event → IsStored cs os ls hs xs oc lc cap a t → is_live f (live_flushes (history xs)) ≡ true → AreCells cs' (map (landed f q) (points (history xs))) → AreOpen ys.entries os (open_batches (history xs)) → AreFlights ys.entries ls' (filter (is_other_flight f) (live_flushes (history xs))) → are_full (map (landed f q) (points (history xs))) (filter (is_other_flight f) (live_flushes (history xs))) ≡ true → ys ≡ appended xs x → MAX_OPEN ≤ oc → MAX_LIVE ≤ lc' → MAX_ENTRIES ≤ cap' → IsStored cs' os ls' hs ys oc lc' cap' a t
+stored_end cs cs' os ls ls' hs xs ys oc lc lc' cap cap' a t f q x k h l cells opened live full ex open_room live_room room = ends q k cells full
+  where
+    named : (e : Event) → x.event ≡ e → ys ≡ appended xs (record { seat = x.seat; event = e })
+    named e k = ex ∙ ap (λ v. appended xs (record { seat = x.seat; event = v })) k
+
+    ends : (q : Place) → EndsFlush f q x.event → AreCells cs' (map (landed f q) (points (history xs))) → are_full (map (landed f q) (points (history xs))) (filter (is_other_flight f) (live_flushes (history xs))) ≡ true → IsStored cs' os ls' hs ys oc lc' cap' a t
+    ends Acknowledged k cells full = stored_push cs cs' os os ls ls' hs hs xs ys oc oc lc lc' cap cap' a a t t (record { seat = x.seat; event = Settle f }) h l h.base.numbered cells opened live full refl (named (Settle f) k) open_room live_room room h.base.admitted_are h.base.taken_are
+    ends Dropped k cells full = stored_push cs cs' os os ls ls' hs hs xs ys oc oc lc lc' cap cap' a a t t (record { seat = x.seat; event = Drop f }) h l h.base.numbered cells opened live full refl (named (Drop f) k) open_room live_room room h.base.admitted_are h.base.taken_are
+    ends Home k cells full = stored_push cs cs' os os ls ls' hs hs xs ys oc oc lc lc' cap cap' a a t t (record { seat = x.seat; event = GiveBack f }) h l h.base.numbered cells opened live full refl (named (GiveBack f) k) open_room live_room room h.base.admitted_are h.base.taken_are
+    ends (InFlight g) k cells full = absurd k
