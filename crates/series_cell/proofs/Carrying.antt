@@ -1,5 +1,5 @@
 -- What the next round begins with.
-use Rattle.std.proofs.Common.{◌≡◌, ℕ, ◌<◌, ◌^◌, true, List, [], ◌∷◌, map, length, refl, ap, sym, ◌∙◌, subst, arith, Some, None}
+use Rattle.std.proofs.Common.{◌≡◌, ℕ, ◌<◌, ◌^◌, true, List, [], ◌∷◌, ◌++◌, map, length, refl, ap, sym, ◌∙◌, subst, arith, zero, suc, Some, None}
 use Rattle.std.specs.declared.option.Option.{Option}
 use Rattle.std.specs.List.{list_all}
 use Rattle.std.proofs.lemmas.Option.{none-some, same_Some}
@@ -14,7 +14,7 @@ use Rattle.metric_events.specs.declared.accepted.Accepted.{Accepted}
 use Rattle.metric_events.specs.declared.opened_series.OpenedSeries.{OpenedSeries}
 use Rattle.metric_events.proofs.Intervals.{starts, ends_after, interval_is}
 use Rattle.metric_events.proofs.Sums.{add_rows-comm, add_rows-zeros, length-zeros}
-use Rattle.series_cell.specs.Cells.{CellView, Stands, AllOwn, InOrder, greatest_end, end_of, home_hull, HandsOn, opened_with}
+use Rattle.series_cell.specs.Cells.{CellView, Stands, IsCell, AllOwn, InOrder, greatest_end, end_of, home_hull, HandsOn, opened_with}
 use Rattle.series_cell.specs.Spans.{span_of, hull_of, joined_spans}
 use Rattle.series_cell.specs.declared.batch_span.BatchSpan.{BatchSpan}
 use Rattle.series_cell.proofs.Sizes.{sized}
@@ -124,3 +124,46 @@ handed c = record { series = c.id; owner = c.owner; frontier = end_of c; home = 
 pub hands_on : (c : CellView) → HandsOn c (handed c)
 unfolding handed
 hands_on c = record { series = refl; owner = refl; frontier = refl; home = refl; home_span = refl }
+
+-- a cell that stands for no point
+
+no_parts : (gone away home : List Accepted) → [] ≡ gone ++ (away ++ home) → (away ≡ []) × (home ≡ [])
+no_parts [] [] home e = (refl, sym e)
+no_parts [] (a ∷ away) home e = cc
+no_parts (a ∷ gone) away home e = cc
+
+no_points : (s : List ℕ) (x : Identity) (qs : List Accepted) → AllOwn s x qs → greatest_end qs ≡ 0 → qs ≡ []
+no_points s x [] h e = refl
+no_points s x (a ∷ qs) h e = absurd (omega (arith, e, ends_after a.point.span h.0.span))
+
+pub stands_for_none : (c : CellView) (accepted acknowledged dropped : List ℕ) (spans : List BatchSpan) (last spare : ℕ) → Stands c [] → c.cut ≡ 0 → accepted ≡ c.stored → acknowledged ≡ zeros (row_length c.id.kind) → dropped ≡ zeros (row_length c.id.kind) → spans ≡ joined_spans (home_hull c) → last ≡ end_of c → Stands (record c { accepted = accepted; acknowledged = acknowledged; dropped = dropped; spans = spans; landed = last; spare = spare }) []
+stands_for_none c accepted acknowledged dropped spans last spare h none ea ek ed em el =
+    let n = row_length c.id.kind in
+    let p = no_parts h.gone h.away h.home h.parts in
+    record {
+      gone = [];
+      away = [];
+      home = [];
+      parts = refl;
+      are_gone = refl;
+      are_away = refl;
+      are_home = refl;
+      own = tt;
+      ordered = tt;
+      accepted = ea ∙ (h.stored ∙ ap (row_sum n) p.1);
+      stored = h.stored ∙ ap (row_sum n) p.1;
+      in_flight = h.in_flight ∙ ap (row_sum n) p.0;
+      acknowledged = ek;
+      dropped = ed;
+      spans = em ∙ ap joined_spans (hull_at_home c [] h ∙ ap hull p.1);
+      cut = none;
+      landed = el ∙ end_is c [] h;
+    }
+
+-- what a cell carries is a cell
+pub cell_carried : (c : CellView) (qs : List Accepted) (accepted acknowledged dropped : List ℕ) (spans : List BatchSpan) (last spare : ℕ) → Stands c qs → c.cut ≡ 0 → accepted ≡ c.stored → acknowledged ≡ zeros (row_length c.id.kind) → dropped ≡ zeros (row_length c.id.kind) → spans ≡ joined_spans (home_hull c) → last ≡ end_of c → IsCell (record c { accepted = accepted; acknowledged = acknowledged; dropped = dropped; spans = spans; landed = last; spare = spare })
+cell_carried c qs accepted acknowledged dropped spans last spare h none ea ek ed em el = by (end_of c) refl
+  where
+    by : (n : ℕ) → end_of c ≡ n → IsCell (record c { accepted = accepted; acknowledged = acknowledged; dropped = dropped; spans = spans; landed = last; spare = spare })
+    by zero e = ([], stands_for_none c accepted acknowledged dropped spans last spare (subst (Stands c) (no_points c.owner c.id qs h.own (sym (end_is c qs h) ∙ e)) h) none ea ek ed em el)
+    by (suc n) e = (opened_with (handed c), stands_carried c qs (handed c) accepted acknowledged dropped spans last spare h none (omega (arith, e)) (hands_on c) ea ek ed em el)

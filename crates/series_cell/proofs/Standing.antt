@@ -19,7 +19,7 @@ use Rattle.metric_events.specs.declared.accepted.Accepted.{Accepted}
 use Rattle.metric_events.proofs.Lists.{all_append, all_first, all_last}
 use Rattle.metric_events.proofs.Sums.{row_sum-append, row_sum_long, add_rows-comm, add_rows-zeros, length-zeros}
 use Rattle.metric_events.specs.Legal.{is_batch_home}
-use Rattle.series_cell.specs.Cells.{CellView, Stands, AllOwn, InOrder, greatest_end, is_landed, lifted, end_of, AreTogether, bare, is_of_batch, is_other_or_off}
+use Rattle.series_cell.specs.Cells.{CellView, Stands, AllOwn, InOrder, greatest_end, is_landed, lifted, end_of, AreTogether, bare, is_of_batch, is_home_of, is_other_or_off}
 use Rattle.series_cell.specs.Spans.{span_of, end_of_spans, place_of, is_span_of, AreInOrder}
 use Rattle.series_cell.specs.declared.batch_span.BatchSpan.{BatchSpan}
 use Rattle.series_cell.proofs.Points.{all_own-append, all_own_first, all_own_last, all_own-map, sum_length, moves_at, moves_landed, moves_lifted, sum-moved, sum_out, row_sum_push, last_end, in_order_push, in_order-map, in_order_without, in_order_first, in_order_last, all_end_by, spans_in_order, last_greatest, greatest_end-append, greatest_end-map, spans_end, spans_moved, all_at, filter_at, filter_off, landed-gone, landed-home, landed-away, lifted-gone, lifted-home, past, place_at, remove_at}
@@ -386,6 +386,38 @@ clash b (a ∷ qs) h m o =
     both : (v : Bool) → (a.batch == b) ≡ v → is_home a.place ≡ true → (not (a.batch == b) || not (is_home a.place)) ≡ true → (list_any (is_of_batch b) qs ≡ true → ⊥) → ⊥
     both true e g x r = let y : (not true || not true) ≡ true = rw (e, g) at x in let z : false ≡ true = y in cc
     both false e g x r = r (rw e at m)
+
+none_home_of : (b : ℕ) (t : Place → Bool) → ((q : Place) → t q ≡ true → is_home q ≡ false) → (qs : List Accepted) → list_all (stands t) qs ≡ true → list_any (is_home_of b) qs ≡ false
+none_home_of b t k [] h = refl
+none_home_of b t k (a ∷ qs) h =
+    let p = and_parts (t a.place) (list_all (stands t) qs) h in
+    rw (k a.place p.0, none_home_of b t k qs p.1) (never (a.batch == b))
+  where
+    never : (v : Bool) → ((v && false) || false) ≡ false
+    never true = refl
+    never false = refl
+
+all_home_of : (b : ℕ) (qs : List Accepted) → list_all (stands is_home) qs ≡ true → list_any (is_home_of b) qs ≡ list_any (is_of_batch b) qs
+all_home_of b [] h = refl
+all_home_of b (a ∷ qs) h =
+    let p = and_parts (is_home a.place) (list_all (stands is_home) qs) h in
+    rw (p.0, all_home_of b qs p.1) (both (a.batch == b))
+  where
+    both : (v : Bool) → ((v && true) || list_any (is_of_batch b) qs) ≡ (v || list_any (is_of_batch b) qs)
+    both true = refl
+    both false = refl
+
+-- a point of the batch is at home where the spans that are at home have one of its
+pub home_of_is : (c : CellView) (qs : List Accepted) (b : ℕ) (r : Bool) → Stands c qs → r ≡ list_any (is_span_of b) (drop c.cut c.spans) → r ≡ list_any (is_home_of b) qs
+home_of_is c qs b r h e =
+    e ∙ (ap (list_any (is_span_of b)) (home_spans c qs h) ∙ (marked b h.home ∙ (sym (all_home_of b h.home h.are_home) ∙ sym parts)))
+  where
+    parts : list_any (is_home_of b) qs ≡ list_any (is_home_of b) h.home
+    parts =
+        ap (list_any (is_home_of b)) h.parts
+        ∙ (list_any-append (is_home_of b) h.gone (h.away ++ h.home)
+        ∙ (ap (λ v. v || list_any (is_home_of b) (h.away ++ h.home)) (none_home_of b is_landed landed_off h.gone h.are_gone)
+        ∙ (list_any-append (is_home_of b) h.away h.home ∙ ap (λ v. v || list_any (is_home_of b) h.home) (none_home_of b (is_in_flight c.flush) (flying_off c.flush) h.away h.are_away))))
 
 pub can_remove_is : (c : CellView) (qs : List Accepted) (b : ℕ) (r : Bool) → Stands c qs → list_any (is_of_batch b) qs ≡ true → AreTogether b qs → r ≡ list_any (is_span_of b) (drop c.cut c.spans) → r ≡ is_batch_home b qs
 can_remove_is c qs b r h some one e = cases (list_any (is_of_batch b) h.home) refl

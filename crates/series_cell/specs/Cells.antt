@@ -1,5 +1,5 @@
 -- A cell, and the points that it stands for.
-use Rattle.std.specs.Prelude.{◌≡◌, ℕ, Bool, true, ◌||◌, List, [], ◌∷◌, ◌++◌, map, filter, length, drop, take, max, nat_le, if◌then◌else◌, ◌==◌, not, ◌⊎◌}
+use Rattle.std.specs.Prelude.{◌≡◌, ℕ, Bool, true, ◌||◌, ◌&&◌, List, [], ◌∷◌, ◌++◌, map, filter, length, drop, take, max, nat_le, if◌then◌else◌, ◌==◌, not, ◌⊎◌}
 use Rattle.std.specs.List.{list_all}
 use Rattle.std.specs.declared.option.Option.{Option}
 use Rattle.series_id.specs.Identity.{Identity, row_length}
@@ -117,6 +117,10 @@ HasHome c b p = (before : List Accepted) × ((after : List Accepted) × Stands c
 
 abbrev pub is_of_batch : ℕ → Accepted → Bool
 is_of_batch b a = a.batch == b
+
+-- a point of the batch that is at home
+abbrev pub is_home_of : ℕ → Accepted → Bool
+is_home_of b a = a.batch == b && is_home a.place
 
 abbrev pub is_other_or_off : ℕ → Accepted → Bool
 is_other_or_off b a = not (a.batch == b) || not (is_home a.place)

@@ -7,7 +7,7 @@ ghost use Rattle.metric_events.specs.Legal.{is_batch_home};
 ghost use Rattle.metric_events.specs.declared.place.Place.TheVariants.{Home, Acknowledged, Dropped};
 ghost use Rattle.metric_events.specs.declared.accepted.Accepted.{Accepted};
 ghost use Rattle.metric_events.specs.declared.opened_series.OpenedSeries.{OpenedSeries};
-ghost use Rattle.series_cell.specs.Cells.{Stands, IsCell, IsOfSame, HasHome, HandsOn, AreTogether, is_of_batch, bare, end_of, home_hull, flight_hull, lifted, opened_with};
+ghost use Rattle.series_cell.specs.Cells.{Stands, IsCell, IsOfSame, HasHome, HandsOn, AreTogether, is_of_batch, is_home_of, bare, end_of, home_hull, flight_hull, lifted, opened_with};
 
 use crate::batch_span::{
     BatchSpan, drop_first, end_or, find_start, has_batch, hull, join_all, spans_from, spans_to,
@@ -128,10 +128,11 @@ impl Cell {
         Ok(())
     }
 
-    /// Whether no point of a batch here is away. Asked of a batch that has a point here, and
-    /// whose points here are in one place.
+    /// Whether a point of a batch is at home here. Of a batch that has a point here, and whose
+    /// points here are in one place, that says that none of them is away.
     pub fn can_remove(&self, batch: u64) -> bool
-        ensures { (qs : List Accepted) → Stands self.now qs → list_any (is_of_batch batch) qs ≡ true → AreTogether batch qs → result ≡ is_batch_home batch qs }
+        ensures exact { (qs : List Accepted) → Stands self.now qs → result ≡ list_any (is_home_of batch) qs }
+        ensures whole { (qs : List Accepted) → Stands self.now qs → list_any (is_of_batch batch) qs ≡ true → AreTogether batch qs → result ≡ is_batch_home batch qs }
     {
         let kept = self.kept.as_ref();
         has_batch(spans_from(&kept.spans, kept.cut), batch)
@@ -223,11 +224,12 @@ impl Cell {
 
     /// Begins the next round: what was acknowledged and dropped is past, what is at home is all
     /// that is accepted, as one point from the first start to the last end. Who sends the series
-    /// and where it ends stays. Asked where nothing is in flight. Takes no memory.
+    /// and where it ends stays. A cell that stands for no point stays so. Asked where nothing is in
+    /// flight. Takes no memory.
     pub fn carry(&mut self)
-        requires nothing { self.old.cut ≡ 0 }
-        requires some { 0 < end_of self.old }
-        ensures stands { (s : OpenedSeries) → HandsOn self.old s → Stands self.new (opened_with s) }
+        requires { self.old.cut ≡ 0 }
+        ensures stands { (s : OpenedSeries) → HandsOn self.old s → 0 < end_of self.old → Stands self.new (opened_with s) }
+        ensures none { Stands self.old [] → Stands self.new [] }
         ensures same { IsOfSame self.old self.new }
         ensures spare { self.old.spare ≤ self.new.spare }
     {

@@ -1,12 +1,12 @@
-use Rattle.std.proofs.Common.{◌≡◌, ◌<◌, sym, ap, ◌∙◌, subst, arith, drop, length}
+use Rattle.std.proofs.Common.{◌≡◌, ◌<◌, sym, ap, ◌∙◌, subst, arith, drop, length, []}
 use Rattle.metric_events.specs.Rows.{zeros}
-use Rattle.series_cell.specs.Cells.{CellView, Stands, HandsOn, end_of, opened_with}
+use Rattle.series_cell.specs.Cells.{CellView, Stands, HandsOn, end_of}
 use Rattle.series_cell.specs.Kept.{view_of}
 use Rattle.series_cell.specs.Spans.{hull_of, joined_spans}
 use Rattle.series_cell.proofs.ByPlace.{cleared_row}
 use Rattle.series_cell.proofs.Lent.{lent_cell, lent_view}
 use Rattle.series_cell.proofs.Sizes.{sized}
-use Rattle.series_cell.proofs.Carrying.{stands_carried, handed, hands_on}
+use Rattle.series_cell.proofs.Carrying.{stands_carried, stands_for_none, cell_carried}
 use Rattle.series_cell.proofs.Standing.{home_in_order}
 use Rattle.series_cell.proofs.cell.Cell.carry.Goals as goal
 
@@ -25,19 +25,16 @@ invariant_of-self c =
     let v : CellView = view_of i in
     let h : Stands v own.0 = own.1 in
     let s = sized v own.0 h in
-    let none : i.cut ≡ 0 = ap (λ (w : CellView). w.cut) is ∙ c.requires.nothing in
-    let some : 0 < end_of v = subst (λ (w : CellView). 0 < end_of w) (sym is) c.requires.some in (
-      opened_with (handed v),
-      stands_carried v own.0 (handed v) _ _ _ _ _ _ h none some (hands_on v)
-          (c.copy_from_slice.ensures.items ∙ c.as_slice.ensures.value)
-          (cleared_row i.acknowledged.items _ _ i.acknowledged.len c.deref_mut.ensures.value c.clear.auto.words c.clear.ensures i.acknowledged.ok.0 ∙ ap zeros s.acknowledged)
-          (cleared_row i.dropped.items _ _ i.dropped.len c.deref_mut-2.ensures.value c.clear-2.auto.words c.clear-2.ensures i.dropped.ok.0 ∙ ap zeros s.dropped)
-          (c.join_all.ensures.items (home_in_order v own.0 h i.spans.items (ap (λ n. drop n i.spans.items) (sym none))) ∙ ap (λ n. joined_spans (hull_of (drop n i.spans.items))) (sym none))
-          (c.frontier-frontier.ensures ∙ ap end_of (sym is)),
-    )
+    let none : i.cut ≡ 0 = ap (λ (w : CellView). w.cut) is ∙ c.requires in
+    cell_carried v own.0 _ _ _ _ _ _ h none
+    (c.copy_from_slice.ensures.items ∙ c.as_slice.ensures.value)
+    (cleared_row i.acknowledged.items _ _ i.acknowledged.len c.deref_mut.ensures.value c.clear.auto.words c.clear.ensures i.acknowledged.ok.0 ∙ ap zeros s.acknowledged)
+    (cleared_row i.dropped.items _ _ i.dropped.len c.deref_mut-2.ensures.value c.clear-2.auto.words c.clear-2.ensures i.dropped.ok.0 ∙ ap zeros s.dropped)
+    (c.join_all.ensures.items (home_in_order v own.0 h i.spans.items (ap (λ n. drop n i.spans.items) (sym none))) ∙ ap (λ n. joined_spans (hull_of (drop n i.spans.items))) (sym none))
+    (c.frontier-frontier.ensures ∙ ap end_of (sym is))
 
 pub returns-clause-stands : goal.returns-clause-stands
-returns-clause-stands c = λ t k.
+returns-clause-stands c = λ t k l.
     let i = c.as_mut-kept.result.now in
     let own = lent_cell c.as_mut-kept.ensures.value c.self.invariant in
     let is = lent_view c.as_mut-kept.ensures.value c.self.view_is in
@@ -45,11 +42,27 @@ returns-clause-stands c = λ t k.
     let h : Stands v own.0 = own.1 in
     let s = sized v own.0 h in
     let hands : HandsOn v t = subst (λ (w : CellView). HandsOn w t) (sym is) k in
-    let none : i.cut ≡ 0 = ap (λ (w : CellView). w.cut) is ∙ c.requires.nothing in
-    let some : 0 < end_of v = subst (λ (w : CellView). 0 < end_of w) (sym is) c.requires.some in
+    let none : i.cut ≡ 0 = ap (λ (w : CellView). w.cut) is ∙ c.requires in
+    let some : 0 < end_of v = subst (λ (w : CellView). 0 < end_of w) (sym is) l in
     stands_carried v own.0 t _ _ _ _ _ _ h none some hands
     (c.copy_from_slice.ensures.items ∙ c.as_slice.ensures.value)
     (cleared_row i.acknowledged.items _ _ i.acknowledged.len c.deref_mut.ensures.value c.clear.auto.words c.clear.ensures i.acknowledged.ok.0 ∙ ap zeros s.acknowledged)
     (cleared_row i.dropped.items _ _ i.dropped.len c.deref_mut-2.ensures.value c.clear-2.auto.words c.clear-2.ensures i.dropped.ok.0 ∙ ap zeros s.dropped)
     (c.join_all.ensures.items (home_in_order v own.0 h i.spans.items (ap (λ n. drop n i.spans.items) (sym none))) ∙ ap (λ n. joined_spans (hull_of (drop n i.spans.items))) (sym none))
+    (c.frontier-frontier.ensures ∙ ap end_of (sym is))
+
+pub returns-clause-none : goal.returns-clause-none
+returns-clause-none c k =
+    let i = c.as_mut-kept.result.now in
+    let own = lent_cell c.as_mut-kept.ensures.value c.self.invariant in
+    let is = lent_view c.as_mut-kept.ensures.value c.self.view_is in
+    let v : CellView = view_of i in
+    let h : Stands v [] = subst (λ (w : CellView). Stands w []) (sym is) k in
+    let s = sized v [] h in
+    let none : i.cut ≡ 0 = ap (λ (w : CellView). w.cut) is ∙ c.requires in
+    stands_for_none v _ _ _ _ _ _ h none
+    (c.copy_from_slice.ensures.items ∙ c.as_slice.ensures.value)
+    (cleared_row i.acknowledged.items _ _ i.acknowledged.len c.deref_mut.ensures.value c.clear.auto.words c.clear.ensures i.acknowledged.ok.0 ∙ ap zeros s.acknowledged)
+    (cleared_row i.dropped.items _ _ i.dropped.len c.deref_mut-2.ensures.value c.clear-2.auto.words c.clear-2.ensures i.dropped.ok.0 ∙ ap zeros s.dropped)
+    (c.join_all.ensures.items (home_in_order v [] h i.spans.items (ap (λ n. drop n i.spans.items) (sym none))) ∙ ap (λ n. joined_spans (hull_of (drop n i.spans.items))) (sym none))
     (c.frontier-frontier.ensures ∙ ap end_of (sym is))
