@@ -121,7 +121,8 @@ def read_all(connection):
 
 
 class BackEnd:
-    """A back end that answers each request by the next of these answers, and 200 after them."""
+    """A back end that answers each request by the next of these answers, and 200 after them. An answer None is
+    a connection that is closed without one."""
 
     def __init__(self, answers=()):
         self.answers = list(answers)
@@ -156,9 +157,14 @@ class BackEnd:
             if not piece:
                 return
             text += piece
-        self.bodies.append(text.partition(b"\r\n\r\n")[2])
-        answer = self.answers.pop(0) if self.answers else b"200 OK\r\n"
-        connection.sendall(b"HTTP/1.1 " + answer + b"Content-Length: 0\r\n\r\n")
+        answer = self.answer_to(text.partition(b"\r\n\r\n")[2])
+        if answer is not None:
+            connection.sendall(b"HTTP/1.1 " + answer + b"Content-Length: 0\r\n\r\n")
+
+    def answer_to(self, body):
+        """Keeps the body, and gives the next answer."""
+        self.bodies.append(body)
+        return self.answers.pop(0) if self.answers else b"200 OK\r\n"
 
     def close(self):
         """Ends the thread before the listener is closed, whose number another could have by then."""
