@@ -1,0 +1,313 @@
+#!/usr/bin/env python3
+"""Bodies as protobuf's own JSON writer writes them, and what is forwarded of them read strictly by its reader.
+
+    tests/protobuf_bodies.py PROGRAM
+
+Each round makes a few requests of random sums, histograms and points outside the profile, with the messages of the OTLP
+definitions, which are built here by their names and numbers. They are posted as the writer writes them, or with whole
+doubles written as whole numbers, as JavaScript writes them. The answers count the foreign points. One flush then forwards
+for each series one point, over all its spans, with its values, buckets and sums added up here.
+
+It needs python3-protobuf; where that is missing a line says so, and the status is 77. Each other line tells one check;
+the last one tells how many there were and how many were wrong, and then the status is 1.
+"""
+import importlib.util
+import json
+import os
+import random
+import sys
+
+# Debian's package is for Debian's Python.
+if importlib.util.find_spec("google") is None and os.path.realpath(sys.executable) != os.path.realpath("/usr/bin/python3"):
+    os.execv("/usr/bin/python3", ["/usr/bin/python3", *sys.argv])
+
+from loopback import BackEnd
+from shipped import ask, flush_all, gateway_at, posting, run_script
+
+try:
+    from google.protobuf import descriptor_pb2, descriptor_pool, json_format, message_factory
+except ImportError:
+    descriptor_pb2 = None
+
+ROUNDS = 120
+SEED = 20_231
+# Of each message its fields: name, number, type, and how it stands (one, many, maybe, or the name of its oneof).
+MESSAGES = {
+    "AnyValue": ["string_value 1 string value", "bool_value 2 bool value", "int_value 3 int64 value",
+                 "double_value 4 double value", "array_value 5 ArrayValue value", "kvlist_value 6 KeyValueList value",
+                 "bytes_value 7 bytes value"],
+    "ArrayValue": ["values 1 AnyValue many"],
+    "KeyValueList": ["values 1 KeyValue many"],
+    "KeyValue": ["key 1 string one", "value 2 AnyValue one"],
+    "InstrumentationScope": ["name 1 string one", "version 2 string one", "attributes 3 KeyValue many",
+                             "dropped_attributes_count 4 uint32 one"],
+    "Resource": ["attributes 1 KeyValue many", "dropped_attributes_count 2 uint32 one"],
+    "NumberDataPoint": ["start_time_unix_nano 2 fixed64 one", "time_unix_nano 3 fixed64 one", "as_double 4 double value",
+                        "as_int 6 sfixed64 value", "attributes 7 KeyValue many", "flags 8 uint32 one"],
+    "HistogramDataPoint": ["start_time_unix_nano 2 fixed64 one", "time_unix_nano 3 fixed64 one", "count 4 fixed64 one",
+                           "sum 5 double maybe", "bucket_counts 6 fixed64 many", "explicit_bounds 7 double many",
+                           "attributes 9 KeyValue many", "flags 10 uint32 one", "min 11 double maybe",
+                           "max 12 double maybe"],
+    "Gauge": ["data_points 1 NumberDataPoint many"],
+    "Sum": ["data_points 1 NumberDataPoint many", "aggregation_temporality 2 AggregationTemporality one",
+            "is_monotonic 3 bool one"],
+    "Histogram": ["data_points 1 HistogramDataPoint many", "aggregation_temporality 2 AggregationTemporality one"],
+    "Metric": ["name 1 string one", "description 2 string one", "unit 3 string one", "gauge 5 Gauge data",
+               "sum 7 Sum data", "histogram 9 Histogram data"],
+    "ScopeMetrics": ["scope 1 InstrumentationScope one", "metrics 2 Metric many", "schema_url 3 string one"],
+    "ResourceMetrics": ["resource 1 Resource one", "scope_metrics 2 ScopeMetrics many", "schema_url 3 string one"],
+    "ExportMetricsServiceRequest": ["resource_metrics 1 ResourceMetrics many"],
+    "ExportMetricsPartialSuccess": ["rejected_data_points 1 int64 one", "error_message 2 string one"],
+    "ExportMetricsServiceResponse": ["partial_success 1 ExportMetricsPartialSuccess one"],
+}
+TEMPORALITIES = ["UNSPECIFIED", "DELTA", "CUMULATIVE"]
+DELTA, CUMULATIVE = 1, 2
+
+
+def add_field(message, words):
+    """A field by its line in MESSAGES."""
+    name, number, kind, how = words.split()
+    field = message.field.add(name=name, number=int(number))
+    field.label = field.LABEL_REPEATED if how == "many" else field.LABEL_OPTIONAL
+    if kind in MESSAGES:
+        field.type, field.type_name = field.TYPE_MESSAGE, f".otlp.{kind}"
+    elif kind == "AggregationTemporality":
+        field.type, field.type_name = field.TYPE_ENUM, f".otlp.{kind}"
+    else:
+        field.type = getattr(field, f"TYPE_{kind.upper()}")
+    if how == "maybe":
+        field.proto3_optional = True
+        how = f"_{name}"
+    if how not in ("one", "many"):
+        if how not in [oneof.name for oneof in message.oneof_decl]:
+            message.oneof_decl.add(name=how)
+        field.oneof_index = [oneof.name for oneof in message.oneof_decl].index(how)
+
+
+def message_classes():
+    """The class of each message."""
+    file = descriptor_pb2.FileDescriptorProto(name="otlp.proto", package="otlp", syntax="proto3")
+    enum = file.enum_type.add(name="AggregationTemporality")
+    for number, name in enumerate(TEMPORALITIES):
+        enum.value.add(name=f"AGGREGATION_TEMPORALITY_{name}", number=number)
+    for name, fields in MESSAGES.items():
+        message = file.message_type.add(name=name)
+        for words in fields:
+            add_field(message, words)
+    pool = descriptor_pool.DescriptorPool()
+    pool.Add(file)
+    get = getattr(message_factory, "GetMessageClass", None) or message_factory.MessageFactory(pool).GetPrototype
+    return {name: get(pool.FindMessageTypeByName(f"otlp.{name}")) for name in MESSAGES}
+
+
+TEXTS = ["", "a", "service.name", "µs/ß", "😀 and \u0000", 'quote " and \\', "\u2028 line", "x" * 300]
+
+
+def fill_value(chance, value, deep=True):
+    """A value of the profile."""
+    kind = chance.randrange(6 if deep else 4)
+    if kind == 1:
+        value.string_value = chance.choice(TEXTS)
+    elif kind == 2:
+        value.bool_value = chance.random() < 0.5
+    elif kind == 3:
+        value.int_value = chance.choice([0, -1, 2**63 - 1, -2**63, chance.getrandbits(40)])
+    elif kind > 3:
+        value.array_value.SetInParent()
+        for _ in range(chance.randrange(3)):
+            fill_value(chance, value.array_value.values.add(), False)
+
+
+def fill_attributes(chance, attributes, first=None):
+    """A few attributes with keys that differ."""
+    for key in chance.sample(TEXTS, chance.randrange(4)):
+        entry = attributes.add(key=key)
+        fill_value(chance, entry.value)
+    if first is not None:
+        attributes.add(key="round").value.int_value = first
+
+
+def value_of(value):
+    """What identifies of a value."""
+    kind = value.WhichOneof("value")
+    if kind == "array_value":
+        return kind, tuple(value_of(one) for one in value.array_value.values)
+    return kind, kind and getattr(value, kind)
+
+
+def attributes_of(attributes):
+    return frozenset((entry.key, value_of(entry.value)) for entry in attributes)
+
+
+def fill_point(chance, metric, start, whole):
+    """A point of the metric; whether it is of the profile, where doubles are written as whole numbers or not."""
+    data = getattr(metric, metric.WhichOneof("data"))
+    point = data.data_points.add(start_time_unix_nano=start, time_unix_nano=start + chance.randrange(1, 10))
+    fill_attributes(chance, point.attributes)
+    if metric.HasField("histogram"):
+        bounds = sorted(chance.sample(range(-2**53, 2**53) if chance.random() < 0.3 else range(20), chance.randrange(5)))
+        point.explicit_bounds.extend(bounds)
+        point.bucket_counts.extend(chance.choice([0, 7, 2**50]) for _ in range(len(bounds) + 1))
+        point.count = sum(point.bucket_counts)
+        if chance.random() < 0.5:
+            point.sum = chance.choice([0, 30, 2**50])
+            point.min = point.max = 1.5
+        good = whole or not (point.HasField("sum") or bounds)
+    elif metric.HasField("sum") and chance.random() < 0.9:
+        point.as_int = chance.choice([0, 5, 2**60])
+        if not metric.sum.is_monotonic:
+            point.as_int *= chance.choice([-1, 1])
+        good = True
+    else:
+        point.as_double = chance.choice([0.5, 1.0])
+        good = False
+    if chance.random() < 0.05:
+        point.flags = 1
+        good = False
+    return good and not metric.HasField("gauge") and data.aggregation_temporality == DELTA
+
+
+def fill_metric(chance, metric, number):
+    metric.name, metric.unit = f"m{number}", chance.choice(["", "1", "µs"])
+    metric.description = chance.choice(TEXTS)
+    kind = chance.choice(["sum", "sum", "histogram", "histogram", "gauge"])
+    getattr(metric, kind).SetInParent()
+    if kind != "gauge":
+        getattr(metric, kind).aggregation_temporality = DELTA if chance.random() < 0.9 else CUMULATIVE
+    if kind == "sum":
+        metric.sum.is_monotonic = chance.random() < 0.5
+
+
+def fill_request(chance, request, number, start, whole):
+    """A request, as a list of its points of the profile as they are forwarded, and how many others it has."""
+    points, foreign = [], 0
+    for which in range(chance.randrange(1, 3)):
+        group = request.resource_metrics.add(schema_url=chance.choice(TEXTS))
+        fill_attributes(chance, group.resource.attributes, 1000 * number + which)
+        for _ in range(chance.randrange(1, 3)):
+            part = group.scope_metrics.add()
+            part.scope.name, part.scope.version = chance.choice(TEXTS), f"{len(group.scope_metrics)}"
+            fill_attributes(chance, part.scope.attributes)
+            for name in range(chance.randrange(1, 4)):
+                metric = part.metrics.add()
+                fill_metric(chance, metric, name)
+                for _ in range(chance.randrange(1, 3)):
+                    start += 10
+                    if fill_point(chance, metric, start, whole):
+                        points.append(point_of(group, part, metric, -1))
+                    else:
+                        foreign += 1
+    return points, foreign
+
+
+def later(request, shift, points):
+    """The same points, that much later."""
+    for group in request.resource_metrics:
+        for part in group.scope_metrics:
+            for metric in part.metrics:
+                for point in getattr(metric, metric.WhichOneof("data")).data_points:
+                    point.start_time_unix_nano += shift
+                    point.time_unix_nano += shift
+    return [(series, (start + shift, end + shift), value) for series, (start, end), value in points]
+
+
+def point_of(group, part, metric, place):
+    """What a point of the profile is forwarded by: its series, its span, and its value or (buckets, sum)."""
+    kind = metric.WhichOneof("data")
+    data = getattr(metric, kind)
+    point = data.data_points[place]
+    scope = (part.scope.name, part.scope.version, attributes_of(part.scope.attributes))
+    if kind == "sum":
+        what, value = ("sum", data.is_monotonic), point.as_int
+    else:
+        what = ("histogram", tuple(point.explicit_bounds))
+        value = (tuple(point.bucket_counts), point.sum if point.HasField("sum") else None)
+    series = (attributes_of(group.resource.attributes), scope, metric.name, metric.unit, what,
+              attributes_of(point.attributes))
+    return series, (point.start_time_unix_nano, point.time_unix_nano), value
+
+
+def added(points):
+    """One point a series: over all spans, of all values."""
+    found = {}
+    for series, (start, end), value in points:
+        if series not in found:
+            found[series] = (start, end), value
+            continue
+        (first, _), before = found[series]
+        if series[4][0] == "sum":
+            value += before
+        else:
+            total = None if value[1] is None or before[1] is None else value[1] + before[1]
+            value = tuple(a + b for a, b in zip(value[0], before[0])), total
+        found[series] = (first, end), value
+    return found
+
+
+def whole_numbers(value):
+    """The JSON value with whole doubles as whole numbers."""
+    if isinstance(value, dict):
+        return {name: whole_numbers(one) for name, one in value.items()}
+    if isinstance(value, list):
+        return [whole_numbers(one) for one in value]
+    return int(value) if isinstance(value, float) and value.is_integer() else value
+
+
+def written(request, whole):
+    text = json_format.MessageToJson(request, use_integers_for_enums=True)
+    return json.dumps(whole_numbers(json.loads(text))) if whole else text
+
+
+def forwarded(classes, bodies):
+    """What the back end got, by a strict reading: unknown names and wrong types are refused."""
+    found = []
+    for body in bodies:
+        request = json_format.Parse(body, classes["ExportMetricsServiceRequest"](), ignore_unknown_fields=False)
+        for group in request.resource_metrics:
+            for part in group.scope_metrics:
+                for metric in part.metrics:
+                    data = getattr(metric, metric.WhichOneof("data"))
+                    if data.aggregation_temporality != DELTA:
+                        raise OSError("a forwarded point is not delta")
+                    found += [point_of(group, part, metric, place) for place in range(len(data.data_points))]
+    return found
+
+
+def one_round(classes, checks, gateway, back_end, number):
+    """Requests of one kind of writing, posted one after another, and the flush of them."""
+    chance = random.Random(SEED + number)
+    whole = number % 2 == 1
+    request = classes["ExportMetricsServiceRequest"]()
+    points, foreign = fill_request(chance, request, number, 10**18, whole)
+    wanted, answers, alike = [], [], []
+    for post in range(chance.randrange(1, 4)):
+        if post:
+            points = later(request, 10**6, points)
+        status, text = ask(gateway.port, "POST", "/v1/metrics", written(request, whole), posting("A"))
+        said = json_format.Parse(text, classes["ExportMetricsServiceResponse"](), ignore_unknown_fields=False)
+        answers.append((status, said.partial_success.rejected_data_points))
+        alike.append((200, foreign))
+        wanted += points
+    back_end.bodies.clear()
+    flush_all(gateway.port)
+    found = forwarded(classes, back_end.bodies)
+    same = (answers, len(found), added(found)) == (alike, len(added(wanted)), added(wanted))
+    what = f"round {number}: {len(added(wanted))} series, {foreign} foreign points a request, whole numbers {whole}"
+    checks.same(what, True, same)
+    return len(added(wanted)), foreign
+
+
+def work(program, checks, stack):
+    if not checks.has("all", *([] if descriptor_pb2 else ["python3-protobuf"])):
+        return
+    classes = message_classes()
+    back_end = BackEnd()
+    stack.callback(back_end.close)
+    gateway = gateway_at(stack, program, back_end.port)
+    counts = [one_round(classes, checks, gateway, back_end, number) for number in range(ROUNDS)]
+    checks.same("series and foreign points were there", (True, True),
+                (sum(count for count, _ in counts) > ROUNDS, sum(foreign for _, foreign in counts) > ROUNDS))
+
+
+if __name__ == "__main__":
+    run_script("protobuf bodies", 120, work)
