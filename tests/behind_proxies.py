@@ -1,12 +1,13 @@
 #!/usr/bin/env python3
 """Two gateways behind a real haproxy and a real nginx, by the files of operate/.
 
-    tests/behind_proxies.py PROGRAM [haproxy|nginx ..]
+    tests/behind_proxies.py PROGRAM [haproxy|nginx|levels ..]
 
 Sixteen senders post on connections that they keep, flushes are ordered, and the back ends refuse one request in three.
 Meanwhile the proxy is killed and started again, and one gateway is replaced by operate/handover. What the senders
 were told is compared with what the back ends took, sender by sender: each post once, in order, and each sender in one
 gateway alone. Then names by token and certificate, HTTP/2, hidden routes, sizes, codings, and senders that stall.
+The levels are these gateways with an upper gateway as their back end, and a haproxy between them.
 
 It needs haproxy, nginx, curl, openssl and socat, for gzip libnginx-mod-http-lua and lua-zlib. Where one is missing a line
 says what is left out, and the status is 77. Each other line tells one check; the last one tells how many there were and
@@ -14,6 +15,7 @@ how many were wrong, and then the status is 1.
 """
 import contextlib
 import gzip
+import json
 import os
 import socket
 import subprocess
@@ -21,7 +23,7 @@ import sys
 import threading
 import time
 
-from loopback import SECONDS, free_port
+from loopback import SECONDS, BackEnd, free_port
 from shipped import (Senders, TakingBackEnd, ask, body_of, end_gateway, end_group, flush_all, folder, gateway_at,
                      listens, missing, owners, posting, run_script, script, shipped, started, taken, wait_until)
 
@@ -56,6 +58,20 @@ def make_names(at):
         file.write('"Bearer t0ken" by-token;\n')
 
 
+def users():
+    """Only root can change users."""
+    return {} if os.getuid() == 0 else {"    user haproxy\n": "", "    group haproxy\n": ""}
+
+
+def start_proxy(stack, words, at, port):
+    """A proxy's process, once it listens."""
+    process = started(stack, words, f"{at}/log")
+    if not wait_until(lambda: listens(port) or process.poll() is not None) or process.poll() is not None:
+        with open(f"{at}/log") as log:
+            raise OSError(f"{words[0]} does not start: {log.read()[-1000:]}")
+    return process
+
+
 class Proxy:
     """A proxy with a copy of its shipped file."""
 
@@ -71,10 +87,7 @@ class Proxy:
         self.process = None
 
     def haproxy(self, ports):
-        own = {"/run/haproxy/admin.sock": f"{self.at}/socket"}
-        if os.getuid():
-            own.update({"    user haproxy\n": "", "    group haproxy\n": ""})
-        return shipped("haproxy.cfg", {**ports, **own})
+        return shipped("haproxy.cfg", {**ports, **users(), "/run/haproxy/admin.sock": f"{self.at}/socket"})
 
     def nginx(self, ports):
         paths = "".join(f"    {name}_temp_path {self.at}/{name};\n"
@@ -90,10 +103,7 @@ class Proxy:
     def start(self):
         words = {"haproxy": ["haproxy", "-db", "-f", self.file],
                  "nginx": ["nginx", "-p", self.at, "-c", self.file, "-g", "daemon off;"]}[self.kind]
-        self.process = started(self.stack, words, f"{self.at}/log")
-        if not wait_until(lambda: listens(self.plain) or self.process.poll() is not None) or self.process.poll() is not None:
-            with open(f"{self.at}/log") as log:
-                raise OSError(f"{self.kind} does not start: {log.read()[-1000:]}")
+        self.process = start_proxy(self.stack, words, self.at, self.plain)
 
     def kill(self):
         end_group(self.process)
@@ -258,13 +268,83 @@ def behind(program, checks, outer, kind):
         stalled(checks, proxy, curl)
 
 
+def start_upper(stack, upper):
+    """The haproxy between the levels, and its port for each of two lower gateways."""
+    at = folder(stack)
+    ports = (free_port(), free_port())
+    own = {"127.0.0.1:4500-4501": ",".join(f"127.0.0.1:{port}" for port in ports), "/run/haproxy": at,
+           "127.0.0.1:4600": f"127.0.0.1:{upper.port}", **users()}
+    with open(f"{at}/upper.cfg", "w") as copy:
+        copy.write(shipped("upper.cfg", own))
+    start_proxy(stack, ["haproxy", "-db", "-f", f"{at}/upper.cfg"], at, ports[1])
+    return ports
+
+
+class Losing(BackEnd):
+    """Hands each request on to a port, and gives the answer back but for the first one."""
+
+    def __init__(self, onward):
+        self.onward = onward
+        super().__init__()
+
+    def answer_to(self, body):
+        first = not self.bodies
+        self.bodies.append(body)
+        status, _ = ask(self.onward, "POST", "/v1/metrics", body, posting("by-losing"))
+        return None if first else f"{status} Handed on\r\n".encode()
+
+
+def levels(program, checks, outer, kind):
+    """Senders, haproxy, two gateways, haproxy, an upper gateway, and a back end that refuses one request in three."""
+    with contextlib.ExitStack() as stack:
+        back_end = TakingBackEnd()
+        stack.callback(back_end.close)
+        upper = gateway_at(stack, program, back_end.port, "--receivers", "4", "--flushers", "2")
+        ports = start_upper(stack, upper)
+        gateways = [gateway_at(stack, program, port, "--receivers", "4", "--flushers", "2") for port in ports]
+        at = folder(stack)
+        make_names(at)
+        proxy = Proxy(stack, "haproxy", at, gateways)
+        proxy.start()
+        stop = threading.Event()
+        stack.callback(stop.set)
+        flushing = orders([*gateways, upper], stop)
+        senders = Senders(proxy.plain, SENDERS, LOAD_SECONDS / 2)
+        checks.same(f"{kind}: all senders end", True, senders.end())
+        stop.set()
+        for thread in flushing:
+            thread.join(SECONDS)
+        back_end.refuses = False
+        for gateway in [*gateways, upper]:
+            flush_all(gateway.port)
+        checks.same(f"{kind}: what the back end took, by sender, once and in order", senders.accepted, taken([back_end]))
+        checks.same(f"{kind}: whose series these are at the upper one", {f"lower-{port}" for port in ports},
+                    owners(upper.port))
+        print(f"note: {kind}: {sum(senders.accepted.values())} posts in {LOAD_SECONDS / 2} s, by {back_end.asked} requests")
+        lost_answer(program, checks, stack, upper)
+
+
+def lost_answer(program, checks, stack, upper):
+    """What docs/OPERATING.md says of an answer that is lost between the levels."""
+    between = Losing(upper.port)
+    stack.callback(between.close)
+    lower = gateway_at(stack, program, between.port)
+    turns = []
+    for number in (0, 1):
+        ask(lower.port, "POST", "/v1/metrics", body_of("late", number), posting("late"))
+        turns.append(json.loads(ask(lower.port, "POST", "/flush")[1])["act"])
+    checks.same("levels: a lost answer loses the next flush of its series", ["returned", "dropped"], turns)
+
+
+KINDS = {"haproxy": (behind, ["haproxy"]), "nginx": (behind, ["nginx"]), "levels": (levels, ["haproxy"])}
 NEEDED = ["curl", "openssl", "socat"]
 
 
 def work(program, checks, stack):
-    for kind in sys.argv[2:] or ["haproxy", "nginx"]:
-        if checks.has(kind, *missing([kind, *NEEDED])):
-            behind(program, checks, stack, kind)
+    for kind in sys.argv[2:] or KINDS:
+        part, proxies = KINDS[kind]
+        if checks.has(kind, *missing([*proxies, *NEEDED])):
+            part(program, checks, stack, kind)
 
 
 if __name__ == "__main__":

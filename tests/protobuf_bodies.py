@@ -153,18 +153,18 @@ def fill_point(chance, metric, start, whole):
             point.sum = chance.choice([0, 30, 2**50])
             point.min = point.max = 1.5
         good = whole or not (point.HasField("sum") or bounds)
-    elif metric.HasField("sum") and chance.random() < 0.9:
+    elif chance.random() < 0.9:
         point.as_int = chance.choice([0, 5, 2**60])
         if not metric.sum.is_monotonic:
             point.as_int *= chance.choice([-1, 1])
-        good = True
+        good = metric.HasField("sum")
     else:
         point.as_double = chance.choice([0.5, 1.0])
         good = False
     if chance.random() < 0.05:
         point.flags = 1
         good = False
-    return good and not metric.HasField("gauge") and data.aggregation_temporality == DELTA
+    return good and data.aggregation_temporality == DELTA
 
 
 def fill_metric(chance, metric, number):

@@ -48,7 +48,9 @@ class Checks:
         return not missing
 
     def end(self):
-        print(f"{self.name}: {self.count} checks, {self.wrong} wrong", flush=True)
+        """The status of the script, and its last line."""
+        if self.count or not self.left_out:
+            print(f"{self.name}: {self.count} checks, {self.wrong} wrong", flush=True)
         if self.wrong:
             return 1
         return LEFT_OUT if self.left_out else 0
