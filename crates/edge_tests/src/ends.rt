@@ -1,6 +1,8 @@
-ghost use Rattle.std.specs.Prelude.{◌≡◌};
+ghost use Rattle.std.specs.Prelude.{◌≡◌, ◌≤◌, IfOk};
 
 use byte_ends::{Failed, FromReader, Script, Sink, Source, Step, Tape, ToWriter, drain};
+use std::io;
+use std::io::{ErrorKind, Read, Write};
 use std::test::Fail;
 
 const TEXT: &[u8] = b"abcdef";
@@ -49,6 +51,70 @@ fn over_a_reader_and_a_writer(rt: HostRuntime) -> Result<(), Fail> {
         assert_eq!(rt; sink.write(&buf[..n]), Ok(n));
     }
     assert!(rt; sink.into_inner().as_slice() == TEXT);
+    Ok(())
+}
+
+// A reader and writer of std: its first call fails in that way, or moves no byte at None, and each
+// later call moves all.
+#[derive(Drop)]
+struct FailsOnce {
+    first: Option<ErrorKind>,
+    calls: u8,
+}
+
+impl FailsOnce {
+    fn turn(&mut self, len: usize) -> io::Result<usize>
+        ensures { IfOk result (λ n. n ≤ len) }
+    {
+        self.calls = self.calls.saturating_add(1);
+        if self.calls > 1 {
+            return Ok(len);
+        }
+        match self.first {
+            Some(kind) => Err(io::Error::from(kind)),
+            None => Ok(0),
+        }
+    }
+}
+
+impl Read for FailsOnce {
+    fn read(&mut self, buf: &mut [u8]) -> io::Result<usize> {
+        self.turn(buf.len())
+    }
+}
+
+impl Write for FailsOnce {
+    fn write(&mut self, buf: &[u8]) -> io::Result<usize> {
+        self.turn(buf.len())
+    }
+
+    fn flush(&mut self) -> io::Result<()> {
+        Ok(())
+    }
+}
+
+// No clause of std's readers and writers counts their calls, so that none forbids a second try.
+#[test]
+fn a_failed_call_is_not_tried_again(rt: HostRuntime) -> Result<(), Fail> {
+    let mut buf = [0; 4];
+    for kind in [
+        ErrorKind::Interrupted,
+        ErrorKind::WouldBlock,
+        ErrorKind::ConnectionReset,
+    ] {
+        let first = Some(kind);
+        let mut source = FromReader::new(FailsOnce { first, calls: 0 });
+        assert_eq!(rt; source.read(&mut buf), Err(Failed));
+        assert_eq!(rt; source.read(&mut buf), Ok(4));
+        let mut sink = ToWriter::new(FailsOnce { first, calls: 0 });
+        assert_eq!(rt; sink.write(TEXT), Err(Failed));
+        assert_eq!(rt; sink.write(TEXT), Ok(6));
+        assert_eq!(rt; sink.into_inner().calls, 2);
+    }
+    let (first, calls) = (None, 0);
+    let mut sink = ToWriter::new(FailsOnce { first, calls });
+    assert_eq!(rt; sink.write(TEXT), Err(Failed));
+    assert_eq!(rt; sink.into_inner().calls, 1);
     Ok(())
 }
 

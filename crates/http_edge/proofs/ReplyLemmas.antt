@@ -204,6 +204,10 @@ grows (Some bytes) (Some left) (Some more) kept piece front back new so took cut
 pub stops_after : (old now next : Option (List ℕ)) (given : ℕ) (kept piece : List ℕ) → Kept old now kept → Consumes now next piece → length piece ≤ given → StopsReading NoReply old next given
 stops_after old now next given kept piece so took short = (kept, piece, known_more old now next kept piece so.known took, short, λ k after b. so.none k after b.reads)
 
+-- no call was made
+pub nothing_read : (old : Option (List ℕ)) (given : ℕ) → StopsReading NoReply old old given
+nothing_read old given = stops_after old old old given [] [] (begins old) (begins old).known (omega arith)
+
 pub said : (old : Option (List ℕ)) (new : List ℕ) (r : Reply) → Grows old new → BeginsSaying new (told_in r) → Said old (Ok r)
 said None new r g b = tt
 said (Some bytes) new r g b = let P : List ℕ → Type 0 = λ s. BeginsSaying s (told_in r) in inr (subst P (sym g.all.1) (begins-append new g.all.0 (told_in r) b))
