@@ -1,5 +1,5 @@
 -- What a body that is being read may still become.
-use Rattle.std.specs.Prelude.{◌≡◌, ℕ, ◌+◌, ◌-◌, ◌*◌, ◌<◌, ◌≤◌, Bool, true, false, List, [], ◌∷◌, ◌++◌, length, Option, Some, None, ⊤}
+use Rattle.std.specs.Prelude.{◌≡◌, ℕ, ◌+◌, ◌-◌, ◌*◌, ◌<◌, ◌≤◌, Bool, true, false, List, [], ◌∷◌, ◌++◌, length, take, Option, Some, None, Result, Ok, Err, ⊤}
 use Rattle.httparse.specs.Grammar.{HasNoChunkLine, HasNoSection}
 use Rattle.http_edge.specs.declared.fault.HttpFault.{HttpFault}
 use Rattle.http_edge.specs.declared.fault.HttpFault.TheVariants.{BodyTooLong, BadChunk, NoMemory}
@@ -91,3 +91,8 @@ Refuses BadChunk old bytes = (more : List ℕ) (body : Option (List ℕ)) → ¬
 Refuses BodyTooLong old bytes = (more : List ℕ) → Becomes old (bytes ++ more) None
 Refuses NoMemory old bytes = ⊤
 Refuses e old bytes = ⊥
+
+-- n bytes of the piece were taken, at least one, and lead there; or the piece leads nowhere
+abbrev pub IsStep : Stand → Stand → List ℕ → Result ℕ HttpFault → Type 0
+IsStep old new piece (Ok n) = (0 < n) × (n ≤ length piece) × Reaches old new (take n piece)
+IsStep old new piece (Err e) = Refuses e old piece

@@ -1,6 +1,6 @@
 //! A body as it comes (RFC 9112, sections 6 and 7).
-ghost use Rattle.std.specs.Prelude.{◌≡◌, ◌<◌, ◌≤◌, length, take, IfOk, IfErr, OnOk};
-ghost use Rattle.http_edge.specs.Body.{stand_of, is_whole, IsOpen, Reaches, Refuses};
+ghost use Rattle.std.specs.Prelude.{◌≡◌, ◌<◌, ◌≤◌, length, IfErr, OnOk};
+ghost use Rattle.http_edge.specs.Body.{stand_of, is_whole, IsOpen, Reaches, Refuses, IsStep};
 
 use crate::fault::HttpFault;
 use crate::limits::{MAX_BODY, MAX_FIELDS, MAX_LINE, MAX_TRAILER};
@@ -37,9 +37,7 @@ impl Body {
         requires phase { self.old.phase ≡ Phase.Counted left }
         requires open_ { IsOpen (stand_of self.old) }
         requires some { 0 < length piece.now }
-        ensures within { IfOk result (λ n. (0 < n) × (n ≤ length piece.now)) }
-        ensures reaches { IfOk result (λ n. Reaches (stand_of self.old) (stand_of self.new) (take n piece.now)) }
-        ensures fault { IfErr result (λ e. Refuses e (stand_of self.old) piece.now) }
+        ensures { IsStep (stand_of self.old) (stand_of self.new) piece.now result }
     {
         let n = left.min(piece.len());
         if self.content.extend_from_slice(&piece[..n]).is_err() {
@@ -58,9 +56,7 @@ impl Body {
         requires phase { self.old.phase ≡ Phase.Content left }
         requires open_ { IsOpen (stand_of self.old) }
         requires some { 0 < length piece.now }
-        ensures within { IfOk result (λ n. (0 < n) × (n ≤ length piece.now)) }
-        ensures reaches { IfOk result (λ n. Reaches (stand_of self.old) (stand_of self.new) (take n piece.now)) }
-        ensures fault { IfErr result (λ e. Refuses e (stand_of self.old) piece.now) }
+        ensures { IsStep (stand_of self.old) (stand_of self.new) piece.now result }
     {
         let n = left.min(piece.len());
         if self.content.extend_from_slice(&piece[..n]).is_err() {
@@ -79,9 +75,7 @@ impl Body {
         requires phase { self.old.phase ≡ Phase.Return }
         requires open_ { IsOpen (stand_of self.old) }
         requires some { 0 < length piece.now }
-        ensures within { IfOk result (λ n. (0 < n) × (n ≤ length piece.now)) }
-        ensures reaches { IfOk result (λ n. Reaches (stand_of self.old) (stand_of self.new) (take n piece.now)) }
-        ensures fault { IfErr result (λ e. Refuses e (stand_of self.old) piece.now) }
+        ensures { IsStep (stand_of self.old) (stand_of self.new) piece.now result }
     {
         if piece[0] != b'\r' {
             return Err(HttpFault::BadChunk);
@@ -95,9 +89,7 @@ impl Body {
         requires phase { self.old.phase ≡ Phase.LineFeed }
         requires open_ { IsOpen (stand_of self.old) }
         requires some { 0 < length piece.now }
-        ensures within { IfOk result (λ n. (0 < n) × (n ≤ length piece.now)) }
-        ensures reaches { IfOk result (λ n. Reaches (stand_of self.old) (stand_of self.new) (take n piece.now)) }
-        ensures fault { IfErr result (λ e. Refuses e (stand_of self.old) piece.now) }
+        ensures { IsStep (stand_of self.old) (stand_of self.new) piece.now result }
     {
         if piece[0] != b'\n' {
             return Err(HttpFault::BadChunk);
@@ -112,9 +104,7 @@ impl Body {
         requires phase { self.old.phase ≡ Phase.Line }
         requires open_ { IsOpen (stand_of self.old) }
         requires some { 0 < length piece.now }
-        ensures within { IfOk result (λ n. (0 < n) × (n ≤ length piece.now)) }
-        ensures reaches { IfOk result (λ n. Reaches (stand_of self.old) (stand_of self.new) (take n piece.now)) }
-        ensures fault { IfErr result (λ e. Refuses e (stand_of self.old) piece.now) }
+        ensures { IsStep (stand_of self.old) (stand_of self.new) piece.now result }
     {
         let had = self.part.len();
         let n = line_len(piece, MAX_LINE - had);
@@ -150,9 +140,7 @@ impl Body {
         requires phase { self.old.phase ≡ Phase.Trailer }
         requires open_ { IsOpen (stand_of self.old) }
         requires some { 0 < length piece.now }
-        ensures within { IfOk result (λ n. (0 < n) × (n ≤ length piece.now)) }
-        ensures reaches { IfOk result (λ n. Reaches (stand_of self.old) (stand_of self.new) (take n piece.now)) }
-        ensures fault { IfErr result (λ e. Refuses e (stand_of self.old) piece.now) }
+        ensures { IsStep (stand_of self.old) (stand_of self.new) piece.now result }
     {
         let n = piece.len().min(MAX_TRAILER - self.part.len());
         if self.part.extend_from_slice(&piece[..n]).is_err() {
@@ -179,9 +167,7 @@ impl Body {
     fn step(&mut self, piece: &[u8]) -> Result<usize, HttpFault>
         requires open_ { IsOpen (stand_of self.old) }
         requires some { 0 < length piece.now }
-        ensures within { IfOk result (λ n. (0 < n) × (n ≤ length piece.now)) }
-        ensures reaches { IfOk result (λ n. Reaches (stand_of self.old) (stand_of self.new) (take n piece.now)) }
-        ensures fault { IfErr result (λ e. Refuses e (stand_of self.old) piece.now) }
+        ensures { IsStep (stand_of self.old) (stand_of self.new) piece.now result }
     {
         match self.phase {
             Phase::Counted(left) => self.take_counted(left, piece),

@@ -14,11 +14,11 @@ steps-preserved c =
     let piece = c.args.piece.now in
     let at = c.steps.at in
     let n = c.in_ok-at.field-0 in
-    let within : n ≤ length (drop at piece) = simp take_rest at c.in_ok-at.ensures.within.1 in
+    let within : n ≤ length (drop at piece) = simp take_rest at c.in_ok-at.ensures.1 in
     let P : List ℕ → Type 0 = λ s. Reaches (stand_of c.args.self.now) (stand_of c.step.new.self) s in
     record {
       within = omega (arith, within, length-drop at piece);
-      reaches = subst P (sym (take-add at n piece)) (goes_on (stand_of c.args.self.now) (stand_of c.steps.self) (stand_of c.step.new.self) (take at piece) (take n (drop at piece)) c.steps.invariant.reaches (simp take_rest at c.in_ok-at.ensures.reaches));
+      reaches = subst P (sym (take-add at n piece)) (goes_on (stand_of c.args.self.now) (stand_of c.steps.self) (stand_of c.step.new.self) (take at piece) (take n (drop at piece)) c.steps.invariant.reaches (simp take_rest at c.in_ok-at.ensures.2));
     }
 
 pub returns-in_err-at-clause-fault : goal.returns-in_err-at-clause-fault
@@ -27,4 +27,4 @@ returns-in_err-at-clause-fault c =
     let piece = c.args.piece.now in
     let at = c.steps.at in
     let Q : List ℕ → Type 0 = λ s. Refuses c.in_err-at.field-0.0 (stand_of c.args.self.now) s in
-    rw (p.1, p.2) (subst Q (take-append-drop at piece) (refused_later (stand_of c.args.self.now) (stand_of c.steps.self) (take at piece) (drop at piece) c.in_err-at.field-0.0 c.steps.invariant.reaches (simp take_rest at c.in_err-at.ensures.fault)))
+    rw (p.1, p.2) (subst Q (take-append-drop at piece) (refused_later (stand_of c.args.self.now) (stand_of c.steps.self) (take at piece) (drop at piece) c.in_err-at.field-0.0 c.steps.invariant.reaches (simp take_rest at c.in_err-at.ensures)))

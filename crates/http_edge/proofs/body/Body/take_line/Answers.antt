@@ -20,30 +20,8 @@ overflow_sub-taken c =
     let t = at_line b.content.items b.part.items piece c.extend_from_slice.new.self.items c.len-had.result c.line_len-n.result c.in-Ok-Complete.len c.in-Ok-Complete.size found.0 opened (omega (arith, b.part.ok.0, c.len-had.ensures)) c.line_len-n.ensures.within c.line_len-n.ensures.fits is found.1 in
     omega (arith, t.some)
 
-pub returns-then-size-eq0-clause-within : goal.returns-then-size-eq0-clause-within
-returns-then-size-eq0-clause-within c =
-    let b = c.args.self.now in
-    let piece = c.args.piece.now in
-    let u = take c.line_len-n.result piece in
-    let is = grown c.extend_from_slice.result c.extend_from_slice.new.self.items b.part.items u (sym c.if-is_err.false ∙ c.is_err.ensures.value) c.extend_from_slice.ensures.items in
-    let opened : IsOpen (at Line b.content.items b.part.items) = rw c.requires.phase at c.requires.open_ in
-    let found = rw (c.in-Ok-Complete.field-0-is, c.deref.ensures.value) at c.in-Ok-Complete.ensures.complete in
-    let t = at_line b.content.items b.part.items piece c.extend_from_slice.new.self.items c.len-had.result c.line_len-n.result c.in-Ok-Complete.len c.in-Ok-Complete.size found.0 opened (omega (arith, b.part.ok.0, c.len-had.ensures)) c.line_len-n.ensures.within c.line_len-n.ensures.fits is found.1 in
-    (omega (arith, t.some), omega (arith, t.within, c.line_len-n.ensures.within))
-
-pub returns-else-size-len-clause-within : goal.returns-else-size-len-clause-within
-returns-else-size-len-clause-within c =
-    let b = c.args.self.now in
-    let piece = c.args.piece.now in
-    let u = take c.line_len-n.result piece in
-    let is = grown c.extend_from_slice.result c.extend_from_slice.new.self.items b.part.items u (sym c.if-is_err.false ∙ c.is_err.ensures.value) c.extend_from_slice.ensures.items in
-    let opened : IsOpen (at Line b.content.items b.part.items) = rw c.requires.phase at c.requires.open_ in
-    let found = rw (c.in-Ok-Complete.field-0-is, c.deref.ensures.value) at c.in-Ok-Complete.ensures.complete in
-    let t = at_line b.content.items b.part.items piece c.extend_from_slice.new.self.items c.len-had.result c.line_len-n.result c.in-Ok-Complete.len c.in-Ok-Complete.size found.0 opened (omega (arith, b.part.ok.0, c.len-had.ensures)) c.line_len-n.ensures.within c.line_len-n.ensures.fits is found.1 in
-    (omega (arith, t.some), omega (arith, t.within, c.line_len-n.ensures.within))
-
-pub returns-then-size-eq0-clause-reaches : goal.returns-then-size-eq0-clause-reaches
-returns-then-size-eq0-clause-reaches c =
+pub returns-then-size-eq0 : goal.returns-then-size-eq0
+returns-then-size-eq0 c =
     let b = c.args.self.now in
     let piece = c.args.piece.now in
     let u = take c.line_len-n.result piece in
@@ -52,10 +30,10 @@ returns-then-size-eq0-clause-reaches c =
     let found = rw (c.in-Ok-Complete.field-0-is, c.deref.ensures.value) at c.in-Ok-Complete.ensures.complete in
     let t = at_line b.content.items b.part.items piece c.extend_from_slice.new.self.items c.len-had.result c.line_len-n.result c.in-Ok-Complete.len c.in-Ok-Complete.size found.0 opened (omega (arith, b.part.ok.0, c.len-had.ensures)) c.line_len-n.ensures.within c.line_len-n.ensures.fits is found.1 in
     let v = take (c.in-Ok-Complete.len - c.len-had.result) piece in
-    rw (c.requires.phase, c.clear.ensures.items) (line_zero b.content.items b.part.items v found.0 opened t.text t.line (sym t.size_is ∙ c.if-size-eq0.true))
+    (omega (arith, t.some), omega (arith, t.within, c.line_len-n.ensures.within), rw (c.requires.phase, c.clear.ensures.items) (line_zero b.content.items b.part.items v found.0 opened t.text t.line (sym t.size_is ∙ c.if-size-eq0.true)))
 
-pub returns-else-size-len-clause-reaches : goal.returns-else-size-len-clause-reaches
-returns-else-size-len-clause-reaches c =
+pub returns-else-size-len : goal.returns-else-size-len
+returns-else-size-len c =
     let b = c.args.self.now in
     let piece = c.args.piece.now in
     let u = take c.line_len-n.result piece in
@@ -64,10 +42,10 @@ returns-else-size-len-clause-reaches c =
     let found = rw (c.in-Ok-Complete.field-0-is, c.deref.ensures.value) at c.in-Ok-Complete.ensures.complete in
     let t = at_line b.content.items b.part.items piece c.extend_from_slice.new.self.items c.len-had.result c.line_len-n.result c.in-Ok-Complete.len c.in-Ok-Complete.size found.0 opened (omega (arith, b.part.ok.0, c.len-had.ensures)) c.line_len-n.ensures.within c.line_len-n.ensures.fits is found.1 in
     let v = take (c.in-Ok-Complete.len - c.len-had.result) piece in
-    rw (c.requires.phase, c.clear.ensures.items) (line_fits b.content.items b.part.items v found.0 c.in-Ok-Complete.size opened t.text t.line t.size_is (omega arith) (omega (arith, b.content.ok.0, c.len.ensures)))
+    (omega (arith, t.some), omega (arith, t.within, c.line_len-n.ensures.within), rw (c.requires.phase, c.clear.ensures.items) (line_fits b.content.items b.part.items v found.0 c.in-Ok-Complete.size opened t.text t.line t.size_is (omega arith) (omega (arith, b.content.ok.0, c.len.ensures))))
 
-pub returns-then-size-len-clause-fault : goal.returns-then-size-len-clause-fault
-returns-then-size-len-clause-fault c =
+pub returns-then-size-len : goal.returns-then-size-len
+returns-then-size-len c =
     let b = c.args.self.now in
     let piece = c.args.piece.now in
     let u = take c.line_len-n.result piece in
@@ -81,8 +59,8 @@ returns-then-size-len-clause-fault c =
     let P : List ℕ → Type 0 = λ s. Refuses BodyTooLong (at Line b.content.items b.part.items) s in
     rw c.requires.phase (subst P whole refused)
 
-pub returns-then-len-ge-MAX_LINE-clause-fault : goal.returns-then-len-ge-MAX_LINE-clause-fault
-returns-then-len-ge-MAX_LINE-clause-fault c =
+pub returns-then-len-ge-MAX_LINE : goal.returns-then-len-ge-MAX_LINE
+returns-then-len-ge-MAX_LINE c =
     let b = c.args.self.now in
     let piece = c.args.piece.now in
     let u = take c.line_len-n.result piece in
@@ -93,8 +71,8 @@ returns-then-len-ge-MAX_LINE-clause-fault c =
     let Q : List ℕ → Type 0 = λ s. (more : List ℕ) (body : Option (List ℕ)) → ¬ (HasChunks b.content.items (s ++ more) body) in
     rw c.requires.phase (subst P whole (line_refused b.content.items b.part.items u (drop c.line_len-n.result piece) (subst Q is (never_long_line b.content.items c.extend_from_slice.new.self.items none (omega (arith, c.extend_from_slice.new.self.ok.0, c.len-in-Ok-Partial.ensures))))))
 
-pub returns-in-Err-clause-fault : goal.returns-in-Err-clause-fault
-returns-in-Err-clause-fault c =
+pub returns-in-Err : goal.returns-in-Err
+returns-in-Err c =
     let b = c.args.self.now in
     let piece = c.args.piece.now in
     let u = take c.line_len-n.result piece in

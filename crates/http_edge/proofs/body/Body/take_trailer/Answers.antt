@@ -9,8 +9,8 @@ use Rattle.http_edge.proofs.BodyLemmas.{at, trailer_whole, trailer_overflows, tr
 use Rattle.http_edge.proofs.ListLemmas.{grown}
 use Rattle.http_edge.proofs.body.Body.take_trailer.Goals as goal
 
-pub returns-then-len-ge-MAX_TRAILER-clause-fault : goal.returns-then-len-ge-MAX_TRAILER-clause-fault
-returns-then-len-ge-MAX_TRAILER-clause-fault c =
+pub returns-then-len-ge-MAX_TRAILER : goal.returns-then-len-ge-MAX_TRAILER
+returns-then-len-ge-MAX_TRAILER c =
     let b = c.args.self.now in
     let piece = c.args.piece.now in
     let u = take c.min-n.result piece in
@@ -21,8 +21,8 @@ returns-then-len-ge-MAX_TRAILER-clause-fault c =
     let P : List ℕ → Type 0 = λ s. Refuses BadChunk (at Trailer b.content.items b.part.items) s in
     rw c.requires.phase (subst P whole (trailer_long b.content.items b.part.items u (drop c.min-n.result piece) (subst Q is none) (omega (arith, ap length is, c.extend_from_slice.new.self.ok.0, c.len-in-Ok-Partial.ensures))))
 
-pub returns-in-Err-clause-fault : goal.returns-in-Err-clause-fault
-returns-in-Err-clause-fault c =
+pub returns-in-Err : goal.returns-in-Err
+returns-in-Err c =
     let b = c.args.self.now in
     let piece = c.args.piece.now in
     let u = take c.min-n.result piece in
@@ -33,8 +33,8 @@ returns-in-Err-clause-fault c =
     let P : List ℕ → Type 0 = λ s. Refuses BadChunk (at Trailer b.content.items b.part.items) s in
     rw c.requires.phase (subst P whole (trailer_overflows b.content.items b.part.items u (drop c.min-n.result piece) (subst Q is many)))
 
-pub returns-in-Ok-Complete-clause-reaches : goal.returns-in-Ok-Complete-clause-reaches
-returns-in-Ok-Complete-clause-reaches c =
+pub returns-in-Ok-Complete : goal.returns-in-Ok-Complete
+returns-in-Ok-Complete c =
     let b = c.args.self.now in
     let piece = c.args.piece.now in
     let u = take c.min-n.result piece in
@@ -51,4 +51,4 @@ returns-in-Ok-Complete-clause-reaches c =
     let reaches = trailer_whole b.content.items b.part.items u (drop c.min-n.result piece) spans r.0 r.1 found.0 found.1 opened short (omega (arith, c.parse_headers.auto.headers)) (subst P is found.2) (subst Q is within) in
     let whole : u ++ drop c.min-n.result piece ≡ take (length piece) piece = take-append-drop c.min-n.result piece ∙ sym (take_all (length piece) piece (omega arith)) in
     let R : List ℕ → Type 0 = λ s. Reaches (at Trailer b.content.items b.part.items) (at Whole b.content.items []) s in
-    rw (c.requires.phase, c.clear.ensures.items) (subst R whole reaches)
+    (omega arith, omega arith, rw (c.requires.phase, c.clear.ensures.items) (subst R whole reaches))
