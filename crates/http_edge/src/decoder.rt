@@ -58,18 +58,7 @@ impl Decoder {
         ensures whole { (bytes : List ℕ) (m : Message) → Holds self.old bytes → fault_in self.old ≡ None → BeginsWith bytes m → (result ≡ Ok true) × (self.new ≡ self.old) }
         // However long the pieces go on, they come to an end.
         ensures bounded { (bytes : List ℕ) → Holds self.old bytes → result ≡ Ok false → length (bytes ++ piece.now) ≤ most_of_a_message }
-    {
-        self.step(piece)
-    }
-
-    /// The same, and less is to come behind each piece.
-    pub(crate) fn step(&mut self, piece: &[u8]) -> Result<bool, HttpFault>
-        ensures holds { (bytes : List ℕ) → Holds self.old bytes → Holds self.new (bytes ++ piece.now) }
-        ensures tells { (bytes : List ℕ) → Holds self.old bytes → Tells (bytes ++ piece.now) result }
-        ensures fault { fault_in self.new ≡ result_err result }
-        ensures again { (e : HttpFault) → fault_in self.old ≡ Some e → result ≡ Err e }
-        ensures whole { (bytes : List ℕ) (m : Message) → Holds self.old bytes → fault_in self.old ≡ None → BeginsWith bytes m → (result ≡ Ok true) × (self.new ≡ self.old) }
-        ensures bounded { (bytes : List ℕ) → Holds self.old bytes → result ≡ Ok false → length (bytes ++ piece.now) ≤ most_of_a_message }
+        // Less is to come behind each piece.
         ensures less { result ≡ Ok false → most_to_come self.new + length piece.now ≤ most_to_come self.old }
     {
         self.machine.feed(self.alloc, piece)

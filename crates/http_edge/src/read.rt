@@ -30,7 +30,7 @@ fn read_pieces<S: Source>(alloc: Global, source: &mut S) -> Result<Request, Http
         if n == 0 {
             return decoder.finish();
         }
-        if decoder.step(&piece[..n])? {
+        if decoder.feed(&piece[..n])? {
             return decoder.finish();
         }
     }

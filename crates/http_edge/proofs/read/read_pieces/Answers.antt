@@ -19,8 +19,8 @@ returns-then-n-eq0-clause-closed g c =
     let so = c.pieces.invariant.so_far.1 in
     closed_at_end r0 r1 c.pieces.decoder fed c.finish.result so c.finish.ensures.closed
 
-pub returns-in_err-step-clause-answer : goal.returns-in_err-step-clause-answer
-returns-in_err-step-clause-answer g c =
+pub returns-in_err-feed-clause-answer : goal.returns-in_err-feed-clause-answer
+returns-in_err-feed-clause-answer g c =
     let r0 = g.S.Source.remaining c.args.source.now in
     let r1 = g.S.Source.remaining c.pieces.source in
     let r2 = g.S.Source.remaining c.read.new.self in
@@ -30,10 +30,10 @@ returns-in_err-step-clause-answer g c =
     let took : Consumes r1 r2 piece = c.in-Ok.ensures.bytes.0 in
     let some : 0 < length piece = omega (arith, length-take-le c.in-Ok.n c.read.new.buf c.in-Ok.ensures.bound, c.if-n-eq0.false) in
     let p = err_from_is_err_and c.from_residual.result c.from_residual.ensures.1 in
-    rw (p.1, p.2) (at_fault r0 r1 r2 c.pieces.decoder fed piece c.in_err-step.field-0.0 so took (c.in_err-step.ensures.tells fed so.holds))
+    rw (p.1, p.2) (at_fault r0 r1 r2 c.pieces.decoder fed piece c.in_err-feed.field-0.0 so took (c.in_err-feed.ensures.tells fed so.holds))
 
-pub returns-in_err-step-clause-closed : goal.returns-in_err-step-clause-closed
-returns-in_err-step-clause-closed g c =
+pub returns-in_err-feed-clause-closed : goal.returns-in_err-feed-clause-closed
+returns-in_err-feed-clause-closed g c =
     let r0 = g.S.Source.remaining c.args.source.now in
     let r1 = g.S.Source.remaining c.pieces.source in
     let r2 = g.S.Source.remaining c.read.new.self in
@@ -66,8 +66,8 @@ returns-then-branch-clause-answer g c =
     let piece = take c.in-Ok.n c.read.new.buf in
     let took : Consumes r1 r2 piece = c.in-Ok.ensures.bytes.0 in
     let some : 0 < length piece = omega (arith, length-take-le c.in-Ok.n c.read.new.buf c.in-Ok.ensures.bound, c.if-n-eq0.false) in
-    let holds = c.step.ensures.holds fed so.holds in
-    let told : Tells (fed ++ piece) (Ok true) = rw c.if-branch.true at (c.in_ok-step.ensures.tells fed so.holds) in
+    let holds = c.feed.ensures.holds fed so.holds in
+    let told : Tells (fed ++ piece) (Ok true) = rw c.if-branch.true at (c.in_ok-feed.ensures.tells fed so.holds) in
     at_message r0 r2 (fed ++ piece) c.finish-then-branch.result told.0 (known_more r0 r1 r2 fed piece so.known took) told.1 (c.finish-then-branch.ensures.answers (fed ++ piece) holds)
 
 pub pieces-preserved : goal.pieces-preserved
@@ -80,9 +80,9 @@ pieces-preserved g c =
     let piece = take c.in-Ok.n c.read.new.buf in
     let took : Consumes r1 r2 piece = c.in-Ok.ensures.bytes.0 in
     let some : 0 < length piece = omega (arith, length-take-le c.in-Ok.n c.read.new.buf c.in-Ok.ensures.bound, c.if-n-eq0.false) in
-    let holds = c.step.ensures.holds fed so.holds in
-    let told : Tells (fed ++ piece) (Ok false) = rw c.if-branch.false at (c.in_ok-step.ensures.tells fed so.holds) in
-    record { so_far = (fed ++ piece, goes_on r0 r1 r2 c.pieces.decoder c.step.new.self fed piece so took holds c.in_ok-step.ensures.fault told); well = rw c.in-Ok.ensures.failed c.pieces.invariant.well }
+    let holds = c.feed.ensures.holds fed so.holds in
+    let told : Tells (fed ++ piece) (Ok false) = rw c.if-branch.false at (c.in_ok-feed.ensures.tells fed so.holds) in
+    record { so_far = (fed ++ piece, goes_on r0 r1 r2 c.pieces.decoder c.feed.new.self fed piece so took holds c.in_ok-feed.ensures.fault told); well = rw c.in-Ok.ensures.failed c.pieces.invariant.well }
 
 pub returns-then-n-eq0-clause-stops : goal.returns-then-n-eq0-clause-stops
 returns-then-n-eq0-clause-stops g c =
@@ -92,8 +92,8 @@ returns-then-n-eq0-clause-stops g c =
     let short : length (take c.in-Ok.n c.read.new.buf) ≤ g.S.Source.given c.read.new.self = omega (arith, length-take-le c.in-Ok.n c.read.new.buf c.in-Ok.ensures.bound, c.in-Ok.ensures.given) in
     stops_after r0 r1 r2 (g.S.Source.given c.read.new.self) c.pieces.decoder c.pieces.invariant.so_far.0 (take c.in-Ok.n c.read.new.buf) c.pieces.invariant.so_far.1 c.in-Ok.ensures.bytes.0 short
 
-pub returns-in_err-step-clause-stops : goal.returns-in_err-step-clause-stops
-returns-in_err-step-clause-stops g c =
+pub returns-in_err-feed-clause-stops : goal.returns-in_err-feed-clause-stops
+returns-in_err-feed-clause-stops g c =
     let r0 = g.S.Source.remaining c.args.source.now in
     let r1 = g.S.Source.remaining c.pieces.source in
     let r2 = g.S.Source.remaining c.read.new.self in
@@ -119,5 +119,5 @@ returns-then-branch-clause-truncated g c =
     let fed = c.pieces.invariant.so_far.0 in
     let so = c.pieces.invariant.so_far.1 in
     let piece = take c.in-Ok.n c.read.new.buf in
-    let told : Tells (fed ++ piece) (Ok true) = rw c.if-branch.true at (c.in_ok-step.ensures.tells fed so.holds) in
-    not_cut (g.S.Source.remaining c.args.source.now) (g.S.Source.remaining c.read.new.self) (fed ++ piece) told.0 c.finish-then-branch.result told.1 (c.finish-then-branch.ensures.answers (fed ++ piece) (c.step.ensures.holds fed so.holds))
+    let told : Tells (fed ++ piece) (Ok true) = rw c.if-branch.true at (c.in_ok-feed.ensures.tells fed so.holds) in
+    not_cut (g.S.Source.remaining c.args.source.now) (g.S.Source.remaining c.read.new.self) (fed ++ piece) told.0 c.finish-then-branch.result told.1 (c.finish-then-branch.ensures.answers (fed ++ piece) (c.feed.ensures.holds fed so.holds))

@@ -1,7 +1,7 @@
 use Rattle.std.proofs.Common.{◌≡◌, None, sym, subst, ◌∙◌}
 use Rattle.http_edge.specs.Holds.{Progress, progress_of, Holds, fault_in}
 use Rattle.http_edge.proofs.MachineLemmas.{tells_of, whole_there}
-use Rattle.http_edge.proofs.decoder.Decoder.step.Goals as goal
+use Rattle.http_edge.proofs.decoder.Decoder.feed.Goals as goal
 
 pub returns-clause-tells : goal.returns-clause-tells
 returns-clause-tells c = λ bytes h.
