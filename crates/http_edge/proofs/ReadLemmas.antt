@@ -1,5 +1,5 @@
 -- What a decoder was fed of what a source gives.
-use Rattle.std.proofs.Common.{◌≡◌, ◌≢◌, ℕ, ◌<◌, ◌≤◌, List, [], ◌++◌, length, Option, Some, None, Err, refl, sym, ap, subst, ◌∙◌, arith, append_assoc}
+use Rattle.std.proofs.Common.{◌≡◌, ◌≢◌, ℕ, ◌<◌, ◌≤◌, List, [], ◌++◌, length, Option, Some, None, Err, refl, sym, ap, subst, arith}
 use Rattle.std.specs.Prelude.{Result, IfSome, ◌⊎◌}
 use Rattle.std.proofs.Common.{Ok, inl, inr}
 use Rattle.std.proofs.lemmas.List.{length-append, nil_from_length}

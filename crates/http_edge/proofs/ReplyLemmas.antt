@@ -1,11 +1,12 @@
 -- What was kept of a response, and what it tells.
 use Rattle.std.proofs.Common.{◌≡◌, ◌≢◌, ℕ, ◌+◌, ◌<◌, ◌≤◌, true, false, List, [], ◌∷◌, ◌++◌, length, map, take, drop, get_or, Option, Some, None, Ok, Err, refl, sym, ap, subst, ◌∙◌, arith, append_assoc, inl, inr}
-use Rattle.std.specs.Prelude.{Result, IfSome, ◌⊎◌}
-use Rattle.std.proofs.lemmas.List.{length-append, append-nil, take-append-drop, map-append}
+use Rattle.std.specs.Prelude.{Result, IfSome, ◌⊎◌, codes}
+use Rattle.std.proofs.lemmas.List.{length-append, append-nil, take-append-drop, map-append, length-map, length-take-le}
 use Rattle.std.specs.Io.KnownBytes.{Consumes, IsAtEnd}
 use Rattle.httparse.specs.Grammar.{ResponseHead, print_response, ReadsResponse, HasNoResponse}
 use Rattle.httparse.specs.declared.spans.HeaderSpan.{HeaderSpan}
-use Rattle.httparse.specs.Spans.{header_bytes}
+use Rattle.httparse.specs.declared.spans.ResponseSpans.{ResponseSpans}
+use Rattle.httparse.specs.Spans.{header_bytes, name_and_value, IsSectionWithin, IsResponseAt as IsResponseIn}
 use Rattle.httparse.proofs.GrammarLemmas.{ReadsResponse-append, response_unique}
 use Rattle.http_edge.specs.declared.fault.HttpFault.{HttpFault}
 use Rattle.http_edge.specs.declared.fault.HttpFault.TheVariants.{Closed, BadHead, TooManyHeaders, HeadTooLong, BadLength, BodyTooLong, BadChunk, Truncated, Io, NoMemory}
@@ -37,6 +38,14 @@ long_head buf none long = (
   λ more k after reads.
       long_or_front (print_response k) buf long (λ short. none k (drop (length (print_response k)) buf) (reads.0, front_of buf more (print_response k) after reads.1 short)),
 )
+
+-- a head that the spans cover
+pub begins_saying : (buf : List ℕ) (spans : List HeaderSpan) (r : ResponseSpans) (k : ResponseHead) (value : Option (List ℕ)) → IsResponseIn buf spans r k → IsSectionWithin buf spans r.len r.headers → length buf ≤ 16384 → length spans ≡ 64
+    → value ≡ first (values_of (codes "retry-after") (map (header_bytes buf) (take r.headers spans))) → BeginsSaying buf (record { status = r.code; retry_after = value })
+begins_saying buf spans r k value in_ within short room is =
+    let few : length k.fields ≡ r.headers = sym (length-map k.fields name_and_value) ∙ sym (ap length in_.fields) ∙ length-map (take r.headers spans) (header_bytes buf) ∙ length-take-le r.headers spans within.count_fits in
+    let same : value ≡ first (values_of (codes "retry-after") (map name_and_value k.fields)) = is ∙ ap (λ hs. first (values_of (codes "retry-after") hs)) in_.fields in
+    (k, drop r.len buf, record { reads = in_.reads; few = omega (arith, few, within.count_fits, room); short = omega (arith, in_.len, within.len_fits, short) }, rw (in_.code, same) refl)
 
 -- ---- the first value
 

@@ -1,5 +1,5 @@
 -- What a source gave, call by call.
-use Rattle.std.proofs.Common.{◌≡◌, List, ℕ, [], ◌++◌, Option, Some, None, sym, ap, ◌∙◌, append_assoc}
+use Rattle.std.proofs.Common.{List, ℕ, [], ◌++◌, Option, Some, None, sym, ap, ◌∙◌, append_assoc}
 use Rattle.std.specs.Prelude.{IfSome}
 use Rattle.std.specs.Io.KnownBytes.{Consumes, IsAtEnd}
 
