@@ -10,9 +10,9 @@ use Rattle.series_id.proofs.Order.{same_series-refl, before-apart}
 use Rattle.metric_events.specs.Opening.{IsOpening, series_of}
 use Rattle.metric_events.specs.declared.opening.Opening.{Opening}
 use Rattle.metric_events.specs.declared.opened_series.OpenedSeries.{OpenedSeries}
-use Rattle.metric_events.specs.History.{opening}
+use Rattle.metric_events.specs.History.{opening, Opened}
 use Rattle.metric_events.specs.Points.{points, mark, carried, carried_of, opened_points, is_among, is_flying}
-use Rattle.metric_events.specs.Running.{held_senders}
+use Rattle.metric_events.specs.Running.{held_senders, open_batches, live_flushes}
 use Rattle.metric_events.specs.Series.{of_series, is_ascending}
 use Rattle.metric_events.specs.Legal.{is_in_live}
 use Rattle.metric_events.specs.Standing.{stands, series_standing, all_series}
@@ -20,7 +20,7 @@ use Rattle.metric_events.specs.Close.{handed_on, close}
 use Rattle.metric_events.specs.declared.accepted.Accepted.{Accepted}
 use Rattle.metric_events.specs.declared.flight.Flight.{Flight}
 use Rattle.metric_events.specs.declared.entry.Entry.{Entry}
-use Rattle.metric_events.specs.declared.limits.TheConstants.{MAX_ENTRIES}
+use Rattle.metric_events.specs.declared.limits.TheConstants.{MAX_ENTRIES, MAX_OPEN, MAX_LIVE}
 use Rattle.metric_events.proofs.Opened.{entries_of, none_of, opened_of}
 use Rattle.metric_events.proofs.Renewing.{opened_in_order}
 use Rattle.metric_events.proofs.Closing.{home_row}
@@ -28,9 +28,13 @@ use Rattle.series_cell.specs.Cells.{CellView, Stands, HandsOn, end_of, opened_wi
 use Rattle.series_cell.proofs.Reading.{tells}
 use Rattle.delta_book.specs.Carries.{Carries, AllCarry, AllHandOn, BeginsWith, AllOpened}
 use Rattle.delta_book.specs.Tables.{AreCells, AllStand, HasPoint, AreOpen, AreFlights, id_of}
-use Rattle.delta_book.specs.Stored.{IsStored}
+use Rattle.delta_book.specs.declared.book.Book.TheInside.{Inside}
+use Rattle.delta_book.specs.Stored.{IsStored, journal_in, history_in}
+use Rattle.metric_events.specs.Legal.{IsLegal}
+use Rattle.std.specs.Prelude.{vec_capacity}
+use Rattle.delta_book.specs.Tables.{are_full}
 use Rattle.delta_book.specs.Rounds.{round_refusal}
-use Rattle.delta_book.specs.Journal.{Journal, journal_of, history}
+use Rattle.delta_book.specs.Journal.{Journal, journal_of, history, admits, takes, IsNumbered}
 use Rattle.delta_book.specs.declared.open.Open.{Open}
 use Rattle.delta_book.proofs.Adding.{written_back}
 use Rattle.delta_book.proofs.Choosing.{AreTied}
@@ -203,26 +207,22 @@ flights_none : (es fs : List Entry) (os : List Open) → AreFlights es os [] →
 flights_none es fs [] h = tt
 flights_none es fs (o ∷ os) h = absurd h
 
-pub next_stored : (cs ds : List CellView) (os ls : List Open) (hs : List (List ℕ)) (j : Journal) (oc lc cap cap' a t : ℕ) (O : Opening) (es : List Entry) → IsStored cs os ls hs j oc lc cap a t → round_refusal (history j) ≡ None → O ≡ close (history j) → es ≡ [] → AreCells ds (opened_points O) → MAX_ENTRIES ≤ cap' → IsStored ds os ls hs (journal_of O es) oc lc cap' a t
-next_stored cs ds os ls hs j oc lc cap cap' a t O es h none e empty cells room =
-    let m = may_close (history j) none in
-    subst (λ (xs : List Entry). IsStored ds os ls hs (journal_of O xs) oc lc cap' a t) (sym empty) (record {
-      base = record {
-        legal = next_opened j O h.base.legal e;
-        numbered = tt;
-        points_are = refl;
-        open_are = refl;
-        live_are = refl;
-        held_are = h.base.held_are ∙ sym (ap (λ (P : Opening). P.held) e);
-        admitted_are = h.base.admitted_are ∙ sym (ap (λ (P : Opening). P.batches) e);
-        taken_are = h.base.taken_are ∙ sym (ap (λ (P : Opening). P.flushes) e);
-        round = omega (arith, ap (λ (P : Opening). P.round) e, m.earlier);
-        room = room;
-      };
-      cells = cells;
-      opened = open_none j.entries [] os (subst (AreOpen j.entries os) m.none_open h.opened);
-      live = flights_none j.entries [] ls (subst (AreFlights j.entries ls) m.none_live h.live);
-      full = refl;
-      open_room = h.open_room;
-      live_room = h.live_room;
-    })
+pub next_stored : (b b' : Inside) → IsStored b → round_refusal (history_in b) ≡ None → b'.opening ≡ close (history_in b) → b'.entries.items ≡ [] → AreCells b'.cells.items (opened_points b'.opening) → b'.opened.items ≡ b.opened.items → b'.live.items ≡ b.live.items → b'.held.items ≡ b.held.items → b'.batches ≡ b.batches → b'.flushes ≡ b.flushes → MAX_ENTRIES ≤ vec_capacity b'.entries → MAX_OPEN ≤ vec_capacity b'.opened → MAX_LIVE ≤ vec_capacity b'.live → IsStored b'
+next_stored b b' h none e empty cells eo el eh eb ef room open_room live_room =
+    let m = may_close (history_in b) none in
+    let begun : history_in b' ≡ Opened b'.opening = ap (λ xs. history (journal_of b'.opening xs)) empty in
+    record {
+      legal = subst IsLegal (sym begun) (next_opened (journal_in b) b'.opening h.legal e);
+      numbered = subst IsNumbered (sym begun) tt;
+      cells = subst (λ E. AreCells b'.cells.items (points E)) (sym begun) cells;
+      opened = subst (λ E. AreOpen b'.entries.items b'.opened.items (open_batches E)) (sym begun) (open_none b.entries.items b'.entries.items b'.opened.items (subst (AreOpen b.entries.items b'.opened.items) m.none_open (subst (λ os. AreOpen b.entries.items os (open_batches (history_in b))) (sym eo) h.opened)));
+      live = subst (λ E. AreFlights b'.entries.items b'.live.items (live_flushes E)) (sym begun) (flights_none b.entries.items b'.entries.items b'.live.items (subst (AreFlights b.entries.items b'.live.items) m.none_live (subst (λ ls. AreFlights b.entries.items ls (live_flushes (history_in b))) (sym el) h.live)));
+      full = subst (λ E. are_full (points E) (live_flushes E) ≡ true) (sym begun) refl;
+      held_are = eh ∙ (h.held_are ∙ (sym (ap (λ (P : Opening). P.held) e) ∙ ap held_senders (sym begun)));
+      admitted_are = eb ∙ (h.admitted_are ∙ (sym (ap (λ (P : Opening). P.batches) e) ∙ ap admits (sym begun)));
+      taken_are = ef ∙ (h.taken_are ∙ (sym (ap (λ (P : Opening). P.flushes) e) ∙ ap takes (sym begun)));
+      round = omega (arith, ap (λ (P : Opening). P.round) e, m.earlier);
+      room = room;
+      open_room = open_room;
+      live_room = live_room;
+    }

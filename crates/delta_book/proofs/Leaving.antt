@@ -12,8 +12,9 @@ use Rattle.metric_events.specs.declared.entry.Entry.{Entry}
 use Rattle.metric_events.specs.declared.event.Event.{Event}
 use Rattle.metric_events.specs.declared.event.Event.TheVariants.{Admit, Undo, Confirm, Take, Settle, Drop, GiveBack, Quarantine, Lift}
 use Rattle.series_cell.specs.Cells.{CellView}
-use Rattle.delta_book.specs.Journal.{Journal, history, and_then}
-use Rattle.delta_book.specs.Stored.{IsStored}
+use Rattle.delta_book.specs.Journal.{history, and_then}
+use Rattle.delta_book.specs.declared.book.Book.TheInside.{Inside}
+use Rattle.delta_book.specs.Stored.{IsStored, journal_in, history_in}
 use Rattle.delta_book.specs.Tables.{AreCells, At, RemovesAll, IsEntered, entry_of, points_named, points_of_event}
 use Rattle.delta_book.specs.declared.open.Open.{Open}
 use Rattle.delta_book.proofs.Batch.{AdmitIn, Whole, whole, admitted_above}
@@ -53,18 +54,19 @@ pub record Leaving (E : History) (b : ℕ) (ps : List DataPoint) : Type 0 where
   pub are : ps ≡ body.points
   pub entered : IsEntered (points E) b ps
 
-pub leaving : (cs : List CellView) (os ls : List Open) (hs : List (List ℕ)) (xs : Journal) (es : List Entry) (oc lc cap a t : ℕ) (b i : ℕ) (ds : List Open) (ps : List DataPoint) → IsStored cs os ls hs xs oc lc cap a t → ds ≡ os → es ≡ xs.entries → Some i ≡ entry_of b ds → ps ≡ points_named es i → Leaving (history xs) b ps
-leaving cs os ls hs xs es oc lc cap a t b i ds ps h d s e p =
-    let o = open_at xs.entries os (open_batches (history xs)) b i h.opened (ap (entry_of b) (sym d) ∙ sym e) in
+pub leaving : (kept : Inside) (es : List Entry) (b i : ℕ) (ds : List Open) (ps : List DataPoint) → IsStored kept → ds ≡ kept.opened.items → es ≡ kept.entries.items → Some i ≡ entry_of b ds → ps ≡ points_named es i → Leaving (history_in kept) b ps
+leaving kept es b i ds ps h d s e p =
+    let xs = journal_in kept in
+    let o = open_at xs.entries kept.opened.items (open_batches (history xs)) b i h.opened (ap (entry_of b) (sym d) ∙ sym e) in
     let there = admit_at (Opened xs.opening) xs.entries i b o.body o.here in
-    let w = whole (history xs) b o.body h.base.legal there o.open_now in
+    let w = whole (history xs) b o.body h.legal there o.open_now in
     let k : ps ≡ o.body.points = p ∙ (ap (λ ys. points_named ys i) s ∙ admits_at xs.entries i b o.body o.here) in
     record {
       body = o.body;
       open_now = o.open_now;
       stands = w;
       are = k;
-      entered = subst (IsEntered (points (history xs)) b) (sym k) (entered (history xs) b o.body h.base.legal (admitted_above (history xs) b o.body h.base.legal there) w);
+      entered = subst (IsEntered (points (history xs)) b) (sym k) (entered (history xs) b o.body h.legal (admitted_above (history xs) b o.body h.legal there) w);
     }
 
 pub home_of : (cs ds : List CellView) (E : History) (b : ℕ) (ps : List DataPoint) (v w : Bool) → AreCells cs (points E) → ds ≡ cs → Leaving E b ps → ((qs : List Accepted) → AreCells ds qs → IsEntered qs b ps → v ≡ is_batch_home b qs) → v ≡ w → is_batch_home b (points E) ≡ w

@@ -1,9 +1,9 @@
 -- A book that keeps cells, after one more entry.
 use Rattle.std.proofs.Common.{◌≡◌, ℕ, ◌+◌, ◌≤◌, Bool, true, false, List, [], ◌∷◌, ◌++◌, map, filter, length, take, drop, refl, ap, sym, ◌∙◌, subst, arith, inl, inr, Some, None, ◌⊎◌}
 use Rattle.std.specs.List.{list_any, list_all}
-use Rattle.metric_events.specs.History.{History, ◌▸◌, entries}
+use Rattle.metric_events.specs.History.{History, ◌▸◌, entries, opening}
 use Rattle.metric_events.specs.Points.{points, points_after, landed, is_flying, is_in_flight}
-use Rattle.metric_events.specs.Running.{open_batches, live_flushes, open_after, live_after, held_after}
+use Rattle.metric_events.specs.Running.{open_batches, live_flushes, held_senders, open_after, live_after, held_after}
 use Rattle.metric_events.specs.Series.{is_of, of_series}
 use Rattle.metric_events.specs.Standing.{stands}
 use Rattle.metric_events.specs.Legal.{Allowed, are_distinct, is_live}
@@ -23,10 +23,17 @@ use Rattle.metric_events.proofs.Lists.{all_weaker}
 use Rattle.std.proofs.lemmas.Bool.{and_parts, or_cases, or_left, or_right}
 use Rattle.series_cell.specs.Cells.{CellView}
 use Rattle.delta_book.specs.Journal.{Journal, appended, history, admits, takes, IsNumbered}
-use Rattle.delta_book.specs.Stored.{IsStored}
+use Rattle.delta_book.specs.declared.book.Book.TheInside.{Inside}
+use Rattle.delta_book.specs.declared.rounds.TheConstants.{LAST_ROUND}
+use Rattle.delta_book.specs.Stored.{IsStored, journal_in, history_in}
+use Rattle.std.specs.Prelude.{vec_capacity}
+use Rattle.metric_events.specs.Opening.{IsOpening}
+use Rattle.metric_events.specs.declared.opening.Opening.{Opening}
+use Rattle.metric_events.proofs.Room.{kept_room}
+use Rattle.metric_events.proofs.Numbers.{admits-le, takes-le}
 use Rattle.delta_book.specs.Tables.{AreCells, AreBooked, AreOpen, AreFlights, are_full, is_full, series_named, entry_of, on_series, is_other_open}
 use Rattle.delta_book.specs.declared.open.Open.{Open}
-use Rattle.delta_book.proofs.Journaled.{booked, after_push, Sizes, book_sizes, owed-is}
+use Rattle.delta_book.proofs.Journaled.{after_push, legal_push, entries-history, opening-history, opening_is}
 use Rattle.delta_book.proofs.Opened.{open_length, open_more, open_closed}
 use Rattle.metric_events.specs.Running.{owed}
 use Rattle.delta_book.proofs.Tables.{landed-on}
@@ -35,21 +42,28 @@ use Rattle.metric_events.specs.Running.{is_other_flight, is_another}
 use Rattle.delta_book.proofs.Adding.{written_back}
 use Rattle.delta_book.proofs.Choosing.{AreTied, tied}
 
-pub stored_push : (cs cs' : List CellView) (os os' ls ls' : List Open) (hs hs' : List (List ℕ)) (xs ys : Journal) (oc oc' lc lc' cap cap' a a' t t' : ℕ) (x : Entry) → IsStored cs os ls hs xs oc lc cap a t → Allowed (history xs) x.event → IsNumbered (history xs ▸ x.event) → AreCells cs' (points_after x.event (points (history xs))) → AreOpen ys.entries os' (open_after x.event (open_batches (history xs))) → AreFlights ys.entries ls' (live_after x.event (live_flushes (history xs))) → are_full (points_after x.event (points (history xs))) (live_after x.event (live_flushes (history xs))) ≡ true → hs' ≡ held_after x.event hs → ys ≡ appended xs x → MAX_OPEN ≤ oc' → MAX_LIVE ≤ lc' → MAX_ENTRIES ≤ cap' → a' ≡ admits (history xs ▸ x.event) → t' ≡ takes (history xs ▸ x.event) → IsStored cs' os' ls' hs' ys oc' lc' cap' a' t'
-stored_push cs cs' os os' ls ls' hs hs' xs ys oc oc' lc lc' cap cap' a a' t t' x h allowed numbered cells opened live full held ex open_room live_room room ea et =
-    let e = after_push xs ys x ex in
+-- one more entry, and what it does to what is kept
+pub stored_push : (b b' : Inside) (x : Entry) → IsStored b → Allowed (history_in b) x.event → IsNumbered (history_in b ▸ x.event) → AreCells b'.cells.items (points_after x.event (points (history_in b))) → AreOpen b'.entries.items b'.opened.items (open_after x.event (open_batches (history_in b))) → AreFlights b'.entries.items b'.live.items (live_after x.event (live_flushes (history_in b))) → are_full (points_after x.event (points (history_in b))) (live_after x.event (live_flushes (history_in b))) ≡ true → b'.held.items ≡ held_after x.event b.held.items → journal_in b' ≡ appended (journal_in b) x → MAX_OPEN ≤ vec_capacity b'.opened → MAX_LIVE ≤ vec_capacity b'.live → MAX_ENTRIES ≤ vec_capacity b'.entries → b'.batches ≡ admits (history_in b ▸ x.event) → b'.flushes ≡ takes (history_in b ▸ x.event) → IsStored b'
+stored_push b b' x h allowed numbered cells opened live full held ex open_room live_room room ea et =
+    let e = after_push (journal_in b) (journal_in b') x ex in
     record {
-      base = booked (points (history xs)) (points (history ys)) (open_batches (history xs)) (open_batches (history ys)) (live_flushes (history xs)) (live_flushes (history ys)) hs hs' xs ys cap cap' a a' t t' x h.base allowed numbered (ap points e) (ap open_batches e) (ap live_flushes e) held ex room ea et;
-      cells = subst (λ E. AreCells cs' (points E)) (sym e) cells;
-      opened = subst (λ E. AreOpen ys.entries os' (open_batches E)) (sym e) opened;
-      live = subst (λ E. AreFlights ys.entries ls' (live_flushes E)) (sym e) live;
+      legal = legal_push (journal_in b) (journal_in b') x ex h.legal allowed;
+      numbered = subst IsNumbered (sym e) numbered;
+      cells = subst (λ E. AreCells b'.cells.items (points E)) (sym e) cells;
+      opened = subst (λ E. AreOpen b'.entries.items b'.opened.items (open_batches E)) (sym e) opened;
+      live = subst (λ E. AreFlights b'.entries.items b'.live.items (live_flushes E)) (sym e) live;
       full = subst (λ E. are_full (points E) (live_flushes E) ≡ true) (sym e) full;
+      held_are = held ∙ (ap (held_after x.event) h.held_are ∙ ap held_senders (sym e));
+      admitted_are = ea ∙ ap admits (sym e);
+      taken_are = et ∙ ap takes (sym e);
+      round = subst (λ (j : Journal). j.opening.round ≤ LAST_ROUND) (sym ex) h.round;
+      room = room;
       open_room = open_room;
       live_room = live_room;
     }
 
-pub booked_cells : (cs : List CellView) (os ls : List Open) (hs : List (List ℕ)) (xs : Journal) (oc lc cap a t : ℕ) → IsStored cs os ls hs xs oc lc cap a t → AreBooked cs
-booked_cells cs os ls hs xs oc lc cap a t h = (history xs, (h.base.legal, h.cells))
+pub booked_cells : (b : Inside) → IsStored b → AreBooked b.cells.items
+booked_cells b h = (history_in b, (h.legal, h.cells))
 
 -- what a live flush took flies still, and the landing of its series is the end of the flush
 
@@ -67,33 +81,41 @@ cargo_flies f x (a ∷ qs) h = both (is_of x a) refl (or_cases (is_cargo f x a) 
     both true e c r = rw e (elim c [ inl m ↦ or_left (is_in_flight f a.place) (list_any (stands (is_in_flight f)) (of_series x qs)) (and_parts (is_in_flight f a.place) (is_of x a) m).0 | inr m ↦ or_right (is_in_flight f a.place) (list_any (stands (is_in_flight f)) (of_series x qs)) (r m) ])
     both false e c r = rw e (elim c [ inl m ↦ absurd (let q : true ≡ false = sym (and_parts (is_in_flight f a.place) (is_of x a) m).1 ∙ e in cc) | inr m ↦ r m ])
 
-pub landing : (cs : List CellView) (os ls : List Open) (hs : List (List ℕ)) (xs : Journal) (es : List Entry) (oc lc cap a t : ℕ) (f i : ℕ) (ds : List Open) → IsStored cs os ls hs xs oc lc cap a t → ds ≡ ls → es ≡ xs.entries → entry_of f ds ≡ Some i → Landing cs (history xs) f (series_named es i)
-landing cs os ls hs xs es oc lc cap a t f i ds h d s e =
-    let l = flight_at xs.entries ls (live_flushes (history xs)) f i h.live (ap (entry_of f) (sym d) ∙ e) in
+pub landing : (b : Inside) (es : List Entry) (f i : ℕ) (ds : List Open) → IsStored b → ds ≡ b.live.items → es ≡ b.entries.items → entry_of f ds ≡ Some i → Landing b.cells.items (history_in b) f (series_named es i)
+landing b es f i ds h d s e =
+    let xs = journal_in b in
+    let l = flight_at b.entries.items b.live.items (live_flushes (history xs)) f i h.live (ap (entry_of f) (sym d) ∙ e) in
     let k = take_in xs i f l.flight.series l.here in
-    let named : series_named es i ≡ l.flight.series = ap (λ ys. series_named ys i) s ∙ named_at xs.entries i f l.flight.series l.here in
-    subst (Landing cs (history xs) f) (sym named) (record {
+    let named : series_named es i ≡ l.flight.series = ap (λ ys. series_named ys i) s ∙ named_at b.entries.items i f l.flight.series l.here in
+    subst (Landing b.cells.items (history xs) f) (sym named) (record {
       live = l.live;
-      distinct = taken_distinct (history xs) f l.flight.series h.base.legal k;
+      distinct = taken_distinct (history xs) f l.flight.series h.legal k;
       flying = all_weaker (λ x. list_any (is_cargo l.flight.number x) (points (history xs))) (λ x. list_any (stands (is_in_flight f)) (of_series x (points (history xs)))) (λ x m. cargo_flies f x (points (history xs)) (subst (λ n. list_any (is_cargo n x) (points (history xs)) ≡ true) l.number m)) l.flight.series (l.one (is_full (points (history xs))) h.full);
-      whole = λ q. landed-on f q l.flight.series (points (history xs)) (rides_in (history xs) f l.flight.series h.base.legal k);
+      whole = λ q. landed-on f q l.flight.series (points (history xs)) (rides_in (history xs) f l.flight.series h.legal k);
     })
 
-pub tied_in : (cs : List CellView) (os ls : List Open) (hs : List (List ℕ)) (xs : Journal) (oc lc cap a t : ℕ) → IsStored cs os ls hs xs oc lc cap a t → AreTied (points (history xs)) (live_flushes (history xs))
-tied_in cs os ls hs xs oc lc cap a t h = tied (points (history xs)) (live_flushes (history xs)) (all_ride (history xs)) h.full
+pub tied_in : (b : Inside) → IsStored b → AreTied (points (history_in b)) (live_flushes (history_in b))
+tied_in b h = tied (points (history_in b)) (live_flushes (history_in b)) (all_ride (history_in b)) h.full
 
-pub stored_sizes : (cs : List CellView) (os ls : List Open) (hs : List (List ℕ)) (xs : Journal) (oc lc cap a t : ℕ) → IsStored cs os ls hs xs oc lc cap a t → Sizes (length xs.entries) (length os) (length ls) (length hs) a t
-stored_sizes cs os ls hs xs oc lc cap a t h =
-    let s = book_sizes (points (history xs)) (open_batches (history xs)) (live_flushes (history xs)) hs xs cap a t h.base in
-    record {
-      all = omega (arith, s.all, open_length xs.entries os (open_batches (history xs)) h.opened, flights_length xs.entries ls (live_flushes (history xs)) h.live);
-      admitted_few = s.admitted_few;
-      taken_few = s.taken_few;
-    }
+-- what is owed, from what is kept
+pub stored_owed : (b : Inside) → IsStored b → entries (history_in b) + owed (history_in b) ≡ length b.entries.items + length b.opened.items + length b.live.items + length b.held.items
+stored_owed b h = omega (arith, entries-history (journal_in b), ap length h.held_are, open_length b.entries.items b.opened.items (open_batches (history_in b)) h.opened, flights_length b.entries.items b.live.items (live_flushes (history_in b)) h.live)
 
-pub stored_owed : (cs : List CellView) (os ls : List Open) (hs : List (List ℕ)) (xs : Journal) (oc lc cap a t : ℕ) → IsStored cs os ls hs xs oc lc cap a t → entries (history xs) + owed (history xs) ≡ length xs.entries + length os + length ls + length hs
-stored_owed cs os ls hs xs oc lc cap a t h =
-    omega (arith, owed-is (points (history xs)) (open_batches (history xs)) (live_flushes (history xs)) hs xs cap a t h.base, open_length xs.entries os (open_batches (history xs)) h.opened, flights_length xs.entries ls (live_flushes (history xs)) h.live)
+-- what a book keeps fits
+pub record Sizes (b : Inside) : Type 0 where
+  pub all : length b.entries.items + length b.opened.items + length b.live.items + length b.held.items ≤ MAX_ENTRIES
+  pub admitted_few : b.batches ≤ 281474976710656
+  pub taken_few : b.flushes ≤ 281474976710656
+
+pub stored_sizes : (b : Inside) → IsStored b → Sizes b
+stored_sizes b h = record {
+  all = omega (arith, kept_room (history_in b) h.legal, stored_owed b h);
+  admitted_few = omega (arith, admits-le (history_in b), kept_room (history_in b) h.legal, h.admitted_are, ok.few_batches, ap (λ (O : Opening). O.round) (opening-history (journal_in b)), h.round);
+  taken_few = omega (arith, takes-le (history_in b), kept_room (history_in b) h.legal, h.taken_are, ok.few_flushes, ap (λ (O : Opening). O.round) (opening-history (journal_in b)), h.round);
+}
+  where
+    ok : IsOpening (opening (history_in b))
+    ok = opening_is (history_in b) h.legal
 
 pub landed_cells : (cs ds new : List CellView) (E : History) (f : ℕ) (q : Place) (named series : List Identity) (len : ℕ) → AreCells cs (points E) → ds ≡ cs → series ≡ named → Landing cs E f named → is_flying q ≡ false → ((g : ℕ) (qs : List Accepted) → AreCells ds qs → are_distinct series ≡ true → list_all (λ x. list_any (stands (is_in_flight g)) (of_series x qs)) series ≡ true → is_flying q ≡ false → AreCells new (map (on_series (landed g q) series) qs)) → length new ≡ length ds → len ≡ length cs → AreCells (take len (new ++ drop (length new) cs)) (map (landed f q) (points E))
 landed_cells cs ds new E f q named series len h d s l p k n m =
@@ -135,14 +157,14 @@ not_flying f Home e k = refl
 not_flying f (InFlight g) e k = absurd k
 
 -- a flush has ended
-pub stored_end : (cs cs' : List CellView) (os ls ls' : List Open) (hs : List (List ℕ)) (xs ys : Journal) (oc lc lc' cap cap' a t : ℕ) (f : ℕ) (q : Place) (x : Entry) → EndsFlush f q x.event → IsStored cs os ls hs xs oc lc cap a t → is_live f (live_flushes (history xs)) ≡ true → AreCells cs' (map (landed f q) (points (history xs))) → AreOpen ys.entries os (open_batches (history xs)) → AreFlights ys.entries ls' (filter (is_other_flight f) (live_flushes (history xs))) → are_full (map (landed f q) (points (history xs))) (filter (is_other_flight f) (live_flushes (history xs))) ≡ true → ys ≡ appended xs x → MAX_OPEN ≤ oc → MAX_LIVE ≤ lc' → MAX_ENTRIES ≤ cap' → IsStored cs' os ls' hs ys oc lc' cap' a t
-stored_end cs cs' os ls ls' hs xs ys oc lc lc' cap cap' a t f q x k h l cells opened live full ex open_room live_room room = ends q k cells full
+pub stored_end : (b b' : Inside) (f : ℕ) (q : Place) (x : Entry) → EndsFlush f q x.event → IsStored b → is_live f (live_flushes (history_in b)) ≡ true → AreCells b'.cells.items (map (landed f q) (points (history_in b))) → AreOpen b'.entries.items b'.opened.items (open_batches (history_in b)) → AreFlights b'.entries.items b'.live.items (filter (is_other_flight f) (live_flushes (history_in b))) → are_full (map (landed f q) (points (history_in b))) (filter (is_other_flight f) (live_flushes (history_in b))) ≡ true → b'.held.items ≡ b.held.items → journal_in b' ≡ appended (journal_in b) x → MAX_OPEN ≤ vec_capacity b'.opened → MAX_LIVE ≤ vec_capacity b'.live → MAX_ENTRIES ≤ vec_capacity b'.entries → b'.batches ≡ b.batches → b'.flushes ≡ b.flushes → IsStored b'
+stored_end b b' f q x k h l cells opened live full held ex open_room live_room room eb ef = ends q k cells full
   where
-    named : (e : Event) → x.event ≡ e → ys ≡ appended xs (record { seat = x.seat; event = e })
-    named e k = ex ∙ ap (λ v. appended xs (record { seat = x.seat; event = v })) k
+    named : (e : Event) → x.event ≡ e → journal_in b' ≡ appended (journal_in b) (record { seat = x.seat; event = e })
+    named e k = ex ∙ ap (λ v. appended (journal_in b) (record { seat = x.seat; event = v })) k
 
-    ends : (q : Place) → EndsFlush f q x.event → AreCells cs' (map (landed f q) (points (history xs))) → are_full (map (landed f q) (points (history xs))) (filter (is_other_flight f) (live_flushes (history xs))) ≡ true → IsStored cs' os ls' hs ys oc lc' cap' a t
-    ends Acknowledged k cells full = stored_push cs cs' os os ls ls' hs hs xs ys oc oc lc lc' cap cap' a a t t (record { seat = x.seat; event = Settle f }) h l h.base.numbered cells opened live full refl (named (Settle f) k) open_room live_room room h.base.admitted_are h.base.taken_are
-    ends Dropped k cells full = stored_push cs cs' os os ls ls' hs hs xs ys oc oc lc lc' cap cap' a a t t (record { seat = x.seat; event = Drop f }) h l h.base.numbered cells opened live full refl (named (Drop f) k) open_room live_room room h.base.admitted_are h.base.taken_are
-    ends Home k cells full = stored_push cs cs' os os ls ls' hs hs xs ys oc oc lc lc' cap cap' a a t t (record { seat = x.seat; event = GiveBack f }) h l h.base.numbered cells opened live full refl (named (GiveBack f) k) open_room live_room room h.base.admitted_are h.base.taken_are
+    ends : (q : Place) → EndsFlush f q x.event → AreCells b'.cells.items (map (landed f q) (points (history_in b))) → are_full (map (landed f q) (points (history_in b))) (filter (is_other_flight f) (live_flushes (history_in b))) ≡ true → IsStored b'
+    ends Acknowledged k cells full = stored_push b b' (record { seat = x.seat; event = Settle f }) h l h.numbered cells opened live full held (named (Settle f) k) open_room live_room room (eb ∙ h.admitted_are) (ef ∙ h.taken_are)
+    ends Dropped k cells full = stored_push b b' (record { seat = x.seat; event = Drop f }) h l h.numbered cells opened live full held (named (Drop f) k) open_room live_room room (eb ∙ h.admitted_are) (ef ∙ h.taken_are)
+    ends Home k cells full = stored_push b b' (record { seat = x.seat; event = GiveBack f }) h l h.numbered cells opened live full held (named (GiveBack f) k) open_room live_room room (eb ∙ h.admitted_are) (ef ∙ h.taken_are)
     ends (InFlight g) k cells full = absurd k

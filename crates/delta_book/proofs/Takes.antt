@@ -1,25 +1,28 @@
 -- A flush is taken from the cells.
-use Rattle.std.proofs.Common.{◌≡◌, ◌≢◌, ℕ, ◌≤◌, Bool, true, false, not, ◌&&◌, ◌||◌, List, [], ◌∷◌, ◌++◌, map, length, take, drop, refl, ap, sym, ◌∙◌, subst}
+use Rattle.std.proofs.Common.{◌≡◌, ◌≢◌, ℕ, ◌+◌, ◌<◌, ◌≤◌, Bool, true, false, not, ◌&&◌, ◌||◌, List, [], ◌∷◌, ◌++◌, map, length, take, drop, refl, ap, sym, ◌∙◌, subst, arith}
 use Rattle.std.specs.List.{list_any, list_all}
-use Rattle.std.proofs.lemmas.Bool.{and_from, or_left, or_right}
+use Rattle.std.proofs.lemmas.Bool.{and_from, or_left, or_right, leb-true}
 use Rattle.series_id.specs.Identity.{Identity}
 use Rattle.series_id.proofs.Order.{same_series-refl}
 use Rattle.series_id.specs.Order.{same_series}
-use Rattle.metric_events.specs.History.{History}
+use Rattle.metric_events.specs.History.{History, entries}
 use Rattle.metric_events.specs.Points.{points, taken, is_flying, is_home}
-use Rattle.metric_events.specs.Running.{live_flushes}
+use Rattle.metric_events.specs.Running.{live_flushes, owed}
 use Rattle.metric_events.specs.Series.{of_series}
 use Rattle.metric_events.specs.Standing.{stands}
 use Rattle.metric_events.specs.Legal.{MayTake, is_in_live, is_held, are_distinct}
 use Rattle.metric_events.specs.Choice.{is_eligible, first_eligible, pick}
+use Rattle.metric_events.specs.declared.limits.TheConstants.{MAX_LIVE, MAX_ENTRIES}
 use Rattle.metric_events.specs.declared.accepted.Accepted.{Accepted}
 use Rattle.metric_events.specs.declared.flight.Flight.{Flight}
 use Rattle.metric_events.specs.declared.entry.Entry.{Entry}
 use Rattle.metric_events.specs.declared.event.Event.TheVariants.{Take}
 use Rattle.metric_events.proofs.Lists.{all_weaker}
 use Rattle.series_cell.specs.Cells.{CellView, lifted}
-use Rattle.delta_book.specs.Journal.{Journal, history}
-use Rattle.delta_book.specs.Stored.{IsStored}
+use Rattle.delta_book.specs.Journal.{Journal, history, takes}
+use Rattle.delta_book.specs.Refusals.{has_room}
+use Rattle.delta_book.specs.declared.book.Book.TheInside.{Inside}
+use Rattle.delta_book.specs.Stored.{IsStored, journal_in, history_in}
 use Rattle.delta_book.specs.Tables.{AreCells, AreFlights, At, on_series}
 use Rattle.delta_book.specs.Ready.{is_ready, first_ready}
 use Rattle.delta_book.specs.declared.open.Open.{Open}
@@ -27,33 +30,41 @@ use Rattle.delta_book.proofs.Adding.{written_back}
 use Rattle.delta_book.proofs.Tables.{taken-on}
 use Rattle.delta_book.proofs.Entries.{is_home_of, flights_push, flights_more}
 use Rattle.delta_book.proofs.Choosing.{AreTied, first_is, any_ready}
-use Rattle.delta_book.proofs.Picking.{picked_all_of, nothing_picked, something_picked}
+use Rattle.delta_book.proofs.Picking.{picked_all_of, nothing_picked, something_picked, may_take_now}
 use Rattle.delta_book.proofs.Stored.{tied_in}
 
 -- what is ready is what may be picked
-pub picked_cells : (cs : List CellView) (os ls : List Open) (hs : List (List ℕ)) (xs : Journal) (oc lc cap a t n : ℕ) → IsStored cs os ls hs xs oc lc cap a t → first_ready hs n cs ≡ first_eligible (points (history xs)) (live_flushes (history xs)) hs n
-picked_cells cs os ls hs xs oc lc cap a t n h = first_is cs (points (history xs)) (live_flushes (history xs)) hs n h.cells (tied_in cs os ls hs xs oc lc cap a t h)
+pub picked_cells : (b : Inside) (n : ℕ) → IsStored b → first_ready b.held.items n b.cells.items ≡ first_eligible (points (history_in b)) (live_flushes (history_in b)) b.held.items n
+picked_cells b n h = first_is b.cells.items (points (history_in b)) (live_flushes (history_in b)) b.held.items n h.cells (tied_in b h)
 
-pick_is : (cs : List CellView) (os ls : List Open) (hs : List (List ℕ)) (xs : Journal) (oc lc cap a t n : ℕ) → IsStored cs os ls hs xs oc lc cap a t → first_eligible (points (history xs)) (live_flushes (history xs)) hs n ≡ pick (history xs) n
-pick_is cs os ls hs xs oc lc cap a t n h = ap (λ ks. first_eligible (points (history xs)) (live_flushes (history xs)) ks n) h.base.held_are
+pick_is : (b : Inside) (n : ℕ) → IsStored b → first_eligible (points (history_in b)) (live_flushes (history_in b)) b.held.items n ≡ pick (history_in b) n
+pick_is b n h = ap (λ ks. first_eligible (points (history_in b)) (live_flushes (history_in b)) ks n) h.held_are
 
-pub pick_cells : (cs : List CellView) (os ls : List Open) (hs : List (List ℕ)) (xs : Journal) (oc lc cap a t n : ℕ) → IsStored cs os ls hs xs oc lc cap a t → first_ready hs n cs ≡ pick (history xs) n
-pick_cells cs os ls hs xs oc lc cap a t n h = picked_cells cs os ls hs xs oc lc cap a t n h ∙ pick_is cs os ls hs xs oc lc cap a t n h
+pub pick_cells : (b : Inside) (n : ℕ) → IsStored b → first_ready b.held.items n b.cells.items ≡ pick (history_in b) n
+pick_cells b n h = picked_cells b n h ∙ pick_is b n h
 
-eligible_any : (cs ds : List CellView) (os ls : List Open) (hs ks : List (List ℕ)) (xs : Journal) (oc lc cap a t : ℕ) (r v : Bool) → IsStored cs os ls hs xs oc lc cap a t → r ≡ list_any (is_ready ks) ds → ds ≡ cs → ks ≡ hs → r ≡ v → list_any (is_eligible (live_flushes (history xs)) hs) (points (history xs)) ≡ v
-eligible_any cs ds os ls hs ks xs oc lc cap a t r v h e d k f =
-    sym (any_ready cs (points (history xs)) (live_flushes (history xs)) hs h.cells (tied_in cs os ls hs xs oc lc cap a t h))
-    ∙ (sym (ap (λ js. list_any (is_ready js) cs) k) ∙ (sym (ap (list_any (is_ready ks)) d) ∙ (sym e ∙ f)))
+eligible_any : (b : Inside) (ds : List CellView) (ks : List (List ℕ)) (r v : Bool) → IsStored b → r ≡ list_any (is_ready ks) ds → ds ≡ b.cells.items → ks ≡ b.held.items → r ≡ v → list_any (is_eligible (live_flushes (history_in b)) b.held.items) (points (history_in b)) ≡ v
+eligible_any b ds ks r v h e d k f =
+    sym (any_ready b.cells.items (points (history_in b)) (live_flushes (history_in b)) b.held.items h.cells (tied_in b h))
+    ∙ (sym (ap (λ js. list_any (is_ready js) b.cells.items) k) ∙ (sym (ap (list_any (is_ready ks)) d) ∙ (sym e ∙ f)))
 
-pub none_ready : (cs ds : List CellView) (os ls : List Open) (hs ks : List (List ℕ)) (xs old : Journal) (oc lc cap a t n : ℕ) (r : Bool) → IsStored cs os ls hs xs oc lc cap a t → xs ≡ old → r ≡ list_any (is_ready ks) ds → ds ≡ cs → ks ≡ hs → r ≡ false → pick (history old) n ≡ []
-none_ready cs ds os ls hs ks xs old oc lc cap a t n r h o e d k f =
-    sym (ap (λ ys. pick (history ys) n) o) ∙ (sym (pick_is cs os ls hs xs oc lc cap a t n h)
-    ∙ nothing_picked (points (history xs)) (live_flushes (history xs)) hs n (eligible_any cs ds os ls hs ks xs oc lc cap a t r false h e d k f))
+pub none_ready : (b : Inside) (ds : List CellView) (ks : List (List ℕ)) (old : Journal) (n : ℕ) (r : Bool) → IsStored b → journal_in b ≡ old → r ≡ list_any (is_ready ks) ds → ds ≡ b.cells.items → ks ≡ b.held.items → r ≡ false → pick (history old) n ≡ []
+none_ready b ds ks old n r h o e d k f =
+    sym (ap (λ ys. pick (history ys) n) o) ∙ (sym (pick_is b n h)
+    ∙ nothing_picked (points (history_in b)) (live_flushes (history_in b)) b.held.items n (eligible_any b ds ks r false h e d k f))
 
-pub some_ready : (cs ds : List CellView) (os ls : List Open) (hs ks : List (List ℕ)) (xs old : Journal) (oc lc cap a t n : ℕ) (r : Bool) → IsStored cs os ls hs xs oc lc cap a t → xs ≡ old → 1 ≤ n → r ≡ list_any (is_ready ks) ds → ds ≡ cs → ks ≡ hs → r ≡ true → pick (history old) n ≢ []
-some_ready cs ds os ls hs ks xs old oc lc cap a t n r h o m e d k f none =
-    something_picked (points (history xs)) (live_flushes (history xs)) hs n m (eligible_any cs ds os ls hs ks xs oc lc cap a t r true h e d k f)
-    (pick_is cs os ls hs xs oc lc cap a t n h ∙ (ap (λ ys. pick (history ys) n) o ∙ none))
+pub some_ready : (b : Inside) (ds : List CellView) (ks : List (List ℕ)) (old : Journal) (n : ℕ) (r : Bool) → IsStored b → journal_in b ≡ old → 1 ≤ n → r ≡ list_any (is_ready ks) ds → ds ≡ b.cells.items → ks ≡ b.held.items → r ≡ true → pick (history old) n ≢ []
+some_ready b ds ks old n r h o m e d k f none =
+    something_picked (points (history_in b)) (live_flushes (history_in b)) b.held.items n m (eligible_any b ds ks r true h e d k f)
+    (pick_is b n h ∙ (ap (λ ys. pick (history ys) n) o ∙ none))
+
+-- what is picked may be taken under the next number
+pub may_take_book : (b : Inside) (old : Journal) (n : ℕ) (r : Bool) → IsStored b → journal_in b ≡ old → length (live_flushes (history_in b)) < MAX_LIVE → r ≡ has_room (history old) → r ≡ true → MayTake (history_in b) (b.flushes + 1) (first_eligible (points (history_in b)) (live_flushes (history_in b)) b.held.items n)
+may_take_book b old n r h o few e f =
+    let room : has_room (history_in b) ≡ true = ap (λ ys. has_room (history ys)) o ∙ (sym e ∙ f) in
+    let m = may_take_now (history_in b) n h.legal h.numbered few (leb-true (entries (history_in b) + owed (history_in b) + 2) MAX_ENTRIES room) in
+    let k : takes (history_in b) + 1 ≡ b.flushes + 1 = omega (arith, h.taken_are) in
+    subst (λ s. MayTake (history_in b) (b.flushes + 1) s) (sym (pick_is b n h)) (subst (λ i. MayTake (history_in b) i (pick (history_in b) n)) k m)
 
 -- each series that is picked has something at home
 

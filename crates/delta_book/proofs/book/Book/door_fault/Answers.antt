@@ -11,7 +11,7 @@ pub returns-then-len-ge-MAX_OPEN : goal.returns-then-len-ge-MAX_OPEN
 returns-then-len-ge-MAX_OPEN c =
     let b = c.self.inside in
     let E = history (journal_of b.opening b.entries.items) in
-    let free : is_held c.args.sender.now (held_senders E) ≡ false = ap (is_held c.args.sender.now) (sym (c.deref.ensures.value ∙ c.self.invariant.base.held_are)) ∙ (sym c.has_sender.ensures ∙ c.if-has_sender.false) in
+    let free : is_held c.args.sender.now (held_senders E) ≡ false = ap (is_held c.args.sender.now) (sym (c.deref.ensures.value ∙ c.self.invariant.held_are)) ∙ (sym c.has_sender.ensures ∙ c.if-has_sender.false) in
     full_refusal E c.args.sender.now b.entries.items b.opened.items c.self.invariant.opened free (elim c.then-len-ge-MAX_OPEN.branch [
       | then-len-ge-MAX_OPEN-via-then-len-ge-MAX_OPEN w ↦ inl (omega (arith, w.if-len-ge-MAX_OPEN.true, c.len.ensures))
       | then-len-ge-MAX_OPEN-via-else-len-ge-MAX_OPEN+then-not-has_room w ↦ inr (ap (λ xs. has_room (history xs)) c.self.view_is ∙ (sym w.has_room.ensures ∙ w.if-not-has_room.true))
@@ -21,7 +21,7 @@ pub returns : goal.returns
 returns c =
     let b = c.self.inside in
     let E = history (journal_of b.opening b.entries.items) in
-    let free : is_held c.args.sender.now (held_senders E) ≡ false = ap (is_held c.args.sender.now) (sym (c.deref.ensures.value ∙ c.self.invariant.base.held_are)) ∙ (sym c.has_sender.ensures ∙ c.if-has_sender.false) in
+    let free : is_held c.args.sender.now (held_senders E) ≡ false = ap (is_held c.args.sender.now) (sym (c.deref.ensures.value ∙ c.self.invariant.held_are)) ∙ (sym c.has_sender.ensures ∙ c.if-has_sender.false) in
     no_refusal E c.args.sender.now b.entries.items b.opened.items c.self.invariant.opened free
     (omega (arith, c.if-len-ge-MAX_OPEN.false, c.len.ensures))
     (ap (λ xs. has_room (history xs)) c.self.view_is ∙ (sym c.has_room.ensures ∙ c.if-not-has_room.false))
