@@ -1,32 +1,25 @@
-# The commands of the README.
+# The commands of the README. Their scripts are in tools/; what they log is in out/logs.
 
-.PHONY: run build test edits
+.PHONY: run serve build test edits
 
 # Runs the script program on its stored script, with no proof: it needs less than a minute.
 run:
 	@cd crates/play && mkdir -p out && rt try < stdin 2> out/run.log || { cat out/run.log; exit 1; }
 	@echo 'This run proved nothing: make build proves what it builds, make test everything.'
 
-# Proves the programs and builds them into bin/.
+# Serves on 127.0.0.1:4318, with no proof, beside a back end that prints what it is sent; Ctrl-C ends both.
+serve:
+	@tools/serve.py
+
+# Proves the programs and builds them into bin/, crates side by side. What has not changed is not proved again.
 build:
-	cd crates/play && mkdir -p out && rt run < /dev/null > out/build.log 2>&1 || { cat out/build.log; exit 1; }
-	cd crates/gateway && mkdir -p out && rt run -- $$(cat args) > out/build.log 2>&1 || { cat out/build.log; exit 1; }
-	mkdir -p bin && cp crates/play/out/play bin/ && cp crates/gateway/out/gateway bin/
+	@tools/build.py
 
 # The gate: every proof from nothing, the must-fail edits, the tests and the programs; and then what
-# the prover can't see, with the programs that the gate has built: how they end, each growth of their
-# memory refused in turn, and bad input and broken connections over loopback.
+# the prover can't see, by the steps that tools/gate.py lists, with the programs that the gate has built.
 test:
-	rt ci
-	tests/play_ends.sh crates/play/out/play
-	tests/gateway_serves.sh crates/gateway/out/gateway
-	tests/gateway_rehearses.sh crates/gateway/out/gateway
-	tests/refused_growths.py crates/play/out/play
-	tests/refused_libraries.py crates/growths/out/growths
-	tests/refused_gateway.py crates/gateway/out/gateway
-	tests/hostile_input.py crates/gateway/out/gateway
-	tests/gateway_load.py crates/gateway/out/gateway
+	@tools/gate.py
 
 # Tries all edits, those too that the gate leaves out: make edits, or make edits NAME=delta_book.
 edits:
-	@tests/edits.sh $(NAME)
+	@tools/edits.py $(NAME)

@@ -1,0 +1,98 @@
+"""The crates of this repository, as crates.txt lists them."""
+import hashlib
+import os
+import subprocess
+
+ROOT = os.path.dirname(os.path.dirname(os.path.realpath(__file__)))
+# What a check of a crate reads.
+PARTS = ("src", "specs", "proofs")
+
+
+class Crate:
+    """A crate: its folder, its line of crates.txt and the crates of this repository that it uses."""
+
+    def __init__(self, name, line, below):
+        self.name = name
+        self.line = line
+        self.below = below
+        self.folder = f"{ROOT}/crates/{name}"
+        self.is_program = os.path.isfile(f"{self.folder}/src/main.rt")
+
+    def all_below(self):
+        """Every crate that this one is built over, lowest first."""
+        found = []
+        for crate in self.below:
+            found += [it for it in [*crate.all_below(), crate] if it not in found]
+        return found
+
+    def files(self):
+        """The files that a check of it reads, in a fixed order."""
+        for part in PARTS:
+            for at, folders, names in os.walk(f"{self.folder}/{part}"):
+                folders.sort()
+                yield from (f"{at}/{name}" for name in sorted(names))
+
+    def lines(self):
+        """How many lines of code it has."""
+        return sum(1 for file in self.files() if file.endswith(".rt") for _ in open(file, "rb"))
+
+    def edits(self):
+        """The files of its must-fail edits: those of the gate, and those that are tried apart."""
+        folders = [f"{self.folder}/{it}" for it in ("must-fail", "more-edits")]
+        return [
+            f"{folder}/{name}"
+            for folder in folders
+            if os.path.isdir(folder)
+            for name in sorted(os.listdir(folder))
+            if name.endswith(".edit")
+        ]
+
+
+def read_crates():
+    """Every crate by its name, lowest first."""
+    lines = {}
+    with open(f"{ROOT}/crates.txt", encoding="utf-8") as file:
+        for line in file:
+            line = line.partition("#")[0].strip()
+            if line:
+                lines[line.partition(":")[0].split()[0]] = line
+    crates = {}
+
+    def add(name):
+        if name not in crates:
+            uses = [it for it in lines[name].partition(":")[2].split() if it in lines]
+            crates[name] = Crate(name, lines[name], [add(it) for it in uses])
+        return crates[name]
+
+    for name in lines:
+        add(name)
+    return crates
+
+
+class Digests:
+    """What a crate is made of, as one word: its files, its line, the toolchain, and all this of the crates below."""
+
+    def __init__(self):
+        told = subprocess.run(["rt", "version"], stdout=subprocess.PIPE, check=True)
+        self.toolchain = told.stdout
+        self.known = {}
+
+    def of(self, crate):
+        if crate.name not in self.known:
+            digest = hashlib.sha256(self.toolchain + crate.line.encode())
+            for file in crate.files():
+                digest.update(os.path.relpath(file, crate.folder).encode() + b"\0")
+                digest.update(hashlib.sha256(content(file)).digest())
+            for below in crate.below:
+                digest.update(self.of(below).encode())
+            self.known[crate.name] = digest.hexdigest()
+        return self.known[crate.name]
+
+
+def content(file):
+    """The bytes of a file; none where there is no such file."""
+    try:
+        with open(file, "rb") as it:
+            return it.read()
+    except FileNotFoundError:
+        return b""

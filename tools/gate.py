@@ -1,0 +1,136 @@
+#!/usr/bin/env python3
+"""The gate: what the prover can see, and then what it can't, with the programs that the prover's part has built.
+
+    tools/gate.py [--without-prover]
+
+`rt ci` proves every crate from nothing, tries the edits of must-fail/ and runs the tests and the
+programs; STEPS below are run behind it, and alone where --without-prover is given. The last line counts
+the crates, edits and steps that passed and failed, and the status is 0 where none failed. The logs are
+in out/logs.
+"""
+import collections
+import os
+import re
+import sys
+import time
+
+from crates import content, read_crates
+from steps import END_OF_LOG, Failed, Step, Steps, end_of, told
+from workspace import lock_room
+
+PLAY = "crates/play/out/play"
+GATEWAY = "crates/gateway/out/gateway"
+GROWTHS = "crates/growths/out/growths"
+
+# Each is a script of tests/, the program that it runs, and where it belongs. Scripts that take ports run
+# in turn, so that none takes another's; those that measure time run with nothing beside them.
+PORTS = {"lane": "ports"}
+TIME = {"alone": True}
+STEPS = (
+    ("play_ends.sh", PLAY, {}),
+    ("refused_growths.py", PLAY, {}),
+    ("refused_libraries.py", GROWTHS, {}),
+    ("gateway_serves.sh", GATEWAY, PORTS),
+    ("gateway_rehearses.sh", GATEWAY, PORTS),
+    ("refused_gateway.py", GATEWAY, PORTS),
+    ("hostile_input.py", GATEWAY, PORTS),
+    ("gateway_load.py", GATEWAY, TIME),
+)
+# The status of a script that lacks a program that it needs; its last line says which.
+LEFT_OUT = 77
+
+COUNTS = re.compile(r"(\d+) passed, (\d+) failed$")
+# What `rt ci` tells as it goes: what a reader waits for, and what is wrong.
+PROVED = re.compile(r"rt: (\w+)(: its tests)? proved$")
+TRYING = re.compile(r"rt: (\w+): trying its must-fail edits \((\d+)\)$")
+WRONG = re.compile(r"rt: .*(NOT PROVED|its tests FAILED)$")
+WORTH_TELLING = re.compile(r"rt: (note: |must-fail .*(NOT REFUSED|BAD EDIT))")
+BLOCK = re.compile(r"== \w")
+IS_TEST = re.compile(rb"#\[test\]")
+
+
+class Prover:
+    """One run of `rt ci`, told as it goes."""
+
+    def __init__(self):
+        crates = read_crates().values()
+        self.whole = len(crates) + sum(has_tests(crate) for crate in crates)
+        self.proved = 0
+        self.begun = time.monotonic()
+        self.block = collections.deque(maxlen=END_OF_LOG)
+        self.passed, self.failed = 0, 1
+
+    def step(self):
+        return Step("the prover", self.work, "rt ci", log="ci")
+
+    def work(self, step):
+        if step.run(["rt", "ci"], read_line=lambda line: self.hear(step, line.rstrip("\n"))) != 0:
+            raise Failed("rt ci")
+        return "proofs, edits, tests and programs"
+
+    def hear(self, step, line):
+        if BLOCK.match(line):
+            self.block.clear()
+        self.block.append(line)
+        if PROVED.match(line):
+            crate, tests = PROVED.match(line).groups()
+            self.proved += 1
+            step.count = f"{self.proved} of {self.whole}"
+            self.tell(step, f"{step.count}  {crate}{tests or ''} proved")
+        elif TRYING.match(line):
+            crate, edits = TRYING.match(line).groups()
+            self.tell(step, f"{' ' * len(step.count)}  {crate}: its edits are tried ({edits})")
+        elif WRONG.match(line):
+            for it in self.block:
+                step.say(f"    | {it}")
+        elif WORTH_TELLING.match(line):
+            step.say(line)
+        elif COUNTS.match(line):
+            self.passed, self.failed = map(int, COUNTS.match(line).groups())
+            step.say(line)
+
+    def tell(self, step, text):
+        step.say(f"{told(time.monotonic() - self.begun):>6}  {text}")
+
+
+def has_tests(crate):
+    return any(IS_TEST.search(content(file)) for file in crate.files())
+
+
+def step_of(script, program, place):
+    """The step that runs a script of tests/ on a program."""
+    command = [f"tests/{script}", program]
+
+    def work(step):
+        status = step.run(command)
+        last = (end_of(step.log) or ["it told nothing"])[-1]
+        if status not in (0, LEFT_OUT):
+            raise Failed(last)
+        return f"LEFT OUT: {last}" if status == LEFT_OUT else last
+
+    name = script.partition(".")[0]
+    return Step(name, work, " ".join(command), **place)
+
+
+def main(words):
+    if words not in ([], ["--without-prover"]):
+        sys.exit("usage: tools/gate.py [--without-prover]")
+    prover = Prover()
+    passed = failed = 0
+    if not words:
+        # The gate of the prover refuses what a build that was killed has left.
+        held = lock_room()
+        Steps([prover.step()]).run()
+        os.close(held)
+        passed, failed = prover.passed, prover.failed
+    if not failed:
+        steps = Steps([step_of(*it) for it in STEPS])
+        steps.run()
+        passed, failed = passed + len(steps.passed), len(steps.failed)
+        print("beside the prover:" if words else "the gate, the prover's part and the steps beside it:")
+    print(f"{passed} passed, {failed} failed")
+    return 1 if failed else 0
+
+
+if __name__ == "__main__":
+    sys.exit(main(sys.argv[1:]))

@@ -1,0 +1,277 @@
+"""Runs steps side by side, as many as processors and memory carry, and tells how each ended.
+
+A line for each step when it ends. On a terminal a last line moves with what runs. Of a step that fails
+the end of its log is shown, and the command that repeats it.
+"""
+import os
+import queue
+import re
+import shutil
+import signal
+import subprocess
+import sys
+import threading
+import time
+
+from crates import ROOT
+
+LOGS = f"{ROOT}/out/logs"
+GIGABYTE = 1_000_000_000
+# What each further job of a check may take.
+JOB_MEMORY = 3 * GIGABYTE // 2
+END_OF_LOG = 30
+# Control groups of version 2 and 1: what they hold, and what they may.
+GROUPS = (
+    ("/sys/fs/cgroup/memory.max", "/sys/fs/cgroup/memory.current"),
+    ("/sys/fs/cgroup/memory/memory.limit_in_bytes", "/sys/fs/cgroup/memory/memory.usage_in_bytes"),
+)
+
+
+class Failed(Exception):
+    """Why a step failed, in a few words."""
+
+
+class Step:
+    """A piece of work with a name of its own.
+
+    `work` is a function of this step; it returns what its line says at the end, or raises Failed.
+    `after` names the steps that end well before it begins; `weight` tells how long it is beside others.
+    No two steps of one `lane` run at the same time, and a step that is `alone` has none beside it.
+    """
+
+    def __init__(self, name, work, again, after=(), weight=1, memory=0, most_jobs=1, lane=None, alone=False, log=None):
+        self.name = name
+        self.work = work
+        self.again = again
+        self.after = after
+        self.weight = weight
+        self.memory = memory
+        self.most_jobs = most_jobs
+        self.lane = lane
+        self.alone = alone
+        self.jobs = 1
+        self.count = ""
+        self.say = print
+        self.log = f"{LOGS}/{log or name}.log"
+
+    def needs(self, jobs):
+        return self.memory + JOB_MEMORY * (jobs - 1) if self.memory else 0
+
+    def run(self, command, folder=ROOT, read_line=None):
+        """Runs a command with its output in the log, each line read as it comes, and returns its status."""
+        with open(self.log, "a", encoding="utf-8") as log:
+            child = CHILDREN.start(command, folder)
+            for line in child.stdout:
+                log.write(line)
+                if read_line:
+                    read_line(line)
+            return CHILDREN.end(child)
+
+
+class Children:
+    """The processes that run for the steps. Each leads a group, so that an interrupt ends what it has started too."""
+
+    def __init__(self):
+        self.lock = threading.Lock()
+        self.running = set()
+        self.is_ending = False
+
+    def start(self, command, folder):
+        how = {"stdin": subprocess.DEVNULL, "stdout": subprocess.PIPE, "stderr": subprocess.STDOUT}
+        with self.lock:
+            if self.is_ending:
+                raise Failed("interrupted")
+            child = subprocess.Popen(
+                command, cwd=folder, text=True, errors="replace", start_new_session=True, **how
+            )
+            self.running.add(child)
+        return child
+
+    def end(self, child):
+        status = child.wait()
+        with self.lock:
+            self.running.discard(child)
+        return status
+
+    def end_all(self):
+        with self.lock:
+            self.is_ending = True
+            for child in self.running:
+                if child.poll() is None:
+                    os.killpg(child.pid, signal.SIGTERM)
+
+
+CHILDREN = Children()
+
+
+class Board:
+    """What is printed: lines that stay, and on a terminal a last one that moves."""
+
+    def __init__(self, whole):
+        self.whole = whole
+        self.ended = 0
+        self.begun = time.monotonic()
+        self.moves = sys.stdout.isatty()
+
+    def say(self, text):
+        print(f"\r\033[K{text}" if self.moves else text, flush=True)
+
+    def show(self, running):
+        """The line that moves."""
+        if self.moves:
+            words = ", ".join(f"{step.name} {step.count}".rstrip() for step in running)
+            line = f"{self.ended} of {self.whole} in {told(time.monotonic() - self.begun)}: {words}"
+            width = shutil.get_terminal_size().columns - 1
+            print(f"\r\033[K{line[:width]}", end="", flush=True)
+
+    def clear(self):
+        print("\r\033[K" if self.moves else "", end="", flush=True)
+
+    def tell_end(self, step, seconds, note, passed):
+        self.ended += 1
+        place = f"{self.ended:>{len(str(self.whole))}} of {self.whole}"
+        self.say(f"{place}  {step.name:<24} {told(seconds):>6}  {note if passed else 'FAILED: ' + note}")
+        if not passed and not CHILDREN.is_ending:
+            for line in end_of(step.log):
+                self.say(f"    | {line}")
+            self.say(f"    The whole log is {os.path.relpath(step.log)}. Again: {step.again}")
+
+
+def told(seconds):
+    """Seconds as they are read."""
+    return f"{seconds:.0f} s" if seconds < 100 else f"{seconds // 60:.0f}:{seconds % 60:02.0f}"
+
+
+def end_of(log):
+    try:
+        with open(log, encoding="utf-8") as file:
+            return [line.rstrip("\n") for line in file.readlines()[-END_OF_LOG:]]
+    except FileNotFoundError:
+        return []
+
+
+def number_in(file):
+    """The number in a file of the system, or none."""
+    try:
+        with open(file, encoding="utf-8") as it:
+            return int(it.read())
+    except (OSError, ValueError):
+        return None
+
+
+def free_memory():
+    """The memory in bytes that may be taken: what the machine has, and what a control group leaves."""
+    with open("/proc/meminfo", encoding="utf-8") as file:
+        free = 1024 * int(re.search(r"MemAvailable:\s+(\d+)", file.read())[1])
+    for limit, held in GROUPS:
+        limit, held = number_in(limit), number_in(held)
+        if limit and held is not None:
+            free = min(free, limit - held)
+    return free
+
+
+class Steps:
+    """Steps that run as soon as those before them have ended, the longest chain first."""
+
+    def __init__(self, steps):
+        self.waiting = list(steps)
+        self.running = {}
+        self.passed = set()
+        self.failed = []
+        self.told = queue.Queue()
+        self.processors = len(os.sched_getaffinity(0))
+        self.memory = free_memory()
+        self.board = Board(len(self.waiting))
+        self.chain = chains(self.waiting)
+        self.waiting.sort(key=lambda step: -self.chain[step.name])
+
+    def run(self):
+        """Runs them all, but for those behind one that fails. Returns whether all passed."""
+        os.makedirs(LOGS, exist_ok=True)
+        signal.signal(signal.SIGTERM, interrupt)
+        signal.signal(signal.SIGHUP, interrupt)
+        try:
+            while self.begin_some() or self.running:
+                self.board.show(self.running)
+                try:
+                    self.hear(*self.told.get(timeout=0.5))
+                except queue.Empty:
+                    pass
+        except KeyboardInterrupt:
+            signal.signal(signal.SIGINT, signal.SIG_IGN)
+            CHILDREN.end_all()
+            for thread in self.running.values():
+                thread.join()
+            self.board.say("interrupted")
+            sys.exit(130)
+        self.board.clear()
+        if self.waiting:
+            self.board.say(f"not begun: {' '.join(step.name for step in self.waiting)}")
+        return not self.failed and not self.waiting
+
+    def begin_some(self):
+        """Begins what can begin now, and returns whether anything did."""
+        begun = False
+        ready = [step for step in self.waiting if self.passed.issuperset(step.after)]
+        for place, step in enumerate(ready):
+            jobs = self.jobs_for(step, len(ready) - place - 1)
+            if jobs:
+                begun = True
+                step.jobs = jobs
+                step.say = self.board.say
+                self.waiting.remove(step)
+                self.running[step] = threading.Thread(target=self.work, args=(step,))
+                self.running[step].start()
+        return begun
+
+    def jobs_for(self, step, behind):
+        """How many jobs a step gets: none where it has to wait, and more than one where processors would
+        stand idle or all that is left waits for its chain."""
+        idle = self.processors - sum(it.jobs for it in self.running)
+        is_apart = step.alone or any(it.alone for it in self.running)
+        if self.running and (is_apart or any(it.lane and it.lane == step.lane for it in self.running)):
+            return 0
+        if idle < 1:
+            return 0
+        rest = [*self.running, *self.waiting]
+        leads = self.chain[step.name] == max(self.chain[it.name] for it in rest)
+        jobs = min(max(idle - behind, idle // 2 if leads else 1), idle, step.most_jobs)
+        room = self.memory - sum(it.needs(it.jobs) for it in self.running)
+        while jobs > 1 and step.needs(jobs) > room:
+            jobs -= 1
+        return jobs if not self.running or step.needs(jobs) <= room else 0
+
+    def work(self, step):
+        begun = time.monotonic()
+        try:
+            with open(step.log, "w", encoding="utf-8"):
+                pass
+            end = (True, step.work(step))
+        except Failed as why:
+            end = (False, str(why))
+        except BaseException as fault:
+            end = (False, f"{type(fault).__name__}: {fault}")
+        self.told.put((step, time.monotonic() - begun, *end))
+
+    def hear(self, step, seconds, passed, note):
+        del self.running[step]
+        if passed:
+            self.passed.add(step.name)
+        else:
+            self.failed.append(step)
+        self.board.tell_end(step, seconds, note, passed)
+
+
+def chains(steps):
+    """The weight of each step and of the longest chain of others behind it."""
+    behind = {step.name: 0 for step in steps}
+    weight = {step.name: step.weight for step in steps}
+    # A step comes behind those that it waits for.
+    for step in reversed(steps):
+        for name in step.after:
+            behind[name] = max(behind[name], weight[step.name] + behind[step.name])
+    return {name: weight[name] + behind[name] for name in behind}
+
+
+def interrupt(*_):
+    raise KeyboardInterrupt
