@@ -20,6 +20,7 @@ GIGABYTE = 1_000_000_000
 # What each further job of a check may take.
 JOB_MEMORY = 3 * GIGABYTE // 2
 END_OF_LOG = 30
+MOST_ERRORS = 10
 # Control groups of version 2 and 1: what they hold, and what they may.
 GROUPS = (
     ("/sys/fs/cgroup/memory.max", "/sys/fs/cgroup/memory.current"),
@@ -143,11 +144,14 @@ def told(seconds):
 
 
 def end_of(log):
+    """The end of a log, and the errors that stand before it."""
     try:
         with open(log, encoding="utf-8") as file:
-            return [line.rstrip("\n") for line in file.readlines()[-END_OF_LOG:]]
+            lines = [line.rstrip("\n") for line in file]
     except FileNotFoundError:
         return []
+    errors = [line for line in lines[:-END_OF_LOG] if ": error" in line]
+    return errors[:MOST_ERRORS] + lines[-END_OF_LOG:]
 
 
 def number_in(file):
