@@ -4,3 +4,4 @@ pub mod ListLemmas
 pub mod PointLemmas
 pub mod WalkLemmas
 pub mod TextLemmas
+pub mod MemberLemmas

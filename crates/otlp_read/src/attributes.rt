@@ -1,17 +1,43 @@
 //! Attribute lists.
 
-ghost use Rattle.std.specs.Prelude.{◌≡◌, ◌≢◌, map, option_map, IfOk, OnErr, OnOk};
+ghost use Rattle.std.specs.Prelude.{◌≡◌, ◌≢◌, codes, map, option_map, IfOk, OnErr, OnOk};
 ghost use Rattle.std.specs.Result.{result_ok};
-ghost use Rattle.serde_json.specs.View.{view};
+ghost use Rattle.serde_json.specs.Data.{object};
+ghost use Rattle.serde_json.specs.View.{view, members_view};
+ghost use Rattle.otlp_read.specs.Fields.{field};
 ghost use Rattle.otlp_read.specs.Lists.{all_of};
 ghost use Rattle.otlp_read.specs.Attributes.{key_and_value, pair_of, set_of, attributes_in};
 
-use crate::fields::{field, text_in};
+use crate::fields::text_in;
 use crate::lists::elements_in;
+use crate::members::take_named;
 use crate::values::value_in;
-use serde_json::Value;
+use serde_json::{Map, Value};
 use series_id::{AttrFault, AttrSet, AttrValue, Text};
 use std::alloc::{AllocError, Global};
+
+/// The fields of an attribute that are there (`KeyValue` of
+/// `opentelemetry/proto/common/v1/common.proto`).
+#[derive(Clone, Copy)]
+struct PairFields<'v> {
+    key: Option<&'v Value>,
+    value: Option<&'v Value>,
+}
+
+/// The fields of an attribute, of which each member is looked at once.
+fn pair_fields<'v>(members: &'v Map<String, Value>) -> PairFields<'v>
+    ensures key { option_map (λ v. view v.now) result.key ≡ field (codes "key") (object (members_view members.now.entries)) }
+    ensures value { option_map (λ v. view v.now) result.value ≡ field (codes "value") (object (members_view members.now.entries)) }
+{
+    let mut key = None;
+    let mut value = None;
+    for (name, member) in members {
+        let name = name.as_str();
+        take_named(&mut key, "key", name, member);
+        take_named(&mut value, "value", name, member);
+    }
+    PairFields { key, value }
+}
 
 /// The set of attributes that a field is, empty where it is absent, and
 /// nothing where it is no attribute list, or one that no series may have.
@@ -45,13 +71,14 @@ fn pairs(alloc: Global, values: &[Value]) -> Result<Option<Vec<(Text, AttrValue)
 fn pair_of(alloc: Global, value: &Value) -> Result<Option<(Text, AttrValue)>, AllocError>
     ensures { IfOk result (λ o. o ≡ pair_of (view value.now)) }
 {
-    if !value.is_object() {
-        return Ok(None);
-    }
-    let Some(key) = text_in(field(value, "key")) else {
+    let Some(members) = value.as_object() else {
         return Ok(None);
     };
-    let Some(found) = value_in(alloc, field(value, "value"))? else {
+    let pair = pair_fields(members);
+    let Some(key) = text_in(pair.key) else {
+        return Ok(None);
+    };
+    let Some(found) = value_in(alloc, pair.value)? else {
         return Ok(None);
     };
     let key = Text::new(String::from_str(alloc, key)?);

@@ -1,30 +1,98 @@
 //! Points of histograms.
 
-ghost use Rattle.std.specs.Prelude.{◌≡◌, option_map, IfOk};
-ghost use Rattle.serde_json.specs.View.{view};
-ghost use Rattle.otlp_read.specs.Histograms.{count_in, total_in, histogram_fields, kind_in, histogram_point, histogram_point_in};
+ghost use Rattle.std.specs.Prelude.{◌≡◌, codes, option_map, option_and_then, IfOk, IfSome};
+ghost use Rattle.std.specs.Result.{result_ok};
+ghost use Rattle.serde_json.specs.Data.{object};
+ghost use Rattle.serde_json.specs.View.{view, members_view};
+ghost use Rattle.series_id.specs.Ascending.{histogram_of};
+ghost use Rattle.series_id.specs.declared.limits.TheConstants.{MAX_BOUND};
+ghost use Rattle.otlp_read.specs.Whole.{signed_in};
+ghost use Rattle.otlp_read.specs.Lists.{list_in};
+ghost use Rattle.otlp_read.specs.Fields.{field};
+ghost use Rattle.otlp_read.specs.Histograms.{count_in, total_in, histogram_fields, histogram_point, histogram_point_in};
 ghost use Rattle.otlp_read.specs.PointViews.{histogram_fields_data};
 ghost use Rattle.otlp_read.specs.StreamViews.{stream_data};
 
 use crate::attributes::attributes_in;
-use crate::fields::{field, flags_fit, nanos_in};
+use crate::fields::{flags_fit, nanos_in};
 use crate::lists::{signed_list, unsigned_list};
 use crate::made::made;
+use crate::members::take_named;
 use crate::streams::{Stream, series_in};
 use crate::whole::unsigned_64;
 use metric_events::point::Point;
-use serde_json::Value;
+use serde_json::{Map, Value};
 use series_id::Kind;
 use series_id::limits::MAX_BOUND;
 use std::alloc::{AllocError, Global};
 
-/// Start, end, count and sum of a histogram's point.
+/// The fields of a histogram's point that are there (`HistogramDataPoint` of
+/// `opentelemetry/proto/metrics/v1/metrics.proto`).
 #[derive(Clone, Copy)]
-struct HistogramFields {
+struct HistogramMembers<'v> {
+    start: Option<&'v Value>,
+    end: Option<&'v Value>,
+    count: Option<&'v Value>,
+    total: Option<&'v Value>,
+    flags: Option<&'v Value>,
+    buckets: Option<&'v Value>,
+    bounds: Option<&'v Value>,
+    attributes: Option<&'v Value>,
+}
+
+/// Start, end, count and sum of a histogram's point, and the fields of its buckets, bounds and
+/// attributes.
+#[derive(Clone, Copy)]
+struct HistogramFields<'v> {
     start: u64,
     end: u64,
     count: u64,
     total: Option<u64>,
+    buckets: Option<&'v Value>,
+    bounds: Option<&'v Value>,
+    attributes: Option<&'v Value>,
+}
+
+/// The fields of a point, of which each member is looked at once.
+fn histogram_members<'v>(members: &'v Map<String, Value>) -> HistogramMembers<'v>
+    ensures start { option_map (λ v. view v.now) result.start ≡ field (codes "startTimeUnixNano") (object (members_view members.now.entries)) }
+    ensures end { option_map (λ v. view v.now) result.end ≡ field (codes "timeUnixNano") (object (members_view members.now.entries)) }
+    ensures count { option_map (λ v. view v.now) result.count ≡ field (codes "count") (object (members_view members.now.entries)) }
+    ensures total { option_map (λ v. view v.now) result.total ≡ field (codes "sum") (object (members_view members.now.entries)) }
+    ensures flags { option_map (λ v. view v.now) result.flags ≡ field (codes "flags") (object (members_view members.now.entries)) }
+    ensures buckets { option_map (λ v. view v.now) result.buckets ≡ field (codes "bucketCounts") (object (members_view members.now.entries)) }
+    ensures bounds { option_map (λ v. view v.now) result.bounds ≡ field (codes "explicitBounds") (object (members_view members.now.entries)) }
+    ensures attributes { option_map (λ v. view v.now) result.attributes ≡ field (codes "attributes") (object (members_view members.now.entries)) }
+{
+    let mut start = None;
+    let mut end = None;
+    let mut count = None;
+    let mut total = None;
+    let mut flags = None;
+    let mut buckets = None;
+    let mut bounds = None;
+    let mut attributes = None;
+    for (name, member) in members {
+        let name = name.as_str();
+        take_named(&mut start, "startTimeUnixNano", name, member);
+        take_named(&mut end, "timeUnixNano", name, member);
+        take_named(&mut count, "count", name, member);
+        take_named(&mut total, "sum", name, member);
+        take_named(&mut flags, "flags", name, member);
+        take_named(&mut buckets, "bucketCounts", name, member);
+        take_named(&mut bounds, "explicitBounds", name, member);
+        take_named(&mut attributes, "attributes", name, member);
+    }
+    HistogramMembers {
+        start,
+        end,
+        count,
+        total,
+        flags,
+        buckets,
+        bounds,
+        attributes,
+    }
 }
 
 /// How many values there are, 0 where it is absent.
@@ -50,34 +118,40 @@ fn total_in(found: Option<&Value>) -> Option<Option<u64>>
 }
 
 #[tactic(auto, unfolding(crate::specs::Histograms::histogram_fields))]
-fn histogram_fields(value: &Value) -> Option<HistogramFields>
-    ensures { option_map histogram_fields_data result ≡ histogram_fields (view value.now) }
+fn histogram_fields<'v>(value: &'v Value) -> Option<HistogramFields<'v>>
+    ensures fields { option_map histogram_fields_data result ≡ histogram_fields (view value.now) }
+    ensures buckets { IfSome result (λ f. option_map (λ v. view v.now) f.buckets ≡ field (codes "bucketCounts") (view value.now)) }
+    ensures bounds { IfSome result (λ f. option_map (λ v. view v.now) f.bounds ≡ field (codes "explicitBounds") (view value.now)) }
+    ensures attributes { IfSome result (λ f. option_map (λ v. view v.now) f.attributes ≡ field (codes "attributes") (view value.now)) }
 {
-    let start = nanos_in(field(value, "startTimeUnixNano"))?;
-    let end = nanos_in(field(value, "timeUnixNano"))?;
-    let count = count_in(field(value, "count"))?;
-    let total = total_in(field(value, "sum"))?;
-    if flags_fit(field(value, "flags")) {
+    let members = histogram_members(value.as_object()?);
+    let start = nanos_in(members.start)?;
+    let end = nanos_in(members.end)?;
+    let count = count_in(members.count)?;
+    let total = total_in(members.total)?;
+    if flags_fit(members.flags) {
         Some(HistogramFields {
             start,
             end,
             count,
             total,
+            buckets: members.buckets,
+            bounds: members.bounds,
+            attributes: members.attributes,
         })
     } else {
         None
     }
 }
 
-/// The kind of a histogram with the point's bounds.
-#[tactic(auto, unfolding(crate::specs::Histograms::kind_in))]
-fn kind_in(alloc: Global, value: &Value) -> Result<Option<Kind>, AllocError>
-    ensures { IfOk result (λ o. o ≡ kind_in (view value.now)) }
+/// The kind of a histogram with the bounds of a point.
+fn kind_of(alloc: Global, bounds: Option<&Value>) -> Result<Option<Kind>, AllocError>
+    ensures { IfOk result (λ o. o ≡ option_and_then (λ found. result_ok (histogram_of found)) (list_in (signed_in MAX_BOUND MAX_BOUND) (option_map (λ v. view v.now) bounds.entry))) }
 {
-    let Some(bounds) = signed_list(alloc, field(value, "explicitBounds"), MAX_BOUND)? else {
+    let Some(found) = signed_list(alloc, bounds, MAX_BOUND)? else {
         return Ok(None);
     };
-    Ok(Kind::histogram(bounds).ok())
+    Ok(Kind::histogram(found).ok())
 }
 
 /// The point that a data point of a histogram is, or nothing where it is foreign.
@@ -94,7 +168,7 @@ pub fn histogram_point_in(
     }
 }
 
-#[tactic(auto, unfolding(crate::specs::Histograms::histogram_point))]
+#[tactic(auto, unfolding(crate::specs::Histograms::histogram_point, crate::specs::Histograms::kind_in))]
 fn histogram_point(
     alloc: Global,
     stream: Stream<'_>,
@@ -105,13 +179,13 @@ fn histogram_point(
     let Some(fields) = histogram_fields(value) else {
         return Ok(None);
     };
-    let Some(kind) = kind_in(alloc, value)? else {
+    let Some(kind) = kind_of(alloc, fields.bounds)? else {
         return Ok(None);
     };
-    let Some(buckets) = unsigned_list(alloc, field(value, "bucketCounts"), u64::MAX)? else {
+    let Some(buckets) = unsigned_list(alloc, fields.buckets, u64::MAX)? else {
         return Ok(None);
     };
-    let Some(attributes) = attributes_in(alloc, field(value, "attributes"))? else {
+    let Some(attributes) = attributes_in(alloc, fields.attributes)? else {
         return Ok(None);
     };
     let Some(series) = series_in(alloc, stream, kind, attributes)? else {
@@ -122,6 +196,7 @@ fn histogram_point(
         end,
         count,
         total,
+        ..
     } = fields;
     let point = made(Point::histogram(alloc, series, start, end, count, total, buckets))?;
     Ok(point)

@@ -12,6 +12,7 @@ mod fields;
 mod histograms;
 mod lists;
 mod made;
+mod members;
 mod metrics;
 mod place;
 mod reading;

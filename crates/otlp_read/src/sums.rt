@@ -1,27 +1,77 @@
 //! Points of sums.
 
-ghost use Rattle.std.specs.Prelude.{◌≡◌, option_map, IfOk, OnOk, map};
-ghost use Rattle.serde_json.specs.View.{view};
-ghost use Rattle.otlp_read.specs.Sums.{number_in, is_whole_value, sum_fields, sum_point, sum_point_in};
+ghost use Rattle.std.specs.Prelude.{◌≡◌, ◌&&◌, codes, is_some, not, option_map, IfOk, IfSome};
+ghost use Rattle.serde_json.specs.Data.{object};
+ghost use Rattle.serde_json.specs.View.{view, members_view};
+ghost use Rattle.otlp_read.specs.Fields.{field, flags_fit};
+ghost use Rattle.otlp_read.specs.Sums.{number_in, sum_fields, sum_point, sum_point_in};
 ghost use Rattle.otlp_read.specs.PointViews.{sum_fields_data};
 ghost use Rattle.otlp_read.specs.StreamViews.{sum_stream_data};
 
 use crate::attributes::attributes_in;
-use crate::fields::{field, flags_fit, nanos_in};
+use crate::fields::{flags_fit, nanos_in};
 use crate::made::made;
+use crate::members::take_named;
 use crate::streams::{SumStream, series_in};
 use crate::whole::signed_64;
 use metric_events::point::Point;
-use serde_json::Value;
+use serde_json::{Map, Value};
 use series_id::Kind;
 use std::alloc::{AllocError, Global};
 
-/// Start, end and value of a sum's point.
+/// The fields of a sum's point that are there (`NumberDataPoint` of
+/// `opentelemetry/proto/metrics/v1/metrics.proto`).
 #[derive(Clone, Copy)]
-struct SumFields {
+struct SumMembers<'v> {
+    start: Option<&'v Value>,
+    end: Option<&'v Value>,
+    number: Option<&'v Value>,
+    double: Option<&'v Value>,
+    flags: Option<&'v Value>,
+    attributes: Option<&'v Value>,
+}
+
+/// Start, end and value of a sum's point, and the field of its attributes.
+#[derive(Clone, Copy)]
+struct SumFields<'v> {
     start: u64,
     end: u64,
     value: i64,
+    attributes: Option<&'v Value>,
+}
+
+/// The fields of a point, of which each member is looked at once.
+fn sum_members<'v>(members: &'v Map<String, Value>) -> SumMembers<'v>
+    ensures start { option_map (λ v. view v.now) result.start ≡ field (codes "startTimeUnixNano") (object (members_view members.now.entries)) }
+    ensures end { option_map (λ v. view v.now) result.end ≡ field (codes "timeUnixNano") (object (members_view members.now.entries)) }
+    ensures number { option_map (λ v. view v.now) result.number ≡ field (codes "asInt") (object (members_view members.now.entries)) }
+    ensures double { option_map (λ v. view v.now) result.double ≡ field (codes "asDouble") (object (members_view members.now.entries)) }
+    ensures flags { option_map (λ v. view v.now) result.flags ≡ field (codes "flags") (object (members_view members.now.entries)) }
+    ensures attributes { option_map (λ v. view v.now) result.attributes ≡ field (codes "attributes") (object (members_view members.now.entries)) }
+{
+    let mut start = None;
+    let mut end = None;
+    let mut number = None;
+    let mut double = None;
+    let mut flags = None;
+    let mut attributes = None;
+    for (name, member) in members {
+        let name = name.as_str();
+        take_named(&mut start, "startTimeUnixNano", name, member);
+        take_named(&mut end, "timeUnixNano", name, member);
+        take_named(&mut number, "asInt", name, member);
+        take_named(&mut double, "asDouble", name, member);
+        take_named(&mut flags, "flags", name, member);
+        take_named(&mut attributes, "attributes", name, member);
+    }
+    SumMembers {
+        start,
+        end,
+        number,
+        double,
+        flags,
+        attributes,
+    }
 }
 
 #[tactic(auto, unfolding(crate::specs::Sums::number_in))]
@@ -31,25 +81,27 @@ fn number_in(found: Option<&Value>) -> Option<i64>
     signed_64(found?)
 }
 
-#[tactic(auto, unfolding(crate::specs::Sums::is_whole_value))]
-fn is_whole_value(value: &Value) -> bool
-    ensures { result ≡ is_whole_value (view value.now) }
+fn is_whole_value(members: SumMembers<'_>) -> bool
+    ensures { result ≡ (flags_fit (option_map (λ v. view v.now) members.entry.flags) && not (is_some (option_map (λ v. view v.now) members.entry.double))) }
 {
-    flags_fit(field(value, "flags")) && field(value, "asDouble").is_none()
+    flags_fit(members.flags) && members.double.is_none()
 }
 
 #[tactic(auto, unfolding(crate::specs::Sums::sum_fields))]
-fn sum_fields(value: &Value) -> Option<SumFields>
-    ensures { option_map sum_fields_data result ≡ sum_fields (view value.now) }
+fn sum_fields<'v>(value: &'v Value) -> Option<SumFields<'v>>
+    ensures fields { option_map sum_fields_data result ≡ sum_fields (view value.now) }
+    ensures attributes { IfSome result (λ f. option_map (λ v. view v.now) f.attributes ≡ field (codes "attributes") (view value.now)) }
 {
-    let start = nanos_in(field(value, "startTimeUnixNano"))?;
-    let end = nanos_in(field(value, "timeUnixNano"))?;
-    let number = number_in(field(value, "asInt"))?;
-    if is_whole_value(value) {
+    let members = sum_members(value.as_object()?);
+    let start = nanos_in(members.start)?;
+    let end = nanos_in(members.end)?;
+    let number = number_in(members.number)?;
+    if is_whole_value(members) {
         Some(SumFields {
             start,
             end,
             value: number,
+            attributes: members.attributes,
         })
     } else {
         None
@@ -77,7 +129,7 @@ fn sum_point(alloc: Global, sum: SumStream<'_>, value: &Value) -> Result<Option<
     let Some(fields) = sum_fields(value) else {
         return Ok(None);
     };
-    let Some(attributes) = attributes_in(alloc, field(value, "attributes"))? else {
+    let Some(attributes) = attributes_in(alloc, fields.attributes)? else {
         return Ok(None);
     };
     let kind = Kind::Sum {

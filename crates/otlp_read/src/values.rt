@@ -1,18 +1,20 @@
 //! Values of attributes: one scalar, or a list of scalars.
 
-ghost use Rattle.std.specs.Prelude.{◌≡◌, map, option_map, IfOk};
+ghost use Rattle.std.specs.Prelude.{◌≡◌, ◌||◌, is_some, map, option_map, IfOk};
 ghost use Rattle.serde_json.specs.Find.{as_str};
-ghost use Rattle.serde_json.specs.View.{view};
+ghost use Rattle.serde_json.specs.Data.{object};
+ghost use Rattle.serde_json.specs.View.{view, members_view};
 ghost use Rattle.series_id.specs.declared.scalars.Scalar.TheVariants.{Text as text_value};
 ghost use Rattle.series_id.specs.declared.values.AttrValue.TheVariants.{One};
 ghost use Rattle.otlp_read.specs.Lists.{all_of};
-ghost use Rattle.otlp_read.specs.Values.{fields_of, has_other, scalar_of, scalar_in, scalars_of, many_of, value_of, value_in};
+ghost use Rattle.otlp_read.specs.Values.{fields_of, scalar_of, scalar_in, scalars_of, many_of, value_of, value_in};
 ghost use Rattle.otlp_read.specs.ValueViews.{fields_data};
 
 use crate::fields::field;
 use crate::lists::elements_in;
+use crate::members::take_named;
 use crate::whole::signed_64;
-use serde_json::Value;
+use serde_json::{Map, Value};
 use series_id::{AttrValue, Scalar, Scalars, Text};
 use std::alloc::{AllocError, Global};
 
@@ -28,25 +30,41 @@ struct ValueFields<'v> {
     other: bool,
 }
 
-fn fields_of<'v>(value: &'v Value) -> ValueFields<'v>
-    ensures { fields_data result ≡ fields_of (view value.now) }
+/// The fields of a value object, of which each member is looked at once.
+fn fields_of<'v>(members: &'v Map<String, Value>) -> ValueFields<'v>
+    ensures { fields_data result ≡ fields_of (object (members_view members.now.entries)) }
 {
+    let mut text = None;
+    let mut truth = None;
+    let mut int = None;
+    let mut list = None;
+    let mut double = None;
+    let mut map = None;
+    let mut bytes = None;
+    for (name, member) in members {
+        let name = name.as_str();
+        take_named(&mut text, "stringValue", name, member);
+        take_named(&mut truth, "boolValue", name, member);
+        take_named(&mut int, "intValue", name, member);
+        take_named(&mut list, "arrayValue", name, member);
+        take_named(&mut double, "doubleValue", name, member);
+        take_named(&mut map, "kvlistValue", name, member);
+        take_named(&mut bytes, "bytesValue", name, member);
+    }
     ValueFields {
-        text: field(value, "stringValue"),
-        truth: field(value, "boolValue"),
-        int: field(value, "intValue"),
-        list: field(value, "arrayValue"),
-        other: has_other(value),
+        text,
+        truth,
+        int,
+        list,
+        other: has_any(double, map, bytes),
     }
 }
 
-#[tactic(auto, unfolding(crate::specs::Values::has_other))]
-fn has_other(value: &Value) -> bool
-    ensures { result ≡ has_other (view value.now) }
+/// Whether one of three fields is there.
+fn has_any(one: Option<&Value>, another: Option<&Value>, third: Option<&Value>) -> bool
+    ensures { result ≡ (is_some (option_map (λ v. view v.now) one.entry) || is_some (option_map (λ v. view v.now) another.entry) || is_some (option_map (λ v. view v.now) third.entry)) }
 {
-    field(value, "doubleValue").is_some()
-        || field(value, "kvlistValue").is_some()
-        || field(value, "bytesValue").is_some()
+    one.is_some() || another.is_some() || third.is_some()
 }
 
 /// The value of an attribute, empty where it is absent, and nothing where it
@@ -65,10 +83,10 @@ pub fn value_in(alloc: Global, found: Option<&Value>) -> Result<Option<AttrValue
 fn value_of(alloc: Global, value: &Value) -> Result<Option<AttrValue>, AllocError>
     ensures { IfOk result (λ o. o ≡ value_of (view value.now)) }
 {
-    if !value.is_object() {
+    let Some(members) = value.as_object() else {
         return Ok(None);
-    }
-    let fields = fields_of(value);
+    };
+    let fields = fields_of(members);
     match fields.list {
         Some(list) => many_of(alloc, fields, list),
         None => one_of(alloc, fields),
@@ -131,10 +149,10 @@ fn scalars(alloc: Global, values: &[Value]) -> Result<Option<Scalars>, AllocErro
 fn scalar_in(alloc: Global, value: &Value) -> Result<Option<Scalar>, AllocError>
     ensures { IfOk result (λ o. o ≡ scalar_in (view value.now)) }
 {
-    if !value.is_object() {
-        return Ok(None);
+    match value.as_object() {
+        None => Ok(None),
+        Some(members) => scalar_of(alloc, fields_of(members)),
     }
-    scalar_of(alloc, fields_of(value))
 }
 
 #[tactic(auto, unfolding(crate::specs::Values::scalar_of))]

@@ -14,4 +14,4 @@ unfolding sum_point
 returns c =
     let f : FitsSigned w64 c.in-Some.fields.value = search rules in
     let e = simp to_z-of_z at (allowed c.sum.result _ _ _ c.sum.ensures.value c.sum.ensures.none c.sum.ensures.fault c.in_ok-point.ensures.ok) in
-    rw (← c.in-Some.ensures, ← c.field.ensures, ← c.in_ok-attributes.ensures, c.in-Some-2.is, ← c.in_ok-series.ensures, c.in-Some-3.is) (c.in_ok-point.ensures.point ∙ e)
+    rw (← c.in-Some.ensures.fields, ← c.in-Some.ensures.attributes, ← c.in_ok-attributes.ensures, c.in-Some-2.is, ← c.in_ok-series.ensures, c.in-Some-3.is) (c.in_ok-point.ensures.point ∙ e)

@@ -1,0 +1,19 @@
+//! The members of an object, looked at once.
+
+ghost use Rattle.std.specs.Prelude.{◌≡◌, Some, option_map, if◌then◌else◌};
+ghost use Rattle.std.specs.Str.{bytes_eq};
+ghost use Rattle.serde_json.specs.View.{view};
+ghost use Rattle.otlp_read.specs.Fields.{present};
+
+use serde_json::Value;
+
+/// Takes a member into the slot of the name that is wanted, where it has that name; `null` counts
+/// as absent.
+#[inline(always)]
+pub fn take_named<'v>(slot: &mut Option<&'v Value>, wanted: &str, name: &str, member: &'v Value)
+    ensures { option_map (λ v. view v.now) slot.new ≡ (if bytes_eq wanted.now name.now then present (Some (view member.now)) else option_map (λ v. view v.now) slot.old) }
+{
+    if wanted == name {
+        *slot = if member.is_null() { None } else { Some(member) };
+    }
+}
