@@ -57,7 +57,7 @@ pub fn attributes_in(alloc: Global, found: Option<&Value>) -> Result<Option<Attr
 fn pairs(alloc: Global, values: &[Value]) -> Result<Option<Vec<(Text, AttrValue)>>, AllocError>
     ensures { IfOk result (λ o. option_map (λ v. v.items) o ≡ all_of pair_of (map view values.now)) }
 {
-    let mut found = Vec::new(alloc);
+    let mut found = Vec::with_capacity(alloc, values.len())?;
     for value in values {
         let Some(pair) = pair_of(alloc, value)? else {
             return Ok(None);

@@ -59,7 +59,7 @@ fn unsigned_numbers(
 ) -> Result<Option<Vec<u64>>, AllocError>
     ensures { IfOk result (λ o. option_map (λ v. v.items) o ≡ all_of (unsigned_in most) (map view values.now)) }
 {
-    let mut found = Vec::new(alloc);
+    let mut found = Vec::with_capacity(alloc, values.len())?;
     for value in values {
         let Some(number) = unsigned(value, most) else {
             return Ok(None);
@@ -78,7 +78,7 @@ fn signed_numbers(
     requires { size < 2 ^ 63 }
     ensures { IfOk result (λ o. option_map (λ v. v.items) o ≡ all_of (signed_in size size) (map view values.now)) }
 {
-    let mut found = Vec::new(alloc);
+    let mut found = Vec::with_capacity(alloc, values.len())?;
     for value in values {
         let Some(number) = signed(value, size, size) else {
             return Ok(None);

@@ -135,7 +135,7 @@ fn scalars_of(alloc: Global, list: &Value) -> Result<Option<Scalars>, AllocError
 fn scalars(alloc: Global, values: &[Value]) -> Result<Option<Scalars>, AllocError>
     ensures { IfOk result (λ o. o ≡ all_of scalar_in (map view values.now)) }
 {
-    let mut found = Vec::new(alloc);
+    let mut found = Vec::with_capacity(alloc, values.len())?;
     for value in values {
         let Some(scalar) = scalar_in(alloc, value)? else {
             return Ok(None);
