@@ -12,11 +12,22 @@ ghost use Rattle.decimals.specs.Numbers as spec;
 pub fn number_up_to(digits: &[u8], most: u64) -> Option<u64>
     ensures { result ≡ spec.number_up_to most digits.now }
 {
-    let value = capped(digits, most)?;
-    if value > u128::from(most) {
+    if digits.is_empty() {
         return None;
     }
-    Some(value as u64)
+    let mut value = 0u64;
+    for digit in digits {
+        if !digit.is_ascii_digit() {
+            return None;
+        }
+        value = value
+            .checked_mul(10)?
+            .checked_add(u64::from(*digit - b'0'))?;
+    }
+    if value > most {
+        return None;
+    }
+    Some(value)
 }
 
 /// The number that decimal digits write, or one more than `most` where it is more; nothing where
