@@ -5,6 +5,7 @@ use Rattle.metric_events.specs.History.{History}
 use Rattle.metric_events.specs.Legal.{IsLegal}
 use Rattle.metric_events.specs.Choice.{pick}
 use Rattle.metric_events.specs.declared.limits.TheConstants.{MAX_ENTRIES}
+use Rattle.metric_events.specs.declared.opening.Opening.{Opening}
 use Rattle.metric_events.specs.declared.entry.Entry.{Entry}
 use Rattle.metric_events.specs.declared.event.Event.{Event}
 use Rattle.metric_events.specs.declared.event.Event.TheVariants.{Take}
@@ -18,8 +19,9 @@ use Rattle.shared_book.specs.Receipts.{Told, told_also, receipt_of}
 abbrev pub IsOfSeat : ℕ → Entry → Type 0
 IsOfSeat seats e = e.seat < seats
 
--- what lies under the lock: each entry is of one of the seats, and the ledger's total is the number of entries
-pub record IsKept (seats : ℕ) (j : Journal) (total : ℕ) : Type 0 where
+-- what lies under the lock: a journal with the round's opening, each entry of one of the seats, and as many entries as the ledger's total
+pub record IsKept (seats : ℕ) (opening : Opening) (j : Journal) (total : ℕ) : Type 0 where
+  pub opened : j.opening ≡ opening
   pub of_seats : All (IsOfSeat seats) j.entries
   pub counted : length j.entries ≡ total
 
@@ -31,37 +33,38 @@ pub record IsSeat (seats number parts amount receipts room : ℕ) : Type 0 where
   pub counted : amount ≡ receipts
   pub roomy : MAX_ENTRIES ≤ room
 
--- a journal that so many seats may have: legal, its batches and flushes numbered one after another, each entry of one of them
-pub record IsShared (seats : ℕ) (j : Journal) : Type 0 where
+-- a journal that so many seats may have in the round with this opening: legal, its batches and flushes numbered one after another, each entry of one of the seats
+pub record IsShared (seats : ℕ) (opening : Opening) (j : Journal) : Type 0 where
+  pub opened : j.opening ≡ opening
   pub legal : IsLegal (history j)
   pub numbered : IsNumbered (history j)
   pub of_seats : All (IsOfSeat seats) j.entries
 
 -- such a journal, no shorter than all that the seat was told
-pub record IsMoment (seats : ℕ) (t : Told) (j : Journal) : Type 0 where
-  pub shared : IsShared seats j
+pub record IsMoment (seats : ℕ) (opening : Opening) (t : Told) (j : Journal) : Type 0 where
+  pub shared : IsShared seats opening j
   pub long : length t.receipts ≤ length j.entries
 
 -- this holds of the history of such a journal
-abbrev pub AsOf : ℕ → Told → (History → Type 0) → Type 0
-AsOf seats t P = (j : Journal) × IsMoment seats t j × P (history j)
+abbrev pub AsOf : ℕ → Opening → Told → (History → Type 0) → Type 0
+AsOf seats opening t P = (j : Journal) × IsMoment seats opening t j × P (history j)
 
 -- a journal got one entry more, of this seat and this event, and the seat the receipt of it
-pub record IsToldAt (seats : ℕ) (before after : Journal) (old new : Told) (event : Event) : Type 0 where
-  pub moment : IsMoment seats old before
+pub record IsToldAt (seats : ℕ) (opening : Opening) (before after : Journal) (old new : Told) (event : Event) : Type 0 where
+  pub moment : IsMoment seats opening old before
   pub entry : Appends before after old.number event
-  pub shared : IsShared seats after
+  pub shared : IsShared seats opening after
   pub told : new ≡ told_also old (receipt_of (length before.entries) event)
 
 -- that is so of two journals
-abbrev pub IsTold : ℕ → Told → Told → Event → Type 0
-IsTold seats old new event = (before : Journal) × (after : Journal) × IsToldAt seats before after old new event
+abbrev pub IsTold : ℕ → Opening → Told → Told → Event → Type 0
+IsTold seats opening old new event = (before : Journal) × (after : Journal) × IsToldAt seats opening before after old new event
 
 -- a flush was taken from a journal, and the seat was told of it
-pub record IsTakenAt (seats : ℕ) (before after : Journal) (old new : Told) (max : ℕ) (flush : Flush) : Type 0 where
+pub record IsTakenAt (seats : ℕ) (opening : Opening) (before after : Journal) (old new : Told) (max : ℕ) (flush : Flush) : Type 0 where
   pub taken : IsTaken before after old.number max flush
-  pub told : IsToldAt seats before after old new (Take flush.number (pick (history before) max))
+  pub told : IsToldAt seats opening before after old new (Take flush.number (pick (history before) max))
 
 -- that is so of two journals
-abbrev pub IsTakenFor : ℕ → Told → Told → ℕ → Flush → Type 0
-IsTakenFor seats old new max flush = (before : Journal) × (after : Journal) × IsTakenAt seats before after old new max flush
+abbrev pub IsTakenFor : ℕ → Opening → Told → Told → ℕ → Flush → Type 0
+IsTakenFor seats opening old new max flush = (before : Journal) × (after : Journal) × IsTakenAt seats opening before after old new max flush

@@ -9,6 +9,7 @@ ghost use Rattle.shared_book.specs.Moments.{IsMoment, IsToldAt, IsTakenAt};
 
 use crate::event_kind::EventKind;
 use crate::receipt::Receipt;
+use crate::round::Round;
 use crate::seat::Seat;
 use delta_book::book::Book;
 use delta_book::faults::{
@@ -22,18 +23,19 @@ use metric_events::limits::MAX_TAKEN;
 use metric_events::sender_name::SenderName;
 use std::alloc::AllocError;
 use std::marker::Model;
-use std::sync::ledger::{self, Ledger};
+use std::sync::ledger;
 
 /// The book, and beside it the ledger's count of its entries. Contracts see the book's journal.
-/// Whenever the lock is free, each entry names a seat of this book, and the ledger's total is
-/// the number of entries; that the journal's history is legal is true of every book.
+/// Whenever the lock is free, the journal has the opening of the round, each entry names a seat
+/// of this book, and the ledger's total is the number of entries; that the journal's history is
+/// legal is true of every book.
 #[derive(Drop)]
-pub struct Kept<L: Ledger> {
+pub struct Kept<L: Round> {
     pub(crate) book: Book,
     pub(crate) events: ledger::Book<L>,
 }
 
-impl<L: Ledger> Model for Kept<L> {
+impl<L: Round> Model for Kept<L> {
     ghost use Rattle.delta_book.specs.Journal.{Journal};
     ghost use Rattle.shared_book.specs.Moments.{IsKept};
 
@@ -41,16 +43,16 @@ impl<L: Ledger> Model for Kept<L> {
 
     ghost view = { λ k. k.book };
 
-    ghost invariant = { λ k. IsKept L.parts k.book k.events.total };
+    ghost invariant = { λ k. IsKept L.parts L.opening k.book k.events.total };
 }
 
-impl<L: Ledger> Kept<L> {
+impl<L: Round> Kept<L> {
     /// Where the next entry will stand. What the seat was told stands in the journal.
     fn look(&mut self, seat: &mut Seat<L>) -> u64
         ensures place { result ≡ length self.old.entries }
         ensures kept { self.new ≡ self.old }
         ensures seat { seat.new ≡ seat.old }
-        ensures moment { IsMoment L.parts seat.old self.old }
+        ensures moment { IsMoment L.parts L.opening seat.old self.old }
     {
         let Kept { book, events } = self;
         seat.audit(events);
@@ -66,12 +68,12 @@ impl<L: Ledger> Kept<L> {
     ) -> Result<u64, (AdmitFault, Batch)>
         requires some { 0 < length body.points }
         requires copy { copy ≡ body }
-        ensures told { IfOk result (λ n. IsToldAt L.parts self.old self.new seat.old seat.new (Event.Admit n body)) }
+        ensures told { IfOk result (λ n. IsToldAt L.parts L.opening self.old self.new seat.old seat.new (Event.Admit n body)) }
         ensures none { OnOk result (admit_refusal (history self.old) body ≡ None) }
         ensures fault { IfErr result (λ e. e.0 ≡ unwrap_or (admit_refusal (history self.old) body) AdmitFault.NoMemory) }
         ensures returned { IfErr result (λ e. e.1 ≡ body) }
         ensures err { OnErr result ((self.new ≡ self.old) × (seat.new ≡ seat.old)) }
-        ensures moment { IsMoment L.parts seat.old self.old }
+        ensures moment { IsMoment L.parts L.opening seat.old self.old }
     {
         let index = self.look(seat);
         let number = seat.number();
@@ -89,11 +91,11 @@ impl<L: Ledger> Kept<L> {
 
     /// As `Book::undo`, from the seat, which is told.
     pub fn undo(&mut self, seat: &mut Seat<L>, batch: u64) -> Result<(), UndoFault>
-        ensures told { OnOk result (IsToldAt L.parts self.old self.new seat.old seat.new (Event.Undo batch)) }
+        ensures told { OnOk result (IsToldAt L.parts L.opening self.old self.new seat.old seat.new (Event.Undo batch)) }
         ensures none { OnOk result (undo_refusal (history self.old) batch ≡ None) }
         ensures fault { IfErr result (λ e. undo_refusal (history self.old) batch ≡ Some e) }
         ensures err { OnErr result ((self.new ≡ self.old) × (seat.new ≡ seat.old)) }
-        ensures moment { IsMoment L.parts seat.old self.old }
+        ensures moment { IsMoment L.parts L.opening seat.old self.old }
     {
         let index = self.look(seat);
         let number = seat.number();
@@ -111,11 +113,11 @@ impl<L: Ledger> Kept<L> {
 
     /// As `Book::confirm`, from the seat, which is told.
     pub fn confirm(&mut self, seat: &mut Seat<L>, batch: u64) -> Result<(), NotOpen>
-        ensures told { OnOk result (IsToldAt L.parts self.old self.new seat.old seat.new (Event.Confirm batch)) }
+        ensures told { OnOk result (IsToldAt L.parts L.opening self.old self.new seat.old seat.new (Event.Confirm batch)) }
         ensures none { OnOk result (confirm_refusal (history self.old) batch ≡ None) }
         ensures fault { IfErr result (λ e. confirm_refusal (history self.old) batch ≡ Some e) }
         ensures err { OnErr result ((self.new ≡ self.old) × (seat.new ≡ seat.old)) }
-        ensures moment { IsMoment L.parts seat.old self.old }
+        ensures moment { IsMoment L.parts L.opening seat.old self.old }
     {
         let index = self.look(seat);
         let number = seat.number();
@@ -136,10 +138,10 @@ impl<L: Ledger> Kept<L> {
         requires low { 1 ≤ max }
         requires high { max ≤ MAX_TAKEN }
         ensures nothing { IfOk result (λ o. IfNone o ((pick (history self.old) max ≡ []) × (self.new ≡ self.old) × (seat.new ≡ seat.old))) }
-        ensures some { IfOk result (λ o. IfSome o (λ flush. IsTakenAt L.parts self.old self.new seat.old seat.new max flush)) }
+        ensures some { IfOk result (λ o. IfSome o (λ flush. IsTakenAt L.parts L.opening self.old self.new seat.old seat.new max flush)) }
         ensures fault { IfErr result (λ e. e ≡ (if is_full (history self.old) then TakeFault.Full else TakeFault.NoMemory)) }
         ensures err { OnErr result ((pick (history self.old) max ≢ []) × (self.new ≡ self.old) × (seat.new ≡ seat.old)) }
-        ensures moment { IsMoment L.parts seat.old self.old }
+        ensures moment { IsMoment L.parts L.opening seat.old self.old }
     {
         let index = self.look(seat);
         let number = seat.number();
@@ -159,11 +161,11 @@ impl<L: Ledger> Kept<L> {
 
     /// As `Book::settle`, from the seat, which is told.
     pub fn settle(&mut self, seat: &mut Seat<L>, flush: u64) -> Result<(), NotLive>
-        ensures told { OnOk result (IsToldAt L.parts self.old self.new seat.old seat.new (Event.Settle flush)) }
+        ensures told { OnOk result (IsToldAt L.parts L.opening self.old self.new seat.old seat.new (Event.Settle flush)) }
         ensures none { OnOk result (flush_refusal (history self.old) flush ≡ None) }
         ensures fault { IfErr result (λ e. flush_refusal (history self.old) flush ≡ Some e) }
         ensures err { OnErr result ((self.new ≡ self.old) × (seat.new ≡ seat.old)) }
-        ensures moment { IsMoment L.parts seat.old self.old }
+        ensures moment { IsMoment L.parts L.opening seat.old self.old }
     {
         let index = self.look(seat);
         let number = seat.number();
@@ -181,11 +183,11 @@ impl<L: Ledger> Kept<L> {
 
     /// As `Book::drop_flush`, from the seat, which is told.
     pub fn drop_flush(&mut self, seat: &mut Seat<L>, flush: u64) -> Result<(), NotLive>
-        ensures told { OnOk result (IsToldAt L.parts self.old self.new seat.old seat.new (Event.Drop flush)) }
+        ensures told { OnOk result (IsToldAt L.parts L.opening self.old self.new seat.old seat.new (Event.Drop flush)) }
         ensures none { OnOk result (flush_refusal (history self.old) flush ≡ None) }
         ensures fault { IfErr result (λ e. flush_refusal (history self.old) flush ≡ Some e) }
         ensures err { OnErr result ((self.new ≡ self.old) × (seat.new ≡ seat.old)) }
-        ensures moment { IsMoment L.parts seat.old self.old }
+        ensures moment { IsMoment L.parts L.opening seat.old self.old }
     {
         let index = self.look(seat);
         let number = seat.number();
@@ -203,11 +205,11 @@ impl<L: Ledger> Kept<L> {
 
     /// As `Book::give_back`, from the seat, which is told.
     pub fn give_back(&mut self, seat: &mut Seat<L>, flush: u64) -> Result<(), NotLive>
-        ensures told { OnOk result (IsToldAt L.parts self.old self.new seat.old seat.new (Event.GiveBack flush)) }
+        ensures told { OnOk result (IsToldAt L.parts L.opening self.old self.new seat.old seat.new (Event.GiveBack flush)) }
         ensures none { OnOk result (flush_refusal (history self.old) flush ≡ None) }
         ensures fault { IfErr result (λ e. flush_refusal (history self.old) flush ≡ Some e) }
         ensures err { OnErr result ((self.new ≡ self.old) × (seat.new ≡ seat.old)) }
-        ensures moment { IsMoment L.parts seat.old self.old }
+        ensures moment { IsMoment L.parts L.opening seat.old self.old }
     {
         let index = self.look(seat);
         let number = seat.number();
@@ -229,11 +231,11 @@ impl<L: Ledger> Kept<L> {
         seat: &mut Seat<L>,
         sender: SenderName,
     ) -> Result<(), QuarantineFault>
-        ensures told { OnOk result (IsToldAt L.parts self.old self.new seat.old seat.new (Event.Quarantine sender)) }
+        ensures told { OnOk result (IsToldAt L.parts L.opening self.old self.new seat.old seat.new (Event.Quarantine sender)) }
         ensures none { OnOk result (quarantine_refusal (history self.old) sender ≡ None) }
         ensures fault { IfErr result (λ e. e ≡ unwrap_or (quarantine_refusal (history self.old) sender) QuarantineFault.NoMemory) }
         ensures err { OnErr result ((self.new ≡ self.old) × (seat.new ≡ seat.old)) }
-        ensures moment { IsMoment L.parts seat.old self.old }
+        ensures moment { IsMoment L.parts L.opening seat.old self.old }
     {
         let index = self.look(seat);
         let number = seat.number();
@@ -251,11 +253,11 @@ impl<L: Ledger> Kept<L> {
 
     /// As `Book::lift`, from the seat, which is told.
     pub fn lift(&mut self, seat: &mut Seat<L>, sender: &SenderName) -> Result<(), NotQuarantined>
-        ensures told { OnOk result (IsToldAt L.parts self.old self.new seat.old seat.new (Event.Lift sender.now)) }
+        ensures told { OnOk result (IsToldAt L.parts L.opening self.old self.new seat.old seat.new (Event.Lift sender.now)) }
         ensures none { OnOk result (lift_refusal (history self.old) sender.now ≡ None) }
         ensures fault { IfErr result (λ e. lift_refusal (history self.old) sender.now ≡ Some e) }
         ensures err { OnErr result ((self.new ≡ self.old) × (seat.new ≡ seat.old)) }
-        ensures moment { IsMoment L.parts seat.old self.old }
+        ensures moment { IsMoment L.parts L.opening seat.old self.old }
     {
         let index = self.look(seat);
         let number = seat.number();
@@ -276,7 +278,7 @@ impl<L: Ledger> Kept<L> {
         ensures rows { IfOk result (λ v. v.items ≡ totals_rows (history self.old)) }
         ensures kept { self.new ≡ self.old }
         ensures seat { seat.new ≡ seat.old }
-        ensures moment { IsMoment L.parts seat.old self.old }
+        ensures moment { IsMoment L.parts L.opening seat.old self.old }
     {
         self.look(seat);
         self.book.totals()

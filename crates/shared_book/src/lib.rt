@@ -2,7 +2,8 @@
 //! its own, which keeps a receipt of each call that was accepted. A ledger counts the events, so
 //! that no seat holds more receipts than the book has entries; at the end all receipts are
 //! compared with the journal. A shared call says what the call of the book says, of a legal
-//! journal that holds all that the seat had been told.
+//! journal that has the opening of the book that was handed in, and is no shorter than what the
+//! seat had been told.
 #![tactic(auto)]
 
 pub mod audit;
@@ -13,6 +14,7 @@ mod joining;
 mod kept;
 mod matching;
 pub mod receipt;
+pub mod round;
 pub mod seat;
 pub mod shared;
 mod tally;

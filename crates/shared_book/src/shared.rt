@@ -15,6 +15,7 @@ use crate::audit_fault::AuditFault;
 use crate::checking::check;
 use crate::joining::{all_seated, audit_of, make_seats};
 use crate::kept::Kept;
+use crate::round::Round;
 use crate::seat::{MAX_SEATS, Seat};
 use delta_book::book::Book;
 use delta_book::faults::{
@@ -28,21 +29,22 @@ use metric_events::limits::MAX_TAKEN;
 use metric_events::sender_name::SenderName;
 use std::alloc::{AllocError, Global};
 use std::marker::Model;
-use std::sync::ledger::{Blank, Ledger};
+use std::sync::ledger::Blank;
 use std::sync::{Mutex, Wait};
 
-/// A book that threads share, each from a seat of its own. Contracts see how many seats there
-/// are. Each call takes the lock, so it may wait; where it returns, it is the call of `Book` on
-/// the journal that it found. That journal is legal, its entries are of these seats, and it is
-/// no shorter than what the seat had been told.
+/// A book that threads share for a round, each from a seat of its own. Contracts see how many
+/// seats there are. Each call takes the lock, so it may wait; where it returns, it is the call
+/// of `Book` on a journal of this round: one with the opening of the book that was handed in,
+/// legal, with entries of these seats alone, and no shorter than what the seat had been told.
+/// No contract says which of these journals it is.
 #[derive(Drop)]
-pub struct SharedBook<L: Ledger> {
+pub struct SharedBook<L: Round> {
     alloc: Global,
     seats: u16,
     lock: Mutex<Kept<L>>,
 }
 
-impl<L: Ledger> Model for SharedBook<L> {
+impl<L: Round> Model for SharedBook<L> {
     ghost use Rattle.std.specs.Prelude.{◌≡◌, ◌<◌, ◌≤◌, ℕ};
 
     ghost Value = { ℕ };
@@ -52,10 +54,11 @@ impl<L: Ledger> Model for SharedBook<L> {
     ghost invariant = { λ s. (s.seats ≡ L.parts) × (0 < s.seats) };
 }
 
-impl<L: Ledger> SharedBook<L> {
+impl<L: Round> SharedBook<L> {
     /// Shares a book whose round has no entry yet, from 1 to 16 seats, numbered from 0: the
-    /// blank is to be the ledger `L`'s, cut into as many parts. All seats have room for the
-    /// receipts of a whole round. Without memory the book is given back.
+    /// blank is to be the ledger of `L`, cut into as many parts, and the book's opening that of
+    /// `L`, which each call and `finish` then name. All seats have room for the receipts of a
+    /// whole round. Without memory the book is given back.
     pub fn new(
         alloc: Global,
         book: Book,
@@ -68,6 +71,7 @@ impl<L: Ledger> SharedBook<L> {
         requires some { 0 < seats }
         requires few { seats ≤ MAX_SEATS }
         requires empty { book.entries ≡ [] }
+        requires opening { book.opening ≡ L.opening }
         ensures shared { IfOk result (λ r. r.0 ≡ seats) }
         ensures fresh { IfOk result (λ r. r.1.items ≡ fresh_seats seats) }
         ensures err { IfErr result (λ e. e.1 ≡ book) }
@@ -95,8 +99,8 @@ impl<L: Ledger> SharedBook<L> {
         body: Batch,
     ) -> Result<u64, (AdmitFault, Batch)>
         requires { 0 < length body.points }
-        ensures told { IfOk result (λ n. IsTold L.parts seat.old seat.new (Event.Admit n body)) }
-        ensures fault { IfErr result (λ e. e.0 ≢ AdmitFault.NoMemory → AsOf L.parts seat.old (λ E. admit_refusal E body ≡ Some e.0)) }
+        ensures told { IfOk result (λ n. IsTold L.parts L.opening seat.old seat.new (Event.Admit n body)) }
+        ensures fault { IfErr result (λ e. e.0 ≢ AdmitFault.NoMemory → AsOf L.parts L.opening seat.old (λ E. admit_refusal E body ≡ Some e.0)) }
         ensures returned { IfErr result (λ e. e.1 ≡ body) }
         ensures err { OnErr result (seat.new ≡ seat.old) }
     {
@@ -108,8 +112,8 @@ impl<L: Ledger> SharedBook<L> {
 
     /// As `Book::undo`. Takes no memory.
     pub fn undo(&self, rt: &impl Wait, seat: &mut Seat<L>, batch: u64) -> Result<(), UndoFault>
-        ensures told { OnOk result (IsTold L.parts seat.old seat.new (Event.Undo batch)) }
-        ensures fault { IfErr result (λ e. AsOf L.parts seat.old (λ E. undo_refusal E batch ≡ Some e)) }
+        ensures told { OnOk result (IsTold L.parts L.opening seat.old seat.new (Event.Undo batch)) }
+        ensures fault { IfErr result (λ e. AsOf L.parts L.opening seat.old (λ E. undo_refusal E batch ≡ Some e)) }
         ensures err { OnErr result (seat.new ≡ seat.old) }
     {
         self.lock.lock(rt).undo(seat, batch)
@@ -117,8 +121,8 @@ impl<L: Ledger> SharedBook<L> {
 
     /// As `Book::confirm`. Takes no memory.
     pub fn confirm(&self, rt: &impl Wait, seat: &mut Seat<L>, batch: u64) -> Result<(), NotOpen>
-        ensures told { OnOk result (IsTold L.parts seat.old seat.new (Event.Confirm batch)) }
-        ensures fault { IfErr result (λ e. AsOf L.parts seat.old (λ E. confirm_refusal E batch ≡ Some e)) }
+        ensures told { OnOk result (IsTold L.parts L.opening seat.old seat.new (Event.Confirm batch)) }
+        ensures fault { IfErr result (λ e. AsOf L.parts L.opening seat.old (λ E. confirm_refusal E batch ≡ Some e)) }
         ensures err { OnErr result (seat.new ≡ seat.old) }
     {
         self.lock.lock(rt).confirm(seat, batch)
@@ -133,10 +137,10 @@ impl<L: Ledger> SharedBook<L> {
     ) -> Result<Option<Flush>, TakeFault>
         requires low { 1 ≤ max }
         requires high { max ≤ MAX_TAKEN }
-        ensures some { IfOk result (λ o. IfSome o (λ flush. IsTakenFor L.parts seat.old seat.new max flush)) }
-        ensures nothing { IfOk result (λ o. IfNone o (AsOf L.parts seat.old (λ E. pick E max ≡ []))) }
+        ensures some { IfOk result (λ o. IfSome o (λ flush. IsTakenFor L.parts L.opening seat.old seat.new max flush)) }
+        ensures nothing { IfOk result (λ o. IfNone o (AsOf L.parts L.opening seat.old (λ E. pick E max ≡ []))) }
         ensures none { IfOk result (λ o. IfNone o (seat.new ≡ seat.old)) }
-        ensures fault { IfErr result (λ e. AsOf L.parts seat.old (λ E. (pick E max ≢ []) × (e ≡ (if is_full E then TakeFault.Full else TakeFault.NoMemory)))) }
+        ensures fault { IfErr result (λ e. AsOf L.parts L.opening seat.old (λ E. (pick E max ≢ []) × (e ≡ (if is_full E then TakeFault.Full else TakeFault.NoMemory)))) }
         ensures err { OnErr result (seat.new ≡ seat.old) }
     {
         self.lock.lock(rt).take(seat, max)
@@ -144,8 +148,8 @@ impl<L: Ledger> SharedBook<L> {
 
     /// As `Book::settle`. Takes no memory.
     pub fn settle(&self, rt: &impl Wait, seat: &mut Seat<L>, flush: u64) -> Result<(), NotLive>
-        ensures told { OnOk result (IsTold L.parts seat.old seat.new (Event.Settle flush)) }
-        ensures fault { IfErr result (λ e. AsOf L.parts seat.old (λ E. flush_refusal E flush ≡ Some e)) }
+        ensures told { OnOk result (IsTold L.parts L.opening seat.old seat.new (Event.Settle flush)) }
+        ensures fault { IfErr result (λ e. AsOf L.parts L.opening seat.old (λ E. flush_refusal E flush ≡ Some e)) }
         ensures err { OnErr result (seat.new ≡ seat.old) }
     {
         self.lock.lock(rt).settle(seat, flush)
@@ -153,8 +157,8 @@ impl<L: Ledger> SharedBook<L> {
 
     /// As `Book::drop_flush`. Takes no memory.
     pub fn drop_flush(&self, rt: &impl Wait, seat: &mut Seat<L>, flush: u64) -> Result<(), NotLive>
-        ensures told { OnOk result (IsTold L.parts seat.old seat.new (Event.Drop flush)) }
-        ensures fault { IfErr result (λ e. AsOf L.parts seat.old (λ E. flush_refusal E flush ≡ Some e)) }
+        ensures told { OnOk result (IsTold L.parts L.opening seat.old seat.new (Event.Drop flush)) }
+        ensures fault { IfErr result (λ e. AsOf L.parts L.opening seat.old (λ E. flush_refusal E flush ≡ Some e)) }
         ensures err { OnErr result (seat.new ≡ seat.old) }
     {
         self.lock.lock(rt).drop_flush(seat, flush)
@@ -162,8 +166,8 @@ impl<L: Ledger> SharedBook<L> {
 
     /// As `Book::give_back`. Takes no memory.
     pub fn give_back(&self, rt: &impl Wait, seat: &mut Seat<L>, flush: u64) -> Result<(), NotLive>
-        ensures told { OnOk result (IsTold L.parts seat.old seat.new (Event.GiveBack flush)) }
-        ensures fault { IfErr result (λ e. AsOf L.parts seat.old (λ E. flush_refusal E flush ≡ Some e)) }
+        ensures told { OnOk result (IsTold L.parts L.opening seat.old seat.new (Event.GiveBack flush)) }
+        ensures fault { IfErr result (λ e. AsOf L.parts L.opening seat.old (λ E. flush_refusal E flush ≡ Some e)) }
         ensures err { OnErr result (seat.new ≡ seat.old) }
     {
         self.lock.lock(rt).give_back(seat, flush)
@@ -176,8 +180,8 @@ impl<L: Ledger> SharedBook<L> {
         seat: &mut Seat<L>,
         sender: SenderName,
     ) -> Result<(), QuarantineFault>
-        ensures told { OnOk result (IsTold L.parts seat.old seat.new (Event.Quarantine sender)) }
-        ensures fault { IfErr result (λ e. AsOf L.parts seat.old (λ E. e ≡ unwrap_or (quarantine_refusal E sender) QuarantineFault.NoMemory)) }
+        ensures told { OnOk result (IsTold L.parts L.opening seat.old seat.new (Event.Quarantine sender)) }
+        ensures fault { IfErr result (λ e. AsOf L.parts L.opening seat.old (λ E. e ≡ unwrap_or (quarantine_refusal E sender) QuarantineFault.NoMemory)) }
         ensures err { OnErr result (seat.new ≡ seat.old) }
     {
         self.lock.lock(rt).quarantine(seat, sender)
@@ -190,8 +194,8 @@ impl<L: Ledger> SharedBook<L> {
         seat: &mut Seat<L>,
         sender: &SenderName,
     ) -> Result<(), NotQuarantined>
-        ensures told { OnOk result (IsTold L.parts seat.old seat.new (Event.Lift sender.now)) }
-        ensures fault { IfErr result (λ e. AsOf L.parts seat.old (λ E. lift_refusal E sender.now ≡ Some e)) }
+        ensures told { OnOk result (IsTold L.parts L.opening seat.old seat.new (Event.Lift sender.now)) }
+        ensures fault { IfErr result (λ e. AsOf L.parts L.opening seat.old (λ E. lift_refusal E sender.now ≡ Some e)) }
         ensures err { OnErr result (seat.new ≡ seat.old) }
     {
         self.lock.lock(rt).lift(seat, sender)
@@ -203,14 +207,15 @@ impl<L: Ledger> SharedBook<L> {
         rt: &impl Wait,
         seat: &mut Seat<L>,
     ) -> Result<Vec<SeriesTotals>, AllocError>
-        ensures rows { IfOk result (λ v. AsOf L.parts seat.old (λ E. v.items ≡ totals_rows E)) }
+        ensures rows { IfOk result (λ v. AsOf L.parts L.opening seat.old (λ E. v.items ≡ totals_rows E)) }
         ensures seat { seat.new ≡ seat.old }
     {
         self.lock.lock(rt).totals(seat)
     }
 
-    /// Ends the sharing: the book, and what an audit of all seats has found. Then each seat's
-    /// receipts are exactly the entries that name it, each once, in order. Refused where the
+    /// Ends the sharing: the book, which has the opening of the book that was handed in, and what
+    /// an audit of all seats has found. Then each seat's receipts are exactly the entries that
+    /// name it, each once, in order. Refused where the
     /// seat of a number is not among these, and then as `check` refuses; a refusal gives
     /// everything back. Takes no memory and waits for nobody.
     pub fn finish(
@@ -220,15 +225,15 @@ impl<L: Ledger> SharedBook<L> {
         ensures matched { IfOk result (λ r. All (IsMatched r.0.entries) seats.items) }
         ensures seated { IfOk result (λ r. AllSeated self seats.items) }
         ensures once { IfOk result (λ r. length seats.items ≡ self) }
-        ensures shared { IfOk result (λ r. IsShared L.parts r.0) }
+        ensures shared { IfOk result (λ r. IsShared L.parts L.opening r.0) }
         ensures events { IfOk result (λ r. r.1.events ≡ length r.0.entries) }
         ensures told { IfOk result (λ r. r.1.events ≡ sum_by (λ s. length s.receipts) seats.items) }
         ensures admitted { IfOk result (λ r. r.1.admitted ≡ admitted_points r.0.entries) }
         ensures acknowledged { IfOk result (λ r. r.1.acknowledged ≡ acknowledged_points (standing (history r.0)).series) }
         ensures out { IfErr result (λ e. e.0 ≡ AuditFault.SeatOut → ¬ (AllSeated self seats.items)) }
         ensures here { IfErr result (λ e. e.0 ≢ AuditFault.SeatOut → AllSeated self seats.items) }
-        ensures missing { IfErr result (λ e. e.0 ≡ AuditFault.MissingReceipt → (j : Journal) × IsShared L.parts j × Any (IsShort j.entries) seats.items) }
-        ensures stray { IfErr result (λ e. e.0 ≡ AuditFault.StrayEntry → (j : Journal) × IsShared L.parts j × All (λ s. ¬ (IsShort j.entries s)) seats.items × Any (λ s. ¬ (IsMatched j.entries s)) seats.items) }
+        ensures missing { IfErr result (λ e. e.0 ≡ AuditFault.MissingReceipt → (j : Journal) × IsShared L.parts L.opening j × Any (IsShort j.entries) seats.items) }
+        ensures stray { IfErr result (λ e. e.0 ≡ AuditFault.StrayEntry → (j : Journal) × IsShared L.parts L.opening j × All (λ s. ¬ (IsShort j.entries s)) seats.items × Any (λ s. ¬ (IsMatched j.entries s)) seats.items) }
         ensures back { IfErr result (λ e. (e.1 ≡ self) × (e.2.items ≡ seats.items)) }
     {
         let SharedBook {
