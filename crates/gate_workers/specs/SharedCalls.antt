@@ -2,6 +2,7 @@
 use Rattle.std.specs.Prelude.{◌≡◌, ◌≢◌, ℕ, Bool, false, ⊤, if◌then◌else◌, [], Some, None, Result, Ok, Err, unwrap_or}
 use Rattle.metric_events.specs.History.{History}
 use Rattle.metric_events.specs.Choice.{pick}
+use Rattle.metric_events.specs.declared.opening.Opening.{Opening}
 use Rattle.metric_events.specs.declared.event.Event.{Event}
 use Rattle.metric_events.specs.declared.event.Event.TheVariants.{Admit, Undo, Confirm, Settle, Drop, GiveBack, Quarantine, Lift}
 use Rattle.delta_book.specs.Refusals.{admit_refusal, undo_refusal, confirm_refusal, flush_refusal, quarantine_refusal, lift_refusal}
@@ -21,37 +22,37 @@ pub record Worker : Type 0 where
   pub told : Told
   pub orders : Bool
 
--- the seat was told nothing, and at some moment of the journal this held of its history
-abbrev pub IsUntold : ℕ → Told → Told → (History → Type 0) → Type 0
-IsUntold seats t t' P = (t' ≡ t) × AsOf seats t P
+-- the seat was told nothing, and of the history at some moment of the round with this opening this held
+abbrev pub IsUntold : ℕ → Opening → Told → Told → (History → Type 0) → Type 0
+IsUntold seats opening t t' P = (t' ≡ t) × AsOf seats opening t P
 
 -- a flush ended, where it was live
-abbrev pub EndsFor : ℕ → Told → Told → ℕ → Event → Result (Unit {0}) NotLive → Type 0
-EndsFor seats t t' f event (Ok u) = IsTold seats t t' event
-EndsFor seats t t' f event (Err e) = IsUntold seats t t' (λ E. flush_refusal E f ≡ Some e)
+abbrev pub EndsFor : ℕ → Opening → Told → Told → ℕ → Event → Result (Unit {0}) NotLive → Type 0
+EndsFor seats opening t t' f event (Ok u) = IsTold seats opening t t' event
+EndsFor seats opening t t' f event (Err e) = IsUntold seats opening t t' (λ E. flush_refusal E f ≡ Some e)
 
--- what a call with its answer tells a seat of so many: the receipt of its event, or nothing, where the book refuses it or has nothing to change.
+-- what a call with its answer tells a seat of so many, in the round with this opening: the receipt of its event, or nothing, where the book refuses it or has nothing to change.
 -- An admission may also find no memory before it looks
-abbrev pub SeatGives : ℕ → Told → Call → Told → Type 0
-SeatGives seats t (admit body (Ok n)) t' = IsTold seats t t' (Admit n body)
-SeatGives seats t (admit body (Err e)) t' = (t' ≡ t) × (e.0 ≢ admission.NoMemory → AsOf seats t (λ E. admit_refusal E body ≡ Some e.0))
-SeatGives seats t (undo b (Ok u)) t' = IsTold seats t t' (Undo b)
-SeatGives seats t (undo b (Err e)) t' = IsUntold seats t t' (λ E. undo_refusal E b ≡ Some e)
-SeatGives seats t (confirm b (Ok u)) t' = IsTold seats t t' (Confirm b)
-SeatGives seats t (confirm b (Err e)) t' = IsUntold seats t t' (λ E. confirm_refusal E b ≡ Some e)
-SeatGives seats t (take max (Ok None)) t' = IsUntold seats t t' (λ E. pick E max ≡ [])
-SeatGives seats t (take max (Ok (Some flush))) t' = IsTakenFor seats t t' max flush
-SeatGives seats t (take max (Err e)) t' = IsUntold seats t t' (λ E. (pick E max ≢ []) × (e ≡ (if is_full E then taking.Full else taking.NoMemory)))
-SeatGives seats t (settle f r) t' = EndsFor seats t t' f (Settle f) r
-SeatGives seats t (drop_flush f r) t' = EndsFor seats t t' f (Drop f) r
-SeatGives seats t (give_back f r) t' = EndsFor seats t t' f (GiveBack f) r
-SeatGives seats t (quarantine s (Ok u)) t' = IsTold seats t t' (Quarantine s)
-SeatGives seats t (quarantine s (Err e)) t' = IsUntold seats t t' (λ E. e ≡ unwrap_or (quarantine_refusal E s) holding.NoMemory)
-SeatGives seats t (lift s (Ok u)) t' = IsTold seats t t' (Lift s)
-SeatGives seats t (lift s (Err e)) t' = IsUntold seats t t' (λ E. lift_refusal E s ≡ Some e)
-SeatGives seats t (totals None) t' = t' ≡ t
-SeatGives seats t (totals (Some rows)) t' = IsUntold seats t t' (λ E. rows ≡ totals_rows E)
-SeatGives seats t (order r) t' = t' ≡ t
+abbrev pub SeatGives : ℕ → Opening → Told → Call → Told → Type 0
+SeatGives seats opening t (admit body (Ok n)) t' = IsTold seats opening t t' (Admit n body)
+SeatGives seats opening t (admit body (Err e)) t' = (t' ≡ t) × (e.0 ≢ admission.NoMemory → AsOf seats opening t (λ E. admit_refusal E body ≡ Some e.0))
+SeatGives seats opening t (undo b (Ok u)) t' = IsTold seats opening t t' (Undo b)
+SeatGives seats opening t (undo b (Err e)) t' = IsUntold seats opening t t' (λ E. undo_refusal E b ≡ Some e)
+SeatGives seats opening t (confirm b (Ok u)) t' = IsTold seats opening t t' (Confirm b)
+SeatGives seats opening t (confirm b (Err e)) t' = IsUntold seats opening t t' (λ E. confirm_refusal E b ≡ Some e)
+SeatGives seats opening t (take max (Ok None)) t' = IsUntold seats opening t t' (λ E. pick E max ≡ [])
+SeatGives seats opening t (take max (Ok (Some flush))) t' = IsTakenFor seats opening t t' max flush
+SeatGives seats opening t (take max (Err e)) t' = IsUntold seats opening t t' (λ E. (pick E max ≢ []) × (e ≡ (if is_full E then taking.Full else taking.NoMemory)))
+SeatGives seats opening t (settle f r) t' = EndsFor seats opening t t' f (Settle f) r
+SeatGives seats opening t (drop_flush f r) t' = EndsFor seats opening t t' f (Drop f) r
+SeatGives seats opening t (give_back f r) t' = EndsFor seats opening t t' f (GiveBack f) r
+SeatGives seats opening t (quarantine s (Ok u)) t' = IsTold seats opening t t' (Quarantine s)
+SeatGives seats opening t (quarantine s (Err e)) t' = IsUntold seats opening t t' (λ E. e ≡ unwrap_or (quarantine_refusal E s) holding.NoMemory)
+SeatGives seats opening t (lift s (Ok u)) t' = IsTold seats opening t t' (Lift s)
+SeatGives seats opening t (lift s (Err e)) t' = IsUntold seats opening t t' (λ E. lift_refusal E s ≡ Some e)
+SeatGives seats opening t (totals None) t' = t' ≡ t
+SeatGives seats opening t (totals (Some rows)) t' = IsUntold seats opening t t' (λ E. rows ≡ totals_rows E)
+SeatGives seats opening t (order r) t' = t' ≡ t
 
 -- who has no end for orders is told that nobody takes them
 abbrev pub MayOrder : Call → Bool → Type 0
@@ -59,7 +60,7 @@ MayOrder (order r) false = r ≡ Err Gone
 MayOrder c orders = ⊤
 
 -- what a call with its answer makes of the keeper
-pub record WorkerGives (seats : ℕ) (k : Worker) (c : Call) (k' : Worker) : Type 0 where
-  pub seat : SeatGives seats k.told c k'.told
+pub record WorkerGives (seats : ℕ) (opening : Opening) (k : Worker) (c : Call) (k' : Worker) : Type 0 where
+  pub seat : SeatGives seats opening k.told c k'.told
   pub orders : k'.orders ≡ k.orders
   pub ordered : MayOrder c k.orders

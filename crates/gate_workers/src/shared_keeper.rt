@@ -15,18 +15,18 @@ use delta_book::flush::Flush;
 use delta_book::totals::SeriesTotals;
 use metric_events::batch::Batch;
 use metric_events::sender_name::SenderName;
+use shared_book::round::Round;
 use shared_book::seat::Seat;
 use shared_book::shared::SharedBook;
 use std::alloc::{AllocError, Global};
 use std::marker::Model;
 use std::sync::Wait;
-use std::sync::ledger::Ledger;
 
 /// A keeper over a shared book, from a seat of it. Each call takes the lock of the book for itself, and
 /// may wait for it; `order` takes none, and may wait for whoever makes the turn. Contracts see what the
 /// seat was told, and whether the keeper can order.
 #[derive(Drop)]
-pub struct SharedKeeper<'a, L: Ledger, R: Wait> {
+pub struct SharedKeeper<'a, L: Round, R: Wait> {
     rt: &'a R,
     alloc: Global,
     shared: &'a SharedBook<L>,
@@ -34,7 +34,7 @@ pub struct SharedKeeper<'a, L: Ledger, R: Wait> {
     orders: Option<Sender<Order>>,
 }
 
-impl<'a, L: Ledger, R: Wait> Model for SharedKeeper<'a, L, R> {
+impl<'a, L: Round, R: Wait> Model for SharedKeeper<'a, L, R> {
     ghost use Rattle.std.specs.Prelude.{is_some};
     ghost use Rattle.gate_workers.specs.SharedCalls.{Worker};
 
@@ -43,7 +43,7 @@ impl<'a, L: Ledger, R: Wait> Model for SharedKeeper<'a, L, R> {
     ghost view = { λ k. record { told = k.seat; orders = is_some k.orders } };
 }
 
-impl<'a, L: Ledger, R: Wait> SharedKeeper<'a, L, R> {
+impl<'a, L: Round, R: Wait> SharedKeeper<'a, L, R> {
     /// A keeper that works from this seat, and orders by this end. A flusher has none, so that the channel
     /// closes once the receivers have ended; its `order` answers Gone.
     pub fn new(
@@ -74,8 +74,8 @@ impl<'a, L: Ledger, R: Wait> SharedKeeper<'a, L, R> {
     }
 }
 
-impl<'a, L: Ledger, R: Wait> Store for SharedKeeper<'a, L, R> {
-    ghost gives = { λ k c w. WorkerGives L.parts k c w };
+impl<'a, L: Round, R: Wait> Store for SharedKeeper<'a, L, R> {
+    ghost gives = { λ k c w. WorkerGives L.parts L.opening k c w };
 
     fn admit(&mut self, body: Batch) -> Result<u64, (AdmitFault, Batch)> {
         match self.shared.admit(self.rt, &mut self.seat, body) {
@@ -149,7 +149,7 @@ impl<'a, L: Ledger, R: Wait> Store for SharedKeeper<'a, L, R> {
     }
 }
 
-impl<'a, L: Ledger, R: Wait> Keeper for SharedKeeper<'a, L, R> {
+impl<'a, L: Round, R: Wait> Keeper for SharedKeeper<'a, L, R> {
     fn order(&mut self) -> Result<Turn, OrderFault> {
         let Some(orders) = &self.orders else {
             return Err(OrderFault::Gone);
