@@ -3,7 +3,8 @@ use Rattle.std.specs.Prelude.{◌≡◌, ◌≢◌, ℕ, List, Option, IfSome, R
 use Rattle.back_answers.specs.Answers.{answer_of}
 use Rattle.back_answers.specs.declared.answer.Answer.{Answer}
 use Rattle.back_answers.specs.declared.answer.Answer.TheVariants.{Unknown}
-use Rattle.http_edge.specs.Reply.{SaysReply}
+use Rattle.http_edge.specs.Delivery.{StopsReading}
+use Rattle.http_edge.specs.Reply.{NoReply, SaysReply}
 use Rattle.http_edge.specs.declared.reply.Reply.{Reply}
 use Rattle.http_edge.specs.declared.fault.HttpFault.{HttpFault}
 use Rattle.http_edge.specs.declared.fault.HttpFault.TheVariants.{Io}
@@ -15,15 +16,17 @@ abbrev pub answer_to : Result Reply HttpFault → Answer
 answer_to (Ok r) = answer_of r.status (option_map (λ v. v.items) r.retry_after)
 answer_to (Err e) = Unknown
 
--- what was read of the reader, whose failed calls are counted, and the answer that it gives
-pub record IsRead (input : Option (List ℕ)) (one_more : ℕ → ℕ) (old new : ℕ) (r : Result Reply HttpFault) (answer : Answer) : Type 0 where
+-- what was read of the reader, and the answer that it gives: its bytes before and after, the count of its failed calls before and after, and the head or the fault.
+-- No read follows the one that completes the head
+pub record IsRead (input left : Option (List ℕ)) (one_more : ℕ → ℕ) (old new : ℕ) (r : Result Reply HttpFault) (answer : Answer) : Type 0 where
   pub says : IfSome input (λ bytes. SaysReply bytes r)
+  pub stops : StopsReading NoReply input left
   pub io : r ≡ Err Io → new ≡ one_more old
   pub well : r ≢ Err Io → new ≡ old
   pub class : answer ≡ answer_to r
 
--- where all of the request was written, the answer is that of the head that was read; else it is unknown, and nothing was read
-abbrev pub IsAnswered : Option (List ℕ) → (ℕ → ℕ) → ℕ → ℕ → Written → Answer → Type 0
-IsAnswered input one_more old new All answer = (r : Result Reply HttpFault) × IsRead input one_more old new r answer
-IsAnswered input one_more old new None_ answer = (answer ≡ Unknown) × (new ≡ old)
-IsAnswered input one_more old new (Part n) answer = (answer ≡ Unknown) × (new ≡ old)
+-- where all of the request was written, the answer is that of the head that was read; else it is unknown, and no known byte was read
+abbrev pub IsAnswered : Option (List ℕ) → Option (List ℕ) → (ℕ → ℕ) → ℕ → ℕ → Written → Answer → Type 0
+IsAnswered input left one_more old new All answer = (r : Result Reply HttpFault) × IsRead input left one_more old new r answer
+IsAnswered input left one_more old new None_ answer = (answer ≡ Unknown) × (left ≡ input) × (new ≡ old)
+IsAnswered input left one_more old new (Part n) answer = (answer ≡ Unknown) × (left ≡ input) × (new ≡ old)

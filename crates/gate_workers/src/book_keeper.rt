@@ -1,5 +1,7 @@
 //! A keeper over a book of its own.
 ghost use Rattle.std.specs.Prelude.{◌≡◌, ◌≤◌};
+ghost use Rattle.http_edge.specs.Delivery.{StopsReading};
+ghost use Rattle.http_edge.specs.Reading.{NotYet};
 ghost use Rattle.gate_workers.specs.BookCalls.{BookGives, KeeperGives, IsMade};
 ghost use Rattle.gate_workers.specs.Keepers.{book_of, seat_of, uplink_of, max_of};
 ghost use Rattle.gate_workers.specs.Served.{ReadingFails, WritingFails};
@@ -202,7 +204,7 @@ impl<U: Uplink + Drop> Keeper for BookKeeper<U> {
     }
 }
 
-/// Serves one request over a book.
+/// Serves one request over a book. No read follows the one that completes it.
 pub fn serve_book<U: Uplink + Drop, S: Source, W: Sink, P: Pace>(
     alloc: Global,
     keeper: &mut BookKeeper<U>,
@@ -213,6 +215,7 @@ pub fn serve_book<U: Uplink + Drop, S: Source, W: Sink, P: Pace>(
     ensures seat { seat_of keeper.new ≡ seat_of keeper.old }
     ensures max { max_of keeper.new ≡ max_of keeper.old }
     ensures served { IsServedBook U.sends (seat_of keeper.old) (max_of keeper.old) (S.remaining reader.old) (book_of keeper.old) (book_of keeper.new) (uplink_of keeper.old) (uplink_of keeper.new) (W.contents writer.old) (W.contents writer.new) result }
+    ensures stops { StopsReading NotYet (S.remaining reader.old) (S.remaining reader.new) }
     ensures read { ReadingFails S.one_more (S.failures reader.old) (S.failures reader.new) result }
     ensures written { WritingFails W.one_more (W.failures writer.old) (W.failures writer.new) result }
 {

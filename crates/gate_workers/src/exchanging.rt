@@ -10,7 +10,8 @@ use byte_ends::{Sink, Source};
 use http_edge::{Written, read_response, write_post};
 use std::alloc::Global;
 
-/// Posts the body, and reads what is answered. Unknown unless all was written and a response was read.
+/// Posts the body, and reads the head of what is answered: no read follows the one that completes it.
+/// Unknown unless all was written and a head was read.
 pub fn exchange<S: Source, W: Sink>(
     alloc: Global,
     reader: &mut S,
@@ -22,7 +23,7 @@ pub fn exchange<S: Source, W: Sink>(
     ensures { (written : Written)
         × Sent (W.contents writer.old) (W.contents writer.new) (post_text host.now body.now) written
         × Failed W.one_more (W.failures writer.old) (W.failures writer.new) written
-        × IsAnswered (S.remaining reader.old) S.one_more (S.failures reader.old) (S.failures reader.new) written result }
+        × IsAnswered (S.remaining reader.old) (S.remaining reader.new) S.one_more (S.failures reader.old) (S.failures reader.new) written result }
 {
     match write_post(writer, host, body) {
         Written::All => {}

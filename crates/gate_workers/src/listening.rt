@@ -1,5 +1,7 @@
 //! What a reader asks for.
 ghost use Rattle.std.specs.Prelude.{◌≡◌};
+ghost use Rattle.http_edge.specs.Delivery.{StopsReading};
+ghost use Rattle.http_edge.specs.Reading.{NotYet};
 ghost use Rattle.gate_workers.specs.Heard.{Hears, HearingFails, heard_of};
 
 use crate::ask::Ask;
@@ -30,10 +32,12 @@ fn heard_of(fault: HttpFault) -> Heard
     }
 }
 
-/// Reads a message, and what it asks for.
+/// Reads a message, and what it asks for. No read follows the one that completes the message, or shows
+/// that there is none.
 pub fn listen<S: Source, P: Pace>(alloc: Global, reader: &mut S, pace: &mut P) -> Heard
     ensures heard { Hears (S.remaining reader.old) result }
     ensures failed { HearingFails S.one_more (S.failures reader.old) (S.failures reader.new) result }
+    ensures stops { StopsReading NotYet (S.remaining reader.old) (S.remaining reader.new) }
 {
     match read_message(alloc, reader) {
         Err(fault) => return heard_of(fault),

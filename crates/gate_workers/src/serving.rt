@@ -1,4 +1,6 @@
 //! One request is served.
+ghost use Rattle.http_edge.specs.Delivery.{StopsReading};
+ghost use Rattle.http_edge.specs.Reading.{NotYet};
 ghost use Rattle.gate_workers.specs.Served.{IsServed, ReadingFails, WritingFails};
 
 use crate::answering::answer;
@@ -9,7 +11,8 @@ use crate::served::Served;
 use byte_ends::{Sink, Source};
 use std::alloc::Global;
 
-/// Serves the request that the reader's bytes begin with.
+/// Serves the request that the reader's bytes begin with. No read follows the one that completes it, so
+/// whoever keeps an end open is not waited for.
 pub fn serve<K: Keeper, S: Source, W: Sink, P: Pace>(
     alloc: Global,
     keeper: &mut K,
@@ -18,6 +21,7 @@ pub fn serve<K: Keeper, S: Source, W: Sink, P: Pace>(
     pace: &mut P,
 ) -> Served
     ensures served { IsServed K.gives (S.remaining reader.old) keeper.old keeper.new (W.contents writer.old) (W.contents writer.new) result }
+    ensures stops { StopsReading NotYet (S.remaining reader.old) (S.remaining reader.new) }
     ensures read { ReadingFails S.one_more (S.failures reader.old) (S.failures reader.new) result }
     ensures written { WritingFails W.one_more (W.failures writer.old) (W.failures writer.new) result }
 {
