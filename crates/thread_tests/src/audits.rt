@@ -1,10 +1,12 @@
 //! Seats beside books that are not the ones they worked on.
 ghost use Rattle.std.specs.Prelude.{◌≡◌};
+ghost use Rattle.metric_events.specs.Opening.{first_opening};
 
 use crate::bodies::{admitted, body};
 use delta_book::book::Book;
 use shared_book::audit_fault::AuditFault;
 use shared_book::checking::check;
+use shared_book::round::Round;
 use shared_book::seat::Seat;
 use shared_book::shared::SharedBook;
 use std::alloc::Global;
@@ -59,10 +61,11 @@ fn expect_checks<L: Ledger>(
     Ok(())
 }
 
-fn one_seat<L: Ledger, R: Wait + Abort>(rt: &R, alloc: Global, blank: Blank) -> Result<(), Fail>
+fn one_seat<L: Round, R: Wait + Abort>(rt: &R, alloc: Global, blank: Blank) -> Result<(), Fail>
     requires name { blank.name ≡ L.name }
     requires ledger { blank.parts ≡ L.parts }
     requires parts { blank.parts ≡ 1 }
+    requires opening { L.opening ≡ first_opening }
 {
     let Ok((shared, seats)) = SharedBook::<L>::new(alloc, Book::new(alloc)?, blank, 1) else {
         return Err(Fail::from("no seats"));

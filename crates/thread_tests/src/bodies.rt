@@ -9,12 +9,12 @@ use metric_events::points::Points;
 use metric_events::row::Row;
 use metric_events::sender_name::SenderName;
 use series_id::{AttrSet, Kind, SeriesId, Text};
+use shared_book::round::Round;
 use shared_book::seat::Seat;
 use shared_book::shared::SharedBook;
 use std::alloc::Global;
 use std::process::Abort;
 use std::sync::Wait;
-use std::sync::ledger::Ledger;
 use std::test::Fail;
 
 // The non-monotonic sum of this name.
@@ -64,7 +64,7 @@ pub fn four_bodies(alloc: Global, name: &str) -> Result<Vec<Batch>, Fail> {
 }
 
 // What becomes of a batch with a point.
-pub fn admitted<L: Ledger, R: Wait + Abort>(
+pub fn admitted<L: Round, R: Wait + Abort>(
     rt: &R,
     shared: &SharedBook<L>,
     seat: &mut Seat<L>,
@@ -86,7 +86,7 @@ pub struct Sent {
 }
 
 // What up to ten series bring, where a flush has one point of a sum.
-pub fn taken<L: Ledger, R: Wait + Abort>(
+pub fn taken<L: Round, R: Wait + Abort>(
     rt: &R,
     shared: &SharedBook<L>,
     seat: &mut Seat<L>,

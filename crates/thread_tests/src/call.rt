@@ -4,12 +4,12 @@ use crate::bodies::{Sent, admitted, body, expect_rows, sender, taken};
 use delta_book::faults::{
     AdmitFault, NotLive, NotOpen, NotQuarantined, QuarantineFault, UndoFault,
 };
+use shared_book::round::Round;
 use shared_book::seat::Seat;
 use shared_book::shared::SharedBook;
 use std::alloc::Global;
 use std::process::Abort;
 use std::sync::Wait;
-use std::sync::ledger::Ledger;
 use std::test::Fail;
 
 /// A call, and its answer. Points are of the one series `req`, and times are in nanoseconds.
@@ -17,6 +17,8 @@ use std::test::Fail;
 pub enum Call {
     /// The sender `A` brings a point of ten nanoseconds, from this time on, with this value.
     Admit(u64, i64, Result<u64, AdmitFault>),
+    /// Another sender brings such a point.
+    AdmitOf(&'static str, u64, i64, Result<u64, AdmitFault>),
     Undo(u64, Result<(), UndoFault>),
     Confirm(u64, Result<(), NotOpen>),
     Take(Option<Sent>),
@@ -34,7 +36,7 @@ pub enum Call {
 }
 
 /// The one series of the totals has these rows.
-fn expect_one<L: Ledger, R: Wait + Abort>(
+fn expect_one<L: Round, R: Wait + Abort>(
     rt: &R,
     shared: &SharedBook<L>,
     seat: &mut Seat<L>,
@@ -47,8 +49,22 @@ fn expect_one<L: Ledger, R: Wait + Abort>(
     Ok(())
 }
 
+/// What becomes of a point of this sender, of ten nanoseconds from a time on and with a value.
+fn brought<L: Round, R: Wait + Abort>(
+    rt: &R,
+    alloc: Global,
+    shared: &SharedBook<L>,
+    seat: &mut Seat<L>,
+    owner: &str,
+    (start, value): (u64, i64),
+) -> Result<Result<u64, AdmitFault>, Fail> {
+    let span = (start, start.saturating_add(10));
+    let body = body(alloc, owner, "req", span, value)?;
+    Ok(admitted(rt, shared, seat, body))
+}
+
 /// Whether the book answers as it is to.
-fn is_answered<L: Ledger, R: Wait + Abort>(
+fn is_answered<L: Round, R: Wait + Abort>(
     rt: &R,
     alloc: Global,
     shared: &SharedBook<L>,
@@ -57,8 +73,10 @@ fn is_answered<L: Ledger, R: Wait + Abort>(
 ) -> Result<bool, Fail> {
     Ok(match call {
         Call::Admit(start, value, want) => {
-            let span = (start, start.saturating_add(10));
-            admitted(rt, shared, seat, body(alloc, "A", "req", span, value)?) == want
+            brought(rt, alloc, shared, seat, "A", (start, value))? == want
+        }
+        Call::AdmitOf(owner, start, value, want) => {
+            brought(rt, alloc, shared, seat, owner, (start, value))? == want
         }
         Call::Undo(batch, want) => shared.undo(rt, seat, batch) == want,
         Call::Confirm(batch, want) => shared.confirm(rt, seat, batch) == want,
@@ -77,7 +95,7 @@ fn is_answered<L: Ledger, R: Wait + Abort>(
 }
 
 /// Makes the calls in turn, each of which is answered as it is to be.
-pub fn run<L: Ledger, R: Wait + Abort>(
+pub fn run<L: Round, R: Wait + Abort>(
     rt: &R,
     alloc: Global,
     shared: &SharedBook<L>,

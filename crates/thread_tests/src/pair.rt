@@ -1,27 +1,30 @@
 //! A book that two seats share, what they bring, and its end.
 ghost use Rattle.std.specs.Prelude.{◌≡◌};
+ghost use Rattle.metric_events.specs.Opening.{first_opening};
 
 use crate::bodies::{admitted, four_bodies};
 use delta_book::book::Book;
 use metric_events::batch::Batch;
 use shared_book::audit::Audit;
+use shared_book::round::Round;
 use shared_book::seat::Seat;
 use shared_book::shared::SharedBook;
 use std::alloc::Global;
 use std::process::Abort;
 use std::sync::Wait;
-use std::sync::ledger::{Blank, Ledger};
+use std::sync::ledger::Blank;
 use std::test::Fail;
 use std::thread::{Threads, join};
 
 /// Two seats of a book of their own.
-pub fn two_seats<L: Ledger>(
+pub fn two_seats<L: Round>(
     alloc: Global,
     blank: Blank,
 ) -> Result<(SharedBook<L>, Seat<L>, Seat<L>), Fail>
     requires name { blank.name ≡ L.name }
     requires ledger { blank.parts ≡ L.parts }
     requires parts { blank.parts ≡ 2 }
+    requires opening { L.opening ≡ first_opening }
 {
     let book = Book::new(alloc)?;
     let (shared, mut seats) = SharedBook::<L>::new(alloc, book, blank, 2)
@@ -33,7 +36,7 @@ pub fn two_seats<L: Ledger>(
 }
 
 /// The book and its audit with all seats.
-pub fn ended<L: Ledger>(shared: SharedBook<L>, seats: Vec<Seat<L>>) -> Result<(Book, Audit), Fail> {
+pub fn ended<L: Round>(shared: SharedBook<L>, seats: Vec<Seat<L>>) -> Result<(Book, Audit), Fail> {
     match shared.finish(seats) {
         Ok(ended) => Ok(ended),
         Err(_) => Err(Fail::from("the audit failed")),
@@ -41,7 +44,7 @@ pub fn ended<L: Ledger>(shared: SharedBook<L>, seats: Vec<Seat<L>>) -> Result<(B
 }
 
 /// The book and its audit with both seats.
-pub fn both_ended<L: Ledger>(
+pub fn both_ended<L: Round>(
     alloc: Global,
     shared: SharedBook<L>,
     seats: (Seat<L>, Seat<L>),
@@ -59,7 +62,7 @@ pub enum Then {
     Confirm,
 }
 
-fn bring<L: Ledger, R: Wait + Abort>(
+fn bring<L: Round, R: Wait + Abort>(
     rt: &R,
     shared: &SharedBook<L>,
     seat: &mut Seat<L>,
@@ -76,7 +79,7 @@ fn bring<L: Ledger, R: Wait + Abort>(
 }
 
 /// The seat, once all batches are admitted from it.
-fn bring_all<L: Ledger, R: Wait + Abort>(
+fn bring_all<L: Round, R: Wait + Abort>(
     rt: &R,
     shared: &SharedBook<L>,
     seat: Seat<L>,
@@ -91,7 +94,7 @@ fn bring_all<L: Ledger, R: Wait + Abort>(
 }
 
 /// Both seats, once four batches are admitted from each, in a thread of its own.
-pub fn bring_from_both<L: Ledger + Send + Sync, R: Threads + Wait + Abort + Sync>(
+pub fn bring_from_both<L: Round + Send + Sync, R: Threads + Wait + Abort + Sync>(
     rt: &R,
     alloc: Global,
     shared: &SharedBook<L>,

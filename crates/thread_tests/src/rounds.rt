@@ -1,20 +1,22 @@
 //! A round is shared by two threads, and the next one goes on with its book.
 ghost use Rattle.std.specs.Prelude.{◌≡◌, []};
+ghost use Rattle.metric_events.specs.Opening.{first_opening};
 
 use crate::pair::{Then, both_ended, bring_from_both, ended, two_seats};
 use delta_book::book::Book;
 use shared_book::audit::Audit;
+use shared_book::round::Round;
 use shared_book::seat::Seat;
 use shared_book::shared::SharedBook;
 use std::alloc::Global;
 use std::marker::Brand;
 use std::process::Abort;
 use std::sync::Wait;
-use std::sync::ledger::{Blank, Ledger};
+use std::sync::ledger::Blank;
 use std::test::Fail;
 use std::thread::Threads;
 
-fn first_round<L: Ledger + Send + Sync, R: Threads + Wait + Abort + Sync>(
+fn first_round<L: Round + Send + Sync, R: Threads + Wait + Abort + Sync>(
     rt: &R,
     alloc: Global,
     blank: Blank,
@@ -22,6 +24,7 @@ fn first_round<L: Ledger + Send + Sync, R: Threads + Wait + Abort + Sync>(
     requires name { blank.name ≡ L.name }
     requires ledger { blank.parts ≡ L.parts }
     requires parts { blank.parts ≡ 2 }
+    requires opening { L.opening ≡ first_opening }
 {
     let (shared, zero, one) = two_seats::<L>(alloc, blank)?;
     let seats = bring_from_both(rt, alloc, &shared, (zero, one), Then::Confirm)?;
@@ -36,7 +39,7 @@ fn first_round<L: Ledger + Send + Sync, R: Threads + Wait + Abort + Sync>(
 }
 
 /// All that was left goes out, and is settled.
-fn take_and_settle<L: Ledger, R: Wait + Abort>(
+fn take_and_settle<L: Round, R: Wait + Abort>(
     rt: &R,
     shared: &SharedBook<L>,
     seat: &mut Seat<L>,
@@ -48,7 +51,7 @@ fn take_and_settle<L: Ledger, R: Wait + Abort>(
 }
 
 /// One seat takes and settles all that the round before has left.
-fn second_round<L: Ledger, R: Wait + Abort>(
+fn second_round<L: Round, R: Wait + Abort>(
     rt: &R,
     alloc: Global,
     book: Book,
@@ -58,6 +61,7 @@ fn second_round<L: Ledger, R: Wait + Abort>(
     requires ledger { blank.parts ≡ L.parts }
     requires parts { blank.parts ≡ 1 }
     requires empty { book.entries ≡ [] }
+    requires opening { book.opening ≡ L.opening }
 {
     let Ok((shared, seats)) = SharedBook::<L>::new(alloc, book, blank, 1) else {
         return Err(Fail::from("no seats"));

@@ -1,10 +1,12 @@
 //! The calls of one seat, with worked values: the first path, a held sender, an undo after a
-//! take, and flushes that a back end refuses.
-ghost use Rattle.std.specs.Prelude.{◌≡◌};
+//! take, flushes that a back end refuses, batches that the book refuses, and a later round that
+//! begins with a hold.
+ghost use Rattle.std.specs.Prelude.{◌≡◌, []};
 
 use crate::bodies::Sent;
 use crate::call::Call::{
-    Admit, Confirm, DropFlush, GiveBack, Lift, Quarantine, Rows, Series, Settle, Take, Undo,
+    Admit, AdmitOf, Confirm, DropFlush, GiveBack, Lift, Quarantine, Rows, Series, Settle, Take,
+    Undo,
 };
 use crate::call::{Call, run};
 use crate::pair::ended;
@@ -13,38 +15,42 @@ use delta_book::faults::{
     AdmitFault, NotLive, NotOpen, NotQuarantined, QuarantineFault, UndoFault,
 };
 use shared_book::audit::Audit;
+use shared_book::round::Round;
 use shared_book::shared::SharedBook;
 use std::alloc::Global;
 use std::marker::Brand;
 use std::process::Abort;
 use std::sync::Wait;
-use std::sync::ledger::{Blank, Ledger};
+use std::sync::ledger::Blank;
 use std::test::Fail;
 
 const NOTHING: [u64; 3] = [0, 0, 0];
 
-/// Makes the calls from the one seat of a book, whose audit finds this at the end.
-fn one_seat<L: Ledger, R: Wait + Abort>(
+/// Makes the calls of a round from the one seat of a book, whose audit finds this at the end.
+fn one_seat<L: Round, R: Wait + Abort>(
     rt: &R,
     alloc: Global,
+    book: Book,
     blank: Blank,
     calls: &[Call],
     wanted: Audit,
-) -> Result<(), Fail>
+) -> Result<Book, Fail>
+    requires empty { book.entries ≡ [] }
+    requires opening { book.opening ≡ L.opening }
     requires name { blank.name ≡ L.name }
     requires ledger { blank.parts ≡ L.parts }
     requires parts { blank.parts ≡ 1 }
 {
-    let Ok((shared, seats)) = SharedBook::<L>::new(alloc, Book::new(alloc)?, blank, 1) else {
+    let Ok((shared, seats)) = SharedBook::<L>::new(alloc, book, blank, 1) else {
         return Err(Fail::from("no seats"));
     };
     let mut seats = seats;
     let mut seat = seats.pop().ok_or("no seat")?;
     run(rt, alloc, &shared, &mut seat, calls)?;
     seats.push(seat)?;
-    let (_, audit) = ended(shared, seats)?;
+    let (book, audit) = ended(shared, seats)?;
     assert_eq!(rt; audit, wanted);
-    Ok(())
+    Ok(book)
 }
 
 /// Flush 1, which takes the point of batch 1.
@@ -72,7 +78,10 @@ fn the_first_path(rt: HostRuntime) -> Result<(), Fail> {
         admitted: 1,
         acknowledged: 1,
     };
-    one_seat::<Brand, _>(&rt, rt.alloc(), Blank::new(1), FIRST_PATH, wanted)
+    let alloc = rt.alloc();
+    let new = Book::new(alloc)?;
+    one_seat::<Brand, _>(&rt, alloc, new, Blank::new(1), FIRST_PATH, wanted)?;
+    Ok(())
 }
 
 /// Two batches of a sender, of which the first is in flight. The sender is held while its flush
@@ -111,7 +120,10 @@ fn a_held_sender(rt: HostRuntime) -> Result<(), Fail> {
         admitted: 2,
         acknowledged: 0,
     };
-    one_seat::<Brand, _>(&rt, rt.alloc(), Blank::new(1), HELD_SENDER, wanted)
+    let alloc = rt.alloc();
+    let new = Book::new(alloc)?;
+    one_seat::<Brand, _>(&rt, alloc, new, Blank::new(1), HELD_SENDER, wanted)?;
+    Ok(())
 }
 
 /// A batch can be undone only once its flush has come back. The same points come again, and are
@@ -136,7 +148,10 @@ fn an_undo_after_a_take(rt: HostRuntime) -> Result<(), Fail> {
         admitted: 2,
         acknowledged: 0,
     };
-    one_seat::<Brand, _>(&rt, rt.alloc(), Blank::new(1), UNDO_AFTER_TAKE, wanted)
+    let alloc = rt.alloc();
+    let new = Book::new(alloc)?;
+    one_seat::<Brand, _>(&rt, alloc, new, Blank::new(1), UNDO_AFTER_TAKE, wanted)?;
+    Ok(())
 }
 
 /// Flush 1 comes back, and flush 2 is dropped. Flush 3 has only what came after that, and comes
@@ -172,5 +187,77 @@ fn flushes_that_are_refused(rt: HostRuntime) -> Result<(), Fail> {
         admitted: 2,
         acknowledged: 0,
     };
-    one_seat::<Brand, _>(&rt, rt.alloc(), Blank::new(1), REFUSED_FLUSHES, wanted)
+    let alloc = rt.alloc();
+    let new = Book::new(alloc)?;
+    one_seat::<Brand, _>(&rt, alloc, new, Blank::new(1), REFUSED_FLUSHES, wanted)?;
+    Ok(())
+}
+
+/// What the book refuses, each as that refusal and not as want of memory, leaves all as it was.
+const REFUSED_BATCHES: &[Call] = &[
+    Admit(10, 5, Ok(1)),
+    Admit(15, 1, Err(AdmitFault::OutOfOrder(0, 20))),
+    AdmitOf("B", 20, 1, Err(AdmitFault::OtherWriter(0))),
+    Admit(20, i64::MAX, Err(AdmitFault::TooLarge)),
+    Rows(
+        20,
+        [[1, 5, 0], NOTHING, NOTHING, NOTHING, [1, 5, 0], NOTHING],
+    ),
+    Admit(20, 7, Ok(2)),
+];
+
+#[test]
+fn batches_that_are_refused(rt: HostRuntime) -> Result<(), Fail> {
+    let wanted = Audit {
+        events: 2,
+        admitted: 2,
+        acknowledged: 0,
+    };
+    let alloc = rt.alloc();
+    let new = Book::new(alloc)?;
+    one_seat::<Brand, _>(&rt, alloc, new, Blank::new(1), REFUSED_BATCHES, wanted)?;
+    Ok(())
+}
+
+/// A round that leaves a point behind.
+const LEFT_BEHIND: &[Call] = &[Admit(10, 5, Ok(1)), Confirm(1, Ok(()))];
+
+/// The next round begins with a hold, which keeps back what was left. Batches and flushes are
+/// numbered on.
+const HELD_AT_FIRST: &[Call] = &[
+    Quarantine(Ok(())),
+    Admit(20, 7, Err(AdmitFault::Quarantined)),
+    Take(None),
+    Rows(
+        20,
+        [[1, 5, 0], NOTHING, NOTHING, NOTHING, NOTHING, [1, 5, 0]],
+    ),
+    Lift("A", Ok(())),
+    Take(Some(FIRST)),
+    Settle(1, Ok(())),
+    Admit(20, 7, Ok(2)),
+];
+
+#[test]
+fn a_later_round_begins_with_a_hold(rt: HostRuntime) -> Result<(), Fail> {
+    let alloc = rt.alloc();
+    let new = Book::new(alloc)?;
+    let wanted = Audit {
+        events: 2,
+        admitted: 1,
+        acknowledged: 0,
+    };
+    let mut book = one_seat::<Brand, _>(&rt, alloc, new, Blank::new(1), LEFT_BEHIND, wanted)?;
+    match book.close_round() {
+        Ok(round) => assert_eq!(rt; round, 2),
+        Err(_) => return Err(Fail::from("the round is not closed")),
+    }
+    let wanted = Audit {
+        events: 5,
+        admitted: 1,
+        acknowledged: 1,
+    };
+    let book = one_seat::<Brand, _>(&rt, alloc, book, Blank::new(1), HELD_AT_FIRST, wanted)?;
+    assert_eq!(rt; book.round(), 2);
+    Ok(())
 }

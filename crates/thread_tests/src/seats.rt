@@ -1,11 +1,13 @@
 //! Two seats in two threads.
 ghost use Rattle.std.specs.Prelude.{◌≡◌};
+ghost use Rattle.metric_events.specs.Opening.{first_opening};
 
 use crate::pair::{Then, both_ended, bring_from_both, two_seats};
 use delta_book::book::Book;
 use shared_book::audit::Audit;
 use shared_book::audit_fault::AuditFault;
 use shared_book::event_kind::EventKind;
+use shared_book::round::Round;
 use shared_book::seat::Seat;
 use shared_book::shared::SharedBook;
 use std::alloc::Global;
@@ -25,7 +27,7 @@ fn expect_admissions<L: Ledger>(rt: &impl Abort, seat: &Seat<L>) {
 }
 
 /// Without one seat there is no end; with both there is.
-fn ends_with_both<L: Ledger>(
+fn ends_with_both<L: Round>(
     rt: &impl Abort,
     alloc: Global,
     shared: SharedBook<L>,
@@ -40,7 +42,7 @@ fn ends_with_both<L: Ledger>(
     both_ended(alloc, shared, (one, zero))
 }
 
-fn four_admissions<L: Ledger + Send + Sync, R: Threads + Wait + Abort + Sync>(
+fn four_admissions<L: Round + Send + Sync, R: Threads + Wait + Abort + Sync>(
     rt: &R,
     alloc: Global,
     blank: Blank,
@@ -48,6 +50,7 @@ fn four_admissions<L: Ledger + Send + Sync, R: Threads + Wait + Abort + Sync>(
     requires name { blank.name ≡ L.name }
     requires ledger { blank.parts ≡ L.parts }
     requires parts { blank.parts ≡ 2 }
+    requires opening { L.opening ≡ first_opening }
 {
     let (shared, zero, one) = two_seats::<L>(alloc, blank)?;
     let (zero, one) = bring_from_both(rt, alloc, &shared, (zero, one), Then::Leave)?;

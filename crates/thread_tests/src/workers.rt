@@ -1,5 +1,6 @@
 //! Workers over one shared book: that they overlap, and what an order comes to.
 ghost use Rattle.std.specs.Prelude.{◌≡◌};
+ghost use Rattle.metric_events.specs.Opening.{first_opening};
 
 use crate::held::{ACCEPTED, After, Fixed, Flags, Hold, Scripted, comes_up};
 use crate::pair::{both_ended, two_seats};
@@ -8,6 +9,7 @@ use crossbeam_channel::{Receiver, Sender, bounded};
 use gate_workers::{
     CHANNEL_PLACES, NoPace, Order, Pace, SharedKeeper, Spot, Turn, flusher_loop, receiver_loop,
 };
+use shared_book::round::Round;
 use shared_book::seat::Seat;
 use shared_book::shared::SharedBook;
 use std::alloc::Global;
@@ -15,7 +17,7 @@ use std::marker::Brand;
 use std::process::Abort;
 use std::sync::Wait;
 use std::sync::atomic::{AtomicBool, Ordering};
-use std::sync::ledger::{Blank, Ledger};
+use std::sync::ledger::Blank;
 use std::test::Fail;
 use std::thread::{Threads, join};
 use std::time::Clock;
@@ -40,7 +42,7 @@ const SETTLED: &[u8] =
     b"HTTP/1.1 200 OK\r\nContent-Type: application/json\r\nContent-Length: 42\r\nConnection: close\r\n\r\n{\"act\":\"settled\",\"flush\":\"1\",\"points\":\"1\"}";
 
 /// The audit of the seats finds so many events, points that were admitted and points that were acknowledged.
-fn audits<L: Ledger, R: Abort>(
+fn audits<L: Round, R: Abort>(
     rt: &R,
     alloc: Global,
     shared: SharedBook<L>,
@@ -53,7 +55,7 @@ fn audits<L: Ledger, R: Abort>(
 }
 
 /// Serves the connections from a seat.
-fn receive<L: Ledger, R: Wait, P: Pace>(
+fn receive<L: Round, R: Wait, P: Pace>(
     rt: &R,
     alloc: Global,
     shared: &SharedBook<L>,
@@ -68,7 +70,7 @@ fn receive<L: Ledger, R: Wait, P: Pace>(
 }
 
 /// Makes the turns that are ordered, over an uplink that takes all.
-fn flush<L: Ledger, R: Wait, P: Pace>(
+fn flush<L: Round, R: Wait, P: Pace>(
     rt: &R,
     alloc: Global,
     shared: &SharedBook<L>,
@@ -85,7 +87,7 @@ fn flush<L: Ledger, R: Wait, P: Pace>(
 }
 
 /// Serves the connections from a seat once another worker is held.
-fn receive_after<L: Ledger, R: Wait + Clock>(
+fn receive_after<L: Round, R: Wait + Clock>(
     rt: &R,
     alloc: Global,
     shared: &SharedBook<L>,
@@ -98,7 +100,7 @@ fn receive_after<L: Ledger, R: Wait + Clock>(
 }
 
 /// Serves the connections from a seat, and is held where it has read the first body of all.
-fn receive_held<L: Ledger, R: Wait + Clock>(
+fn receive_held<L: Round, R: Wait + Clock>(
     rt: &R,
     alloc: Global,
     shared: &SharedBook<L>,
@@ -111,7 +113,7 @@ fn receive_held<L: Ledger, R: Wait + Clock>(
 }
 
 /// Makes the turns that are ordered, and is held before it sends the first.
-fn flush_held<L: Ledger, R: Wait + Clock>(
+fn flush_held<L: Round, R: Wait + Clock>(
     rt: &R,
     alloc: Global,
     shared: &SharedBook<L>,
@@ -143,7 +145,7 @@ fn one_order<R: Wait>(rt: &R, alloc: Global) -> Result<(Receiver<Order>, Receive
 }
 
 /// The seat, once a receiver has served one connection of these bytes from it, with this response.
-fn answered<L: Ledger, R: Wait + Abort>(
+fn answered<L: Round, R: Wait + Abort>(
     rt: &R,
     alloc: Global,
     shared: &SharedBook<L>,
@@ -160,7 +162,7 @@ fn answered<L: Ledger, R: Wait + Abort>(
 }
 
 /// A batch is served once flush 1 is held before it is sent, and the flush is settled.
-fn serve_and_flush<L: Ledger + Send + Sync, R: Threads + Wait + Clock + Abort + Sync>(
+fn serve_and_flush<L: Round + Send + Sync, R: Threads + Wait + Clock + Abort + Sync>(
     rt: &R,
     alloc: Global,
     shared: &SharedBook<L>,
@@ -182,7 +184,7 @@ fn serve_and_flush<L: Ledger + Send + Sync, R: Threads + Wait + Clock + Abort + 
 }
 
 /// Flush 1 is held before it is sent until batch 2 has been answered.
-fn a_batch_while_a_flush_is_sent<L: Ledger + Send + Sync, R: Threads + Wait + Clock + Abort + Sync>(
+fn a_batch_while_a_flush_is_sent<L: Round + Send + Sync, R: Threads + Wait + Clock + Abort + Sync>(
     rt: &R,
     alloc: Global,
     blank: Blank,
@@ -190,6 +192,7 @@ fn a_batch_while_a_flush_is_sent<L: Ledger + Send + Sync, R: Threads + Wait + Cl
     requires name { blank.name ≡ L.name }
     requires ledger { blank.parts ≡ L.parts }
     requires parts { blank.parts ≡ 2 }
+    requires opening { L.opening ≡ first_opening }
 {
     let (shared, first, second) = two_seats::<L>(alloc, blank)?;
     let first = answered(rt, alloc, &shared, first, None, POSTED, ACCEPTED)?;
@@ -219,7 +222,7 @@ fn feed<'a, R: Wait + Clock>(
 }
 
 /// Two connections, of which the first is held in its body until the second has been answered.
-fn serve_two<L: Ledger + Send + Sync, R: Threads + Wait + Clock + Abort + Sync>(
+fn serve_two<L: Round + Send + Sync, R: Threads + Wait + Clock + Abort + Sync>(
     rt: &R,
     alloc: Global,
     shared: &SharedBook<L>,
@@ -250,12 +253,13 @@ fn serve_two<L: Ledger + Send + Sync, R: Threads + Wait + Clock + Abort + Sync>(
 
 /// Connection 1 is held in its body until connection 2 has been answered.
 fn a_connection_while_another_is_held<
-    L: Ledger + Send + Sync,
+    L: Round + Send + Sync,
     R: Threads + Wait + Clock + Abort + Sync,
 >(rt: &R, alloc: Global, blank: Blank) -> Result<(), Fail>
     requires name { blank.name ≡ L.name }
     requires ledger { blank.parts ≡ L.parts }
     requires parts { blank.parts ≡ 2 }
+    requires opening { L.opening ≡ first_opening }
 {
     let (shared, first, second) = two_seats::<L>(alloc, blank)?;
     let seats = serve_two(rt, alloc, &shared, (first, second), &Flags::new())?;
@@ -263,7 +267,7 @@ fn a_connection_while_another_is_held<
 }
 
 /// The seat, once a receiver with no flusher and one whose flusher has gone have answered.
-fn order_from_nobody<L: Ledger, R: Wait + Abort>(
+fn order_from_nobody<L: Round, R: Wait + Abort>(
     rt: &R,
     alloc: Global,
     shared: &SharedBook<L>,
@@ -276,7 +280,7 @@ fn order_from_nobody<L: Ledger, R: Wait + Abort>(
 }
 
 /// The seat, once an order that was dropped without a turn has been answered.
-fn order_and_drop<L: Ledger + Send + Sync, R: Threads + Wait + Abort + Sync>(
+fn order_and_drop<L: Round + Send + Sync, R: Threads + Wait + Abort + Sync>(
     rt: &R,
     alloc: Global,
     shared: &SharedBook<L>,
@@ -295,7 +299,7 @@ fn order_and_drop<L: Ledger + Send + Sync, R: Threads + Wait + Abort + Sync>(
 }
 
 /// Orders that nobody takes, and one that is dropped without a turn.
-fn orders_of_nobody<L: Ledger + Send + Sync, R: Threads + Wait + Abort + Sync>(
+fn orders_of_nobody<L: Round + Send + Sync, R: Threads + Wait + Abort + Sync>(
     rt: &R,
     alloc: Global,
     blank: Blank,
@@ -303,6 +307,7 @@ fn orders_of_nobody<L: Ledger + Send + Sync, R: Threads + Wait + Abort + Sync>(
     requires name { blank.name ≡ L.name }
     requires ledger { blank.parts ≡ L.parts }
     requires parts { blank.parts ≡ 2 }
+    requires opening { L.opening ≡ first_opening }
 {
     let (shared, first, second) = two_seats::<L>(alloc, blank)?;
     let first = order_from_nobody(rt, alloc, &shared, first)?;
@@ -312,7 +317,7 @@ fn orders_of_nobody<L: Ledger + Send + Sync, R: Threads + Wait + Abort + Sync>(
 
 /// An order over the channel is answered by the turn that the flusher makes, which ends once the
 /// receiver has ended.
-fn order_and_flush<L: Ledger + Send + Sync, R: Threads + Wait + Abort + Sync>(
+fn order_and_flush<L: Round + Send + Sync, R: Threads + Wait + Abort + Sync>(
     rt: &R,
     alloc: Global,
     shared: &SharedBook<L>,
@@ -332,7 +337,7 @@ fn order_and_flush<L: Ledger + Send + Sync, R: Threads + Wait + Abort + Sync>(
 }
 
 /// The point of a batch is sent by an order, and settled.
-fn an_order_is_made<L: Ledger + Send + Sync, R: Threads + Wait + Abort + Sync>(
+fn an_order_is_made<L: Round + Send + Sync, R: Threads + Wait + Abort + Sync>(
     rt: &R,
     alloc: Global,
     blank: Blank,
@@ -340,6 +345,7 @@ fn an_order_is_made<L: Ledger + Send + Sync, R: Threads + Wait + Abort + Sync>(
     requires name { blank.name ≡ L.name }
     requires ledger { blank.parts ≡ L.parts }
     requires parts { blank.parts ≡ 2 }
+    requires opening { L.opening ≡ first_opening }
 {
     let (shared, first, second) = two_seats::<L>(alloc, blank)?;
     let first = answered(rt, alloc, &shared, first, None, POSTED, ACCEPTED)?;
