@@ -64,7 +64,7 @@ fn send_all<R: Net<Listener = TcpListener, Stream = TcpStream> + Threads + Wait 
 }
 
 /// Serves, and then lets go of the listener, so that whoever still waits there is turned away.
-fn serve<R: Net<Listener = TcpListener, Stream = TcpStream> + Threads + Wait + Sync>(
+fn serve<R: Net<Listener = TcpListener, Stream = TcpStream> + Threads + Wait + Clock + Sync>(
     rt: &R,
     alloc: Global,
     listener: TcpListener,

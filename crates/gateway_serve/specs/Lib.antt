@@ -1,2 +1,3 @@
 pub mod LastLine
 pub mod Ended
+pub mod TimeLimit

@@ -3,13 +3,14 @@ use crate::fault::GatewayFault;
 use crossbeam_channel::{Receiver, Sender, bounded};
 use gate_workers::{CHANNEL_PLACES, Order};
 use std::alloc::Global;
+use std::time::Clock;
 
 /// What one worker works on, with the ends that it needs for it.
 #[derive(Drop)]
-pub enum Work {
+pub enum Work<'a, C> {
     /// It serves connections, and orders flushes.
     Receive {
-        callers: Receiver<Caller>,
+        callers: Receiver<Caller<'a, C>>,
         order: Sender<Order>,
     },
     /// It carries out the flushes that are ordered.
@@ -21,16 +22,16 @@ pub enum Work {
 /// The ends of both channels of a round: of connections that were accepted, and of orders. Once these
 /// and the workers' are dropped both channels are closed.
 #[derive(Drop)]
-pub struct Channels {
-    hand: Sender<Caller>,
-    callers: Receiver<Caller>,
+pub struct Channels<'a, C> {
+    hand: Sender<Caller<'a, C>>,
+    callers: Receiver<Caller<'a, C>>,
     order: Sender<Order>,
     orders: Receiver<Order>,
 }
 
-impl Channels {
+impl<'a, C: Clock> Channels<'a, C> {
     /// Two empty channels.
-    pub fn new(alloc: Global) -> Result<Channels, GatewayFault> {
+    pub fn new(alloc: Global) -> Result<Self, GatewayFault> {
         let Ok((hand, callers)) = bounded(alloc, CHANNEL_PLACES) else {
             return Err(GatewayFault::NoMemory);
         };
@@ -46,7 +47,7 @@ impl Channels {
     }
 
     /// The work of a receiver.
-    pub fn receiving(&self) -> Result<Work, GatewayFault> {
+    pub fn receiving(&self) -> Result<Work<'a, C>, GatewayFault> {
         let Ok(callers) = self.callers.clone() else {
             return Err(GatewayFault::NoMemory);
         };
@@ -57,7 +58,7 @@ impl Channels {
     }
 
     /// The work of a flusher.
-    pub fn flushing(&self) -> Result<Work, GatewayFault> {
+    pub fn flushing(&self) -> Result<Work<'a, C>, GatewayFault> {
         match self.orders.clone() {
             Ok(orders) => Ok(Work::Flush { orders }),
             Err(_) => Err(GatewayFault::NoMemory),
@@ -65,7 +66,7 @@ impl Channels {
     }
 
     /// The end that connections are handed to the receivers by. The others are dropped.
-    pub fn into_hand(self) -> Sender<Caller> {
+    pub fn into_hand(self) -> Sender<Caller<'a, C>> {
         let Channels { hand, .. } = self;
         hand
     }

@@ -12,10 +12,15 @@ use std::sync::Wait;
 use std::sync::ledger::Ledger;
 use std::thread;
 use std::thread::{JoinHandle, Threads};
+use std::time::Clock;
 
 /// The work of the seat of this number: the first seats are the flushers', so that these are there
 /// before the first receiver.
-fn work_of(channels: &Channels, flushers: u16, number: u16) -> Result<Work, GatewayFault> {
+fn work_of<'a, C: Clock>(
+    channels: &Channels<'a, C>,
+    flushers: u16,
+    number: u16,
+) -> Result<Work<'a, C>, GatewayFault> {
     if number < flushers {
         channels.flushing()
     } else {
@@ -25,10 +30,10 @@ fn work_of(channels: &Channels, flushers: u16, number: u16) -> Result<Work, Gate
 
 /// Accepts so many connections where all workers have started, and hands them to the receivers. May
 /// wait for a free one. Drops all these ends of the channels.
-fn accept_all<R: Wait>(
-    rt: &R,
+fn accept_all<'a, R: Wait + Clock>(
+    rt: &'a R,
     started: Result<(), GatewayFault>,
-    channels: Channels,
+    channels: Channels<'a, R>,
     listener: &TcpListener,
     connections: u64,
 ) -> Result<(), GatewayFault> {
@@ -38,7 +43,7 @@ fn accept_all<R: Wait>(
         let Ok((stream, _)) = listener.accept() else {
             return Err(GatewayFault::CannotAccept);
         };
-        if hand.send(rt, Caller::new(stream)).is_err() {
+        if hand.send(rt, Caller::new(rt, stream)).is_err() {
             return Err(GatewayFault::NoMemory);
         }
     }
@@ -66,7 +71,7 @@ fn join_all<L: Ledger, R: Threads>(
 /// path all ends of the channels are dropped before a worker is waited for, so each of them ends.
 pub fn serve_beside<
     L: Ledger + Send + Sync,
-    R: Net<Listener = TcpListener, Stream = TcpStream> + Threads + Wait + Sync,
+    R: Net<Listener = TcpListener, Stream = TcpStream> + Threads + Wait + Clock + Sync,
 >(
     rt: &R,
     alloc: Global,

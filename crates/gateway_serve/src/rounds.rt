@@ -17,12 +17,13 @@ use std::net::{Net, TcpListener, TcpStream};
 use std::sync::Wait;
 use std::sync::ledger::{Blank, Ledger};
 use std::thread::Threads;
+use std::time::Clock;
 
 /// One round over a ledger: the book is shared, so many connections are served, and all that the
 /// workers were told is compared with the book.
 fn round_over<
     L: Ledger + Send + Sync,
-    R: Net<Listener = TcpListener, Stream = TcpStream> + Threads + Wait + Sync,
+    R: Net<Listener = TcpListener, Stream = TcpStream> + Threads + Wait + Clock + Sync,
 >(
     rt: &R,
     alloc: Global,
@@ -49,7 +50,7 @@ fn round_over<
 }
 
 /// One round over a ledger of its own.
-fn one_round<R: Net<Listener = TcpListener, Stream = TcpStream> + Threads + Wait + Sync>(
+fn one_round<R: Net<Listener = TcpListener, Stream = TcpStream> + Threads + Wait + Clock + Sync>(
     rt: &R,
     alloc: Global,
     book: Book,
@@ -87,7 +88,9 @@ fn next_count(left: u64, round: u64) -> u64
 
 /// Serves all connections over a new book, and gives it with the sums of the audits: a round is closed
 /// after so many connections, unless none is left.
-pub fn serve_rounds<R: Net<Listener = TcpListener, Stream = TcpStream> + Threads + Wait + Sync>(
+pub fn serve_rounds<
+    R: Net<Listener = TcpListener, Stream = TcpStream> + Threads + Wait + Clock + Sync,
+>(
     rt: &R,
     alloc: Global,
     listener: &TcpListener,

@@ -17,6 +17,7 @@ use std::alloc::{AllocError, Global};
 use std::net::{Net, TcpListener, TcpStream};
 use std::sync::Wait;
 use std::thread::Threads;
+use std::time::Clock;
 
 /// The report of a book, and the line of the sums.
 fn ending_of(alloc: Global, book: &Book, sums: Sums) -> Result<Vec<u8>, AllocError>
@@ -35,7 +36,9 @@ fn ending_of(alloc: Global, book: &Book, sums: Sums) -> Result<Vec<u8>, AllocErr
 /// `AuditFailed` where what the workers were told is not what the book holds, and `NoMemory` where a
 /// growth was refused outside a request. Then nothing is given; what was served before that stands with
 /// its senders.
-pub fn serve_bound<R: Net<Listener = TcpListener, Stream = TcpStream> + Threads + Wait + Sync>(
+pub fn serve_bound<
+    R: Net<Listener = TcpListener, Stream = TcpStream> + Threads + Wait + Clock + Sync,
+>(
     rt: &R,
     alloc: Global,
     listener: &TcpListener,
@@ -51,11 +54,9 @@ pub fn serve_bound<R: Net<Listener = TcpListener, Stream = TcpStream> + Threads 
 }
 
 /// Listens, and serves as `serve_bound`. `CannotListen` where the address is refused.
-pub fn serve_all<R: Net<Listener = TcpListener, Stream = TcpStream> + Threads + Wait + Sync>(
-    rt: &R,
-    alloc: Global,
-    options: &ServeOptions<'_>,
-) -> Result<Vec<u8>, GatewayFault>
+pub fn serve_all<
+    R: Net<Listener = TcpListener, Stream = TcpStream> + Threads + Wait + Clock + Sync,
+>(rt: &R, alloc: Global, options: &ServeOptions<'_>) -> Result<Vec<u8>, GatewayFault>
     ensures { IfOk result (λ text. IsEnding text.items) }
 {
     let Ok(listener) = TcpListener::bind(rt, options.listen) else {

@@ -1,10 +1,22 @@
+use std::io;
 use std::net::TcpStream;
 use std::time::Duration;
 
-/// Bounds how many seconds each read and each write of a connection waits for the other side; one that
-/// waits longer fails, as where the connection breaks. Where the system takes no bound there is none.
-pub(crate) fn bound_waits(stream: &TcpStream, seconds: u64) {
-    let wait = Some(Duration::from_secs(seconds));
-    let _ = stream.set_read_timeout(wait);
-    let _ = stream.set_write_timeout(wait);
+/// What can be told how long to wait for the other side; a call that would wait longer fails.
+pub trait Waits {
+    /// Bounds the wait of each later read.
+    fn bound_reads(&self, wait: Duration) -> io::Result<()>;
+
+    /// Bounds the wait of each later write.
+    fn bound_writes(&self, wait: Duration) -> io::Result<()>;
+}
+
+impl Waits for &TcpStream {
+    fn bound_reads(&self, wait: Duration) -> io::Result<()> {
+        self.set_read_timeout(Some(wait))
+    }
+
+    fn bound_writes(&self, wait: Duration) -> io::Result<()> {
+        self.set_write_timeout(Some(wait))
+    }
 }

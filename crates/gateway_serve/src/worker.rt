@@ -8,15 +8,16 @@ use std::alloc::Global;
 use std::net::{Net, TcpStream};
 use std::sync::Wait;
 use std::sync::ledger::Ledger;
+use std::time::Clock;
 
 /// Works from a seat until there is no more work, and gives the seat back with all that it was told.
-pub fn work<L: Ledger, R: Net<Stream = TcpStream> + Wait>(
+pub fn work<L: Ledger, R: Net<Stream = TcpStream> + Wait + Clock>(
     rt: &R,
     alloc: Global,
     shared: &SharedBook<L>,
     seat: Seat<L>,
     options: &ServeOptions<'_>,
-    work: Work,
+    work: Work<'_, R>,
 ) -> Seat<L> {
     match work {
         Work::Receive { callers, order } => {

@@ -22,11 +22,55 @@ fn answer_to<R: Abort, U: Uplink + Drop>(
     client.write_all(request)?;
     client.shutdown(Shutdown::Write)?;
     let (stream, _) = listener.accept()?;
-    let got = Caller::new(stream).serve(net.alloc(), keeper, &mut NoPace);
+    let got = Caller::new(net, stream).serve(net.alloc(), keeper, &mut NoPace);
     assert_eq!(rt; got, served);
     let mut text = Vec::new(net.alloc());
     client.read_to_end(&mut text)?;
     Ok(text)
+}
+
+/// Has the request of a client served that keeps its writing side open, and looks at how the answer begins.
+fn answers_before_the_end<R: Abort>(
+    rt: &R,
+    net: &HostRuntime,
+    keeper: &mut BookKeeper<Fixed>,
+    request: &[u8],
+    line: &[u8],
+) -> Result<(), Fail> {
+    let listener = TcpListener::bind(net, "127.0.0.1:0")?;
+    let mut client = TcpStream::connect(net, listener.local_addr()?)?;
+    client.write_all(request)?;
+    let (stream, _) = listener.accept()?;
+    let _ = Caller::new(net, stream).serve(net.alloc(), keeper, &mut NoPace);
+    let mut text = Vec::new(net.alloc());
+    client.read_to_end(&mut text)?;
+    assert!(rt; text.as_slice().starts_with(line));
+    Ok(())
+}
+
+/// Whoever reads on behind a message waits for a client that says nothing more.
+#[test]
+fn a_client_that_keeps_its_side_open_is_answered(rt: HostRuntime) -> Result<(), Fail> {
+    let mut keeper = keeper(rt.alloc(), Answer::Success)?;
+    let done: &[u8] = b"HTTP/1.1 200 OK\r\n";
+    let routes: [&[u8]; 6] = [
+        POSTED,
+        b"POST /flush HTTP/1.1\r\n\r\n",
+        b"GET /report HTTP/1.1\r\n\r\n",
+        b"POST /quarantine/A HTTP/1.1\r\n\r\n",
+        b"POST /lift/A HTTP/1.1\r\n\r\n",
+        b"POST /v1/metrics HTTP/1.1\r\nContent-Type: application/json\r\nTransfer-Encoding: chunked\r\n\r\n2\r\n{}\r\n0\r\n\r\n",
+    ];
+    for request in routes {
+        answers_before_the_end(&rt, &rt, &mut keeper, request, done)?;
+    }
+    answers_before_the_end(
+        &rt,
+        &rt,
+        &mut keeper,
+        b"GET /nowhere HTTP/1.1\r\n\r\n",
+        b"HTTP/1.1 404 Not Found\r\n",
+    )
 }
 
 #[test]

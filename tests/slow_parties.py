@@ -1,0 +1,324 @@
+#!/usr/bin/env python3
+"""Slow senders, a slow reader and a back end that hangs, over loopback against the gateway.
+
+Call: tests/slow_parties.py PROGRAM, with the path of the built gateway; `tests/slow_parties.py PROGRAM all`
+runs the crowd of 24 too, which takes three minutes.
+
+  - With rounds of 20 connections: a sender that stalls in its head, one that stalls in its body, one that
+    sends a byte a second, and one that never reads its answer. The others of the round are served at once,
+    and the next round begins once the slow one's seconds are over.
+  - A sender that takes 45 seconds for its body is served.
+  - 8 stalled senders hold 8 receivers: the next sender is served once their seconds are over; with `all`
+    so many thrice.
+  - Bodies of 9, 20 and 50 MB are refused, each read by a client that sends all before it reads.
+  - Two orders to a back end that hangs: posts and the report are answered by the receivers that are left.
+All run side by side, in a little more than a minute, nearly all of it waiting. Each line tells one check;
+the last line tells how many there were and how many were wrong, and the status is 0 where none was.
+"""
+import http.client
+import os
+import socket
+import sys
+import threading
+import time
+
+from loopback import BackEnd, Gateway, ordered, point, posted, read_all, response
+
+# What a request and an answer may take, as docs/FORMATS.md has it, and what the test allows beside.
+REQUEST_SECONDS = 60
+ANSWER_SECONDS = 30
+SLACK = 6
+AT_ONCE = 5
+
+ROUND = 20
+DONE = response(b"200 OK", b"application/json", b"{}")
+NOBODY = 9
+
+
+class Checks:
+    """How many checks there were, and how many were wrong. Threads share it."""
+
+    def __init__(self):
+        self.lock = threading.Lock()
+        self.count = self.wrong = 0
+
+    def true(self, what, holds, found):
+        with self.lock:
+            self.count += 1
+            if holds:
+                print(f"right: {what}", flush=True)
+            else:
+                self.wrong += 1
+                print(f"wrong: {what}: found {found!r}", flush=True)
+
+    def same(self, what, wanted, found):
+        self.true(what, wanted == found, found)
+
+    def between(self, what, least, most, seconds):
+        self.true(what, least <= seconds <= most, f"{seconds:.1f} seconds")
+
+
+def asked(gateway, request):
+    """The whole answer, and the seconds that it took."""
+    begin = time.monotonic()
+    connection = gateway.connect()
+    if connection is None:
+        return "no connection", 0.0
+    with connection:
+        connection.settimeout(4 * REQUEST_SECONDS)
+        try:
+            connection.sendall(request)
+            answer = read_all(connection)
+        except OSError as error:
+            answer = f"{type(error).__name__} {error}"
+    return answer, time.monotonic() - begin
+
+
+def batch(number, name="a"):
+    """A post of one point behind those of lower numbers."""
+    return posted(point(10 * number + 10, 10 * number + 20, 1, name))
+
+
+def report(points, name="a"):
+    """What is printed at the end of so many batches."""
+    frontier = 10 * points + 10
+    return (f"series {name} monotonic owner A frontier {frontier} accepted {points},{points},0 acknowledged 0,0,0 "
+            f"dropped 0,0,0 in-flight 0,0,0 stored {points},{points},0 quarantined 0,0,0\nend\n"
+            f"admitted {points} acknowledged 0\n").encode()
+
+
+def end_of(gateway):
+    """The status and what was printed, once the gateway has ended."""
+    out, err = gateway.process.communicate(timeout=4 * REQUEST_SECONDS)
+    return gateway.process.returncode, out, err
+
+
+class Slow(threading.Thread):
+    """A slow sender: what it does on its connection, what it read at last, and the seconds up to then."""
+
+    def __init__(self, gateway, act):
+        super().__init__(daemon=True)
+        self.connection = gateway.connect()
+        self.act = act
+        self.read = None
+        self.seconds = None
+        self.start()
+
+    def run(self):
+        begin = time.monotonic()
+        with self.connection:
+            self.connection.settimeout(4 * REQUEST_SECONDS)
+            try:
+                self.act(self.connection)
+                self.read = read_all(self.connection)
+            except OSError as error:
+                self.read = type(error).__name__
+        self.seconds = time.monotonic() - begin
+
+
+def stall_in_head(connection):
+    connection.sendall(b"POST /v1/metrics HTTP/1.1\r\nContent-Le")
+
+
+def stall_in_body(connection):
+    connection.sendall(b"POST /v1/metrics HTTP/1.1\r\nContent-Length: 9\r\n\r\n{")
+
+
+def trickle(connection):
+    """A byte a second, for as long as somebody takes them."""
+    connection.sendall(b"POST /v1/metrics HTTP/1.1\r\nContent-Length: 900\r\n\r\n")
+    for _ in range(900):
+        connection.sendall(b" ")
+        time.sleep(1)
+
+
+def late(connection):
+    """A body that is whole after three quarters of its time."""
+    request = batch(0, "late")
+    connection.sendall(request[:-100])
+    time.sleep(REQUEST_SECONDS * 3 / 4)
+    connection.sendall(request[-100:])
+
+
+def slow_sender(program, checks, what, act):
+    """A slow sender in the first round; the posts of others."""
+    posts = ROUND + 4
+    gateway = Gateway(program, NOBODY, 1 + posts, options=["--round", str(ROUND), "--receivers", "4"])
+    slow = Slow(gateway, act)
+    time.sleep(0.5)
+    answers = [asked(gateway, batch(number)) for number in range(posts)]
+    slow.join(SLACK)
+    checks.same(f"{what}: all others are answered", [DONE] * posts, [answer for answer, _ in answers])
+    seconds = [took for _, took in answers]
+    checks.between(f"{what}: the others of its round are served at once", 0, AT_ONCE, max(seconds[:ROUND - 1]))
+    checks.between(f"{what}: the next round begins once its seconds are over", REQUEST_SECONDS - SLACK,
+                   REQUEST_SECONDS + SLACK, seconds[ROUND - 1])
+    checks.true(f"{what}: it gets no answer", slow.read in (b"", "ConnectionResetError", "BrokenPipeError"), slow.read)
+    checks.same(f"{what}: the end", (0, report(posts), b""), end_of(gateway))
+
+
+def late_sender(program, checks):
+    gateway = Gateway(program, NOBODY, 1)
+    slow = Slow(gateway, late)
+    slow.join(2 * REQUEST_SECONDS)
+    checks.same("a sender that takes 45 seconds is served", DONE, slow.read)
+    checks.same("a late sender: the end", (0, report(1, "late"), b""), end_of(gateway))
+
+
+def never_reads(connection):
+    """Asks for the report and reads nothing for as long as an answer may take."""
+    connection.sendall(ordered("GET /report"))
+    time.sleep(ANSWER_SECONDS + SLACK)
+
+
+def narrow(gateway):
+    """A connection that takes few bytes until they are read."""
+    connection = socket.socket()
+    connection.setsockopt(socket.IPPROTO_TCP, socket.TCP_MAXSEG, 536)
+    connection.setsockopt(socket.SOL_SOCKET, socket.SO_RCVBUF, 4096)
+    connection.connect(("127.0.0.1", gateway.port))
+    return connection
+
+
+def many_series(count):
+    """A body with one point of each of so many series."""
+    one = '{{"name":"s{:04}","sum":{{"aggregationTemporality":1,"isMonotonic":true,"dataPoints":[{{"asInt":"1",' \
+          '"startTimeUnixNano":"10","timeUnixNano":"20"}}]}}}}'
+    metrics = ",".join(one.format(number) for number in range(count))
+    return posted(('{"resourceMetrics":[{"scopeMetrics":[{"metrics":[' + metrics + "]}]}]}").encode())
+
+
+def slow_reader(program, checks):
+    """A client that never reads its answer, which is longer than what sockets keep."""
+    posts = ROUND + 4
+    gateway = Gateway(program, NOBODY, 2 + posts, options=["--round", str(ROUND), "--receivers", "4"])
+    checks.same("a slow reader: 9,000 series", DONE, asked(gateway, many_series(9000))[0])
+    slow = Slow.__new__(Slow)
+    threading.Thread.__init__(slow, daemon=True)
+    slow.connection, slow.act, slow.read, slow.seconds = narrow(gateway), never_reads, None, None
+    slow.start()
+    time.sleep(0.5)
+    answers = [asked(gateway, batch(number)) for number in range(posts)]
+    checks.same("a slow reader: all others are answered", [DONE] * posts, [answer for answer, _ in answers])
+    seconds = [took for _, took in answers]
+    checks.between("a slow reader: the others of its round are served at once", 0, AT_ONCE,
+                   max(seconds[:ROUND - 2]))
+    checks.between("a slow reader: the next round begins once its seconds are over", ANSWER_SECONDS - SLACK,
+                   ANSWER_SECONDS + SLACK, seconds[ROUND - 2])
+    status, out, err = end_of(gateway)
+    checks.same("a slow reader: the end", (0, b"end", f"admitted {9000 + posts} acknowledged 0".encode(), b""),
+                (status, *out.splitlines()[-2:], err))
+
+
+def crowd(program, checks, count, seconds):
+    """So many senders stall at 8 receivers, and one more comes."""
+    gateway = Gateway(program, NOBODY, count + 1, options=["--receivers", "8"])
+    slow = [Slow(gateway, stall_in_body) for _ in range(count)]
+    time.sleep(0.5)
+    answer, took = asked(gateway, batch(0))
+    checks.same(f"{count} stalled senders: one more is answered", DONE, answer)
+    checks.between(f"{count} stalled senders: within {seconds} seconds", 0, seconds + SLACK, took)
+    for one in slow:
+        one.join(SLACK)
+    checks.same(f"{count} stalled senders: the end", (0, report(1), b""), end_of(gateway))
+
+
+def long_bodies(program, checks):
+    """A client that sends all before it reads."""
+    sizes = (9, 20, 50)
+    gateway = Gateway(program, NOBODY, len(sizes))
+    for size in sizes:
+        client = http.client.HTTPConnection("127.0.0.1", gateway.port, timeout=REQUEST_SECONDS)
+        wait_until_listens(gateway)
+        try:
+            client.request("POST", "/v1/metrics", b" " * (size * 1_000_000), {"Content-Type": "application/json"})
+            answer = client.getresponse()
+            found = answer.status, answer.read()
+        except OSError as error:
+            found = type(error).__name__
+        client.close()
+        checks.same(f"a body of {size} MB is refused", (413, b'{"message":"body too long"}'), found)
+    checks.same("long bodies: the end", (0, b"end\nadmitted 0 acknowledged 0\n", b""), end_of(gateway))
+
+
+def wait_until_listens(gateway):
+    """The kernel's table tells it: a connection would be one of those that are served."""
+    row = f"0100007F:{gateway.port:04X} 00000000:0000 0A"
+    for _ in range(1000):
+        with open("/proc/net/tcp") as table:
+            if row in table.read():
+                return
+        time.sleep(0.01)
+
+
+class HungBackEnd(BackEnd):
+    """A back end that takes requests and answers none until it is let go."""
+
+    def __init__(self):
+        self.released = threading.Event()
+        super().__init__()
+
+    def answer(self, connection):
+        self.released.wait(REQUEST_SECONDS)
+
+
+def hung_back_end(program, checks):
+    back_end = HungBackEnd()
+    gateway = Gateway(program, back_end.port, 24, options=["--receivers", "4"])
+    checks.same("a hung back end: a post before", DONE, asked(gateway, batch(0))[0])
+    turns = []
+    orders = [threading.Thread(target=lambda: turns.append(asked(gateway, ordered("POST /flush"))[0]))
+              for _ in range(2)]
+    for order in orders:
+        order.start()
+    time.sleep(0.5)
+    answers = [asked(gateway, batch(number)) for number in range(1, 20)]
+    answers.append(asked(gateway, ordered("GET /report")))
+    checks.same("a hung back end: posts are answered", [DONE] * 19, [answer for answer, _ in answers[:-1]])
+    checks.true("a hung back end: the report is", answers[-1][0].startswith(b"HTTP/1.1 200 OK\r\n"), answers[-1][0])
+    checks.between("a hung back end: all at once", 0, AT_ONCE, max(took for _, took in answers))
+    checks.same("a hung back end: the orders wait", [], turns)
+    back_end.released.set()
+    for order in orders:
+        order.join(AT_ONCE)
+    checks.true("a hung back end: both are given back once it lets go",
+                len(turns) == 2 and all(b'{"act":"returned",' in turn for turn in turns), turns)
+    checks.same("a hung back end: one more post", DONE, asked(gateway, batch(20))[0])
+    checks.same("a hung back end: the end", (0, report(21), b""), end_of(gateway))
+    back_end.close()
+
+
+def main(program, long):
+    checks = Checks()
+    cases = [
+        (slow_sender, "a sender that stalls in its head", stall_in_head),
+        (slow_sender, "a sender that stalls in its body", stall_in_body),
+        (slow_sender, "a sender of a byte a second", trickle),
+        (late_sender,),
+        (slow_reader,),
+        (crowd, 8, REQUEST_SECONDS),
+        (long_bodies,),
+        (hung_back_end,),
+    ]
+    if long:
+        cases.append((crowd, 24, 3 * REQUEST_SECONDS))
+
+    def run(case, *words):
+        try:
+            case(program, checks, *words)
+        except Exception as error:
+            checks.same(case.__name__, "no exception", repr(error))
+
+    threads = [threading.Thread(target=run, args=case) for case in cases]
+    for thread in threads:
+        thread.start()
+    for thread in threads:
+        thread.join()
+    print(f"slow parties: {checks.count} checks, {checks.wrong} wrong")
+    return 0 if checks.wrong == 0 else 1
+
+
+if __name__ == "__main__":
+    if len(sys.argv) not in (2, 3) or sys.argv[2:] not in ([], ["all"]) or not os.access(sys.argv[1], os.X_OK):
+        sys.exit(f"usage: {sys.argv[0]} PROGRAM [all]")
+    sys.exit(main(sys.argv[1], len(sys.argv) == 3))
