@@ -16,17 +16,17 @@ abbrev pub answer_to : Result Reply HttpFault → Answer
 answer_to (Ok r) = answer_of r.status (option_map (λ v. v.items) r.retry_after)
 answer_to (Err e) = Unknown
 
--- what was read of the reader, and the answer that it gives: its bytes before and after, the count of its failed calls before and after, and the head or the fault.
+-- what was read of the reader, and the answer that it gives: its bytes before and after, how many its last call gave, the count of its failed calls before and after, and the head or the fault.
 -- No read follows the one that completes the head
-pub record IsRead (input left : Option (List ℕ)) (one_more : ℕ → ℕ) (old new : ℕ) (r : Result Reply HttpFault) (answer : Answer) : Type 0 where
+pub record IsRead (input left : Option (List ℕ)) (given : ℕ) (one_more : ℕ → ℕ) (old new : ℕ) (r : Result Reply HttpFault) (answer : Answer) : Type 0 where
   pub says : IfSome input (λ bytes. SaysReply bytes r)
-  pub stops : StopsReading NoReply input left
+  pub stops : StopsReading NoReply input left given
   pub io : r ≡ Err Io → new ≡ one_more old
   pub well : r ≢ Err Io → new ≡ old
   pub class : answer ≡ answer_to r
 
 -- where all of the request was written, the answer is that of the head that was read; else it is unknown, and no known byte was read
-abbrev pub IsAnswered : Option (List ℕ) → Option (List ℕ) → (ℕ → ℕ) → ℕ → ℕ → Written → Answer → Type 0
-IsAnswered input left one_more old new All answer = (r : Result Reply HttpFault) × IsRead input left one_more old new r answer
-IsAnswered input left one_more old new None_ answer = (answer ≡ Unknown) × (left ≡ input) × (new ≡ old)
-IsAnswered input left one_more old new (Part n) answer = (answer ≡ Unknown) × (left ≡ input) × (new ≡ old)
+abbrev pub IsAnswered : Option (List ℕ) → Option (List ℕ) → ℕ → (ℕ → ℕ) → ℕ → ℕ → Written → Answer → Type 0
+IsAnswered input left given one_more old new All answer = (r : Result Reply HttpFault) × IsRead input left given one_more old new r answer
+IsAnswered input left given one_more old new None_ answer = (answer ≡ Unknown) × (left ≡ input) × (new ≡ old)
+IsAnswered input left given one_more old new (Part n) answer = (answer ≡ Unknown) × (left ≡ input) × (new ≡ old)

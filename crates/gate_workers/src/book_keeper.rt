@@ -215,7 +215,7 @@ pub fn serve_book<U: Uplink + Drop, S: Source, W: Sink, P: Pace>(
     ensures seat { seat_of keeper.new ≡ seat_of keeper.old }
     ensures max { max_of keeper.new ≡ max_of keeper.old }
     ensures served { IsServedBook U.sends (seat_of keeper.old) (max_of keeper.old) (S.remaining reader.old) (book_of keeper.old) (book_of keeper.new) (uplink_of keeper.old) (uplink_of keeper.new) (W.contents writer.old) (W.contents writer.new) result }
-    ensures stops { StopsReading NotYet (S.remaining reader.old) (S.remaining reader.new) }
+    ensures stops { StopsReading NotYet (S.remaining reader.old) (S.remaining reader.new) (S.given reader.new) }
     ensures read { ReadingFails S.one_more (S.failures reader.old) (S.failures reader.new) result }
     ensures written { WritingFails W.one_more (W.failures writer.old) (W.failures writer.new) result }
 {

@@ -23,7 +23,7 @@ pub fn exchange<S: Source, W: Sink>(
     ensures { (written : Written)
         × Sent (W.contents writer.old) (W.contents writer.new) (post_text host.now body.now) written
         × Failed W.one_more (W.failures writer.old) (W.failures writer.new) written
-        × IsAnswered (S.remaining reader.old) (S.remaining reader.new) S.one_more (S.failures reader.old) (S.failures reader.new) written result }
+        × IsAnswered (S.remaining reader.old) (S.remaining reader.new) (S.given reader.new) S.one_more (S.failures reader.old) (S.failures reader.new) written result }
 {
     match write_post(writer, host, body) {
         Written::All => {}

@@ -37,7 +37,7 @@ fn heard_of(fault: HttpFault) -> Heard
 pub fn listen<S: Source, P: Pace>(alloc: Global, reader: &mut S, pace: &mut P) -> Heard
     ensures heard { Hears (S.remaining reader.old) result }
     ensures failed { HearingFails S.one_more (S.failures reader.old) (S.failures reader.new) result }
-    ensures stops { StopsReading NotYet (S.remaining reader.old) (S.remaining reader.new) }
+    ensures stops { StopsReading NotYet (S.remaining reader.old) (S.remaining reader.new) (S.given reader.new) }
 {
     match read_message(alloc, reader) {
         Err(fault) => return heard_of(fault),

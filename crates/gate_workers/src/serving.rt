@@ -21,7 +21,7 @@ pub fn serve<K: Keeper, S: Source, W: Sink, P: Pace>(
     pace: &mut P,
 ) -> Served
     ensures served { IsServed K.gives (S.remaining reader.old) keeper.old keeper.new (W.contents writer.old) (W.contents writer.new) result }
-    ensures stops { StopsReading NotYet (S.remaining reader.old) (S.remaining reader.new) }
+    ensures stops { StopsReading NotYet (S.remaining reader.old) (S.remaining reader.new) (S.given reader.new) }
     ensures read { ReadingFails S.one_more (S.failures reader.old) (S.failures reader.new) result }
     ensures written { WritingFails W.one_more (W.failures writer.old) (W.failures writer.new) result }
 {
