@@ -1,5 +1,5 @@
 -- What a decoder was fed of what a source gives.
-use Rattle.std.proofs.Common.{◌≡◌, ◌≢◌, ℕ, ◌<◌, ◌≤◌, List, [], ◌++◌, length, Option, Some, None, Err, refl, sym, ap, subst, arith}
+use Rattle.std.proofs.Common.{◌≡◌, ◌≢◌, ℕ, List, [], ◌++◌, length, Option, Some, None, Err, refl, sym, ap, subst, arith}
 use Rattle.std.specs.Prelude.{Result, IfSome, ◌⊎◌}
 use Rattle.std.proofs.Common.{Ok, inl, inr}
 use Rattle.std.proofs.lemmas.List.{length-append, nil_from_length}
@@ -10,7 +10,7 @@ use Rattle.http_edge.specs.declared.request.Request.{Request}
 use Rattle.http_edge.specs.Message.{Message}
 use Rattle.http_edge.specs.Reading.{BeginsWith, NotYet}
 use Rattle.http_edge.specs.Answer.{Answers, Explains, Fails}
-use Rattle.http_edge.specs.Delivery.{SaysFault, Says, StopsReading, IsClosed}
+use Rattle.http_edge.specs.Delivery.{SaysFault, Says, IsClosed}
 use Rattle.http_edge.specs.Holds.{Progress, Holds, fault_in}
 use Rattle.http_edge.proofs.FaultLemmas.{fails_more}
 use Rattle.http_edge.proofs.MachineLemmas.{not_yet_in_head, start_is_sound}
@@ -78,11 +78,6 @@ pub says : (old : Option (List ℕ)) (r : Result Request HttpFault) → Said old
 says None r x closed = tt
 says (Some bytes) r x closed = says_of r bytes closed x
 
--- ---- how far it is read
-
-pub stops_after : (old now next : Option (List ℕ)) (given : ℕ) (p : Progress) (fed piece : List ℕ) → Fed old now p fed → Consumes now next piece → length piece ≤ given → StopsReading NotYet old next given
-stops_after old now next given p fed piece so took short = (fed, piece, known_more old now next fed piece so.known took, short, so.open_)
-
 -- where a message was fed, it is not cut
 pub not_cut : (old next : Option (List ℕ)) (fed : List ℕ) (m : Message) (r : Result Request HttpFault) → BeginsWith fed m → Answers fed r → IfSome old (λ _. r ≡ Err Truncated → IsAtEnd next)
 not_cut None next fed m r b a = tt
@@ -95,11 +90,3 @@ closed_at_end (Some bytes) None p fed r so closed = absurd so.known
 closed_at_end (Some bytes) (Some left) p fed r so closed = λ e.
     let none : length fed ≡ 0 = omega (arith, ap length so.known, ap length e, length-append fed left) in
     inl (closed (subst (Holds p) (nil_from_length fed none) so.holds) so.fine)
-
--- where a piece came, there is a byte
-pub not_closed : (old now next : Option (List ℕ)) (p : Progress) (fed piece : List ℕ) (r : Result Request HttpFault) → Fed old now p fed → Consumes now next piece → 0 < length piece → IfSome old (λ bytes. bytes ≡ [] → IsClosed r)
-not_closed None now next p fed piece r so took some = tt
-not_closed (Some bytes) None next p fed piece r so took some = absurd so.known
-not_closed (Some bytes) (Some left) None p fed piece r so took some = absurd took
-not_closed (Some bytes) (Some left) (Some more) p fed piece r so took some = λ e.
-    absurd (omega (arith, ap length so.known, ap length e, length-append fed left, ap length took, length-append piece more, some))

@@ -196,6 +196,9 @@ pub begins : (old : Option (List ℕ)) → Kept old old []
 begins None = record { known = tt; none = none_at_first; short = omega arith }
 begins (Some bytes) = record { known = refl; none = none_at_first; short = omega arith }
 
+pub no_reply : (old now : Option (List ℕ)) (kept : List ℕ) → Kept old now kept → NoReply kept
+no_reply old now kept so k after b = so.none k after b.reads
+
 -- the front of a piece was kept
 pub record Grows (old : Option (List ℕ)) (new : List ℕ) : Type 0 where
   pub all : IfSome old (λ bytes. (left : List ℕ) × (bytes ≡ new ++ left))
@@ -210,12 +213,13 @@ grows (Some bytes) (Some left) (Some more) kept piece front back new so took cut
     let f : (kept ++ (front ++ back)) ++ more ≡ new ++ (back ++ more) = ap (λ x. x ++ more) (sym (append_assoc kept front back)) ∙ append_assoc (kept ++ front) back more ∙ ap (λ x. x ++ (back ++ more)) (sym is) in
     record { all = (back ++ more, e ∙ f); some = omega (arith, ap length is, length-append kept front, some) }
 
-pub stops_after : (old now next : Option (List ℕ)) (given : ℕ) (kept piece : List ℕ) → Kept old now kept → Consumes now next piece → length piece ≤ given → StopsReading NoReply old next given
-stops_after old now next given kept piece so took short = (kept, piece, known_more old now next kept piece so.known took, short, λ k after b. so.none k after b.reads)
+no_reply_yet : NoReply []
+no_reply_yet k after b = none_at_first k after b.reads
 
 -- no call was made
 pub nothing_read : (old : Option (List ℕ)) (given : ℕ) → StopsReading NoReply old old given
-nothing_read old given = stops_after old old old given [] [] (begins old) (begins old).known (omega arith)
+nothing_read None given = ([], [], tt, omega arith, no_reply_yet)
+nothing_read (Some bytes) given = ([], [], refl, omega arith, no_reply_yet)
 
 pub said : (old : Option (List ℕ)) (new : List ℕ) (r : Reply) → Grows old new → BeginsSaying new (told_in r) → Said old (Ok r)
 said None new r g b = tt
@@ -224,10 +228,6 @@ said (Some bytes) new r g b = let P : List ℕ → Type 0 = λ s. BeginsSaying s
 pub refused : (old : Option (List ℕ)) (new : List ℕ) (e : HttpFault) → Grows old new → LastsFor e → ExplainsReply e new → Said old (Err e)
 refused None new e g lasts x = tt
 refused (Some bytes) new e g lasts x = inr (subst (ExplainsReply e) (sym g.all.1) (explains_more e new g.all.0 lasts x))
-
-pub not_closed : (old : Option (List ℕ)) (new : List ℕ) (r : Result Reply HttpFault) → Grows old new → IfSome old (λ bytes. bytes ≡ [] → IsClosedReply r)
-not_closed None new r g = tt
-not_closed (Some bytes) new r g = λ e. absurd (omega (arith, ap length e, ap length g.all.1, length-append new g.all.0, g.some))
 
 pub closed : (old now : Option (List ℕ)) (kept : List ℕ) → Kept old now kept → IsAtEnd now → kept ≡ [] → Said old (Err Closed)
 closed None now kept so ended is = tt

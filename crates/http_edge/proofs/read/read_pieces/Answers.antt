@@ -1,10 +1,11 @@
-use Rattle.std.proofs.Common.{◌<◌, ◌≤◌, [], refl, ◌++◌, length, take, arith, true, false, Ok}
+use Rattle.std.proofs.Common.{◌<◌, [], refl, ◌++◌, length, take, arith, true, false, Ok}
 use Rattle.std.specs.Io.KnownBytes.{Consumes}
 use Rattle.std.proofs.lemmas.List.{length-take-le}
 use Rattle.std.proofs.lemmas.Result.{err_from_is_err_and}
 use Rattle.http_edge.specs.Answer.{Tells}
-use Rattle.http_edge.proofs.ReadLemmas.{begins, goes_on, at_message, at_fault, closed_at_end, not_closed, stops_after, not_cut}
-use Rattle.http_edge.proofs.SourceLemmas.{known_more, at_end}
+use Rattle.http_edge.specs.Reading.{NotYet}
+use Rattle.http_edge.proofs.ReadLemmas.{begins, goes_on, at_message, at_fault, closed_at_end, not_cut}
+use Rattle.http_edge.proofs.SourceLemmas.{known_more, at_end, not_empty, stops}
 use Rattle.http_edge.proofs.read.read_pieces.Goals as goal
 
 pub pieces-init : goal.pieces-init
@@ -34,27 +35,13 @@ returns-in_err-feed-clause-answer g c =
 
 pub returns-in_err-feed-clause-closed : goal.returns-in_err-feed-clause-closed
 returns-in_err-feed-clause-closed g c =
-    let r0 = g.S.Source.remaining c.args.source.now in
-    let r1 = g.S.Source.remaining c.pieces.source in
-    let r2 = g.S.Source.remaining c.read.new.self in
-    let fed = c.pieces.invariant.so_far.0 in
-    let so = c.pieces.invariant.so_far.1 in
-    let piece = take c.in-Ok.n c.read.new.buf in
-    let took : Consumes r1 r2 piece = c.in-Ok.ensures.bytes.0 in
-    let some : 0 < length piece = omega (arith, length-take-le c.in-Ok.n c.read.new.buf c.in-Ok.ensures.bound, c.if-n-eq0.false) in
-    not_closed r0 r1 r2 c.pieces.decoder fed piece c.from_residual.result so took some
+    not_empty (g.S.Source.remaining c.args.source.now) (g.S.Source.remaining c.pieces.source) (g.S.Source.remaining c.read.new.self) c.pieces.invariant.so_far.0 (take c.in-Ok.n c.read.new.buf) _ c.pieces.invariant.so_far.1.known c.in-Ok.ensures.bytes.0
+    (omega (arith, length-take-le c.in-Ok.n c.read.new.buf c.in-Ok.ensures.bound, c.if-n-eq0.false))
 
 pub returns-then-branch-clause-closed : goal.returns-then-branch-clause-closed
 returns-then-branch-clause-closed g c =
-    let r0 = g.S.Source.remaining c.args.source.now in
-    let r1 = g.S.Source.remaining c.pieces.source in
-    let r2 = g.S.Source.remaining c.read.new.self in
-    let fed = c.pieces.invariant.so_far.0 in
-    let so = c.pieces.invariant.so_far.1 in
-    let piece = take c.in-Ok.n c.read.new.buf in
-    let took : Consumes r1 r2 piece = c.in-Ok.ensures.bytes.0 in
-    let some : 0 < length piece = omega (arith, length-take-le c.in-Ok.n c.read.new.buf c.in-Ok.ensures.bound, c.if-n-eq0.false) in
-    not_closed r0 r1 r2 c.pieces.decoder fed piece c.finish-then-branch.result so took some
+    not_empty (g.S.Source.remaining c.args.source.now) (g.S.Source.remaining c.pieces.source) (g.S.Source.remaining c.read.new.self) c.pieces.invariant.so_far.0 (take c.in-Ok.n c.read.new.buf) _ c.pieces.invariant.so_far.1.known c.in-Ok.ensures.bytes.0
+    (omega (arith, length-take-le c.in-Ok.n c.read.new.buf c.in-Ok.ensures.bound, c.if-n-eq0.false))
 
 pub returns-then-branch-clause-answer : goal.returns-then-branch-clause-answer
 returns-then-branch-clause-answer g c =
@@ -86,27 +73,18 @@ pieces-preserved g c =
 
 pub returns-then-n-eq0-clause-stops : goal.returns-then-n-eq0-clause-stops
 returns-then-n-eq0-clause-stops g c =
-    let r0 = g.S.Source.remaining c.args.source.now in
-    let r1 = g.S.Source.remaining c.pieces.source in
-    let r2 = g.S.Source.remaining c.read.new.self in
-    let short : length (take c.in-Ok.n c.read.new.buf) ≤ g.S.Source.given c.read.new.self = omega (arith, length-take-le c.in-Ok.n c.read.new.buf c.in-Ok.ensures.bound, c.in-Ok.ensures.given) in
-    stops_after r0 r1 r2 (g.S.Source.given c.read.new.self) c.pieces.decoder c.pieces.invariant.so_far.0 (take c.in-Ok.n c.read.new.buf) c.pieces.invariant.so_far.1 c.in-Ok.ensures.bytes.0 short
+    stops NotYet (g.S.Source.remaining c.args.source.now) (g.S.Source.remaining c.pieces.source) (g.S.Source.remaining c.read.new.self) (g.S.Source.given c.read.new.self) c.in-Ok.n c.pieces.invariant.so_far.0 c.read.new.buf c.pieces.invariant.so_far.1.known c.in-Ok.ensures.bytes.0
+    c.in-Ok.ensures.bound c.in-Ok.ensures.given c.pieces.invariant.so_far.1.open_
 
 pub returns-in_err-feed-clause-stops : goal.returns-in_err-feed-clause-stops
 returns-in_err-feed-clause-stops g c =
-    let r0 = g.S.Source.remaining c.args.source.now in
-    let r1 = g.S.Source.remaining c.pieces.source in
-    let r2 = g.S.Source.remaining c.read.new.self in
-    let short : length (take c.in-Ok.n c.read.new.buf) ≤ g.S.Source.given c.read.new.self = omega (arith, length-take-le c.in-Ok.n c.read.new.buf c.in-Ok.ensures.bound, c.in-Ok.ensures.given) in
-    stops_after r0 r1 r2 (g.S.Source.given c.read.new.self) c.pieces.decoder c.pieces.invariant.so_far.0 (take c.in-Ok.n c.read.new.buf) c.pieces.invariant.so_far.1 c.in-Ok.ensures.bytes.0 short
+    stops NotYet (g.S.Source.remaining c.args.source.now) (g.S.Source.remaining c.pieces.source) (g.S.Source.remaining c.read.new.self) (g.S.Source.given c.read.new.self) c.in-Ok.n c.pieces.invariant.so_far.0 c.read.new.buf c.pieces.invariant.so_far.1.known c.in-Ok.ensures.bytes.0
+    c.in-Ok.ensures.bound c.in-Ok.ensures.given c.pieces.invariant.so_far.1.open_
 
 pub returns-then-branch-clause-stops : goal.returns-then-branch-clause-stops
 returns-then-branch-clause-stops g c =
-    let r0 = g.S.Source.remaining c.args.source.now in
-    let r1 = g.S.Source.remaining c.pieces.source in
-    let r2 = g.S.Source.remaining c.read.new.self in
-    let short : length (take c.in-Ok.n c.read.new.buf) ≤ g.S.Source.given c.read.new.self = omega (arith, length-take-le c.in-Ok.n c.read.new.buf c.in-Ok.ensures.bound, c.in-Ok.ensures.given) in
-    stops_after r0 r1 r2 (g.S.Source.given c.read.new.self) c.pieces.decoder c.pieces.invariant.so_far.0 (take c.in-Ok.n c.read.new.buf) c.pieces.invariant.so_far.1 c.in-Ok.ensures.bytes.0 short
+    stops NotYet (g.S.Source.remaining c.args.source.now) (g.S.Source.remaining c.pieces.source) (g.S.Source.remaining c.read.new.self) (g.S.Source.given c.read.new.self) c.in-Ok.n c.pieces.invariant.so_far.0 c.read.new.buf c.pieces.invariant.so_far.1.known c.in-Ok.ensures.bytes.0
+    c.in-Ok.ensures.bound c.in-Ok.ensures.given c.pieces.invariant.so_far.1.open_
 
 pub returns-then-n-eq0-clause-truncated : goal.returns-then-n-eq0-clause-truncated
 returns-then-n-eq0-clause-truncated g c =

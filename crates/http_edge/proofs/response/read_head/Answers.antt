@@ -1,10 +1,10 @@
 use Rattle.std.proofs.Common.{◌≡◌, ◌<◌, ◌≤◌, ◌++◌, ℕ, List, length, take, drop, ap, arith, subst, sym, refl, ◌∙◌}
 use Rattle.std.proofs.lemmas.List.{length-take-le, take-append-drop, take-take}
 use Rattle.std.proofs.lemmas.Result.{err_from_is_err_and}
-use Rattle.http_edge.specs.Reply.{LastsFor, ExplainsReply}
+use Rattle.http_edge.specs.Reply.{NoReply, LastsFor, ExplainsReply}
 use Rattle.http_edge.proofs.ListLemmas.{grown}
-use Rattle.http_edge.proofs.SourceLemmas.{at_end}
-use Rattle.http_edge.proofs.ReplyLemmas.{begins, grows, refused, said, stops_after}
+use Rattle.http_edge.proofs.SourceLemmas.{at_end, not_empty, stops}
+use Rattle.http_edge.proofs.ReplyLemmas.{begins, grows, refused, said, no_reply}
 use Rattle.http_edge.proofs.response.read_head.Goals as goal
 
 pub pieces-init : goal.pieces-init
@@ -51,29 +51,40 @@ returns-in-Some-clause-answer g c =
     let looks = rw (c.in-Some.is, c.deref.ensures.value) at c.in_ok-reply.ensures in
     said r0 new c.in-Some.reply all looks
 
+pub returns-then-n-eq0-clause-stops : goal.returns-then-n-eq0-clause-stops
+returns-then-n-eq0-clause-stops g c =
+    stops NoReply (g.S.Source.remaining c.args.source.now) (g.S.Source.remaining c.pieces.source) (g.S.Source.remaining c.read.new.self) (g.S.Source.given c.read.new.self) c.in-Ok.n c.pieces.kept.items c.read.new.buf c.pieces.invariant.so_far.known c.in-Ok.ensures.bytes.0
+    c.in-Ok.ensures.bound c.in-Ok.ensures.given (no_reply (g.S.Source.remaining c.args.source.now) (g.S.Source.remaining c.pieces.source) c.pieces.kept.items c.pieces.invariant.so_far)
+
 pub returns-then-is_err-clause-stops : goal.returns-then-is_err-clause-stops
 returns-then-is_err-clause-stops g c =
-    let r0 = g.S.Source.remaining c.args.source.now in
-    let r1 = g.S.Source.remaining c.pieces.source in
-    let r2 = g.S.Source.remaining c.read.new.self in
-    let short : length (take c.in-Ok.n c.read.new.buf) ≤ g.S.Source.given c.read.new.self = omega (arith, length-take-le c.in-Ok.n c.read.new.buf c.in-Ok.ensures.bound, c.in-Ok.ensures.given) in
-    stops_after r0 r1 r2 (g.S.Source.given c.read.new.self) c.pieces.kept.items (take c.in-Ok.n c.read.new.buf) c.pieces.invariant.so_far c.in-Ok.ensures.bytes.0 short
+    stops NoReply (g.S.Source.remaining c.args.source.now) (g.S.Source.remaining c.pieces.source) (g.S.Source.remaining c.read.new.self) (g.S.Source.given c.read.new.self) c.in-Ok.n c.pieces.kept.items c.read.new.buf c.pieces.invariant.so_far.known c.in-Ok.ensures.bytes.0
+    c.in-Ok.ensures.bound c.in-Ok.ensures.given (no_reply (g.S.Source.remaining c.args.source.now) (g.S.Source.remaining c.pieces.source) c.pieces.kept.items c.pieces.invariant.so_far)
 
 pub returns-in_err-reply-clause-stops : goal.returns-in_err-reply-clause-stops
 returns-in_err-reply-clause-stops g c =
-    let r0 = g.S.Source.remaining c.args.source.now in
-    let r1 = g.S.Source.remaining c.pieces.source in
-    let r2 = g.S.Source.remaining c.read.new.self in
-    let short : length (take c.in-Ok.n c.read.new.buf) ≤ g.S.Source.given c.read.new.self = omega (arith, length-take-le c.in-Ok.n c.read.new.buf c.in-Ok.ensures.bound, c.in-Ok.ensures.given) in
-    stops_after r0 r1 r2 (g.S.Source.given c.read.new.self) c.pieces.kept.items (take c.in-Ok.n c.read.new.buf) c.pieces.invariant.so_far c.in-Ok.ensures.bytes.0 short
+    stops NoReply (g.S.Source.remaining c.args.source.now) (g.S.Source.remaining c.pieces.source) (g.S.Source.remaining c.read.new.self) (g.S.Source.given c.read.new.self) c.in-Ok.n c.pieces.kept.items c.read.new.buf c.pieces.invariant.so_far.known c.in-Ok.ensures.bytes.0
+    c.in-Ok.ensures.bound c.in-Ok.ensures.given (no_reply (g.S.Source.remaining c.args.source.now) (g.S.Source.remaining c.pieces.source) c.pieces.kept.items c.pieces.invariant.so_far)
 
 pub returns-in-Some-clause-stops : goal.returns-in-Some-clause-stops
 returns-in-Some-clause-stops g c =
-    let r0 = g.S.Source.remaining c.args.source.now in
-    let r1 = g.S.Source.remaining c.pieces.source in
-    let r2 = g.S.Source.remaining c.read.new.self in
-    let short : length (take c.in-Ok.n c.read.new.buf) ≤ g.S.Source.given c.read.new.self = omega (arith, length-take-le c.in-Ok.n c.read.new.buf c.in-Ok.ensures.bound, c.in-Ok.ensures.given) in
-    stops_after r0 r1 r2 (g.S.Source.given c.read.new.self) c.pieces.kept.items (take c.in-Ok.n c.read.new.buf) c.pieces.invariant.so_far c.in-Ok.ensures.bytes.0 short
+    stops NoReply (g.S.Source.remaining c.args.source.now) (g.S.Source.remaining c.pieces.source) (g.S.Source.remaining c.read.new.self) (g.S.Source.given c.read.new.self) c.in-Ok.n c.pieces.kept.items c.read.new.buf c.pieces.invariant.so_far.known c.in-Ok.ensures.bytes.0
+    c.in-Ok.ensures.bound c.in-Ok.ensures.given (no_reply (g.S.Source.remaining c.args.source.now) (g.S.Source.remaining c.pieces.source) c.pieces.kept.items c.pieces.invariant.so_far)
+
+pub returns-then-is_err-clause-closed : goal.returns-then-is_err-clause-closed
+returns-then-is_err-clause-closed g c =
+    not_empty (g.S.Source.remaining c.args.source.now) (g.S.Source.remaining c.pieces.source) (g.S.Source.remaining c.read.new.self) c.pieces.kept.items (take c.in-Ok.n c.read.new.buf) _ c.pieces.invariant.so_far.known c.in-Ok.ensures.bytes.0
+    (omega (arith, length-take-le c.in-Ok.n c.read.new.buf c.in-Ok.ensures.bound, c.if-n-eq0.false))
+
+pub returns-in_err-reply-clause-closed : goal.returns-in_err-reply-clause-closed
+returns-in_err-reply-clause-closed g c =
+    not_empty (g.S.Source.remaining c.args.source.now) (g.S.Source.remaining c.pieces.source) (g.S.Source.remaining c.read.new.self) c.pieces.kept.items (take c.in-Ok.n c.read.new.buf) _ c.pieces.invariant.so_far.known c.in-Ok.ensures.bytes.0
+    (omega (arith, length-take-le c.in-Ok.n c.read.new.buf c.in-Ok.ensures.bound, c.if-n-eq0.false))
+
+pub returns-in-Some-clause-closed : goal.returns-in-Some-clause-closed
+returns-in-Some-clause-closed g c =
+    not_empty (g.S.Source.remaining c.args.source.now) (g.S.Source.remaining c.pieces.source) (g.S.Source.remaining c.read.new.self) c.pieces.kept.items (take c.in-Ok.n c.read.new.buf) _ c.pieces.invariant.so_far.known c.in-Ok.ensures.bytes.0
+    (omega (arith, length-take-le c.in-Ok.n c.read.new.buf c.in-Ok.ensures.bound, c.if-n-eq0.false))
 
 pub returns-then-n-eq0-clause-truncated : goal.returns-then-n-eq0-clause-truncated
 returns-then-n-eq0-clause-truncated g c =
