@@ -2,7 +2,7 @@
 use Rattle.std.proofs.Common.{◌≡◌, ◌≢◌, ℕ, ◌+◌, ◌<◌, ◌≤◌, true, false, List, [], ◌∷◌, ◌++◌, length, map, take, drop, get_or, Option, Some, None, Ok, Err, refl, sym, ap, subst, ◌∙◌, arith, append_assoc, inl, inr}
 use Rattle.std.specs.Prelude.{Result, IfSome, ◌⊎◌, codes}
 use Rattle.std.proofs.lemmas.List.{length-append, append-nil, take-append-drop, map-append, length-map, length-take-le}
-use Rattle.std.specs.Io.KnownBytes.{Consumes, IsAtEnd}
+use Rattle.std.specs.Io.KnownBytes.{Consumes}
 use Rattle.httparse.specs.Grammar.{ResponseHead, print_response, ReadsResponse, HasNoResponse}
 use Rattle.httparse.specs.declared.spans.HeaderSpan.{HeaderSpan}
 use Rattle.httparse.specs.declared.spans.ResponseSpans.{ResponseSpans}
@@ -228,8 +228,3 @@ said (Some bytes) new r g b = let P : List ℕ → Type 0 = λ s. BeginsSaying s
 pub refused : (old : Option (List ℕ)) (new : List ℕ) (e : HttpFault) → Grows old new → LastsFor e → ExplainsReply e new → Said old (Err e)
 refused None new e g lasts x = tt
 refused (Some bytes) new e g lasts x = inr (subst (ExplainsReply e) (sym g.all.1) (explains_more e new g.all.0 lasts x))
-
-pub closed : (old now : Option (List ℕ)) (kept : List ℕ) → Kept old now kept → IsAtEnd now → kept ≡ [] → Said old (Err Closed)
-closed None now kept so ended is = tt
-closed (Some bytes) None kept so ended is = absurd so.known
-closed (Some bytes) (Some left) kept so ended is = inr (so.known ∙ ap (λ x. kept ++ x) ended ∙ append-nil kept ∙ is)
