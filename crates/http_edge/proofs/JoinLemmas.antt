@@ -12,14 +12,7 @@ use Rattle.http_edge.specs.Sent.{Sent, IsCut, Ends, cut_after}
 use Rattle.http_edge.specs.Joined.{waiting, Passes}
 use Rattle.http_edge.proofs.WriteLemmas.{part_taken}
 
-appends_none : (o : Option (List ℕ)) → Appends o o []
-appends_none None = tt
-appends_none (Some x) = sym (append-nil x)
-
--- more waits
-pub waits : (o : Option (List ℕ)) (j k : Joined) (part : List ℕ) → waiting k ≡ waiting j ++ part → k.sent ≡ j.sent → Passes o o j.sent k (waiting j ++ part)
-waits o j k part is same = record { done = []; taken = appends_none o; rest = sym is; count = omega (arith, same) }
-
+-- how much was sent or waits
 pub passes_length : (o n : Option (List ℕ)) (sent : ℕ) (j : Joined) (bytes : List ℕ) → Passes o n sent j bytes → j.sent + length (waiting j) ≡ sent + length bytes
 passes_length o n sent j bytes p = omega (arith, p.count, ap length p.rest, length-append p.done (waiting j))
 

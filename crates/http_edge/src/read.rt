@@ -1,8 +1,8 @@
 //! Reads a message from its source.
 ghost use Rattle.std.specs.Prelude.{◌≡◌, ◌≢◌, ◌⊎◌, [], Err, IfSome};
+ghost use Rattle.std.specs.Io.KnownBytes.{IsAtEnd};
 ghost use Rattle.http_edge.specs.Reading.{NotYet};
 ghost use Rattle.http_edge.specs.Answer.{Answers};
-ghost use Rattle.std.specs.Io.KnownBytes.{IsAtEnd};
 ghost use Rattle.http_edge.specs.Delivery.{Says, StopsReading, IsClosed};
 
 use crate::decoder::Decoder;
@@ -45,7 +45,7 @@ fn read_pieces<S: Source>(alloc: Global, source: &mut S) -> Result<Request, Http
 /// - Io, that a call failed, and of the bytes nothing;
 /// - each other fault, that there is a byte, that they begin with no message, and why.
 ///
-/// Truncated comes at the end of the source alone, so that one that never ends is cut off by the limits.
+/// Truncated comes at the end of the source alone; a source that never ends is cut off by the limits.
 /// Exactly one call failed at Io, and none at any other answer. The source is not read again once a
 /// message is there, or a size that is too long: what was read before the last call begins with neither.
 /// Bytes behind the message that came with its last ones are thrown away.

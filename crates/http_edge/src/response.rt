@@ -1,8 +1,8 @@
 //! Reads the head of a response (RFC 9112, section 4).
 ghost use Rattle.std.specs.Prelude.{◌≡◌, ◌≢◌, ◌≤◌, ◌⊎◌, [], length, map, All, Err, IfOk, IfSome, option_map};
+ghost use Rattle.std.specs.Io.KnownBytes.{IsAtEnd};
 ghost use Rattle.httparse.specs.Spans.{header_bytes, IsHeaderWithin};
 ghost use Rattle.http_edge.specs.Framing.{values_of};
-ghost use Rattle.std.specs.Io.KnownBytes.{IsAtEnd};
 ghost use Rattle.http_edge.specs.Delivery.{StopsReading};
 ghost use Rattle.http_edge.specs.Reply.{first, NoReply, AnswersReply, LooksForReply, SaysReply, IsClosedReply};
 
@@ -105,7 +105,7 @@ fn read_head<S: Source>(alloc: Global, source: &mut S) -> Result<Reply, HttpFaul
 /// - BadHead, TooManyHeaders, HeadTooLong and Truncated, that there is a byte, that they begin with no
 ///   head, and why. No other fault comes.
 ///
-/// Truncated comes at the end of the source alone, so that one that never ends is cut off by the limits.
+/// Truncated comes at the end of the source alone; a source that never ends is cut off by the limits.
 /// Exactly one call failed at Io, and none at any other answer. The source is not read again once a head
 /// is there: what was read before the last call begins with none. Bytes behind the head that came with
 /// its last ones are thrown away.
