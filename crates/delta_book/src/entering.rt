@@ -11,9 +11,9 @@ ghost use Rattle.delta_book.specs.Refusals.{batch_fault};
 ghost use Rattle.delta_book.specs.Tables.{AreCells, AreBooked, AreSome};
 ghost use Rattle.delta_book.specs.Puts.{Stops};
 
-use crate::admission::find_fault;
+use crate::admission::slow_fault;
 use crate::faults::AdmitFault;
-use crate::limiting::find_limit;
+use crate::limiting::slow_limit;
 use crate::passing::find_passed;
 use crate::putting::put_all;
 use crate::stop::Stop;
@@ -49,15 +49,15 @@ fn put_within(
 }
 
 /// The refusal of a batch, found without putting any of it, which takes no memory.
-fn find_refusal(cells: &[Cell], sender: &SenderName, batch: &[Point]) -> Option<AdmitFault>
+fn slow_refusal(cells: &[Cell], sender: &SenderName, batch: &[Point]) -> Option<AdmitFault>
     requires few { length cells.now ≤ MAX_SERIES }
     requires accepted { AreBooked cells.now }
     requires made { All IsPoint batch.now }
     ensures { (qs : List Accepted) → AreAccepted qs → AreCells cells.now qs → result ≡ batch_fault qs sender.now batch.now }
 {
-    match find_fault(cells, sender, batch) {
+    match slow_fault(cells, sender, batch) {
         Some(fault) => Some(fault),
-        None => find_limit(cells, batch),
+        None => slow_limit(cells, batch),
     }
 }
 
@@ -70,7 +70,7 @@ fn refusal(cells: &[Cell], sender: &SenderName, batch: &[Point], stop: Stop) -> 
 {
     match stop {
         Stop::Fault(fault) => fault,
-        Stop::NoMemory => find_refusal(cells, sender, batch).unwrap_or(AdmitFault::NoMemory),
+        Stop::NoMemory => slow_refusal(cells, sender, batch).unwrap_or(AdmitFault::NoMemory),
     }
 }
 

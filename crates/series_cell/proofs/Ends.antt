@@ -15,10 +15,6 @@ last_at before (suc n) (a ∷ ms) m l e = last_at a.span.end n ms m (omega (arit
 pub last_span : (before n : ℕ) (ms : List BatchSpan) (m : BatchSpan) → length ms ≡ n + 1 → m ≡ get_or ms n m → end_of_spans before ms ≡ m.span.end
 last_span before n ms m l e = last_at before n ms m (omega (arith, l)) e
 
-pub none_yet : (before : ℕ) (ms : List BatchSpan) → length ms ≡ 0 → end_of_spans before ms ≡ before
-none_yet before [] l = refl
-none_yet before (m ∷ ms) l = absurd (omega (arith, l))
-
 pub some_yet : (n : ℕ) → (n == 0) ≡ false → n ≡ (n - 1) + 1
 some_yet zero e = absurd (let q : true ≡ false = e in cc)
 some_yet (suc n) e = omega arith

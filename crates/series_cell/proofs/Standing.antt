@@ -341,9 +341,6 @@ marked : (b : ℕ) (qs : List Accepted) → list_any (is_span_of b) (map span_of
 marked b [] = refl
 marked b (a ∷ qs) = ap (λ v. (a.batch == b) || v) (marked b qs)
 
-off_home : (place : Place) (t : Place → Bool) → ((q : Place) → t q ≡ true → is_home q ≡ false) → t place ≡ true → is_home place ≡ false
-off_home place t k e = k place e
-
 landed_off : (q : Place) → is_landed q ≡ true → is_home q ≡ false
 landed_off Home e = absurd (let k : false ≡ true = e in cc)
 landed_off (InFlight g) e = refl

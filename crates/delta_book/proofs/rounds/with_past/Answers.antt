@@ -5,13 +5,13 @@ use Rattle.metric_events.specs.Rows.{add_rows}
 use Rattle.delta_book.proofs.Handing.{past_small, nothing_past}
 use Rattle.delta_book.proofs.rounds.with_past.Goals as goal
 
-pub grown-requires-clause-small : goal.grown-requires-clause-small
-grown-requires-clause-small c =
+pub add_past-requires-clause-small : goal.add_past-requires-clause-small
+add_past-requires-clause-small c =
     let s = c.in-Some.past.now in
     subst (λ (ws : List ℕ). list_all (λ w. nat_le w 170141183460469231731687303715884105728) ws ≡ true) (sym c.as_slice.ensures) (past_small c.args.before.now.round s.series s.acknowledged c.requires.few c.in-Some.ensures.made.acknowledged)
 
-pub grown-requires-in-Some-clause-small : goal.grown-requires-in-Some-clause-small
-grown-requires-in-Some-clause-small c =
+pub add_past-requires-in-Some-clause-small : goal.add_past-requires-in-Some-clause-small
+add_past-requires-in-Some-clause-small c =
     let s = c.in-Some.past.now in
     subst (λ (ws : List ℕ). list_all (λ w. nat_le w 170141183460469231731687303715884105728) ws ≡ true) (sym c.as_slice-in-Some.ensures) (past_small c.args.before.now.round s.series s.dropped c.requires.few c.in-Some.ensures.made.dropped)
 
