@@ -199,12 +199,14 @@ def verify(checks, stack, unit):
     at = folder(stack)
     here = {"/usr/local/lib/totxegun": os.path.abspath(OPERATE)}
     files = {"totxegun@.service": unit.replace(*next(iter(here.items()))),
+             "totxegun@.service.d/jemalloc.conf": shipped("jemalloc.conf", {}),
              "totxegun-flush@.service": shipped("totxegun-flush@.service", here),
              "totxegun-flush@.timer": shipped("totxegun-flush@.timer", {})}
+    os.mkdir(f"{at}/totxegun@.service.d")
     for name, text in files.items():
         with open(f"{at}/{name}", "w") as copy:
             copy.write(text)
-    units = [f"{at}/{name.replace('@', '@g0')}" for name in files]
+    units = [f"{at}/{name.replace('@', '@g0')}" for name in files if not name.endswith(".conf")]
     run = subprocess.run(["systemd-analyze", "verify", "--man=no", *units], capture_output=True, text=True,
                          timeout=SECONDS)
     ours = [line for line in run.stderr.splitlines() if "totxegun" in line]

@@ -1,0 +1,50 @@
+#!/usr/bin/env python3
+"""The memory that a round of the gateway keeps, by the points in a post.
+
+    bench/gateway_memory.py PROGRAM
+
+Resident memory before and after the posts of one round, of one sum each point, all series the same in each post.
+"""
+import contextlib
+import json
+import os
+import re
+import sys
+
+HERE = os.path.dirname(os.path.abspath(__file__))
+sys.path.insert(0, os.path.join(HERE, "..", "tests"))
+
+from loopback import free_port
+from shipped import ask, gateway_at, posting
+
+POSTS = {1: 6000, 10: 4000, 100: 1500, 1000: 300}
+
+
+def body(points, number):
+    one = {"asInt": "1", "startTimeUnixNano": str(10 * number + 10), "timeUnixNano": str(10 * number + 20)}
+    total = {"aggregationTemporality": 1, "isMonotonic": True, "dataPoints": [one]}
+    metrics = [{"name": f"requests.{place}", "sum": total} for place in range(points)]
+    return json.dumps({"resourceMetrics": [{"scopeMetrics": [{"metrics": metrics}]}]})
+
+
+def resident(gateway):
+    """Kilobytes."""
+    with open(f"/proc/{gateway.process.pid}/status") as status:
+        return int(re.search(r"VmRSS:\s+(\d+)", status.read())[1])
+
+
+def measure(program, points, posts):
+    with contextlib.ExitStack() as stack:
+        gateway = gateway_at(stack, program, free_port(), "--receivers", "4")
+        # The first two posts make the series.
+        for number in range(posts + 2):
+            if number == 2:
+                before = resident(gateway)
+            status, text = ask(gateway.port, "POST", "/v1/metrics", body(points, number), posting("A"))
+            assert status == 200, text
+        kept = (resident(gateway) - before) * 1024 / (points * posts)
+        print(f"{points} points a post: {kept:.0f} bytes a point, {kept * points / 1024:.1f} KB a post", flush=True)
+
+
+for points, posts in POSTS.items():
+    measure(os.path.abspath(sys.argv[1]), points, posts)
