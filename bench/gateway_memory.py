@@ -46,5 +46,6 @@ def measure(program, points, posts):
         print(f"{points} points a post: {kept:.0f} bytes a point, {kept * points / 1024:.1f} KB a post", flush=True)
 
 
-for points, posts in POSTS.items():
-    measure(os.path.abspath(sys.argv[1]), points, posts)
+if __name__ == "__main__":
+    for points, posts in POSTS.items():
+        measure(os.path.abspath(sys.argv[1]), points, posts)
