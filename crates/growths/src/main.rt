@@ -4,6 +4,7 @@
 #![tactic(auto)]
 
 ghost use Rattle.std.specs.Prelude.{◌≡◌};
+ghost use Rattle.metric_events.specs.Opening.{first_opening};
 
 mod bodies;
 mod books;
@@ -18,11 +19,12 @@ mod telling;
 mod twice;
 mod values;
 
+use shared_book::round::Round;
 use std::alloc::{AllocError, Global};
 use std::marker::Brand;
 use std::process::ExitCode;
 use std::sync::Wait;
-use std::sync::ledger::{Blank, Ledger};
+use std::sync::ledger::Blank;
 
 /// Makes a call, and makes it again where it finds no memory.
 fn make(rt: &impl Print, alloc: Global, call: &str) -> Result<(), AllocError> {
@@ -69,10 +71,11 @@ pub fn make_calls<R: Print + Wait>(rt: &R, alloc: Global) {
 }
 
 /// Makes what is kept, then all calls, and ends what is kept.
-fn run<L: Ledger, R: Print + Wait>(rt: &R, alloc: Global, blank: Blank) -> Result<(), AllocError>
+fn run<L: Round, R: Print + Wait>(rt: &R, alloc: Global, blank: Blank) -> Result<(), AllocError>
     requires name { blank.name ≡ L.name }
     requires ledger { blank.parts ≡ L.parts }
     requires parts { blank.parts ≡ 2 }
+    requires opening { L.opening ≡ first_opening }
 {
     let kept = kept::prepare(alloc)?;
     shared_kept::calls_beside::<L, R>(rt, alloc, blank, kept)

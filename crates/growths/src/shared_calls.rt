@@ -10,6 +10,7 @@ use crate::twice::{batch_twice, copy_twice, print_text, sender_twice, tell_back}
 use delta_book::book::Book;
 use delta_book::faults::{AdmitFault, QuarantineFault, TakeFault};
 use out_texts::report_text;
+use shared_book::round::Round;
 use shared_book::seat::Seat;
 use shared_book::shared::SharedBook;
 use std::alloc::{AllocError, Global};
@@ -24,7 +25,7 @@ struct Seen {
     report: Vec<u8>,
 }
 
-fn report_of<L: Ledger>(
+fn report_of<L: Round>(
     rt: &impl Wait,
     alloc: Global,
     shared: &SharedBook<L>,
@@ -35,7 +36,7 @@ fn report_of<L: Ledger>(
 }
 
 /// What is seen, which is asked for twice where it finds no memory.
-fn look_at<L: Ledger, R: Print + Wait>(
+fn look_at<L: Round, R: Print + Wait>(
     rt: &R,
     alloc: Global,
     shared: &SharedBook<L>,
@@ -53,7 +54,7 @@ fn look_at<L: Ledger, R: Print + Wait>(
 
 /// Tells that a call found no memory, and whether all is as before; of the report where that finds
 /// memory.
-fn refused<L: Ledger, R: Print + Wait>(
+fn refused<L: Round, R: Print + Wait>(
     rt: &R,
     alloc: Global,
     call: &str,
@@ -80,7 +81,7 @@ fn tell_place<L: Ledger>(rt: &impl Print, seat: &Seat<L>, before: &Seen) {
     }
 }
 
-fn admit<L: Ledger, R: Print + Wait>(
+fn admit<L: Round, R: Print + Wait>(
     rt: &R,
     alloc: Global,
     shared: &SharedBook<L>,
@@ -110,7 +111,7 @@ fn admit<L: Ledger, R: Print + Wait>(
     Err(AllocError)
 }
 
-fn take<L: Ledger, R: Print + Wait>(
+fn take<L: Round, R: Print + Wait>(
     rt: &R,
     alloc: Global,
     shared: &SharedBook<L>,
@@ -133,7 +134,7 @@ fn take<L: Ledger, R: Print + Wait>(
     Err(AllocError)
 }
 
-fn quarantine<L: Ledger, R: Print + Wait>(
+fn quarantine<L: Round, R: Print + Wait>(
     rt: &R,
     alloc: Global,
     shared: &SharedBook<L>,
@@ -158,7 +159,7 @@ fn quarantine<L: Ledger, R: Print + Wait>(
 }
 
 /// Each call that takes memory, with one that takes none between them.
-fn one_round<L: Ledger, R: Print + Wait>(
+fn one_round<L: Round, R: Print + Wait>(
     rt: &R,
     alloc: Global,
     shared: &SharedBook<L>,
@@ -174,7 +175,7 @@ fn one_round<L: Ledger, R: Print + Wait>(
 
 /// Makes the calls from the first seat, and compares all seats with the journal, also where the calls
 /// find no memory again.
-fn from_seats<L: Ledger, R: Print + Wait>(
+fn from_seats<L: Round, R: Print + Wait>(
     rt: &R,
     alloc: Global,
     shared: SharedBook<L>,
@@ -196,7 +197,7 @@ fn from_seats<L: Ledger, R: Print + Wait>(
 }
 
 /// Shares a book, and makes the calls; the book comes back where it finds no memory to be shared in.
-fn over<L: Ledger, R: Print + Wait>(
+fn over<L: Round, R: Print + Wait>(
     rt: &R,
     alloc: Global,
     blank: Blank,
@@ -206,6 +207,7 @@ fn over<L: Ledger, R: Print + Wait>(
     requires ledger { blank.parts ≡ L.parts }
     requires parts { blank.parts ≡ 2 }
     requires empty { book.entries ≡ [] }
+    requires opening { book.opening ≡ L.opening }
     ensures back { IfErr result (λ book. book.entries ≡ []) }
 {
     match SharedBook::<L>::new(alloc, book, blank, 2) {

@@ -1,6 +1,7 @@
 //! A shared book that is made before the calls, as the kept one, and ends beside that one, by calls that
 //! take no memory.
 ghost use Rattle.std.specs.Prelude.{◌≡◌, ◌≤◌};
+ghost use Rattle.metric_events.specs.Opening.{first_opening};
 
 use crate::bodies::{FOURTH, SUMS};
 use crate::kept::{self, Kept};
@@ -11,13 +12,14 @@ use delta_book::book::Book;
 use metric_events::sender_name::SenderName;
 use shared_book::audit_fault::AuditFault;
 use shared_book::checking::check;
+use shared_book::round::Round;
 use shared_book::seat::Seat;
 use shared_book::shared::SharedBook;
 use std::alloc::{AllocError, Global};
 use std::sync::Wait;
-use std::sync::ledger::{Blank, Ledger};
+use std::sync::ledger::Blank;
 
-fn admit<L: Ledger>(
+fn admit<L: Round>(
     rt: &impl Wait,
     alloc: Global,
     shared: &SharedBook<L>,
@@ -34,7 +36,7 @@ fn admit<L: Ledger>(
     }
 }
 
-fn take_one<L: Ledger>(
+fn take_one<L: Round>(
     rt: &impl Wait,
     shared: &SharedBook<L>,
     seat: &mut Seat<L>,
@@ -46,7 +48,7 @@ fn take_one<L: Ledger>(
 }
 
 /// The same entries as those of the kept book.
-fn fill<L: Ledger>(
+fn fill<L: Round>(
     rt: &impl Wait,
     alloc: Global,
     shared: &SharedBook<L>,
@@ -64,7 +66,7 @@ fn fill<L: Ledger>(
 }
 
 /// Ends all that is open, in the kept book's order, and tells each answer.
-fn end_calls<L: Ledger, R: Print + Wait>(
+fn end_calls<L: Round, R: Print + Wait>(
     rt: &R,
     shared: &SharedBook<L>,
     seat: &mut Seat<L>,
@@ -88,7 +90,7 @@ fn end_calls<L: Ledger, R: Print + Wait>(
 }
 
 /// The end of the sharing, which is refused without the second seat.
-fn finish<L: Ledger>(
+fn finish<L: Round>(
     rt: &impl Print,
     shared: SharedBook<L>,
     seats: Vec<Seat<L>>,
@@ -118,7 +120,7 @@ fn finish<L: Ledger>(
 }
 
 /// Compares the first seat with the kept book, which has the same entries, and ends the sharing.
-fn compare<L: Ledger>(
+fn compare<L: Round>(
     rt: &impl Print,
     book: &Book,
     shared: SharedBook<L>,
@@ -132,7 +134,7 @@ fn compare<L: Ledger>(
 }
 
 /// Shares a book beside the kept one, has all calls made, and ends both.
-pub fn calls_beside<L: Ledger, R: Print + Wait>(
+pub fn calls_beside<L: Round, R: Print + Wait>(
     rt: &R,
     alloc: Global,
     blank: Blank,
@@ -141,6 +143,7 @@ pub fn calls_beside<L: Ledger, R: Print + Wait>(
     requires name { blank.name ≡ L.name }
     requires ledger { blank.parts ≡ L.parts }
     requires parts { blank.parts ≡ 2 }
+    requires opening { L.opening ≡ first_opening }
 {
     let Ok((shared, seats)) = SharedBook::<L>::new(alloc, Book::new(alloc)?, blank, 2) else {
         return Err(AllocError);
