@@ -5,10 +5,11 @@
 #   - flushes are ordered from a back end that settles, returns and drops them; what it got is compared byte by byte
 #   - the report is read, and printed at the end
 #   - flushes to nobody and to a back end that says nothing back are returned
+#   - rounds of one connection are told from rounds of a thousand, and flushes of one series from larger ones
 #   - senders that go away or say nothing do not keep others from being served
 #   - faults of the command line, of the address, of a connection and of standard output end the program as told
 # What is wanted is written out from docs/FORMATS.md. Each line tells one check; the last line tells how
-# many passed and failed, and the status is 0 where all passed. One check waits for half a minute.
+# many passed and failed, and the status is 0 where all passed. How long a slow party may take is in tests/slow_parties.py.
 
 [ $# -eq 1 ] && [ -x "$1" ] || { echo "usage: $0 PROGRAM" >&2; exit 2; }
 program=$1
@@ -204,6 +205,44 @@ ask 'the report of the last round' "$stored
 gateway_ended 'rounds of one connection' "$stored
 admitted 1 acknowledged 0"
 
+# in_round WHAT ROUND TOLD: what the report tells of a point in the round behind the one that took and settled it
+in_round() {
+    start_back_end 200
+    start "$back_at" 4 --round "$2"
+    ask "$1: a body" '{} 200' -H "$json" -H 'x-sender: A' -d "$(body 10 20 5)" "$at/v1/metrics"
+    ask "$1: a flush" '{"act":"settled","flush":"1","points":"1"} 200' -X POST "$at/flush"
+    ask "$1: a report" "$3
+ 200" "$at/report"
+    ask "$1: a later report" "$3
+ 200" "$at/report"
+    gateway_ended "$1" "$3
+admitted 1 acknowledged 1"
+    wait "$back_end"
+    back_end=
+}
+in_round 'rounds of one' 1 'series req monotonic owner A frontier 20 accepted 0,0,0 acknowledged 0,0,0 dropped 0,0,0 in-flight 0,0,0 stored 0,0,0 quarantined 0,0,0
+end'
+in_round 'rounds of a thousand' 1000 'series req monotonic owner A frontier 20 accepted 1,5,0 acknowledged 1,5,0 dropped 0,0,0 in-flight 0,0,0 stored 0,0,0 quarantined 0,0,0
+end'
+
+# sent FILE: the points of a request that was forwarded
+sent() {
+    grep -o '"name":"re[a-z]*"' "$folder/$1" | sort
+}
+start_back_end 200 200
+start "$back_at" 5 --flush-series 1
+ask 'one series of two: a body' '{} 200' -H "$json" -d "$(body 10 20 5)" "$at/v1/metrics"
+ask 'one series of two: another' '{} 200' -H "$json" -d "$(body 10 20 7 | sed s/req/res/)" "$at/v1/metrics"
+ask 'one series of two: a flush takes one' '{"act":"settled","flush":"1","points":"1"} 200' -X POST "$at/flush"
+ask 'one series of two: the next takes the other' '{"act":"settled","flush":"2","points":"1"} 200' -X POST "$at/flush"
+ask 'one series of two: nothing is left' '{"act":"nothing"} 200' -X POST "$at/flush"
+wait "$gateway"
+gateway=
+wait "$back_end"
+back_end=
+same 'one series of two: what was sent first' '"name":"req"' "$(sent request-1)"
+same 'one series of two: what was sent next' '"name":"res"' "$(sent request-2)"
+
 start_back_end none
 start "$back_at" 5
 ask 'a body for a back end without an answer' '{} 200' -H "$json" -H 'x-sender: A' -d "$(body 10 20 5)" "$at/v1/metrics"
@@ -216,7 +255,7 @@ say 's.setsockopt(socket.SOL_SOCKET, socket.SO_LINGER, struct.pack("ii", 1, 0))
 s.sendall(b"POST /v1/metrics HTTP/1.1\r\nContent-Length: 9\r\n\r\n{")
 s.close()'
 say 'import time
-print(time.sleep(50))' > "$folder/silent" &
+print(time.sleep(5))' > "$folder/silent" &
 silent=$!
 sleep 1
 ask 'a request behind one that goes away and one that says nothing' "$stored

@@ -1,3 +1,4 @@
 pub mod LastLine
 pub mod Ended
 pub mod TimeLimit
+pub mod Rounds

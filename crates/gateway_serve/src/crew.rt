@@ -4,6 +4,7 @@ use crate::channels::{Channels, Work};
 use crate::fault::GatewayFault;
 use crate::worker::work;
 use gateway_options::ServeOptions;
+use shared_book::round::Round;
 use shared_book::seat::Seat;
 use shared_book::shared::SharedBook;
 use std::alloc::Global;
@@ -70,7 +71,7 @@ fn join_all<L: Ledger, R: Threads>(
 /// Starts a worker on each seat, accepts so many connections beside them, and lets them end. On every
 /// path all ends of the channels are dropped before a worker is waited for, so each of them ends.
 pub fn serve_beside<
-    L: Ledger + Send + Sync,
+    L: Round + Send + Sync,
     R: Net<Listener = TcpListener, Stream = TcpStream> + Threads + Wait + Clock + Sync,
 >(
     rt: &R,

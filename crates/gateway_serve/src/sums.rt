@@ -1,3 +1,5 @@
+ghost use Rattle.std.specs.Prelude.{◌≡◌, ◌+◌, ◌-◌, ◌^◌, min};
+
 use shared_book::audit::Audit;
 
 /// What the audits of all rounds have found, added up. A sum stops at the most that it holds.
@@ -11,7 +13,10 @@ pub struct Sums {
 
 impl Sums {
     /// Those of one round.
-    pub fn of(audit: Audit) -> Sums {
+    pub fn of(audit: Audit) -> Sums
+        ensures admitted { result.admitted ≡ audit.admitted }
+        ensures acknowledged { result.acknowledged ≡ audit.acknowledged }
+    {
         Sums {
             admitted: audit.admitted,
             acknowledged: audit.acknowledged,
@@ -19,7 +24,10 @@ impl Sums {
     }
 
     /// With those of one more round.
-    pub fn and(self, audit: Audit) -> Sums {
+    pub fn and(self, audit: Audit) -> Sums
+        ensures admitted { result.admitted ≡ min (self.admitted + audit.admitted) (2 ^ 128 - 1) }
+        ensures acknowledged { result.acknowledged ≡ min (self.acknowledged + audit.acknowledged) (2 ^ 128 - 1) }
+    {
         Sums {
             admitted: self.admitted.saturating_add(audit.admitted),
             acknowledged: self.acknowledged.saturating_add(audit.acknowledged),

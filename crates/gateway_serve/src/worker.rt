@@ -2,16 +2,16 @@ use crate::backend::Backend;
 use crate::channels::Work;
 use gate_workers::{NoPace, SharedKeeper, flusher_loop, receiver_loop};
 use gateway_options::ServeOptions;
+use shared_book::round::Round;
 use shared_book::seat::Seat;
 use shared_book::shared::SharedBook;
 use std::alloc::Global;
 use std::net::{Net, TcpStream};
 use std::sync::Wait;
-use std::sync::ledger::Ledger;
 use std::time::Clock;
 
 /// Works from a seat until there is no more work, and gives the seat back with all that it was told.
-pub fn work<L: Ledger, R: Net<Stream = TcpStream> + Wait + Clock>(
+pub fn work<L: Round, R: Net<Stream = TcpStream> + Wait + Clock>(
     rt: &R,
     alloc: Global,
     shared: &SharedBook<L>,

@@ -1,4 +1,7 @@
 use Rattle.gateway_serve.proofs.rounds.one_round.Given as goal
 
-abbrev pub ghosts-round_over : goal.ghosts-round_over
-ghosts-round_over g a = record { name = a.blank.name; parts = a.blank.parts }
+abbrev pub ghosts-round_over-L-Ledger : goal.ghosts-round_over-L-Ledger
+ghosts-round_over-L-Ledger g a = record { name = a.blank.name; parts = a.blank.parts }
+
+abbrev pub ghosts-round_over-L-Round : goal.ghosts-round_over-L-Round
+ghosts-round_over-L-Round g a = record { opening = a.book.opening }

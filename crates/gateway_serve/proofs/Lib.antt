@@ -1,0 +1,2 @@
+mod ClosedRounds
+mod ServedRounds
