@@ -1,6 +1,6 @@
 #!/bin/sh
 # The gateway over loopback, as a sender and a back end see it. Call: tests/gateway_serves.sh PROGRAM,
-# with the path of the built gateway. It needs curl and python3 (curl is fetched with apt-get where it is missing).
+# with the path of the built gateway. It needs curl and python3, as tests/needs installs them.
 #   - bodies are posted: whole, in chunks, empty, out of order, of another type, by a held sender, too long
 #   - flushes are ordered from a back end that settles, returns and drops them; what it got is compared byte by byte
 #   - the report is read, and printed at the end
@@ -14,7 +14,7 @@
 [ $# -eq 1 ] && [ -x "$1" ] || { echo "usage: $0 PROGRAM" >&2; exit 2; }
 program=$1
 tests=$(dirname "$0")
-command -v curl > /dev/null || apt-get install -y -q curl > /dev/null 2>&1 || { echo 'no curl' >&2; exit 2; }
+command -v curl > /dev/null || { echo 'no curl' >&2; exit 2; }
 command -v python3 > /dev/null || { echo 'no python3' >&2; exit 2; }
 folder=$(mktemp -d) || exit 2
 gateway=

@@ -11,10 +11,11 @@ in out/logs.
 import collections
 import os
 import re
+import subprocess
 import sys
 import time
 
-from crates import content, read_crates
+from crates import ROOT, content, read_crates
 from steps import END_OF_LOG, Failed, Step, Steps, end_of, told
 from workspace import lock_room
 
@@ -22,20 +23,25 @@ PLAY = "crates/play/out/play"
 GATEWAY = "crates/gateway/out/gateway"
 GROWTHS = "crates/growths/out/growths"
 
-# Each is a script of tests/, the program that it runs, and where it belongs. Scripts that take ports run
-# in turn, so that none takes another's; those that measure time run with nothing beside them.
-PORTS = {"lane": "ports"}
-TIME = {"alone": True}
+# Each is a script of tests/, the program that it runs, about how many seconds it takes, and whether it
+# measures time, so that nothing may run beside it. Those that take longest come first.
 STEPS = (
-    ("play_ends.sh", PLAY, {}),
-    ("refused_growths.py", PLAY, {}),
-    ("refused_libraries.py", GROWTHS, {}),
-    ("gateway_serves.sh", GATEWAY, PORTS),
-    ("gateway_rehearses.sh", GATEWAY, PORTS),
-    ("refused_gateway.py", GATEWAY, PORTS),
-    ("hostile_input.py", GATEWAY, PORTS),
-    ("gateway_load.py", GATEWAY, TIME),
+    ("slow_parties.py", GATEWAY, 70, False),
+    ("gateway_serves.sh", GATEWAY, 60, False),
+    ("behind_proxies.py", GATEWAY, 60, False),
+    ("operating_scripts.py", GATEWAY, 30, False),
+    ("protobuf_bodies.py", GATEWAY, 10, False),
+    ("refused_growths.py", PLAY, 10, False),
+    ("refused_gateway.py", GATEWAY, 10, False),
+    ("refused_libraries.py", GROWTHS, 5, False),
+    ("gateway_rehearses.sh", GATEWAY, 5, False),
+    ("hostile_input.py", GATEWAY, 5, False),
+    ("play_ends.sh", PLAY, 1, False),
+    ("gateway_load.py", GATEWAY, 5, True),
 )
+STEP_LIMIT = 600
+# A network of its own for each step, so that none takes another's port.
+OWN_NETWORK = "tools/own_network.py"
 # The status of a script that lacks a program that it needs; its last line says which.
 LEFT_OUT = 77
 
@@ -97,19 +103,25 @@ def has_tests(crate):
     return any(IS_TEST.search(content(file)) for file in crate.files())
 
 
-def step_of(script, program, place):
-    """The step that runs a script of tests/ on a program."""
+def step_of(script, program, seconds, is_timed, before):
+    """The step that runs a script of tests/ on a program, behind these words. With none, steps run in turn."""
     command = [f"tests/{script}", program]
 
     def work(step):
-        status = step.run(command)
+        status = step.run([*before, *command], limit=STEP_LIMIT)
         last = (end_of(step.log) or ["it told nothing"])[-1]
         if status not in (0, LEFT_OUT):
             raise Failed(last)
         return f"LEFT OUT: {last}" if status == LEFT_OUT else last
 
     name = script.partition(".")[0]
-    return Step(name, work, " ".join(command), **place)
+    lane = None if before else "ports"
+    return Step(name, work, " ".join(command), weight=seconds, lane=lane, alone=is_timed)
+
+
+def has_networks():
+    ran = subprocess.run([OWN_NETWORK, "true"], cwd=ROOT, stderr=subprocess.DEVNULL)
+    return ran.returncode == 0
 
 
 def main(words):
@@ -124,7 +136,8 @@ def main(words):
         os.close(held)
         passed, failed = prover.passed, prover.failed
     if not failed:
-        steps = Steps([step_of(*it) for it in STEPS])
+        before = [OWN_NETWORK] if has_networks() else []
+        steps = Steps([step_of(*it, before) for it in STEPS])
         steps.run()
         passed, failed = passed + len(steps.passed), len(steps.failed)
         print("beside the prover:" if words else "the gate, the prover's part and the steps beside it:")

@@ -58,15 +58,24 @@ class Step:
     def needs(self, jobs):
         return self.memory + JOB_MEMORY * (jobs - 1) if self.memory else 0
 
-    def run(self, command, folder=ROOT, read_line=None):
-        """Runs a command with its output in the log, each line read as it comes, and returns its status."""
+    def run(self, command, folder=ROOT, read_line=None, limit=None):
+        """Runs a command with its output in the log, each line read as it comes, and returns its status. It is
+        ended after so many seconds, if there is a limit."""
         with open(self.log, "a", encoding="utf-8") as log:
             child = CHILDREN.start(command, folder)
+            clock = threading.Timer(limit or threading.TIMEOUT_MAX, CHILDREN.stop, [child])
+            clock.daemon = True
+            clock.start()
             for line in child.stdout:
                 log.write(line)
                 if read_line:
                     read_line(line)
-            return CHILDREN.end(child)
+            status = CHILDREN.end(child)
+            is_late = limit and not clock.is_alive()
+            clock.cancel()
+        if is_late:
+            raise Failed(f"it had not ended after {limit} s")
+        return status
 
 
 class Children:
@@ -94,12 +103,18 @@ class Children:
             self.running.discard(child)
         return status
 
+    def stop(self, child):
+        """Ends a process and what it has started, as far as that is in its group."""
+        with self.lock:
+            if child in self.running and child.poll() is None:
+                os.killpg(child.pid, signal.SIGTERM)
+
     def end_all(self):
         with self.lock:
             self.is_ending = True
-            for child in self.running:
-                if child.poll() is None:
-                    os.killpg(child.pid, signal.SIGTERM)
+            running = [*self.running]
+        for child in running:
+            self.stop(child)
 
 
 CHILDREN = Children()
@@ -140,7 +155,8 @@ class Board:
 
 def told(seconds):
     """Seconds as they are read."""
-    return f"{seconds:.0f} s" if seconds < 100 else f"{seconds // 60:.0f}:{seconds % 60:02.0f}"
+    seconds = round(seconds)
+    return f"{seconds} s" if seconds < 100 else f"{seconds // 60}:{seconds % 60:02}"
 
 
 def end_of(log):
