@@ -8,7 +8,6 @@ programs; STEPS below are run behind it, and alone where --without-prover is giv
 the crates, edits and steps that passed and failed, and the status is 0 where none failed. The logs are
 in out/logs.
 """
-import collections
 import os
 import re
 import subprocess
@@ -16,7 +15,7 @@ import sys
 import time
 
 from crates import ROOT, content, read_crates
-from steps import END_OF_LOG, Failed, Step, Steps, end_of, told
+from steps import Failed, Step, Steps, end_of, end_of_lines, told
 from workspace import lock_room
 
 PLAY = "crates/play/out/play"
@@ -47,10 +46,10 @@ LEFT_OUT = 77
 
 COUNTS = re.compile(r"(\d+) passed, (\d+) failed$")
 # What `rt ci` tells as it goes: what a reader waits for, and what is wrong.
-PROVED = re.compile(r"rt: (\w+)(: its tests)? proved$")
+PROVED = re.compile(r"rt: (\w+)(?:: (its tests) are)? proved$")
 TRYING = re.compile(r"rt: (\w+): trying its must-fail edits \((\d+)\)$")
 WRONG = re.compile(r"rt: .*(NOT PROVED|its tests FAILED)$")
-WORTH_TELLING = re.compile(r"rt: (note: |must-fail .*(NOT REFUSED|BAD EDIT))")
+WORTH_TELLING = re.compile(r"rt: (note: |must-fail .*(NOT REFUSED|BAD EDIT)|\w+ NOT PROVED: )")
 BLOCK = re.compile(r"== \w")
 IS_TEST = re.compile(rb"#\[test\]")
 
@@ -63,7 +62,7 @@ class Prover:
         self.whole = len(crates) + sum(has_tests(crate) for crate in crates)
         self.proved = 0
         self.begun = time.monotonic()
-        self.block = collections.deque(maxlen=END_OF_LOG)
+        self.block = []
         self.passed, self.failed = 0, 1
 
     def step(self):
@@ -82,12 +81,12 @@ class Prover:
             crate, tests = PROVED.match(line).groups()
             self.proved += 1
             step.count = f"{self.proved} of {self.whole}"
-            self.tell(step, f"{step.count}  {crate}{tests or ''} proved")
+            self.tell(step, f"{step.count}  {crate}{': ' + tests if tests else ''} proved")
         elif TRYING.match(line):
             crate, edits = TRYING.match(line).groups()
             self.tell(step, f"{' ' * len(step.count)}  {crate}: its edits are tried ({edits})")
         elif WRONG.match(line):
-            for it in self.block:
+            for it in end_of_lines(self.block):
                 step.say(f"    | {it}")
         elif WORTH_TELLING.match(line):
             step.say(line)

@@ -163,9 +163,12 @@ def end_of(log):
     """The end of a log, and the errors that stand before it."""
     try:
         with open(log, encoding="utf-8") as file:
-            lines = [line.rstrip("\n") for line in file]
+            return end_of_lines([line.rstrip("\n") for line in file])
     except FileNotFoundError:
         return []
+
+
+def end_of_lines(lines):
     errors = [line for line in lines[:-END_OF_LOG] if ": error" in line]
     return errors[:MOST_ERRORS] + lines[-END_OF_LOG:]
 
