@@ -21,6 +21,8 @@ GIGABYTE = 1_000_000_000
 JOB_MEMORY = 3 * GIGABYTE // 2
 END_OF_LOG = 30
 MOST_ERRORS = 10
+# For what an interrupted step puts back, in seconds.
+TIME_TO_END = 60
 # Control groups of version 2 and 1: what they hold, and what they may.
 GROUPS = (
     ("/sys/fs/cgroup/memory.max", "/sys/fs/cgroup/memory.current"),
@@ -211,8 +213,10 @@ class Steps:
     def run(self):
         """Runs them all, but for those behind one that fails. Returns whether all passed."""
         os.makedirs(LOGS, exist_ok=True)
-        signal.signal(signal.SIGTERM, interrupt)
-        signal.signal(signal.SIGHUP, interrupt)
+        for it in (signal.SIGINT, signal.SIGTERM, signal.SIGHUP):
+            # Under nohup a hang-up stays ignored.
+            if it != signal.SIGHUP or signal.getsignal(it) != signal.SIG_IGN:
+                signal.signal(it, interrupt)
         try:
             while self.begin_some() or self.running:
                 self.board.show(self.running)
@@ -224,7 +228,7 @@ class Steps:
             signal.signal(signal.SIGINT, signal.SIG_IGN)
             CHILDREN.end_all()
             for thread in self.running.values():
-                thread.join()
+                thread.join(TIME_TO_END)
             self.board.say("interrupted")
             sys.exit(130)
         self.board.clear()
@@ -243,7 +247,7 @@ class Steps:
                 step.jobs = jobs
                 step.say = self.board.say
                 self.waiting.remove(step)
-                self.running[step] = threading.Thread(target=self.work, args=(step,))
+                self.running[step] = threading.Thread(target=self.work, args=(step,), daemon=True)
                 self.running[step].start()
         return begun
 
