@@ -135,6 +135,8 @@ def gateway_at(stack, program, backend, *options):
     stack.callback(end_gateway, gateway)
     if not wait_until(lambda: listens(gateway.port) or gateway.process.poll() is not None):
         raise TimeoutError("the gateway does not listen")
+    if gateway.process.poll() is not None:
+        raise OSError(f"the gateway has ended: {gateway.process.stderr.read()}")
     return gateway
 
 
