@@ -101,7 +101,6 @@ def flushes(program, checks, stack):
     same("a folder that can't be made", 1, script("flush", site.at, "/proc/none")[0])
     end_gateway(site.gateway)
     site.flush("no gateway", 1, "curl: .*")
-    return site
 
 
 def small_flushes(program, checks, stack):
