@@ -8,7 +8,6 @@ ghost use Rattle.delta_book.specs.Totals.{totals_rows};
 ghost use Rattle.shared_book.specs.Moments.{IsMoment, IsToldAt, IsTakenAt};
 
 use crate::event_kind::EventKind;
-use crate::receipt::Receipt;
 use crate::round::Round;
 use crate::seat::Seat;
 use delta_book::book::Book;
@@ -47,16 +46,20 @@ impl<L: Round> Model for Kept<L> {
 }
 
 impl<L: Round> Kept<L> {
-    /// Where the next entry will stand. What the seat was told stands in the journal.
-    fn look(&mut self, seat: &mut Seat<L>) -> u64
-        ensures place { result ≡ length self.old.entries }
+    /// The seat's number. The ledger's book sees the seat's share, so the journal is no shorter than
+    /// what the seat was told.
+    fn look(&mut self, seat: &mut Seat<L>) -> u16
+        ensures number { result ≡ seat.old.number }
+        ensures below { result < L.parts }
         ensures kept { self.new ≡ self.old }
         ensures seat { seat.new ≡ seat.old }
         ensures moment { IsMoment L.parts L.opening seat.old self.old }
     {
         let Kept { book, events } = self;
         seat.audit(events);
-        book.journal().len() as u64
+        // its history is legal
+        let _entries = book.journal();
+        seat.number()
     }
 
     /// As `Book::admit`, from the seat, which is told. The copy goes into its receipt.
@@ -75,17 +78,10 @@ impl<L: Round> Kept<L> {
         ensures err { OnErr result ((self.new ≡ self.old) × (seat.new ≡ seat.old)) }
         ensures moment { IsMoment L.parts L.opening seat.old self.old }
     {
-        let index = self.look(seat);
-        let number = seat.number();
+        let number = self.look(seat);
         let Kept { book, events } = self;
         let batch = book.admit(number, body)?;
-        let receipt = Receipt {
-            index,
-            kind: EventKind::Admit,
-            number: batch,
-            body: Some(copy),
-        };
-        seat.tell(book, events, receipt);
+        seat.note(book, events, EventKind::Admit, batch, Some(copy));
         Ok(batch)
     }
 
@@ -97,17 +93,10 @@ impl<L: Round> Kept<L> {
         ensures err { OnErr result ((self.new ≡ self.old) × (seat.new ≡ seat.old)) }
         ensures moment { IsMoment L.parts L.opening seat.old self.old }
     {
-        let index = self.look(seat);
-        let number = seat.number();
+        let number = self.look(seat);
         let Kept { book, events } = self;
         book.undo(number, batch)?;
-        let receipt = Receipt {
-            index,
-            kind: EventKind::Undo,
-            number: batch,
-            body: None,
-        };
-        seat.tell(book, events, receipt);
+        seat.note(book, events, EventKind::Undo, batch, None);
         Ok(())
     }
 
@@ -119,17 +108,10 @@ impl<L: Round> Kept<L> {
         ensures err { OnErr result ((self.new ≡ self.old) × (seat.new ≡ seat.old)) }
         ensures moment { IsMoment L.parts L.opening seat.old self.old }
     {
-        let index = self.look(seat);
-        let number = seat.number();
+        let number = self.look(seat);
         let Kept { book, events } = self;
         book.confirm(number, batch)?;
-        let receipt = Receipt {
-            index,
-            kind: EventKind::Confirm,
-            number: batch,
-            body: None,
-        };
-        seat.tell(book, events, receipt);
+        seat.note(book, events, EventKind::Confirm, batch, None);
         Ok(())
     }
 
@@ -143,19 +125,12 @@ impl<L: Round> Kept<L> {
         ensures err { OnErr result ((pick (history self.old) max ≢ []) × (self.new ≡ self.old) × (seat.new ≡ seat.old)) }
         ensures moment { IsMoment L.parts L.opening seat.old self.old }
     {
-        let index = self.look(seat);
-        let number = seat.number();
+        let number = self.look(seat);
         let Kept { book, events } = self;
         let Some(flush) = book.take(number, max)? else {
             return Ok(None);
         };
-        let receipt = Receipt {
-            index,
-            kind: EventKind::Take,
-            number: flush.number,
-            body: None,
-        };
-        seat.tell(book, events, receipt);
+        seat.note(book, events, EventKind::Take, flush.number, None);
         Ok(Some(flush))
     }
 
@@ -167,17 +142,10 @@ impl<L: Round> Kept<L> {
         ensures err { OnErr result ((self.new ≡ self.old) × (seat.new ≡ seat.old)) }
         ensures moment { IsMoment L.parts L.opening seat.old self.old }
     {
-        let index = self.look(seat);
-        let number = seat.number();
+        let number = self.look(seat);
         let Kept { book, events } = self;
         book.settle(number, flush)?;
-        let receipt = Receipt {
-            index,
-            kind: EventKind::Settle,
-            number: flush,
-            body: None,
-        };
-        seat.tell(book, events, receipt);
+        seat.note(book, events, EventKind::Settle, flush, None);
         Ok(())
     }
 
@@ -189,17 +157,10 @@ impl<L: Round> Kept<L> {
         ensures err { OnErr result ((self.new ≡ self.old) × (seat.new ≡ seat.old)) }
         ensures moment { IsMoment L.parts L.opening seat.old self.old }
     {
-        let index = self.look(seat);
-        let number = seat.number();
+        let number = self.look(seat);
         let Kept { book, events } = self;
         book.drop_flush(number, flush)?;
-        let receipt = Receipt {
-            index,
-            kind: EventKind::Drop,
-            number: flush,
-            body: None,
-        };
-        seat.tell(book, events, receipt);
+        seat.note(book, events, EventKind::Drop, flush, None);
         Ok(())
     }
 
@@ -211,17 +172,10 @@ impl<L: Round> Kept<L> {
         ensures err { OnErr result ((self.new ≡ self.old) × (seat.new ≡ seat.old)) }
         ensures moment { IsMoment L.parts L.opening seat.old self.old }
     {
-        let index = self.look(seat);
-        let number = seat.number();
+        let number = self.look(seat);
         let Kept { book, events } = self;
         book.give_back(number, flush)?;
-        let receipt = Receipt {
-            index,
-            kind: EventKind::GiveBack,
-            number: flush,
-            body: None,
-        };
-        seat.tell(book, events, receipt);
+        seat.note(book, events, EventKind::GiveBack, flush, None);
         Ok(())
     }
 
@@ -237,17 +191,10 @@ impl<L: Round> Kept<L> {
         ensures err { OnErr result ((self.new ≡ self.old) × (seat.new ≡ seat.old)) }
         ensures moment { IsMoment L.parts L.opening seat.old self.old }
     {
-        let index = self.look(seat);
-        let number = seat.number();
+        let number = self.look(seat);
         let Kept { book, events } = self;
         book.quarantine(number, sender)?;
-        let receipt = Receipt {
-            index,
-            kind: EventKind::Quarantine,
-            number: 0,
-            body: None,
-        };
-        seat.tell(book, events, receipt);
+        seat.note(book, events, EventKind::Quarantine, 0, None);
         Ok(())
     }
 
@@ -259,17 +206,10 @@ impl<L: Round> Kept<L> {
         ensures err { OnErr result ((self.new ≡ self.old) × (seat.new ≡ seat.old)) }
         ensures moment { IsMoment L.parts L.opening seat.old self.old }
     {
-        let index = self.look(seat);
-        let number = seat.number();
+        let number = self.look(seat);
         let Kept { book, events } = self;
         book.lift(number, sender)?;
-        let receipt = Receipt {
-            index,
-            kind: EventKind::Lift,
-            number: 0,
-            body: None,
-        };
-        seat.tell(book, events, receipt);
+        seat.note(book, events, EventKind::Lift, 0, None);
         Ok(())
     }
 

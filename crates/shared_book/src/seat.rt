@@ -3,8 +3,10 @@ ghost use Rattle.metric_events.specs.Legal.{IsLegal};
 ghost use Rattle.delta_book.specs.Journal.{history, IsNumbered};
 ghost use Rattle.shared_book.specs.Receipts.{told_of, told_also};
 
+use crate::event_kind::EventKind;
 use crate::receipt::Receipt;
 use delta_book::book::Book;
+use metric_events::batch::Batch;
 use metric_events::limits::MAX_ENTRIES;
 use std::alloc::{AllocError, Global};
 use std::marker::Model;
@@ -77,23 +79,36 @@ impl<L: Ledger> Seat<L> {
         events.audit(&mut self.share);
     }
 
-    /// The seat gets the receipt of the book's last entry, and the ledger counts it.
-    pub(crate) fn tell(&mut self, book: &Book, events: &mut ledger::Book<L>, receipt: Receipt)
+    /// The seat gets the receipt of the book's last entry, with what its call was told or answered, and
+    /// the ledger counts the entry.
+    pub(crate) fn note(
+        &mut self,
+        book: &Book,
+        events: &mut ledger::Book<L>,
+        kind: EventKind,
+        number: u64,
+        body: Option<Batch>,
+    )
         requires last { length book.now.entries ≡ events.old.total + 1 }
         requires long { length self.old.receipts ≤ events.old.total }
-        ensures told { self.new ≡ told_also self.old receipt }
+        ensures told { self.new ≡ told_also self.old (record { index = events.old.total; kind = kind; number = number; body = body }) }
         ensures total { events.new.total ≡ events.old.total + 1 }
         ensures legal { IsLegal (history book.now) }
         ensures numbered { IsNumbered (history book.now) }
     {
-        let _entries = book.journal();
+        let index = book.journal().len() as u64 - 1;
         let Seat {
             number: _,
             share,
             receipts,
         } = self;
         events.add(share, 1);
-        receipts.push_reserved(receipt);
+        receipts.push_reserved(Receipt {
+            index,
+            kind,
+            number,
+            body,
+        });
     }
 
     /// The seat's share of the events and how many receipts it has.
