@@ -283,11 +283,11 @@ faulty() {
 
 faulty 'no such subcommand' "error: unrecognized subcommand 'sing'" sing
 faulty 'no number of connections' 'error: the following required arguments were not provided:' serve --backend "$nobody"
-faulty 'too many connections' "error: invalid value '1000001' for '--connections <connections>': 1000001 is not in 0..=1000000" \
+faulty 'too many connections' "error: invalid value '1000001' for '--connections <N>': 1000001 is not in 0..=1000000" \
     serve --backend "$nobody" --connections 1000001
-faulty 'flushes of no series' "error: invalid value '0' for '--flush-series <flush-series>': 0 is not in 1..=1000" \
+faulty 'flushes of no series' "error: invalid value '0' for '--flush-series <N>': 0 is not in 1..=1000" \
     serve --backend "$nobody" --connections 0 --flush-series 0
-faulty 'a call for help' "Usage: $(basename "$program") serve [OPTIONS] --backend <backend> --connections <connections>" serve --help
+faulty 'a call for help' "Usage: $(basename "$program") serve [OPTIONS] --backend <HOST:PORT> --connections <N>" serve --help
 
 run serve --backend "$nobody" --connections 0 --listen 127.0.0.1:0
 ended 'no connection' 0 'end

@@ -20,18 +20,19 @@ pub record Number : Type 0 where
 abbrev pub number_rule : Number → Rule
 number_rule n = record (new_rule n.name) {
   long = Some n.name;
+  value_names = 1;
   defaults = option_map_or (λ text. text ∷ []) n.default [];
   required = option_map_or (λ text. false) n.default true;
   parser = Some (vp.Signed (pos n.least) (pos n.most));
 }
 
--- `--backend ADDR`, which must be given
+-- `--backend HOST:PORT`, which must be given
 abbrev pub backend : Rule
-backend = record (new_rule (codes "backend")) { long = Some (codes "backend"); required = true }
+backend = record (new_rule (codes "backend")) { long = Some (codes "backend"); value_names = 1; required = true }
 
--- `--listen ADDR`
+-- `--listen HOST:PORT`
 abbrev pub listen : Rule
-listen = record (new_rule (codes "listen")) { long = Some (codes "listen"); defaults = codes "127.0.0.1:4318" ∷ [] }
+listen = record (new_rule (codes "listen")) { long = Some (codes "listen"); value_names = 1; defaults = codes "127.0.0.1:4318" ∷ [] }
 
 -- `--connections N`, which must be given
 abbrev pub connections : Number

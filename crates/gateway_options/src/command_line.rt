@@ -15,6 +15,7 @@ use std::alloc::Global;
 
 const CONNECTIONS: NumberOption<'static> = NumberOption {
     name: "connections",
+    help: "How many connections are served before the gateway ends, 0 to 1000000",
     default: None,
     least: 0,
     most: 1_000_000,
@@ -22,6 +23,7 @@ const CONNECTIONS: NumberOption<'static> = NumberOption {
 
 const RECEIVERS: NumberOption<'static> = NumberOption {
     name: "receivers",
+    help: "Threads that serve connections, 1 to 8. An order to flush keeps its receiver until its turn is made: as many as orders at once, and two more",
     default: Some("2"),
     least: 1,
     most: 8,
@@ -29,6 +31,7 @@ const RECEIVERS: NumberOption<'static> = NumberOption {
 
 const FLUSHERS: NumberOption<'static> = NumberOption {
     name: "flushers",
+    help: "Threads that carry out the flushes that are ordered, 1 to 4",
     default: Some("1"),
     least: 1,
     most: 4,
@@ -36,6 +39,7 @@ const FLUSHERS: NumberOption<'static> = NumberOption {
 
 const FLUSH_SERIES: NumberOption<'static> = NumberOption {
     name: "flush-series",
+    help: "The most series of one flush, 1 to 1000",
     default: Some("1000"),
     least: 1,
     most: 1000,
@@ -43,6 +47,7 @@ const FLUSH_SERIES: NumberOption<'static> = NumberOption {
 
 const ROUND: NumberOption<'static> = NumberOption {
     name: "round",
+    help: "Connections of a round, 1 to 32000; behind them the store begins a new round",
     default: Some("32000"),
     least: 1,
     most: 32_000,
@@ -50,6 +55,7 @@ const ROUND: NumberOption<'static> = NumberOption {
 
 const SENDERS: NumberOption<'static> = NumberOption {
     name: "senders",
+    help: "Senders that post at once, 1 to 4",
     default: Some("2"),
     least: 1,
     most: 4,
@@ -57,6 +63,7 @@ const SENDERS: NumberOption<'static> = NumberOption {
 
 const BATCHES: NumberOption<'static> = NumberOption {
     name: "batches",
+    help: "Batches of each sender, 1 to 100",
     default: Some("3"),
     least: 1,
     most: 100,
@@ -65,20 +72,26 @@ const BATCHES: NumberOption<'static> = NumberOption {
 /// The most bytes of the back end's address.
 const LONGEST_BACKEND: usize = 4_294_967_295;
 
-/// `--backend ADDR`
+/// `--backend HOST:PORT`
 fn backend<'a>(alloc: Global) -> Arg<'a>
     ensures rule { rule_of result ≡ spec.backend }
     ensures local { result.global ≡ false }
 {
-    Arg::new(alloc, "backend").long("backend").required(true)
+    Arg::new(alloc, "backend")
+        .help("Where flushes are sent to, over HTTP/1.1")
+        .value_name("HOST:PORT")
+        .long("backend")
+        .required(true)
 }
 
-/// `--listen ADDR`
+/// `--listen HOST:PORT`
 fn listen<'a>(alloc: Global) -> Arg<'a>
     ensures rule { rule_of result ≡ spec.listen }
     ensures local { result.global ≡ false }
 {
     Arg::new(alloc, "listen")
+        .help("Where senders connect")
+        .value_name("HOST:PORT")
         .long("listen")
         .default_value("127.0.0.1:4318")
 }

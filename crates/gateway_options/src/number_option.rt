@@ -11,6 +11,8 @@ use std::alloc::Global;
 #[derive(Clone, Copy)]
 pub struct NumberOption<'a> {
     pub name: &'a str,
+    /// What it is, with unit and range, as the call for help tells it.
+    pub help: &'a str,
     /// What stands in where the option is left out. Where nothing does it must be given.
     pub default: Option<&'a str>,
     pub least: u32,
@@ -25,6 +27,8 @@ impl<'a> NumberOption<'a> {
     {
         let range = i64::from(self.least)..=i64::from(self.most);
         let argument = Arg::new(alloc, self.name)
+            .help(self.help)
+            .value_name("N")
             .long(self.name)
             .value_parser(value_parser!(u32).range(range));
         match self.default {

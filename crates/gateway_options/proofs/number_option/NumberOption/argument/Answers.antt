@@ -10,7 +10,7 @@ use Rattle.gateway_options.proofs.number_option.NumberOption.argument.Goals as g
 
 -- the rule of an option of this name, and with this parser
 abbrev long_rule : Text → Rule
-long_rule name = record (new_rule name) { long = Some name }
+long_rule name = record (new_rule name) { long = Some name; value_names = 1 }
 
 abbrev read_rule : Text → ValueParser → Rule
 read_rule name p = record (long_rule name) { parser = Some p }
@@ -45,7 +45,7 @@ numbered name long with a b q p r lo hi e same given is first least most k l h =
 pub returns-in-Some-clause-rule : goal.returns-in-Some-clause-rule
 returns-in-Some-clause-rule c =
     let o = c.args.self.now in
-    let long : rule_of c.long.result ≡ long_rule o.name.now = ap rule_of c.long.ensures ∙ ap (λ (r : Rule). record r { long = Some o.name.now }) c.new.ensures.rule in
+    let long : rule_of c.long.result ≡ long_rule o.name.now = ap rule_of c.long.ensures ∙ (ap (λ (a : Arg). record (rule_of a) { long = Some o.name.now }) c.value_name.ensures ∙ (ap (λ (a : Arg). record (rule_of a) { long = Some o.name.now; value_names = 1 }) c.help.ensures ∙ ap (λ (r : Rule). record r { long = Some o.name.now; value_names = 1 }) c.new.ensures.rule)) in
     let reads = numbered o.name.now c.long.result c.value_parser-argument.result o.least o.most _ c.value_parser.result c.range.result _ _ long c.value_parser-argument.ensures.others c.value_parser-argument.ensures.given.1 c.value_parser-argument.ensures.given.2 c.value_parser.ensures (c.new-range.ensures.start ∙ search rules) (c.new-range.ensures.end ∙ search rules) (search rules) (search rules) c.range.ensures in
     ap rule_of c.default_value.ensures
     ∙ (ap (λ (r : Rule). record r { defaults = c.in-Some.text.now ∷ [] }) reads
@@ -54,7 +54,7 @@ returns-in-Some-clause-rule c =
 pub returns-in-None-clause-rule : goal.returns-in-None-clause-rule
 returns-in-None-clause-rule c =
     let o = c.args.self.now in
-    let long : rule_of c.long.result ≡ long_rule o.name.now = ap rule_of c.long.ensures ∙ ap (λ (r : Rule). record r { long = Some o.name.now }) c.new.ensures.rule in
+    let long : rule_of c.long.result ≡ long_rule o.name.now = ap rule_of c.long.ensures ∙ (ap (λ (a : Arg). record (rule_of a) { long = Some o.name.now }) c.value_name.ensures ∙ (ap (λ (a : Arg). record (rule_of a) { long = Some o.name.now; value_names = 1 }) c.help.ensures ∙ ap (λ (r : Rule). record r { long = Some o.name.now; value_names = 1 }) c.new.ensures.rule)) in
     let reads = numbered o.name.now c.long.result c.value_parser-argument.result o.least o.most _ c.value_parser.result c.range.result _ _ long c.value_parser-argument.ensures.others c.value_parser-argument.ensures.given.1 c.value_parser-argument.ensures.given.2 c.value_parser.ensures (c.new-range.ensures.start ∙ search rules) (c.new-range.ensures.end ∙ search rules) (search rules) (search rules) c.range.ensures in
     ap rule_of c.required.ensures
     ∙ (ap (λ (r : Rule). record r { required = true }) reads
