@@ -410,6 +410,6 @@ fn points_adopt_equal_identities(rt: HostRuntime) {
     points.adopt(0, &other);
     expect_owners(&rt, &shared, &other, 3);
     let copy = points.copy(alloc).expect(&rt, "memory");
-    expect_owners(&rt, &shared, &other, 4);
+    expect_owners(&rt, &shared, &other, 3);
     look::holds(&rt, copy.is_same(&points), "the same points");
 }
