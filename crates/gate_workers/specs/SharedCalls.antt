@@ -12,33 +12,33 @@ use Rattle.delta_book.specs.declared.faults.AdmitFault.TheVariants as admission
 use Rattle.delta_book.specs.declared.faults.NotLive.{NotLive}
 use Rattle.delta_book.specs.declared.faults.TakeFault.TheVariants as taking
 use Rattle.delta_book.specs.declared.faults.QuarantineFault.TheVariants as holding
-use Rattle.shared_book.specs.Receipts.{Told}
-use Rattle.shared_book.specs.Moments.{AsOf, IsTold, IsTakenFor}
+use Rattle.shared_book.specs.Receipts.{SeatView}
+use Rattle.shared_book.specs.Moments.{AsOf, IsRecorded, IsTakenFor}
 use Rattle.gate_workers.specs.declared.order_fault.OrderFault.TheVariants.{Gone}
 use Rattle.gate_workers.specs.Calls.{Call, admit, undo, confirm, take, settle, drop_flush, give_back, quarantine, lift, totals, order}
 
 -- what contracts see of a keeper over a shared book: what its seat was told, and whether it has an end for orders
 pub record Worker : Type 0 where
-  pub told : Told
+  pub told : SeatView
   pub orders : Bool
 
 -- the seat was told nothing, and of the history at some moment of the round with this opening this held
-abbrev pub IsUntold : ℕ → Opening → Told → Told → (History → Type 0) → Type 0
+abbrev pub IsUntold : ℕ → Opening → SeatView → SeatView → (History → Type 0) → Type 0
 IsUntold seats opening t t' P = (t' ≡ t) × AsOf seats opening t P
 
 -- a flush ended, where it was live
-abbrev pub EndsFor : ℕ → Opening → Told → Told → ℕ → Event → Result (Unit {0}) NotLive → Type 0
-EndsFor seats opening t t' f event (Ok u) = IsTold seats opening t t' event
+abbrev pub EndsFor : ℕ → Opening → SeatView → SeatView → ℕ → Event → Result (Unit {0}) NotLive → Type 0
+EndsFor seats opening t t' f event (Ok u) = IsRecorded seats opening t t' event
 EndsFor seats opening t t' f event (Err e) = IsUntold seats opening t t' (λ E. flush_refusal E f ≡ Some e)
 
 -- what a call with its answer tells a seat of so many, in the round with this opening: the receipt of its event, or nothing, where the book refuses it or has nothing to change.
 -- An admission may also find no memory before it looks
-abbrev pub SeatGives : ℕ → Opening → Told → Call → Told → Type 0
-SeatGives seats opening t (admit body (Ok n)) t' = IsTold seats opening t t' (Admit n body)
+abbrev pub SeatGives : ℕ → Opening → SeatView → Call → SeatView → Type 0
+SeatGives seats opening t (admit body (Ok n)) t' = IsRecorded seats opening t t' (Admit n body)
 SeatGives seats opening t (admit body (Err e)) t' = (t' ≡ t) × (e.0 ≢ admission.NoMemory → AsOf seats opening t (λ E. admit_refusal E body ≡ Some e.0))
-SeatGives seats opening t (undo b (Ok u)) t' = IsTold seats opening t t' (Undo b)
+SeatGives seats opening t (undo b (Ok u)) t' = IsRecorded seats opening t t' (Undo b)
 SeatGives seats opening t (undo b (Err e)) t' = IsUntold seats opening t t' (λ E. undo_refusal E b ≡ Some e)
-SeatGives seats opening t (confirm b (Ok u)) t' = IsTold seats opening t t' (Confirm b)
+SeatGives seats opening t (confirm b (Ok u)) t' = IsRecorded seats opening t t' (Confirm b)
 SeatGives seats opening t (confirm b (Err e)) t' = IsUntold seats opening t t' (λ E. confirm_refusal E b ≡ Some e)
 SeatGives seats opening t (take max (Ok None)) t' = IsUntold seats opening t t' (λ E. pick E max ≡ [])
 SeatGives seats opening t (take max (Ok (Some flush))) t' = IsTakenFor seats opening t t' max flush
@@ -46,9 +46,9 @@ SeatGives seats opening t (take max (Err e)) t' = IsUntold seats opening t t' (�
 SeatGives seats opening t (settle f r) t' = EndsFor seats opening t t' f (Settle f) r
 SeatGives seats opening t (drop_flush f r) t' = EndsFor seats opening t t' f (Drop f) r
 SeatGives seats opening t (give_back f r) t' = EndsFor seats opening t t' f (GiveBack f) r
-SeatGives seats opening t (quarantine s (Ok u)) t' = IsTold seats opening t t' (Quarantine s)
+SeatGives seats opening t (quarantine s (Ok u)) t' = IsRecorded seats opening t t' (Quarantine s)
 SeatGives seats opening t (quarantine s (Err e)) t' = IsUntold seats opening t t' (λ E. e ≡ unwrap_or (quarantine_refusal E s) holding.NoMemory)
-SeatGives seats opening t (lift s (Ok u)) t' = IsTold seats opening t t' (Lift s)
+SeatGives seats opening t (lift s (Ok u)) t' = IsRecorded seats opening t t' (Lift s)
 SeatGives seats opening t (lift s (Err e)) t' = IsUntold seats opening t t' (λ E. lift_refusal E s ≡ Some e)
 SeatGives seats opening t (totals None) t' = t' ≡ t
 SeatGives seats opening t (totals (Some rows)) t' = IsUntold seats opening t t' (λ E. rows ≡ totals_rows E)

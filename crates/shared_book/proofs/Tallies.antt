@@ -7,7 +7,7 @@ use Rattle.std.proofs.lemmas.List.{take_more, drop_at, drop-drop, append_assoc, 
 use Rattle.metric_events.specs.declared.entry.Entry.{Entry}
 use Rattle.shared_book.specs.declared.receipt.Receipt.{Receipt}
 use Rattle.shared_book.specs.declared.seat.TheConstants.{MAX_SEATS}
-use Rattle.shared_book.specs.Receipts.{Told, receipt_of, receipts_of, IsNext}
+use Rattle.shared_book.specs.Receipts.{SeatView, receipt_of, receipts_of, IsNext}
 use Rattle.shared_book.specs.Audits.{IsBegun, IsTallied}
 
 -- the receipts that an entry at a place adds
@@ -60,18 +60,18 @@ next_of_more told these rest r e =
     left ∙ ap (λ v. r ∷ v) (sym past)
 
 -- a seat's receipts still begin so where it is not named, or has the entry's receipt next
-abbrev IsNamedNext : List Entry → Entry → Told → Type 0
+abbrev IsNamedNext : List Entry → Entry → SeatView → Type 0
 IsNamedNext es e t = t.number ≡ e.seat → IsNext t.receipts (length (receipts_of t.number 0 es)) (receipt_of (length es) e.event)
 
-begins : (b : Bool) (es : List Entry) (e : Entry) (t : Told) (these rest : List Receipt) → (b ≡ true → IsNext t.receipts (length these) (receipt_of (length es) e.event)) → t.receipts ≡ these ++ rest → (left : List Receipt) × (t.receipts ≡ (these ++ (if b then receipt_of (length es) e.event ∷ [] else [])) ++ left)
+begins : (b : Bool) (es : List Entry) (e : Entry) (t : SeatView) (these rest : List Receipt) → (b ≡ true → IsNext t.receipts (length these) (receipt_of (length es) e.event)) → t.receipts ≡ these ++ rest → (left : List Receipt) × (t.receipts ≡ (these ++ (if b then receipt_of (length es) e.event ∷ [] else [])) ++ left)
 begins true es e t these rest next h = (drop (length these + 1) t.receipts, begun_more t.receipts these rest _ h (next refl))
 begins false es e t these rest next h = (rest, rw append-nil h)
 
-begun_after : (es : List Entry) (e : Entry) (t : Told) → IsNamedNext es e t → IsBegun es t → IsBegun (es ++ e ∷ []) t
+begun_after : (es : List Entry) (e : Entry) (t : SeatView) → IsNamedNext es e t → IsBegun es t → IsBegun (es ++ e ∷ []) t
 begun_after es e t next h =
     rw (receipts_after t.number es e) (begins (e.seat == t.number) es e t (receipts_of t.number 0 es) h.0 (λ b. next (sym (eqb-true _ _ b))) h.1)
 
-begun_before : (es : List Entry) (e : Entry) (t : Told) → IsBegun (es ++ e ∷ []) t → IsBegun es t
+begun_before : (es : List Entry) (e : Entry) (t : SeatView) → IsBegun (es ++ e ∷ []) t → IsBegun es t
 begun_before es e t h =
     (after t.number es e ++ h.0, h.1 ∙ ap (λ v. v ++ h.0) (receipts_after t.number es e) ∙ append_assoc (receipts_of t.number 0 es) (after t.number es e) h.0)
 
@@ -92,15 +92,15 @@ count_own n es e is = ap length (receipts_after n es e ∙ ap (λ v. receipts_of
 count_other : (n : ℕ) (es : List Entry) (e : Entry) → (e.seat ≡ n → ⊥) → length (receipts_of n 0 (es ++ e ∷ [])) ≡ length (receipts_of n 0 es)
 count_other n es e never = ap length (receipts_after n es e ∙ ap (λ v. receipts_of n 0 es ++ v) (named_other n es e never) ∙ append-nil (receipts_of n 0 es))
 
-not_begun : (es : List Entry) (e : Entry) (t : Told) → t.number ≡ e.seat → (IsNext t.receipts (length (receipts_of t.number 0 es)) (receipt_of (length es) e.event) → ⊥) → IsBegun (es ++ e ∷ []) t → ⊥
+not_begun : (es : List Entry) (e : Entry) (t : SeatView) → t.number ≡ e.seat → (IsNext t.receipts (length (receipts_of t.number 0 es)) (receipt_of (length es) e.event) → ⊥) → IsBegun (es ++ e ∷ []) t → ⊥
 not_begun es e t is never h =
     never (next_of_more t.receipts (receipts_of t.number 0 es) h.0 _ (h.1 ∙ ap (λ v. v ++ h.0) (receipts_after t.number es e ∙ ap (λ v. receipts_of t.number 0 es ++ v) (named_own t.number es e (sym is)))))
 
-differs_after : (es : List Entry) (e : Entry) (seats : List Told) → Any (λ t. ¬ (IsBegun es t)) seats → Any (λ t. ¬ (IsBegun (es ++ e ∷ []) t)) seats
+differs_after : (es : List Entry) (e : Entry) (seats : List SeatView) → Any (λ t. ¬ (IsBegun es t)) seats → Any (λ t. ¬ (IsBegun (es ++ e ∷ []) t)) seats
 differs_after es e seats w = (w.0, w.1, w.2, w.3, λ b. w.4 (begun_before es e w.1 b))
 
 -- after an entry that names no seat here
-pub passed_over : (es : List Entry) (e : Entry) (seats : List Told) (named : List ℕ) (same : Bool) → MAX_SEATS ≤ e.seat → IsTallied es seats named same → IsTallied (es ++ e ∷ []) seats named same
+pub passed_over : (es : List Entry) (e : Entry) (seats : List SeatView) (named : List ℕ) (same : Bool) → MAX_SEATS ≤ e.seat → IsTallied es seats named same → IsTallied (es ++ e ∷ []) seats named same
 passed_over es e seats named same far h = record {
   counted = λ n lt. h.counted n lt ∙ sym (count_other n es e (λ i. absurd (omega arith)));
   begun = λ s k d lt few. begun_after es e (get_or seats k d) (λ i. absurd (omega arith)) (h.begun s k d lt few);
@@ -115,7 +115,7 @@ counted_after es e named within h n lt =
     ]
 
 -- after an entry of a seat here, where nothing differed before it
-pub compared : (es : List Entry) (e : Entry) (seats : List Told) (named : List ℕ) (same : Bool) → e.seat < length named → e.seat < MAX_SEATS → IsTallied es seats named true
+pub compared : (es : List Entry) (e : Entry) (seats : List SeatView) (named : List ℕ) (same : Bool) → e.seat < length named → e.seat < MAX_SEATS → IsTallied es seats named true
     → (same ≡ true → All (λ t. t.number ≡ e.seat → IsNext t.receipts (get_or named e.seat 0) (receipt_of (length es) e.event)) seats)
     → (same ≡ false → Any (λ t. (t.number ≡ e.seat) × ¬ (IsNext t.receipts (get_or named e.seat 0) (receipt_of (length es) e.event))) seats)
     → IsTallied (es ++ e ∷ []) seats (set named e.seat (get_or named e.seat 0 + 1)) same
@@ -126,7 +126,7 @@ compared es e seats named same within few h all any = record {
 }
 
 -- after an entry of a seat here, where something differed before it
-pub differed : (es : List Entry) (e : Entry) (seats : List Told) (named : List ℕ) → e.seat < length named → IsTallied es seats named false → IsTallied (es ++ e ∷ []) seats (set named e.seat (get_or named e.seat 0 + 1)) false
+pub differed : (es : List Entry) (e : Entry) (seats : List SeatView) (named : List ℕ) → e.seat < length named → IsTallied es seats named false → IsTallied (es ++ e ∷ []) seats (set named e.seat (get_or named e.seat 0 + 1)) false
 differed es e seats named within h = record {
   counted = counted_after es e named within h.counted;
   begun = λ s. absurd (cc);

@@ -6,33 +6,33 @@ use Rattle.metric_events.specs.declared.event.Event.{Event}
 use Rattle.metric_events.specs.declared.event.Event.TheVariants.{Admit, Undo, Confirm, Take, Settle, Drop, GiveBack, Quarantine, Lift}
 use Rattle.shared_book.specs.declared.receipt.Receipt.{Receipt}
 use Rattle.shared_book.specs.declared.seat.TheConstants.{MAX_SEATS}
-use Rattle.shared_book.specs.Receipts.{Told, receipts_of}
+use Rattle.shared_book.specs.Receipts.{SeatView, receipts_of}
 
 -- a seat's receipts are those of the entries that name it, each once, in order
-abbrev pub IsMatched : List Entry → Told → Type 0
+abbrev pub IsMatched : List Entry → SeatView → Type 0
 IsMatched entries t = t.receipts ≡ receipts_of t.number 0 entries
 
 -- a seat has fewer receipts than entries name it
-abbrev pub IsShort : List Entry → Told → Type 0
+abbrev pub IsShort : List Entry → SeatView → Type 0
 IsShort entries t = length t.receipts < length (receipts_of t.number 0 entries)
 
 -- a seat's receipts begin with those of the entries that name it
-abbrev pub IsBegun : List Entry → Told → Type 0
+abbrev pub IsBegun : List Entry → SeatView → Type 0
 IsBegun entries t = (rest : List Receipt) × (t.receipts ≡ receipts_of t.number 0 entries ++ rest)
 
 -- how many of these entries name each number of a seat, and whether the receipts of each of these seats begin with theirs
-pub record IsTallied (entries : List Entry) (seats : List Told) (named : List ℕ) (same : Bool) : Type 0 where
+pub record IsTallied (entries : List Entry) (seats : List SeatView) (named : List ℕ) (same : Bool) : Type 0 where
   pub counted : (n : ℕ) → n < MAX_SEATS → slice_index named n ≡ length (receipts_of n 0 entries)
   pub begun : same ≡ true → All (λ t. t.number < MAX_SEATS → IsBegun entries t) seats
   pub differs : same ≡ false → Any (λ t. ¬ (IsBegun entries t)) seats
 
 -- the number is on one of the seats
-abbrev pub is_seated : ℕ → List Told → Bool
+abbrev pub is_seated : ℕ → List SeatView → Bool
 is_seated n [] = false
 is_seated n (t ∷ ts) = (t.number == n) || is_seated n ts
 
 -- each number below is on one of the seats
-abbrev pub AllSeated : ℕ → List Told → Type 0
+abbrev pub AllSeated : ℕ → List SeatView → Type 0
 AllSeated seats ts = (n : ℕ) → n < seats → is_seated n ts ≡ true
 
 -- how many points an event admits

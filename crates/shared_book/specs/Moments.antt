@@ -13,14 +13,14 @@ use Rattle.delta_book.specs.Journal.{Journal, history, IsNumbered, Appends}
 use Rattle.delta_book.specs.Flushes.{IsTaken}
 use Rattle.delta_book.specs.declared.flush.Flush.{Flush}
 use Rattle.shared_book.specs.declared.seat.TheConstants.{MAX_SEATS}
-use Rattle.shared_book.specs.Receipts.{Told, told_also, receipt_of}
+use Rattle.shared_book.specs.Receipts.{SeatView, with_receipt, receipt_of}
 
 -- an entry of one of so many seats
 abbrev pub IsOfSeat : ℕ → Entry → Type 0
 IsOfSeat seats e = e.seat < seats
 
 -- what lies under the lock: a journal with the round's opening, each entry of one of the seats, and as many entries as the ledger's total
-pub record IsKept (seats : ℕ) (opening : Opening) (j : Journal) (total : ℕ) : Type 0 where
+pub record IsLocked (seats : ℕ) (opening : Opening) (j : Journal) (total : ℕ) : Type 0 where
   pub opened : j.opening ≡ opening
   pub of_seats : All (IsOfSeat seats) j.entries
   pub counted : length j.entries ≡ total
@@ -41,30 +41,30 @@ pub record IsShared (seats : ℕ) (opening : Opening) (j : Journal) : Type 0 whe
   pub of_seats : All (IsOfSeat seats) j.entries
 
 -- such a journal, no shorter than all that the seat was told
-pub record IsMoment (seats : ℕ) (opening : Opening) (t : Told) (j : Journal) : Type 0 where
+pub record IsMoment (seats : ℕ) (opening : Opening) (t : SeatView) (j : Journal) : Type 0 where
   pub shared : IsShared seats opening j
   pub long : length t.receipts ≤ length j.entries
 
 -- this holds of the history of such a journal
-abbrev pub AsOf : ℕ → Opening → Told → (History → Type 0) → Type 0
+abbrev pub AsOf : ℕ → Opening → SeatView → (History → Type 0) → Type 0
 AsOf seats opening t P = (j : Journal) × IsMoment seats opening t j × P (history j)
 
 -- a journal got one entry more, of this seat and this event, and the seat the receipt of it
-pub record IsToldAt (seats : ℕ) (opening : Opening) (before after : Journal) (old new : Told) (event : Event) : Type 0 where
+pub record IsRecordedAt (seats : ℕ) (opening : Opening) (before after : Journal) (old new : SeatView) (event : Event) : Type 0 where
   pub moment : IsMoment seats opening old before
   pub entry : Appends before after old.number event
   pub shared : IsShared seats opening after
-  pub told : new ≡ told_also old (receipt_of (length before.entries) event)
+  pub told : new ≡ with_receipt old (receipt_of (length before.entries) event)
 
 -- that is so of two journals
-abbrev pub IsTold : ℕ → Opening → Told → Told → Event → Type 0
-IsTold seats opening old new event = (before : Journal) × (after : Journal) × IsToldAt seats opening before after old new event
+abbrev pub IsRecorded : ℕ → Opening → SeatView → SeatView → Event → Type 0
+IsRecorded seats opening old new event = (before : Journal) × (after : Journal) × IsRecordedAt seats opening before after old new event
 
 -- a flush was taken from a journal, and the seat was told of it
-pub record IsTakenAt (seats : ℕ) (opening : Opening) (before after : Journal) (old new : Told) (max : ℕ) (flush : Flush) : Type 0 where
+pub record IsTakenAt (seats : ℕ) (opening : Opening) (before after : Journal) (old new : SeatView) (max : ℕ) (flush : Flush) : Type 0 where
   pub taken : IsTaken before after old.number max flush
-  pub told : IsToldAt seats opening before after old new (Take flush.number (pick (history before) max))
+  pub told : IsRecordedAt seats opening before after old new (Take flush.number (pick (history before) max))
 
 -- that is so of two journals
-abbrev pub IsTakenFor : ℕ → Opening → Told → Told → ℕ → Flush → Type 0
+abbrev pub IsTakenFor : ℕ → Opening → SeatView → SeatView → ℕ → Flush → Type 0
 IsTakenFor seats opening old new max flush = (before : Journal) × (after : Journal) × IsTakenAt seats opening before after old new max flush

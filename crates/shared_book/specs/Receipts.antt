@@ -6,21 +6,21 @@ use Rattle.metric_events.specs.declared.entry.Entry.{Entry}
 use Rattle.metric_events.specs.declared.event.Event.{Event}
 use Rattle.metric_events.specs.declared.event.Event.TheVariants.{Admit, Undo, Confirm, Take, Settle, Drop, GiveBack, Quarantine, Lift}
 use Rattle.shared_book.specs.declared.receipt.Receipt.{Receipt}
-use Rattle.shared_book.specs.declared.event_kind.EventKind.{EventKind}
-use Rattle.shared_book.specs.declared.event_kind.EventKind.TheVariants as kind
+use Rattle.shared_book.specs.declared.receipt.EventKind.{EventKind}
+use Rattle.shared_book.specs.declared.receipt.EventKind.TheVariants as kind
 
 -- what contracts see of a seat: its number, and the receipts of what it was told, in order
-pub record Told : Type 0 where
+pub record SeatView : Type 0 where
   pub number : ℕ
   pub receipts : List Receipt
 
 -- the seat of this number with these receipts
-abbrev pub told_of : ℕ → List Receipt → Told
-told_of number receipts = record { number = number; receipts = receipts }
+abbrev pub seat_view : ℕ → List Receipt → SeatView
+seat_view number receipts = record { number = number; receipts = receipts }
 
 -- a seat that was told this too
-abbrev pub told_also : Told → Receipt → Told
-told_also t receipt = told_of t.number (t.receipts ++ receipt ∷ [])
+abbrev pub with_receipt : SeatView → Receipt → SeatView
+with_receipt t receipt = seat_view t.number (t.receipts ++ receipt ∷ [])
 
 -- which event it is
 abbrev pub kind_of : Event → EventKind
@@ -74,6 +74,6 @@ abbrev pub IsNext : List Receipt → ℕ → Receipt → Type 0
 IsNext receipts at receipt = drop at receipts ≡ receipt ∷ drop (at + 1) receipts
 
 -- seats 0, 1, .. that were told nothing
-abbrev pub fresh_seats : ℕ → List Told
+abbrev pub fresh_seats : ℕ → List SeatView
 fresh_seats zero = []
-fresh_seats (suc n) = fresh_seats n ++ told_of n [] ∷ []
+fresh_seats (suc n) = fresh_seats n ++ seat_view n [] ∷ []

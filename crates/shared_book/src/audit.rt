@@ -1,3 +1,19 @@
+//! The audit of a round: the receipts of all seats beside the journal.
+ghost use Rattle.std.specs.Prelude.{◌≡◌, ◌≢◌, ◌<◌, ◌≤◌, ◌^◌, length, sum_by, OnOk, IfErr};
+ghost use Rattle.std.specs.List.{All, Any};
+ghost use Rattle.metric_events.specs.Standing.{standing};
+ghost use Rattle.delta_book.specs.Journal.{history};
+ghost use Rattle.delta_book.specs.Totals.{acknowledged_points};
+ghost use Rattle.shared_book.specs.Audits.{IsMatched, IsShort, AllSeated, points_in, admitted_points};
+
+use crate::seat::{Seat, all_seated};
+use crate::tally::Tally;
+use delta_book::book::Book;
+use metric_events::entry::Entry;
+use metric_events::event::Event;
+use metric_events::limits::MAX_ENTRIES;
+use std::sync::ledger::{self, Ledger};
+
 /// What an audit of all seats has found.
 #[derive(Clone, Copy, Debug, PartialEq, Eq)]
 pub struct Audit {
@@ -7,4 +23,138 @@ pub struct Audit {
     pub admitted: u128,
     /// The points that the back end has taken in the round.
     pub acknowledged: u128,
+}
+
+/// Why an audit fails.
+#[derive(Clone, Copy, Debug, PartialEq, Eq)]
+pub enum AuditFault {
+    /// A number of a seat is on none of the seats.
+    SeatOut,
+    /// A seat has fewer receipts than entries name it.
+    MissingReceipt,
+    /// A seat's receipts are not those of the entries that name it.
+    StrayEntry,
+}
+
+/// Whether the receipts of each of these seats are exactly the entries of the book's journal
+/// that name it. `MissingReceipt` where a seat has fewer receipts than entries name it; else
+/// `StrayEntry` where a seat's receipts are not those of these entries, in order, in place, kind,
+/// number and batch. Takes no memory.
+pub fn check<L: Ledger>(book: &Book, seats: &[Seat<L>]) -> Result<(), AuditFault>
+    ensures matched { OnOk result (All (IsMatched book.now.entries) seats.now) }
+    ensures missing { IfErr result (λ e. e ≡ AuditFault.MissingReceipt → Any (IsShort book.now.entries) seats.now) }
+    ensures long { IfErr result (λ e. e ≡ AuditFault.StrayEntry → All (λ s. ¬ (IsShort book.now.entries s)) seats.now) }
+    ensures stray { IfErr result (λ e. e ≡ AuditFault.StrayEntry → Any (λ s. ¬ (IsMatched book.now.entries s)) seats.now) }
+    ensures either { IfErr result (λ e. e ≢ AuditFault.SeatOut) }
+{
+    let tally = Tally::of(book.journal(), seats);
+    let mut same = tally.same;
+    for seat in seats {
+        let told = seat.receipts().len();
+        let named = tally.named[seat.number() as usize];
+        if told < named {
+            return Err(AuditFault::MissingReceipt);
+        }
+        if named < told {
+            same = false;
+        }
+    }
+    if !same {
+        return Err(AuditFault::StrayEntry);
+    }
+    Ok(())
+}
+
+/// As `check`, of the seats of a shared book, which have each number below `count`; `SeatOut`
+/// where one of these numbers is on none of them.
+pub(crate) fn check_seated<L: Ledger>(
+    book: &Book,
+    seats: &[Seat<L>],
+    count: u16,
+) -> Result<(), AuditFault>
+    ensures seated { OnOk result (AllSeated count seats.now) }
+    ensures matched { OnOk result (All (IsMatched book.now.entries) seats.now) }
+    ensures out { IfErr result (λ e. e ≡ AuditFault.SeatOut → ¬ (AllSeated count seats.now)) }
+    ensures here { IfErr result (λ e. e ≢ AuditFault.SeatOut → AllSeated count seats.now) }
+    ensures missing { IfErr result (λ e. e ≡ AuditFault.MissingReceipt → Any (IsShort book.now.entries) seats.now) }
+    ensures long { IfErr result (λ e. e ≡ AuditFault.StrayEntry → All (λ s. ¬ (IsShort book.now.entries s)) seats.now) }
+    ensures stray { IfErr result (λ e. e ≡ AuditFault.StrayEntry → Any (λ s. ¬ (IsMatched book.now.entries s)) seats.now) }
+{
+    if !all_seated(seats, count) {
+        return Err(AuditFault::SeatOut);
+    }
+    check(book, seats)
+}
+
+/// Joins the shares of all seats: how many receipts there are, which is how many events the
+/// ledger has counted.
+fn join_shares<L: Ledger>(events: ledger::Book<L>, seats: Vec<Seat<L>>) -> u128
+    requires small { events.total ≤ MAX_ENTRIES }
+    requires some { 0 < L.parts }
+    requires all { AllSeated L.parts seats.items }
+    ensures total { result ≡ events.total }
+    ensures sum { result ≡ sum_by (λ s. length s.receipts) seats.items }
+    ensures once { length seats.items ≡ L.parts }
+{
+    let mut events = events;
+    let mut seats = seats;
+    let Some(first) = seats.pop() else {
+        return 0;
+    };
+    let (mut whole, told) = first.into_share();
+    let mut count = told as u128;
+    while let Some(seat) = seats.pop() {
+        let (share, told) = seat.into_share();
+        whole.merge(share);
+        events.audit(&mut whole);
+        count += told as u128;
+    }
+    events.audit(&mut whole);
+    count
+}
+
+/// How many points an event admits.
+fn points_of(event: &Event) -> u128
+    ensures value { result ≡ points_in event.now }
+    ensures small { result < 2 ^ 64 }
+{
+    match event {
+        Event::Admit { body, .. } => body.points.as_slice().len() as u128,
+        _ => 0,
+    }
+}
+
+/// How many points these entries admit.
+fn points_admitted(entries: &[Entry]) -> u128
+    requires { length entries.now ≤ MAX_ENTRIES }
+    ensures { result ≡ admitted_points entries.now }
+{
+    let mut total = 0;
+    for entry in entries {
+        total += points_of(&entry.event);
+    }
+    total
+}
+
+/// The audit of a book that all these seats were told of.
+pub(crate) fn audit_of<L: Ledger>(
+    book: &Book,
+    events: ledger::Book<L>,
+    seats: Vec<Seat<L>>,
+) -> Audit
+    requires counted { length book.now.entries ≡ events.total }
+    requires some { 0 < L.parts }
+    requires all { AllSeated L.parts seats.items }
+    ensures events { result.events ≡ length book.now.entries }
+    ensures told { result.events ≡ sum_by (λ s. length s.receipts) seats.items }
+    ensures once { length seats.items ≡ L.parts }
+    ensures admitted { result.admitted ≡ admitted_points book.now.entries }
+    ensures acknowledged { result.acknowledged ≡ acknowledged_points (standing (history book.now)).series }
+{
+    let admitted = points_admitted(book.journal());
+    Audit {
+        events: join_shares(events, seats),
+        admitted,
+        acknowledged: book.acknowledged(),
+    }
 }

@@ -7,12 +7,7 @@
 #![tactic(auto)]
 
 pub mod audit;
-pub mod audit_fault;
-pub mod checking;
-pub mod event_kind;
-mod joining;
-mod kept;
-mod matching;
+mod locked;
 pub mod receipt;
 pub mod round;
 pub mod seat;

@@ -1,10 +1,10 @@
-ghost use Rattle.std.specs.Prelude.{◌≡◌, ◌+◌, ◌<◌, ◌≤◌, [], length, IfOk};
+ghost use Rattle.std.specs.Prelude.{◌≡◌, ◌↔◌, ◌+◌, ◌<◌, ◌≤◌, [], IsTrue, length, IfOk};
 ghost use Rattle.metric_events.specs.Legal.{IsLegal};
 ghost use Rattle.delta_book.specs.Journal.{history, IsNumbered};
-ghost use Rattle.shared_book.specs.Receipts.{told_of, told_also};
+ghost use Rattle.shared_book.specs.Audits.{is_seated, AllSeated};
+ghost use Rattle.shared_book.specs.Receipts.{fresh_seats, seat_view, with_receipt};
 
-use crate::event_kind::EventKind;
-use crate::receipt::Receipt;
+use crate::receipt::{EventKind, Receipt};
 use delta_book::book::Book;
 use metric_events::batch::Batch;
 use metric_events::limits::MAX_ENTRIES;
@@ -27,12 +27,12 @@ pub struct Seat<L: Ledger> {
 
 impl<L: Ledger> Model for Seat<L> {
     ghost use Rattle.std.specs.Prelude.{vec_len, vec_capacity};
-    ghost use Rattle.shared_book.specs.Receipts.{Told, told_of};
+    ghost use Rattle.shared_book.specs.Receipts.{SeatView, seat_view};
     ghost use Rattle.shared_book.specs.Moments.{IsSeat};
 
-    ghost Value = { Told };
+    ghost Value = { SeatView };
 
-    ghost view = { λ s. told_of s.number s.receipts.items };
+    ghost view = { λ s. seat_view s.number s.receipts.items };
 
     ghost invariant = { λ s. IsSeat L.parts s.number s.share.parts s.share.amount (vec_len s.receipts) (vec_capacity s.receipts) };
 }
@@ -44,7 +44,7 @@ impl<L: Ledger> Seat<L> {
         requires few { L.parts ≤ MAX_SEATS }
         requires parts { share.parts ≡ 1 }
         requires amount { share.amount ≡ 0 }
-        ensures { IfOk result (λ seat. seat ≡ told_of number []) }
+        ensures { IfOk result (λ seat. seat ≡ seat_view number []) }
     {
         let receipts = Vec::with_capacity(alloc, MAX_ENTRIES)?;
         Ok(Seat {
@@ -91,7 +91,7 @@ impl<L: Ledger> Seat<L> {
     )
         requires last { length book.now.entries ≡ events.old.total + 1 }
         requires long { length self.old.receipts ≤ events.old.total }
-        ensures told { self.new ≡ told_also self.old (record { index = events.old.total; kind = kind; number = number; body = body }) }
+        ensures told { self.new ≡ with_receipt self.old (record { index = events.old.total; kind = kind; number = number; body = body }) }
         ensures total { events.new.total ≡ events.old.total + 1 }
         ensures legal { IsLegal (history book.now) }
         ensures numbered { IsNumbered (history book.now) }
@@ -125,4 +125,49 @@ impl<L: Ledger> Seat<L> {
         let count = receipts.len();
         (share, count)
     }
+}
+
+/// A seat for each part of the ledger.
+pub(crate) fn make_seats<L: Ledger>(
+    alloc: Global,
+    whole: Share<L>,
+    seats: u16,
+) -> Result<Vec<Seat<L>>, AllocError>
+    requires parts { whole.parts ≡ L.parts }
+    requires amount { whole.amount ≡ 0 }
+    requires seats { L.parts ≡ seats }
+    requires few { seats ≤ MAX_SEATS }
+    ensures { IfOk result (λ v. v.items ≡ fresh_seats seats) }
+{
+    let mut whole = whole;
+    let mut list = Vec::new(alloc);
+    for number in 0..seats {
+        let share = whole.split_off(1, 0);
+        list.push(Seat::new(alloc, number, share)?)?;
+    }
+    Ok(list)
+}
+
+/// Whether one of the seats has the number.
+fn has_seat<L: Ledger>(seats: &[Seat<L>], number: u16) -> bool
+    ensures { result ≡ is_seated number seats.now }
+{
+    for seat in seats {
+        if seat.number() == number {
+            return true;
+        }
+    }
+    false
+}
+
+/// Whether each number below is on one of the seats.
+pub(crate) fn all_seated<L: Ledger>(seats: &[Seat<L>], count: u16) -> bool
+    ensures { IsTrue result ↔ AllSeated count seats.now }
+{
+    for number in 0..count {
+        if !has_seat(seats, number) {
+            return false;
+        }
+    }
+    true
 }

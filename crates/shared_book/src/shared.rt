@@ -7,16 +7,13 @@ ghost use Rattle.delta_book.specs.Refusals.{admit_refusal, undo_refusal, confirm
 ghost use Rattle.delta_book.specs.Flushes.{is_full};
 ghost use Rattle.delta_book.specs.Totals.{totals_rows, acknowledged_points};
 ghost use Rattle.shared_book.specs.Receipts.{fresh_seats};
-ghost use Rattle.shared_book.specs.Moments.{AsOf, IsShared, IsTold, IsTakenFor};
+ghost use Rattle.shared_book.specs.Moments.{AsOf, IsShared, IsRecorded, IsTakenFor};
 ghost use Rattle.shared_book.specs.Audits.{IsMatched, IsShort, AllSeated, admitted_points};
 
-use crate::audit::Audit;
-use crate::audit_fault::AuditFault;
-use crate::checking::check;
-use crate::joining::{all_seated, audit_of, make_seats};
-use crate::kept::Kept;
+use crate::audit::{Audit, AuditFault, audit_of, check_seated};
+use crate::locked::Locked;
 use crate::round::Round;
-use crate::seat::{MAX_SEATS, Seat};
+use crate::seat::{MAX_SEATS, Seat, make_seats};
 use delta_book::book::Book;
 use delta_book::faults::{
     AdmitFault, NotLive, NotOpen, NotQuarantined, QuarantineFault, TakeFault, UndoFault,
@@ -41,7 +38,7 @@ use std::sync::{Mutex, Wait};
 pub struct SharedBook<L: Round> {
     alloc: Global,
     seats: u16,
-    lock: Mutex<Kept<L>>,
+    lock: Mutex<Locked<L>>,
 }
 
 impl<L: Round> Model for SharedBook<L> {
@@ -82,7 +79,7 @@ impl<L: Round> SharedBook<L> {
                 SharedBook {
                     alloc,
                     seats,
-                    lock: Mutex::new(Kept { book, events }),
+                    lock: Mutex::new(Locked { book, events }),
                 },
                 list,
             )),
@@ -99,7 +96,7 @@ impl<L: Round> SharedBook<L> {
         body: Batch,
     ) -> Result<u64, (AdmitFault, Batch)>
         requires { 0 < length body.points }
-        ensures told { IfOk result (λ n. IsTold L.parts L.opening seat.old seat.new (Event.Admit n body)) }
+        ensures recorded { IfOk result (λ n. IsRecorded L.parts L.opening seat.old seat.new (Event.Admit n body)) }
         ensures fault { IfErr result (λ e. e.0 ≢ AdmitFault.NoMemory → AsOf L.parts L.opening seat.old (λ E. admit_refusal E body ≡ Some e.0)) }
         ensures returned { IfErr result (λ e. e.1 ≡ body) }
         ensures err { OnErr result (seat.new ≡ seat.old) }
@@ -112,7 +109,7 @@ impl<L: Round> SharedBook<L> {
 
     /// As `Book::undo`. Takes no memory.
     pub fn undo(&self, rt: &impl Wait, seat: &mut Seat<L>, batch: u64) -> Result<(), UndoFault>
-        ensures told { OnOk result (IsTold L.parts L.opening seat.old seat.new (Event.Undo batch)) }
+        ensures recorded { OnOk result (IsRecorded L.parts L.opening seat.old seat.new (Event.Undo batch)) }
         ensures fault { IfErr result (λ e. AsOf L.parts L.opening seat.old (λ E. undo_refusal E batch ≡ Some e)) }
         ensures err { OnErr result (seat.new ≡ seat.old) }
     {
@@ -121,7 +118,7 @@ impl<L: Round> SharedBook<L> {
 
     /// As `Book::confirm`. Takes no memory.
     pub fn confirm(&self, rt: &impl Wait, seat: &mut Seat<L>, batch: u64) -> Result<(), NotOpen>
-        ensures told { OnOk result (IsTold L.parts L.opening seat.old seat.new (Event.Confirm batch)) }
+        ensures recorded { OnOk result (IsRecorded L.parts L.opening seat.old seat.new (Event.Confirm batch)) }
         ensures fault { IfErr result (λ e. AsOf L.parts L.opening seat.old (λ E. confirm_refusal E batch ≡ Some e)) }
         ensures err { OnErr result (seat.new ≡ seat.old) }
     {
@@ -148,7 +145,7 @@ impl<L: Round> SharedBook<L> {
 
     /// As `Book::settle`. Takes no memory.
     pub fn settle(&self, rt: &impl Wait, seat: &mut Seat<L>, flush: u64) -> Result<(), NotLive>
-        ensures told { OnOk result (IsTold L.parts L.opening seat.old seat.new (Event.Settle flush)) }
+        ensures recorded { OnOk result (IsRecorded L.parts L.opening seat.old seat.new (Event.Settle flush)) }
         ensures fault { IfErr result (λ e. AsOf L.parts L.opening seat.old (λ E. flush_refusal E flush ≡ Some e)) }
         ensures err { OnErr result (seat.new ≡ seat.old) }
     {
@@ -157,7 +154,7 @@ impl<L: Round> SharedBook<L> {
 
     /// As `Book::drop_flush`. Takes no memory.
     pub fn drop_flush(&self, rt: &impl Wait, seat: &mut Seat<L>, flush: u64) -> Result<(), NotLive>
-        ensures told { OnOk result (IsTold L.parts L.opening seat.old seat.new (Event.Drop flush)) }
+        ensures recorded { OnOk result (IsRecorded L.parts L.opening seat.old seat.new (Event.Drop flush)) }
         ensures fault { IfErr result (λ e. AsOf L.parts L.opening seat.old (λ E. flush_refusal E flush ≡ Some e)) }
         ensures err { OnErr result (seat.new ≡ seat.old) }
     {
@@ -166,7 +163,7 @@ impl<L: Round> SharedBook<L> {
 
     /// As `Book::give_back`. Takes no memory.
     pub fn give_back(&self, rt: &impl Wait, seat: &mut Seat<L>, flush: u64) -> Result<(), NotLive>
-        ensures told { OnOk result (IsTold L.parts L.opening seat.old seat.new (Event.GiveBack flush)) }
+        ensures recorded { OnOk result (IsRecorded L.parts L.opening seat.old seat.new (Event.GiveBack flush)) }
         ensures fault { IfErr result (λ e. AsOf L.parts L.opening seat.old (λ E. flush_refusal E flush ≡ Some e)) }
         ensures err { OnErr result (seat.new ≡ seat.old) }
     {
@@ -180,7 +177,7 @@ impl<L: Round> SharedBook<L> {
         seat: &mut Seat<L>,
         sender: SenderName,
     ) -> Result<(), QuarantineFault>
-        ensures told { OnOk result (IsTold L.parts L.opening seat.old seat.new (Event.Quarantine sender)) }
+        ensures recorded { OnOk result (IsRecorded L.parts L.opening seat.old seat.new (Event.Quarantine sender)) }
         ensures fault { IfErr result (λ e. AsOf L.parts L.opening seat.old (λ E. e ≡ unwrap_or (quarantine_refusal E sender) QuarantineFault.NoMemory)) }
         ensures err { OnErr result (seat.new ≡ seat.old) }
     {
@@ -194,7 +191,7 @@ impl<L: Round> SharedBook<L> {
         seat: &mut Seat<L>,
         sender: &SenderName,
     ) -> Result<(), NotQuarantined>
-        ensures told { OnOk result (IsTold L.parts L.opening seat.old seat.new (Event.Lift sender.now)) }
+        ensures recorded { OnOk result (IsRecorded L.parts L.opening seat.old seat.new (Event.Lift sender.now)) }
         ensures fault { IfErr result (λ e. AsOf L.parts L.opening seat.old (λ E. lift_refusal E sender.now ≡ Some e)) }
         ensures err { OnErr result (seat.new ≡ seat.old) }
     {
@@ -215,9 +212,9 @@ impl<L: Round> SharedBook<L> {
 
     /// Ends the sharing: the book, which has the opening of the book that was handed in, and what
     /// an audit of all seats has found. Then each seat's receipts are exactly the entries that
-    /// name it, each once, in order. Refused where the
-    /// seat of a number is not among these, and then as `check` refuses; a refusal gives
-    /// everything back. Takes no memory and waits for nobody.
+    /// name it, each once, in order. Refused where the seat of a number is not among these, and
+    /// then as `check` refuses; a refusal gives everything back. Takes no memory and waits for
+    /// nobody.
     pub fn finish(
         self,
         seats: Vec<Seat<L>>,
@@ -227,7 +224,7 @@ impl<L: Round> SharedBook<L> {
         ensures once { IfOk result (λ r. length seats.items ≡ self) }
         ensures shared { IfOk result (λ r. IsShared L.parts L.opening r.0) }
         ensures events { IfOk result (λ r. r.1.events ≡ length r.0.entries) }
-        ensures told { IfOk result (λ r. r.1.events ≡ sum_by (λ s. length s.receipts) seats.items) }
+        ensures receipts { IfOk result (λ r. r.1.events ≡ sum_by (λ s. length s.receipts) seats.items) }
         ensures admitted { IfOk result (λ r. r.1.admitted ≡ admitted_points r.0.entries) }
         ensures acknowledged { IfOk result (λ r. r.1.acknowledged ≡ acknowledged_points (standing (history r.0)).series) }
         ensures out { IfErr result (λ e. e.0 ≡ AuditFault.SeatOut → ¬ (AllSeated self seats.items)) }
@@ -241,26 +238,16 @@ impl<L: Round> SharedBook<L> {
             seats: count,
             lock,
         } = self;
-        let kept = lock.into_inner();
-        if !all_seated(&seats, count) {
-            let lock = Mutex::new(kept);
+        let locked = lock.into_inner();
+        if let Err(fault) = check_seated(&locked.book, &seats, count) {
             let shared = SharedBook {
                 alloc,
                 seats: count,
-                lock,
-            };
-            return Err((AuditFault::SeatOut, shared, seats));
-        }
-        if let Err(fault) = check(&kept.book, &seats) {
-            let lock = Mutex::new(kept);
-            let shared = SharedBook {
-                alloc,
-                seats: count,
-                lock,
+                lock: Mutex::new(locked),
             };
             return Err((fault, shared, seats));
         }
-        let Kept { book, events } = kept;
+        let Locked { book, events } = locked;
         let audit = audit_of(&book, events, seats);
         Ok((book, audit))
     }

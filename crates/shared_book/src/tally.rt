@@ -1,9 +1,14 @@
-ghost use Rattle.std.specs.Prelude.{◌≡◌, ◌+◌, ◌<◌, [], length, take};
+//! A walk over a journal, beside the receipts of its seats.
+ghost use Rattle.std.specs.Prelude.{◌≡◌, ◌↔◌, ◌+◌, ◌<◌, [], IsTrue, false, length, take};
+ghost use Rattle.std.specs.List.{All, Any};
 ghost use Rattle.shared_book.specs.Audits.{IsTallied};
+ghost use Rattle.shared_book.specs.Receipts.{number_of, body_of, receipt_of, IsNext};
 
-use crate::matching::are_next;
+use crate::receipt::{EventKind, Receipt};
 use crate::seat::{MAX_SEATS, Seat};
+use metric_events::batch::Batch;
 use metric_events::entry::Entry;
+use metric_events::event::Event;
 use std::sync::ledger::Ledger;
 
 /// What a walk over entries has found.
@@ -47,4 +52,63 @@ impl Tally {
         }
         self.named[number] = at + 1;
     }
+}
+
+/// The batch or the flush that an event names, 0 where it names a sender.
+fn number_in(event: &Event) -> u64
+    ensures { result ≡ number_of event.now }
+{
+    match event {
+        Event::Admit { batch, .. } => *batch,
+        Event::Undo { batch } => *batch,
+        Event::Confirm { batch } => *batch,
+        Event::Take { flush, .. } => *flush,
+        Event::Settle { flush } => *flush,
+        Event::Drop { flush } => *flush,
+        Event::GiveBack { flush } => *flush,
+        Event::Quarantine { .. } => 0,
+        Event::Lift { .. } => 0,
+    }
+}
+
+/// Whether this is the batch that came in with the event.
+fn is_body_of(body: &Option<Batch>, event: &Event) -> bool
+    ensures { IsTrue result ↔ (body.now ≡ body_of event.now) }
+{
+    match (body, event) {
+        (Some(copy), Event::Admit { body, .. }) => copy.is_same(body),
+        (Some(_), _) => false,
+        (None, Event::Admit { .. }) => false,
+        (None, _) => true,
+    }
+}
+
+/// Whether a receipt is that of an event at a place.
+fn is_receipt_of(receipt: &Receipt, index: u64, event: &Event) -> bool
+    ensures { IsTrue result ↔ (receipt.now ≡ receipt_of index event.now) }
+{
+    receipt.index == index
+        && receipt.kind == EventKind::of(event)
+        && receipt.number == number_in(event)
+        && is_body_of(&receipt.body, event)
+}
+
+/// Whether the receipt at a place of these is that of an event.
+fn is_next(receipts: &[Receipt], at: usize, index: u64, event: &Event) -> bool
+    ensures { IsTrue result ↔ IsNext receipts.now at (receipt_of index event.now) }
+{
+    at < receipts.len() && is_receipt_of(&receipts[at], index, event)
+}
+
+/// Whether each seat of this number has the receipt of an event there.
+fn are_next<L: Ledger>(seats: &[Seat<L>], number: u16, at: usize, index: u64, event: &Event) -> bool
+    ensures all { IsTrue result → All (λ s. s.number ≡ number → IsNext s.receipts at (receipt_of index event.now)) seats.now }
+    ensures any { result ≡ false → Any (λ s. (s.number ≡ number) × ¬ (IsNext s.receipts at (receipt_of index event.now))) seats.now }
+{
+    for seat in seats {
+        if seat.number() == number && !is_next(seat.receipts(), at, index, event) {
+            return false;
+        }
+    }
+    true
 }

@@ -1,7 +1,7 @@
 use Rattle.std.proofs.Common.{◌≡◌, arith, vec_len}
 use Rattle.std.proofs.lemmas.Grind.{common_steps}
 use Rattle.shared_book.proofs.Seats.{seated_enough}
-use Rattle.shared_book.proofs.joining.join_shares.Goals as goal
+use Rattle.shared_book.proofs.audit.join_shares.Goals as goal
 
 pub returns-clause-total : goal.returns-clause-total
 returns-clause-total g c =

@@ -3,7 +3,7 @@ use Rattle.std.specs.List.{AllWithin, Any}
 use Rattle.shared_book.specs.declared.seat.TheConstants.{MAX_SEATS}
 use Rattle.shared_book.specs.Receipts.{receipts_of}
 use Rattle.shared_book.specs.Audits.{IsMatched, IsShort}
-use Rattle.shared_book.proofs.checking.check.Given as goal
+use Rattle.shared_book.proofs.audit.check.Given as goal
 
 abbrev pub invariant-loop-seat : goal.invariant-loop-seat
 invariant-loop-seat g l =

@@ -1,6 +1,6 @@
 use Rattle.std.proofs.Common.{◌≡◌, ◌+◌, ◌≤◌, length, vec_len}
 use Rattle.std.specs.Prelude.{sum_by}
-use Rattle.shared_book.proofs.joining.join_shares.Given as goal
+use Rattle.shared_book.proofs.audit.join_shares.Given as goal
 
 abbrev pub invariant-loop-seat : goal.invariant-loop-seat
 invariant-loop-seat g l =
