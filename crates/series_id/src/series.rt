@@ -1,29 +1,32 @@
 //! Identities of series.
 
-ghost use Rattle.std.specs.Prelude.{◌≡◌, ◌↔◌, ◌<◌, IfErr, IfOk, IfSome, IsTrue, Some, refl};
+ghost use Rattle.std.specs.Prelude.{◌≡◌, ◌↔◌, IfOk, IsTrue, Some, refl};
 ghost use Rattle.series_id.specs.Checks.{checked_identity};
 ghost use Rattle.series_id.specs.Identity.{IsIdentity, row_length};
 ghost use Rattle.series_id.specs.SeriesLaws.{same_series_equiv, same_series_per, same_series_ties, series_po};
 ghost use Rattle.series_id.specs.Totals.{series_total};
-ghost use Rattle.series_id.specs.Order.{resource_cmp, same_series, scope_cmp, series_before, series_cmp, stream_cmp};
+ghost use Rattle.series_id.specs.Order.{metric_cmp, resource_cmp, same_series, scope_cmp, series_before, series_cmp, stream_cmp};
 ghost use Rattle.series_id.specs.Sharing.{HasOneResource, HasOneScope, HasOneStream, shares_resource, shares_scope, shares_stream};
 
 use crate::attributes::AttrSet;
 use crate::faults::IdFault;
-use crate::held::Held;
 use crate::kinds::Kind;
-use crate::parts::Parts;
 use crate::texts::Text;
-use std::alloc::{AllocError, AllocFailed, Global};
+use std::alloc::{AllocError, Global};
 use std::cmp::Ordering;
 use std::marker::Model;
-use std::sync::Arc;
 
-/// What identifies a series. Contracts see it as an `Identity`. It stands alone, as `new` makes
-/// it, or behind a count of its owners, as `share` and `copy` make it, and a copy of such a one
-/// takes no memory.
+/// What identifies a series. Contracts see it as an `Identity`. A copy of it takes memory; a
+/// `SharedId` keeps it once for several owners.
 pub struct SeriesId {
-    held: Held,
+    resource: AttrSet,
+    scope_name: Text,
+    scope_version: Text,
+    scope_attrs: AttrSet,
+    name: Text,
+    unit: Text,
+    kind: Kind,
+    attrs: AttrSet,
 }
 
 impl Model for SeriesId {
@@ -42,7 +45,16 @@ impl Model for SeriesId {
 // Written out, since what a derive writes is proved again in each crate that lets one go.
 impl Drop for SeriesId {
     fn drop(self) {
-        let SeriesId { held: _ } = self;
+        let SeriesId {
+            resource: _,
+            scope_name: _,
+            scope_version: _,
+            scope_attrs: _,
+            name: _,
+            unit: _,
+            kind: _,
+            attrs: _,
+        } = self;
     }
 }
 
@@ -63,7 +75,14 @@ impl SeriesId {
     ) -> Result<SeriesId, IdFault>
         ensures { result ≡ checked_identity (record { resource = resource; scope_name = scope_name; scope_version = scope_version; scope_attrs = scope_attrs; name = name; unit = unit; kind = kind; attrs = attrs }) }
     {
-        let parts = Parts::new(
+        if scope_name.is_long() || scope_version.is_long() || name.is_long() || unit.is_long() {
+            return Err(IdFault::TextTooLong);
+        }
+        resource.keeps_limits();
+        scope_attrs.keeps_limits();
+        kind.keeps_limits();
+        attrs.keeps_limits();
+        Ok(SeriesId {
             resource,
             scope_name,
             scope_version,
@@ -72,9 +91,6 @@ impl SeriesId {
             unit,
             kind,
             attrs,
-        )?;
-        Ok(SeriesId {
-            held: Held::Own(parts),
         })
     }
 
@@ -82,56 +98,56 @@ impl SeriesId {
     pub fn resource(&self) -> &AttrSet
         ensures { result.now ≡ self.now.resource }
     {
-        self.parts().resource()
+        &self.resource
     }
 
     /// The name of the instrumentation scope.
     pub fn scope_name(&self) -> &Text
         ensures { result.now ≡ self.now.scope_name }
     {
-        self.parts().scope_name()
+        &self.scope_name
     }
 
     /// The version of the instrumentation scope.
     pub fn scope_version(&self) -> &Text
         ensures { result.now ≡ self.now.scope_version }
     {
-        self.parts().scope_version()
+        &self.scope_version
     }
 
     /// The attributes of the instrumentation scope.
     pub fn scope_attrs(&self) -> &AttrSet
         ensures { result.now ≡ self.now.scope_attrs }
     {
-        self.parts().scope_attrs()
+        &self.scope_attrs
     }
 
     /// The metric's name.
     pub fn name(&self) -> &Text
         ensures { result.now ≡ self.now.name }
     {
-        self.parts().name()
+        &self.name
     }
 
     /// The metric's unit.
     pub fn unit(&self) -> &Text
         ensures { result.now ≡ self.now.unit }
     {
-        self.parts().unit()
+        &self.unit
     }
 
     /// The metric's kind.
     pub fn kind(&self) -> &Kind
         ensures { result.now ≡ self.now.kind }
     {
-        self.parts().kind()
+        &self.kind
     }
 
     /// The point's attributes.
     pub fn attrs(&self) -> &AttrSet
         ensures { result.now ≡ self.now.attrs }
     {
-        self.parts().attrs()
+        &self.attrs
     }
 
     /// Does nothing: its contract tells a caller that the identity is within its limits, with its
@@ -139,7 +155,7 @@ impl SeriesId {
     pub fn keeps_limits(&self)
         ensures { IsIdentity self.now }
     {
-        self.parts().keeps_limits();
+        let _ = &self.name;
     }
 
     /// How many words a row of the series has: 3 for a sum, the number of bounds and 4 more for a
@@ -147,84 +163,31 @@ impl SeriesId {
     pub fn row_len(&self) -> usize
         ensures { result ≡ row_length self.now.kind }
     {
-        self.parts().row_len()
+        self.kind.row_len()
     }
 
-    /// An equal identity, which is shared. Where this one is shared, both share their parts: a
-    /// count goes up, and no memory is taken.
+    /// An equal identity.
     pub fn copy(&self, alloc: Global) -> Result<SeriesId, AllocError>
         ensures { IfOk result (λ copy. copy ≡ self.now) }
     {
-        match &self.held {
-            Held::Own(parts) => {
-                let copy = parts.copy(alloc)?;
-                Ok(SeriesId {
-                    held: Held::Shared(Arc::new(alloc, copy)?),
-                })
-            }
-            Held::Shared(parts) => Ok(SeriesId {
-                held: Held::Shared(Arc::try_clone(parts)?),
-            }),
-        }
-    }
-
-    /// The same identity, shared, so that from now on a copy takes no memory. Where memory is
-    /// refused the identity is handed back.
-    pub fn share(self, alloc: Global) -> Result<SeriesId, AllocFailed<SeriesId>>
-        ensures same { IfOk result (λ shared. shared ≡ self) }
-        ensures back { IfErr result (λ refused. refused.value ≡ self) }
-    {
-        let SeriesId { held } = self;
-        match held {
-            Held::Own(parts) => match Arc::new(alloc, parts) {
-                Ok(shared) => Ok(SeriesId {
-                    held: Held::Shared(shared),
-                }),
-                Err(refused) => Err(AllocFailed {
-                    value: SeriesId {
-                        held: Held::Own(refused.value),
-                    },
-                }),
-            },
-            Held::Shared(shared) => Ok(SeriesId {
-                held: Held::Shared(shared),
-            }),
-        }
-    }
-
-    /// An equal identity where that takes no memory: where this one is shared.
-    pub fn shared_copy(&self) -> Option<SeriesId>
-        ensures { IfSome result (λ copy. copy ≡ self.now) }
-    {
-        match &self.held {
-            Held::Own(_) => None,
-            Held::Shared(parts) => match Arc::try_clone(parts) {
-                Ok(shared) => Some(SeriesId {
-                    held: Held::Shared(shared),
-                }),
-                Err(_) => None,
-            },
-        }
-    }
-
-    /// How many identities share these parts at the moment, this one counted.
-    pub fn owners(&self) -> usize
-        ensures { 0 < result }
-    {
-        match &self.held {
-            Held::Own(_) => 1,
-            Held::Shared(parts) => Arc::strong_count(parts),
-        }
-    }
-
-    /// The parts, wherever they stand.
-    fn parts(&self) -> &Parts
-        ensures { result.now ≡ self.now }
-    {
-        match &self.held {
-            Held::Own(parts) => parts,
-            Held::Shared(parts) => parts,
-        }
+        let resource = self.resource.copy(alloc)?;
+        let scope_name = self.scope_name.copy(alloc)?;
+        let scope_version = self.scope_version.copy(alloc)?;
+        let scope_attrs = self.scope_attrs.copy(alloc)?;
+        let name = self.name.copy(alloc)?;
+        let unit = self.unit.copy(alloc)?;
+        let kind = self.kind.copy(alloc)?;
+        let attrs = self.attrs.copy(alloc)?;
+        Ok(SeriesId {
+            resource,
+            scope_name,
+            scope_version,
+            scope_attrs,
+            name,
+            unit,
+            kind,
+            attrs,
+        })
     }
 
     /// Whether both are of one series: whether all fields are equal.
@@ -269,31 +232,69 @@ impl SeriesId {
     }
 
     /// Which of two series comes first: the first field that differs decides.
+    #[tactic(auto, unfolding(crate::specs::Order::series_cmp))]
     fn compare(&self, other: &SeriesId) -> Ordering
         ensures { result ≡ series_cmp self.now other.now }
     {
-        self.parts().compare(other.parts())
+        let resource = self.compare_resource(other);
+        if resource.is_ne() {
+            return resource;
+        }
+        let scope = self.compare_scope(other);
+        if scope.is_ne() {
+            return scope;
+        }
+        self.compare_metric(other)
     }
 
     /// Which of two series comes first by its resource.
     fn compare_resource(&self, other: &SeriesId) -> Ordering
         ensures { result ≡ resource_cmp self.now other.now }
     {
-        self.parts().compare_resource(other.parts())
+        self.resource.compare(&other.resource)
     }
 
-    /// Which of two series comes first by its scope.
+    /// Which of two series comes first by its scope: name, version and attributes.
+    #[tactic(auto, unfolding(crate::specs::Order::scope_cmp))]
     fn compare_scope(&self, other: &SeriesId) -> Ordering
         ensures { result ≡ scope_cmp self.now other.now }
     {
-        self.parts().compare_scope(other.parts())
+        let name = self.scope_name.compare(&other.scope_name);
+        if name.is_ne() {
+            return name;
+        }
+        let version = self.scope_version.compare(&other.scope_version);
+        if version.is_ne() {
+            return version;
+        }
+        self.scope_attrs.compare(&other.scope_attrs)
     }
 
-    /// Which of two series comes first by what the points of a metric share.
+    /// Which of two series comes first by its metric: name, unit, kind and point attributes.
+    #[tactic(auto, unfolding(crate::specs::Order::metric_cmp))]
+    fn compare_metric(&self, other: &SeriesId) -> Ordering
+        ensures { result ≡ metric_cmp self.now other.now }
+    {
+        let stream = self.compare_stream(other);
+        if stream.is_ne() {
+            return stream;
+        }
+        self.attrs.compare(&other.attrs)
+    }
+
+    /// Which of two series comes first by what the points of a metric share: name, unit and kind.
     fn compare_stream(&self, other: &SeriesId) -> Ordering
         ensures { result ≡ stream_cmp self.now other.now }
     {
-        self.parts().compare_stream(other.parts())
+        let name = self.name.compare(&other.name);
+        if name.is_ne() {
+            return name;
+        }
+        let unit = self.unit.compare(&other.unit);
+        if unit.is_ne() {
+            return unit;
+        }
+        self.kind.compare(&other.kind)
     }
 }
 

@@ -1,0 +1,72 @@
+//! Identities that are kept once.
+
+ghost use Rattle.std.specs.Prelude.{◌≡◌, ◌↔◌, ◌<◌, IfErr, IfOk, IsTrue};
+ghost use Rattle.series_id.specs.Order.{same_series};
+
+use crate::series::SeriesId;
+use std::alloc::{AllocError, AllocFailed, Global};
+use std::marker::Model;
+use std::sync::Arc;
+
+/// An identity behind a count of its owners, one word wide. Contracts see it as an `Identity`.
+pub struct SharedId {
+    series: Arc<SeriesId, Global>,
+}
+
+impl Model for SharedId {
+    ghost use Rattle.std.specs.Arc.{arc_value};
+    ghost use Rattle.series_id.specs.Identity.{Identity};
+
+    ghost Value = { Identity };
+
+    ghost view = { λ s. arc_value s.series };
+}
+
+// Written out, since what a derive writes is proved again in each crate that lets one go.
+impl Drop for SharedId {
+    fn drop(self) {
+        let SharedId { series: _ } = self;
+    }
+}
+
+impl SharedId {
+    /// This identity, with one owner. Where memory is refused the identity is handed back.
+    pub fn new(alloc: Global, series: SeriesId) -> Result<SharedId, AllocFailed<SeriesId>>
+        ensures same { IfOk result (λ shared. shared ≡ series) }
+        ensures back { IfErr result (λ refused. refused.value ≡ series) }
+    {
+        let series = Arc::new(alloc, series)?;
+        Ok(SharedId { series })
+    }
+
+    /// The identity.
+    pub fn as_series(&self) -> &SeriesId
+        ensures { result.now ≡ self.now }
+    {
+        &self.series
+    }
+
+    /// The same identity, with one owner more. Takes no memory: it fails only where the count is
+    /// full.
+    pub fn share(&self) -> Result<SharedId, AllocError>
+        ensures { IfOk result (λ shared. shared ≡ self.now) }
+    {
+        let series = Arc::try_clone(&self.series)?;
+        Ok(SharedId { series })
+    }
+
+    /// How many own this identity at the moment, this one counted.
+    pub fn owners(&self) -> usize
+        ensures { 0 < result }
+    {
+        Arc::strong_count(&self.series)
+    }
+
+    /// Whether both are of one series: whether all fields are equal.
+    pub fn is_same(&self, other: &SharedId) -> bool
+        ensures value { result ≡ same_series self.now other.now }
+        ensures exact { IsTrue result ↔ (self.now ≡ other.now) }
+    {
+        self.as_series().is_same(other.as_series())
+    }
+}
