@@ -1,5 +1,5 @@
--- The row of a histogram's point is as long as its series wants it, and within the limits.
-use Rattle.std.proofs.Common.{◌≡◌, ℕ, ◌+◌, ◌<◌, ◌≤◌, ◌^◌, ◌==◌, true, false, List, [], ◌∷◌, refl, arith, length, sum, Some, None}
+-- What has no fault of a histogram's point is a point.
+use Rattle.std.proofs.Common.{◌≡◌, ℕ, ◌+◌, ◌<◌, ◌≤◌, ◌^◌, ◌==◌, true, false, List, [], ◌∷◌, refl, arith, length, not, sum, Some, None}
 use Rattle.std.specs.Prelude.{nat_le}
 use Rattle.std.specs.declared.option.Option.{Option}
 use Rattle.std.proofs.lemmas.Bool.{and_parts, and_from, eqb-true, le-leb, ltb-false}
@@ -7,10 +7,12 @@ use Rattle.std.proofs.lemmas.List.Sums.{sum_by-cons}
 use Rattle.series_id.specs.Identity.{Identity, IsIdentity, row_length}
 use Rattle.series_id.specs.declared.kinds.Kind.{Kind}
 use Rattle.series_id.specs.declared.kinds.Kind.TheVariants.{Sum, Histogram}
-use Rattle.metric_events.specs.Interval.{Interval, IsInterval}
+use Rattle.series_id.proofs.Refusals.{not_false, passed}
+use Rattle.metric_events.specs.Interval.{Interval, is_span}
 use Rattle.metric_events.specs.DataPoint.{IsMerged}
-use Rattle.metric_events.specs.PointFaults.{IsHistogram, are_buckets, bounds_of, is_total_large}
+use Rattle.metric_events.specs.PointFaults.{IsHistogram, are_buckets, bounds_of, given_buckets, histogram_fault, is_total_large}
 use Rattle.metric_events.specs.Rows.{fits, keeps_sign, are_within, histogram_row}
+use Rattle.metric_events.specs.declared.point.PointFault.TheVariants.{BadSpan, BucketMismatch, TooLarge}
 use Rattle.metric_events.specs.declared.limits.TheConstants.{MAX_SUM, MAX_BUCKET, MAX_COUNT}
 
 -- each word is at most what all are together
@@ -26,16 +28,33 @@ pub histogram_fits : (bounds : _) (total : Option ℕ) (buckets : List ℕ) → 
 histogram_fits bounds None buckets small few = rw (each_within MAX_BUCKET buckets few, le-leb (sum buckets) MAX_COUNT few) refl
 histogram_fits bounds (Some n) buckets small few = rw (each_within MAX_BUCKET buckets few, le-leb (sum buckets) MAX_COUNT few, le-leb n MAX_SUM (ltb-false MAX_SUM n small)) refl
 
--- the point that has such a row
-pub histogram_made : (x : Identity) (span : Interval) (count : ℕ) (total : Option ℕ) (buckets : List ℕ) → IsIdentity x → IsInterval span → IsHistogram x.kind → count < 2 ^ 64
-    → is_total_large total ≡ false → are_buckets (bounds_of x.kind) count buckets ≡ true → IsMerged (record { series = x; span = span; row = histogram_row total buckets })
-histogram_made x span count total buckets named is of_histogram narrow small filled =
-    let row = by_kind x.kind of_histogram filled in
-    record { named = named; span = is; long = row.0; within = row.1.0; signed = row.1.1 }
-  where
-    by_kind : (kind : Kind) → IsHistogram kind → are_buckets (bounds_of kind) count buckets ≡ true
-        → (length (histogram_row total buckets) ≡ row_length kind) × ((fits kind (histogram_row total buckets) ≡ true) × (keeps_sign kind (histogram_row total buckets) ≡ true))
-    by_kind (Sum monotonic) h f = absurd h
-    by_kind (Histogram bounds) h f =
-        let parts = and_parts (length buckets == length bounds + 1) (sum buckets == count) f in
-        (omega (arith, eqb-true (length buckets) (length bounds + 1) parts.0), (histogram_fits bounds total buckets small (omega (arith, narrow, eqb-true (sum buckets) count parts.1)), refl))
+row_made : (kind : Kind) (count : ℕ) (total : Option ℕ) (buckets : List ℕ) → IsHistogram kind → count < 2 ^ 64 → is_total_large total ≡ false → are_buckets (bounds_of kind) count buckets ≡ true
+    → (length (histogram_row total buckets) ≡ row_length kind) × ((fits kind (histogram_row total buckets) ≡ true) × (keeps_sign kind (histogram_row total buckets) ≡ true))
+row_made (Sum monotonic) count total buckets h narrow small f = absurd h
+row_made (Histogram bounds) count total buckets h narrow small f =
+    let parts = and_parts (length buckets == length bounds + 1) (sum buckets == count) f in
+    (omega (arith, eqb-true (length buckets) (length bounds + 1) parts.0), (histogram_fits bounds total buckets small (omega (arith, narrow, eqb-true (sum buckets) count parts.1)), refl))
+
+point_made : (x : Identity) (start end count : ℕ) (total : Option ℕ) (given : List ℕ) → IsIdentity x → IsHistogram x.kind → end < 2 ^ 64 → count < 2 ^ 64
+    → histogram_fault x.kind start end count total given ≡ None
+    → IsMerged (record { series = x; span = record { start = start; end = end }; row = histogram_row total (given_buckets (bounds_of x.kind) count given) })
+point_made x start end count total given named of_histogram ends narrow none =
+    let buckets = given_buckets (bounds_of x.kind) count given in
+    let a = passed (not (is_span start end)) BadSpan _ none in
+    let b = passed (not (are_buckets (bounds_of x.kind) count buckets)) BucketMismatch _ a.1 in
+    let c = passed (is_total_large total) TooLarge None b.1 in
+    let row = row_made x.kind count total buckets of_histogram narrow c.0 (not_false _ b.0) in
+    record {
+      named = named;
+      span = record { valid = not_false _ a.0; fits = ends };
+      long = row.0;
+      within = row.1.0;
+      signed = row.1.1;
+    }
+
+-- of the parts, as they are found
+pub histogram_made : (x : Identity) (kind : Kind) (start end count : ℕ) (total : Option ℕ) (given : List ℕ) (span : Interval) (row : List ℕ) → IsIdentity x → IsHistogram x.kind → end < 2 ^ 64 → count < 2 ^ 64
+    → kind ≡ x.kind → histogram_fault kind start end count total given ≡ None
+    → span ≡ record { start = start; end = end } → row ≡ histogram_row total (given_buckets (bounds_of kind) count given) → IsMerged (record { series = x; span = span; row = row })
+histogram_made x kind start end count total given span row named of_histogram ends narrow is none s r =
+    rw (s, r, is) (point_made x start end count total given named of_histogram ends narrow (let n : histogram_fault x.kind start end count total given ≡ None = rw is at none in n))

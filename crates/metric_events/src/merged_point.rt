@@ -3,7 +3,7 @@ ghost use Rattle.metric_events.specs.Equal.{same_point};
 
 use crate::row::Row;
 use crate::span::Span;
-use series_id::SeriesId;
+use series_id::{SeriesId, SharedId};
 use std::alloc::{AllocError, Global};
 use std::marker::Model;
 
@@ -11,7 +11,7 @@ use std::marker::Model;
 /// The row is as long as its series wants it, within the limits, and takes nothing away from a
 /// monotonic sum. One point alone is one too, and so is none, with a row of zeros.
 pub struct MergedPoint {
-    series: SeriesId,
+    series: SharedId,
     span: Span,
     row: Row,
 }
@@ -40,7 +40,7 @@ impl MergedPoint {
     ghost use Rattle.metric_events.specs.DataPoint.{IsMerged};
 
     /// The point of these parts, which fit one another. Takes no memory.
-    pub fn new(series: SeriesId, span: Span, row: Row) -> MergedPoint
+    pub fn new(series: SharedId, span: Span, row: Row) -> MergedPoint
         requires { IsMerged (record { series = series; span = span; row = row }) }
         ensures { result ≡ record { series = series; span = span; row = row } }
     {
@@ -49,6 +49,13 @@ impl MergedPoint {
 
     /// The series that the points are of.
     pub fn series(&self) -> &SeriesId
+        ensures { result.now ≡ self.now.series }
+    {
+        self.series.as_series()
+    }
+
+    /// The same, as it is kept: shared by counting.
+    pub fn shared_series(&self) -> &SharedId
         ensures { result.now ≡ self.now.series }
     {
         &self.series
@@ -79,30 +86,31 @@ impl MergedPoint {
     fn has_parts_of(&self, other: &MergedPoint) -> bool
         ensures { result ≡ same_point self.now other.now }
     {
-        self.series.is_same(&other.series)
+        self.series().is_same(other.series())
             && self.span.start() == other.span.start()
             && self.span.end() == other.span.end()
             && self.row.as_slice() == other.row.as_slice()
     }
 
-    /// Lets go of the own identity for a share of this one, where that is equal and shared.
-    /// Takes no memory. Nothing that can be seen of the point changes.
-    pub fn adopt(&mut self, series: &SeriesId)
+    /// Lets go of the own identity for a share of this one, where that is equal. Takes no memory.
+    /// Nothing that can be seen of the point changes.
+    pub fn adopt(&mut self, series: &SharedId)
         ensures { self.new ≡ self.old }
     {
         if !self.series.is_same(series) {
             return;
         }
-        if let Some(shared) = series.shared_copy() {
+        if let Ok(shared) = series.share() {
             self.series = shared;
         }
     }
 
-    /// An equal one. Fails only for want of memory.
+    /// An equal one, which shares the identity. Fails only for want of memory, which is taken for
+    /// the row alone.
     pub fn copy(&self, alloc: Global) -> Result<MergedPoint, AllocError>
         ensures { IfOk result (λ copy. copy ≡ self.now) }
     {
-        let series = self.series.copy(alloc)?;
+        let series = self.series.share()?;
         let row = self.row.copy(alloc)?;
         Ok(MergedPoint {
             series,

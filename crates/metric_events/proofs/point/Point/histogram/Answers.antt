@@ -1,11 +1,11 @@
-use Rattle.std.proofs.Common.{rules, sym, subst, ◌∙◌, List, ℕ}
+use Rattle.std.proofs.Common.{rules, sym, subst}
+use Rattle.series_id.specs.Identity.{Identity}
 use Rattle.metric_events.specs.DataPoint.{IsMerged}
-use Rattle.metric_events.specs.PointFaults.{bounds_of}
 use Rattle.metric_events.proofs.HistogramRows.{histogram_made}
 use Rattle.metric_events.proofs.point.Point.histogram.Goals as goal
 
-pub new-requires-in-Ok-2 : goal.new-requires-in-Ok-2
-new-requires-in-Ok-2 c =
-    subst (λ (row : List ℕ). IsMerged (record { series = c.args.series; span = c.in-Some.span; row = row })) (sym (c.new-in-Ok.ensures ∙ c.in-Ok.ensures))
-    (histogram_made c.args.series c.in-Some.span c.args.count c.args.sum c.given_or-given.result.now (search rules) (search rules) c.requires c.ranges.count.fits (sym c.if-is_total_large.ensures)
-    (sym (c.are_filled.ensures (bounds_of c.args.series.kind) (search rules)) ∙ search rules))
+pub new-requires-2 : goal.new-requires-2
+new-requires-2 c =
+    subst (λ (x : Identity). IsMerged (record { series = x; span = c.in_ok-span.span; row = c.in_ok-span.row })) (sym c.in-Ok.ensures.same)
+    (histogram_made c.args.series c.kind-kind.result.now c.args.start c.args.end c.args.count c.args.sum c.deref.result.now c.in_ok-span.span c.in_ok-span.row (search rules) c.requires
+    c.ranges.end.fits c.ranges.count.fits c.kind-kind.ensures c.in_ok-span.ensures.none c.in_ok-span.ensures.span c.in_ok-span.ensures.row)
