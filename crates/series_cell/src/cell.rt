@@ -18,7 +18,7 @@ use bucket_lanes::{add_into, clear, move_into, sub_from};
 use metric_events::point::Point;
 use metric_events::sender_name::SenderName;
 use metric_events::span::Span;
-use series_id::SeriesId;
+use series_id::{SeriesId, SharedId};
 use std::alloc::{AllocError, Global};
 use std::marker::Model;
 
@@ -50,7 +50,16 @@ impl Cell {
         ensures owner { IfOk result (λ c. c.owner ≡ owner) }
         ensures id { IfOk result (λ c. c.id ≡ id) }
     {
-        let n = id.row_len();
+        Cell::of_shared(alloc, owner, SharedId::new(alloc, id)?)
+    }
+
+    /// As `new`, of an identity that is kept already, which the cell shares.
+    pub fn of_shared(alloc: Global, owner: SenderName, id: SharedId) -> Result<Cell, AllocError>
+        ensures none { IfOk result (λ c. Stands c []) }
+        ensures owner { IfOk result (λ c. c.owner ≡ owner) }
+        ensures id { IfOk result (λ c. c.id ≡ id) }
+    {
+        let n = id.as_series().row_len();
         let accepted = zero_row(alloc, n)?;
         let stored = zero_row(alloc, n)?;
         let in_flight = zero_row(alloc, n)?;
@@ -265,6 +274,13 @@ impl Cell {
 
     /// The series.
     pub fn id(&self) -> &SeriesId
+        ensures { result.now ≡ self.now.id }
+    {
+        self.kept.id.as_series()
+    }
+
+    /// The same, as it is kept: shared by counting.
+    pub fn shared_id(&self) -> &SharedId
         ensures { result.now ≡ self.now.id }
     {
         &self.kept.id

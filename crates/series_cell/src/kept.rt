@@ -1,12 +1,12 @@
 use crate::batch_span::BatchSpan;
 use metric_events::sender_name::SenderName;
-use series_id::SeriesId;
+use series_id::SharedId;
 
 /// What a cell keeps.
 #[derive(Drop)]
 pub(crate) struct Kept {
     pub(crate) owner: SenderName,
-    pub(crate) id: SeriesId,
+    pub(crate) id: SharedId,
     pub(crate) accepted: Vec<u64>,
     pub(crate) stored: Vec<u64>,
     pub(crate) in_flight: Vec<u64>,
