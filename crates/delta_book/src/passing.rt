@@ -56,7 +56,7 @@ fn is_row_over(kind: &Kind, row: &[u64]) -> bool
 fn is_sum_over(cells: &[Cell], point: &Point) -> bool
     ensures { (qs : List Accepted) → AreCells cells.now qs → list_any (is_of point.now.series) qs ≡ true → result ≡ is_over qs point.now }
 {
-    match find_cell(cells, point.series()) {
+    match find_cell(cells, point.shared_series()) {
         Some(i) => is_row_over(point.series().kind(), cells[i].accepted()),
         None => false,
     }

@@ -112,13 +112,13 @@ fn put_at(
     put_in(&mut cells[i], point, part, number)
 }
 
-/// A cell of no point.
+/// A cell of no point, which shares the identity of this one.
 fn new_cell(alloc: Global, sender: &SenderName, point: &Point) -> Result<Cell, AllocError>
     ensures none { IfOk result (λ c. Stands c []) }
     ensures owner { IfOk result (λ c. c.owner ≡ sender.now) }
     ensures id { IfOk result (λ c. c.id ≡ point.now.series) }
 {
-    Cell::new(alloc, sender.copy(alloc)?, point.series().copy(alloc)?)
+    Cell::of_shared(alloc, sender.copy(alloc)?, point.shared_series().share()?)
 }
 
 /// Puts a point into a cell of its own, which goes before the one there.

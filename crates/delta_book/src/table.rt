@@ -16,7 +16,7 @@ use crate::part::{Part, part_at};
 use metric_events::place::Place;
 use metric_events::point::Point;
 use series_cell::cell::Cell;
-use series_id::SeriesId;
+use series_id::{SeriesId, SharedId};
 
 /// Where the cell of a series is, or where it goes.
 pub fn find_place(cells: &[Cell], series: &SeriesId) -> Result<usize, usize>
@@ -39,10 +39,10 @@ pub fn find_place(cells: &[Cell], series: &SeriesId) -> Result<usize, usize>
 }
 
 /// Where the cell of a series stands.
-pub fn find_cell(cells: &[Cell], series: &SeriesId) -> Option<usize>
+pub fn find_cell(cells: &[Cell], series: &SharedId) -> Option<usize>
     ensures { MatchOption result (is_ascending (map id_of cells.now) ≡ true → is_among series.now (map id_of cells.now) ≡ false) (λ i. (i < length cells.now) × IdAt cells.now i series.now) }
 {
-    match find_place(cells, series) {
+    match find_place(cells, series.as_series()) {
         Ok(i) => Some(i),
         Err(_) => None,
     }
@@ -57,7 +57,7 @@ fn lift_one(cell: &mut Cell, flush: u64)
     }
 }
 
-fn lift_series(cells: &mut [Cell], flush: u64, series: &SeriesId)
+fn lift_series(cells: &mut [Cell], flush: u64, series: &SharedId)
     ensures { (qs : List Accepted) → AreCells cells.old qs → list_any (stands is_flying) (of_series series.now qs) ≡ false → AreCells cells.new (map (on_series (lifted flush) (series.now ∷ [])) qs) }
 {
     if let Some(i) = find_cell(cells, series) {
@@ -66,7 +66,7 @@ fn lift_series(cells: &mut [Cell], flush: u64, series: &SeriesId)
 }
 
 /// Sends what is at home of these series away with a flush.
-pub fn take_off(cells: &mut [Cell], flush: u64, series: &[SeriesId])
+pub fn take_off(cells: &mut [Cell], flush: u64, series: &[SharedId])
     ensures { (qs : List Accepted) → AreCells cells.old qs → are_distinct series.now ≡ true → list_all (λ x. not (list_any (stands is_flying) (of_series x qs))) series.now ≡ true → AreCells cells.new (map (on_series (lifted flush) series.now) qs) }
 {
     for x in series {
@@ -86,7 +86,7 @@ fn land_one(cell: &mut Cell, place: Place)
     }
 }
 
-fn land_series(cells: &mut [Cell], place: Place, series: &SeriesId)
+fn land_series(cells: &mut [Cell], place: Place, series: &SharedId)
     ensures { (f : ℕ) (qs : List Accepted) → AreCells cells.old qs → list_any (stands (is_in_flight f)) (of_series series.now qs) ≡ true → is_flying place ≡ false → AreCells cells.new (map (on_series (landed f place) (series.now ∷ [])) qs) }
 {
     if let Some(i) = find_cell(cells, series) {
@@ -95,7 +95,7 @@ fn land_series(cells: &mut [Cell], place: Place, series: &SeriesId)
 }
 
 /// Moves what is in flight of these series.
-pub fn land(cells: &mut [Cell], place: Place, series: &[SeriesId])
+pub fn land(cells: &mut [Cell], place: Place, series: &[SharedId])
     ensures { (f : ℕ) (qs : List Accepted) → AreCells cells.old qs → are_distinct series.now ≡ true → list_all (λ x. list_any (stands (is_in_flight f)) (of_series x qs)) series.now ≡ true → is_flying place ≡ false → AreCells cells.new (map (on_series (landed f place) series.now) qs) }
 {
     for x in series {
@@ -103,7 +103,7 @@ pub fn land(cells: &mut [Cell], place: Place, series: &[SeriesId])
     }
 }
 
-fn is_home_in(cells: &[Cell], series: &SeriesId, number: u64) -> bool
+fn is_home_in(cells: &[Cell], series: &SharedId, number: u64) -> bool
     ensures { (qs : List Accepted) → AreCells cells.now qs → list_any (is_of_batch number) (of_series series.now qs) ≡ true → AreTogether number (of_series series.now qs) → result ≡ is_batch_home number (of_series series.now qs) }
 {
     match find_cell(cells, series) {
@@ -117,7 +117,7 @@ pub fn is_all_home(cells: &[Cell], batch: &[Point], number: u64) -> bool
     ensures { (qs : List Accepted) → AreCells cells.now qs → IsEntered qs number batch.now → result ≡ is_batch_home number qs }
 {
     for p in batch {
-        if !is_home_in(cells, p.series(), number) {
+        if !is_home_in(cells, p.shared_series(), number) {
             return false;
         }
     }
@@ -141,7 +141,7 @@ fn remove_one(cells: &mut Vec<Cell>, point: &Point, part: Part, number: u64)
     requires { RemovesFrom cells.old.items number (part_of part point.now) }
     ensures { (s : List ℕ) (before after : List Accepted) → AreCells cells.old.items (before ++ admitted number s (part_of part point.now) ∷ after) → AreCells cells.new.items (before ++ after) }
 {
-    if let Some(i) = find_cell(cells, point.series()) {
+    if let Some(i) = find_cell(cells, point.shared_series()) {
         remove_part(&mut cells[i], point, part, number);
         if cells[i].frontier() == 0 {
             cells.remove(i);

@@ -1,6 +1,6 @@
 use Rattle.std.proofs.Common.{◌≡◌, ◌∙◌, ◌+◌, ◌-◌, ◌/◌, ◌<◌, ap, sym, arith, length, drop, subst, true}
 use Rattle.std.specs.List.{list_all}
-use Rattle.series_id.specs.Order.{series_before}
+use Rattle.series_id.specs.Order.{same_series, series_before}
 use Rattle.series_id.proofs.Order.{same_series-exact, before-or-after}
 use Rattle.metric_events.specs.Close.{past}
 use Rattle.metric_events.specs.Opening.{series_of}
@@ -16,7 +16,7 @@ returns-then-is_same c =
     let m = c.loop-low.low + (c.loop-low.high - c.loop-low.low) / 2 in
     let l : m < length ss = omega (arith, middle_lt c.loop-low.low c.loop-low.high c.loop-low-test.true, c.loop-low.invariant.ends) in
     let s = c.index-opened-middle.result in
-    let k : s.series ≡ c.args.series.now = sym (same_series-exact c.args.series.now s.series (sym c.is_same.ensures.value ∙ c.if-is_same.true)) in
+    let k : s.series ≡ c.args.series.now = sym (same_series-exact c.args.series.now s.series (ap (same_series c.args.series.now) (sym c.as_series-its.ensures) ∙ (sym c.is_same.ensures.value ∙ c.if-is_same.true))) in
     let u : is_ascending (series_of ss) ≡ true = ap (λ ts. is_ascending (series_of ts)) c.as_slice-opened.ensures ∙ c.requires.ordered in
     record {
       made = entry_of c.args.before.now ss m s c.requires c.as_slice-opened.ensures l c.index-opened-middle.is;
@@ -35,7 +35,7 @@ loop-low-preserved-then-is_before c =
       ends = omega (arith, k, c.loop-low.invariant.ends);
       order = omega arith;
       below = c.loop-low.invariant.below;
-      above = above_from (λ (s : OpenedSeries). s.series) c.args.series.now ss m c.index-opened-middle.result u l c.index-opened-middle.is (sym c.is_before.ensures ∙ c.if-is_before.true);
+      above = above_from (λ (s : OpenedSeries). s.series) c.args.series.now ss m c.index-opened-middle.result u l c.index-opened-middle.is (ap (series_before c.args.series.now) (sym c.as_series-its.ensures) ∙ (sym c.is_before.ensures ∙ c.if-is_before.true));
     }
 
 pub loop-low-preserved : goal.loop-low-preserved
@@ -46,7 +46,7 @@ loop-low-preserved c =
     let l : m < length ss = omega (arith, k, c.loop-low.invariant.ends) in
     let s = c.index-opened-middle.result in
     let u : is_ascending (series_of ss) ≡ true = ap (λ ts. is_ascending (series_of ts)) c.as_slice-opened.ensures ∙ c.requires.ordered in
-    let after : series_before s.series c.args.series.now ≡ true = before-or-after c.args.series.now s.series (sym c.is_same.ensures.value ∙ c.if-is_same.false) (sym c.is_before.ensures ∙ c.if-is_before.false) in
+    let after : series_before s.series c.args.series.now ≡ true = before-or-after c.args.series.now s.series (ap (same_series c.args.series.now) (sym c.as_series-its.ensures) ∙ (sym c.is_same.ensures.value ∙ c.if-is_same.false)) (ap (series_before c.args.series.now) (sym c.as_series-its.ensures) ∙ (sym c.is_before.ensures ∙ c.if-is_before.false)) in
     record {
       ends = c.loop-low.invariant.ends;
       order = omega (arith, k);
