@@ -6,7 +6,7 @@ use metric_events::batch::Batch;
 use metric_events::point::Point;
 use metric_events::points::Points;
 use metric_events::sender_name::SenderName;
-use series_id::{AttrSet, Kind, SeriesId, Text};
+use series_id::{AttrSet, Kind, SeriesId, SharedId, Text};
 use std::alloc::Global;
 use std::test::Fail;
 
@@ -103,11 +103,11 @@ pub fn mixed(alloc: Global) -> Result<Batch, Fail> {
 }
 
 /// A batch of one point of this series, with the value 1.
-pub fn batch_of(alloc: Global, series: SeriesId, start: u64) -> Result<Batch, Fail>
+pub fn batch_of(alloc: Global, series: SharedId, start: u64) -> Result<Batch, Fail>
     requires { IsSum series.kind }
 {
     let mut points = Points::new(alloc);
-    points.push(Point::sum(alloc, series, start, start.saturating_add(1), 1)?)?;
+    points.push(Point::shared_sum(series, start, start.saturating_add(1), 1)?)?;
     let sender = sender(alloc, 0)?;
     Ok(Batch { sender, points })
 }

@@ -23,7 +23,7 @@ use metric_events::batch::Batch;
 use metric_events::row::Row;
 use metric_events::sender_name::SenderName;
 use series_cell::cell::Cell;
-use series_id::{Kind, SeriesId};
+use series_id::{Kind, SharedId};
 use std::alloc::Global;
 use std::process::Abort;
 use std::test::Fail;
@@ -374,7 +374,7 @@ fn expect_owners(
     book: &mut Book,
     body: Batch,
     number: u64,
-    shared: &SeriesId,
+    shared: &SharedId,
     owners: usize,
 ) {
     assert_eq!(rt; admitted(rt, book, body), Ok(number));
@@ -388,15 +388,35 @@ fn known_series_are_kept_once(rt: HostRuntime) -> Result<(), Fail> {
     let alloc = rt.alloc();
     let mut book = Book::new(alloc)?;
     let falling = || Kind::Sum { monotonic: false };
-    let shared = series(alloc, 1, falling())?
-        .share(alloc)
-        .expect(&rt, "memory");
-    let first = batch_of(alloc, shared.copy(alloc)?, 1)?;
+    let shared = SharedId::new(alloc, series(alloc, 1, falling())?)?;
+    let first = batch_of(alloc, shared.share()?, 1)?;
     expect_owners(&rt, &mut book, first, 1, &shared, 3);
-    let second = batch_of(alloc, series(alloc, 1, falling())?, 2)?;
+    let again = SharedId::new(alloc, series(alloc, 1, falling())?)?;
+    let second = batch_of(alloc, again, 2)?;
     expect_owners(&rt, &mut book, second, 2, &shared, 4);
     let flush = book.take(7, 1)?.ok_or("nothing was taken")?;
     look::count(&rt, flush.points.as_slice().len(), 1, "points");
     look::count(&rt, shared.owners(), 6, "owners");
+    Ok(())
+}
+
+// A cell shares the identity of its first point, also where the points have two owners and adopt
+// nothing.
+#[test]
+fn a_cell_shares_the_identity_of_its_first_point(rt: HostRuntime) -> Result<(), Fail> {
+    let alloc = rt.alloc();
+    let mut book = Book::new(alloc)?;
+    let series = series(alloc, 1, Kind::Sum { monotonic: false })?;
+    let body = batch_of(alloc, SharedId::new(alloc, series)?, 1)?;
+    let kept = body.copy(alloc)?;
+    assert_eq!(rt; admitted(&rt, &mut book, body), Ok(1));
+    let cell = book.cells().first().ok_or("no cell")?;
+    let point = kept.points.as_slice().first().ok_or("no point")?;
+    look::count(&rt, cell.shared_id().owners(), 2, "owners");
+    look::holds(
+        &rt,
+        cell.shared_id().is_same(point.shared_series()),
+        "one identity",
+    );
     Ok(())
 }

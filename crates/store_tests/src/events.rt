@@ -11,8 +11,9 @@ use metric_events::row::Row;
 use metric_events::sender_name::{NameFault, SenderName};
 use metric_events::series_list::SeriesList;
 use metric_events::span::Span;
-use series_id::{AttrSet, Kind, SeriesId, Text};
+use series_id::{AttrSet, Kind, SeriesId, SharedId, Text};
 use std::alloc::Global;
+use std::mem::size_of;
 use std::process::Abort;
 use std::test::Fail;
 
@@ -133,7 +134,7 @@ fn expect_same(rt: &impl Abort, mine: &Point, its: &MergedPoint) {
 /// The parts of a point make one that adds up, of the same series, span and row.
 fn expect_remade(rt: &impl Abort, alloc: Global, point: &Point, row: &[u64]) {
     let merged = point.as_merged();
-    let series = merged.series().copy(alloc).expect(rt, "memory");
+    let series = merged.shared_series().share().expect(rt, "a count");
     let words = merged.row().to_vec(alloc).expect(rt, "memory");
     let remade = MergedPoint::new(series, merged.span(), Row::new(words));
     look::words(rt, remade.row(), row, "of its parts");
@@ -343,11 +344,13 @@ fn copies_of_lists(rt: HostRuntime) {
     let alloc = rt.alloc();
     striking();
     let mut list = Vec::new(alloc);
-    list.push(series(&rt, alloc, Kind::Sum { monotonic: true }))
+    let shared = shared_series(&rt, alloc, true);
+    list.push(shared.share().expect(&rt, "a count"))
         .expect(&rt, "memory");
     let list = SeriesList::new(list);
     let copy = list.copy(alloc).expect(&rt, "memory");
     look::count(&rt, copy.as_slice().len(), 1, "series");
+    look::count(&rt, shared.owners(), 3, "owners");
 }
 
 #[test]
@@ -377,16 +380,18 @@ fn points_of_parts(rt: HostRuntime) {
     expect_remade(&rt, alloc, &buckets, &[1, 0, 9, 2, 1]);
 }
 
-/// A series of this kind whose identity can be shared.
-fn shared_series(rt: &impl Abort, alloc: Global, monotonic: bool) -> SeriesId {
+/// An identity of a sum, which can be shared.
+fn shared_series(rt: &impl Abort, alloc: Global, monotonic: bool) -> SharedId
+    ensures { result.kind ≡ Kind.Sum monotonic }
+{
     let series = series(rt, alloc, Kind::Sum { monotonic });
-    let shared = series.share(alloc).expect(rt, "memory");
+    let shared = SharedId::new(alloc, series).ok().expect(rt, "memory");
     look::count(rt, shared.owners(), 1, "owners");
     shared
 }
 
 /// So many own the identity that is adopted, and the other one is owned once.
-fn expect_owners(rt: &impl Abort, shared: &SeriesId, other: &SeriesId, owners: usize) {
+fn expect_owners(rt: &impl Abort, shared: &SharedId, other: &SharedId, owners: usize) {
     look::count(rt, shared.owners(), owners, "owners");
     look::count(rt, other.owners(), 1, "owners of the other");
 }
@@ -412,4 +417,28 @@ fn points_adopt_equal_identities(rt: HostRuntime) {
     let copy = points.copy(alloc).expect(&rt, "memory");
     expect_owners(&rt, &shared, &other, 3);
     look::holds(&rt, copy.is_same(&points), "the same points");
+}
+
+#[test]
+fn points_of_one_identity_share_it(rt: HostRuntime) {
+    let alloc = rt.alloc();
+    let shared = shared_series(&rt, alloc, false);
+    let series = shared.share().expect(&rt, "a count");
+    let point = Point::shared_sum(series, 10, 20, -7).expect(&rt, "a point");
+    expect_row(&rt, &point, &[1, 0, 7]);
+    look::count(&rt, shared.owners(), 2, "owners");
+    let copy = point.copy(alloc).expect(&rt, "memory");
+    look::count(&rt, shared.owners(), 3, "owners");
+    look::holds(&rt, copy.is_same(&point), "the same point");
+    let series = shared.share().expect(&rt, "a count");
+    let late = Point::shared_sum(series, 20, 10, -7).err();
+    assert_eq!(rt; late, Some(PointFault::BadSpan));
+    look::count(&rt, shared.owners(), 3, "owners");
+}
+
+// An identity is one word; a span is two, and a row in place is four.
+#[test]
+fn points_are_small(rt: HostRuntime) {
+    look::count(&rt, size_of::<SharedId>(), 8, "bytes of an identity");
+    look::count(&rt, size_of::<Point>(), 56, "bytes of a point");
 }

@@ -1,7 +1,8 @@
 use crate::look;
 use series_id::limits::{MAX_ATTRIBUTES, MAX_BOUNDS, MAX_TEXT, MAX_VALUES};
 use series_id::{
-    AttrFault, AttrSet, AttrValue, IdFault, Kind, KindFault, Scalar, Scalars, SeriesId, Text,
+    AttrFault, AttrSet, AttrValue, IdFault, Kind, KindFault, Scalar, Scalars, SeriesId, SharedId,
+    Text,
 };
 use std::alloc::Global;
 use std::cmp::Ordering;
@@ -408,11 +409,13 @@ fn threads_may_share_series(rt: HostRuntime) {
     let id = series(&rt, alloc, "h1", "requests", Kind::Sum { monotonic: true });
     check_threads(&id);
     check_threads(id.resource());
+    check_threads(&SharedId::new(alloc, id).ok());
 }
 
-/// Looks at how many own the parts of an identity, and the pairs of its resource.
-fn check_owners(rt: &impl Abort, id: &SeriesId, parts: usize, pairs: usize) {
-    assert_eq!(rt; (id.owners(), id.resource().owners()), (parts, pairs));
+/// Looks at how many own an identity, and the pairs of its resource.
+fn check_owners(rt: &impl Abort, shared: &SharedId, owners: usize, pairs: usize) {
+    let resource = shared.as_series().resource();
+    assert_eq!(rt; (shared.owners(), resource.owners()), (owners, pairs));
 }
 
 /// Looks at how many own the one pair of a set.
@@ -433,31 +436,29 @@ fn sets_share_their_pairs(rt: HostRuntime) {
 }
 
 #[test]
-fn an_identity_alone_is_copied_once(rt: HostRuntime) {
+fn copies_of_identities_share_their_sets(rt: HostRuntime) {
     let alloc = rt.alloc();
     let own = series(&rt, alloc, "h1", "requests", Kind::Sum { monotonic: true });
-    look::holds(&rt, own.shared_copy().is_none(), "not shared");
     let copy = own.copy(alloc).expect(&rt, "memory");
-    check_owners(&rt, &own, 1, 2);
-    let again = copy.copy(alloc).expect(&rt, "memory");
-    check_owners(&rt, &again, 2, 2);
-    drop(copy);
-    check_owners(&rt, &again, 1, 2);
-    check_texts(&rt, &again);
-    check_sets(&rt, &again);
+    check_set(&rt, own.resource(), 2);
+    look::holds(&rt, copy.is_same(&own), "the same series");
+    check_texts(&rt, &copy);
+    check_sets(&rt, &copy);
 }
 
 #[test]
 fn shared_identities_are_one(rt: HostRuntime) {
     let alloc = rt.alloc();
     let own = series(&rt, alloc, "h1", "requests", Kind::Sum { monotonic: true });
-    let shared = own.share(alloc).ok().expect(&rt, "memory");
-    let copy = shared.shared_copy().expect(&rt, "a shared identity");
+    let shared = SharedId::new(alloc, own).ok().expect(&rt, "memory");
+    check_owners(&rt, &shared, 1, 1);
+    let copy = shared.share().expect(&rt, "a count");
     check_owners(&rt, &copy, 2, 1);
-    let twice = shared.share(alloc).ok().expect(&rt, "memory");
-    check_owners(&rt, &twice, 2, 1);
-    look::holds(&rt, twice.is_same(&copy), "the same series");
-    check_texts(&rt, &twice);
+    look::holds(&rt, shared.is_same(&copy), "the same series");
+    drop(shared);
+    check_owners(&rt, &copy, 1, 1);
+    check_texts(&rt, copy.as_series());
+    check_sets(&rt, copy.as_series());
 }
 
 /// Looks at whether two series share a resource, a scope and a stream.
