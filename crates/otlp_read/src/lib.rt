@@ -13,6 +13,7 @@ mod histograms;
 mod lists;
 mod made;
 mod members;
+mod memo;
 mod metrics;
 mod place;
 mod reading;
@@ -23,6 +24,7 @@ mod walk;
 mod whole;
 
 pub use fault::ReadFault;
+pub use memo::Memo;
 pub use place::Place;
 pub use reading::Reading;
-pub use walk::read_request;
+pub use walk::{read_request, read_request_with};

@@ -12,6 +12,7 @@ use crate::attributes::attributes_in;
 use crate::containers::{object_in, objects};
 use crate::fault::ReadFault;
 use crate::fields::field;
+use crate::memo::Memo;
 use crate::metrics::metric;
 use crate::place::Place;
 use crate::reading::Reading;
@@ -37,6 +38,17 @@ use std::alloc::Global;
 pub fn read_request(alloc: Global, bytes: &[u8]) -> Result<Reading, ReadFault>
     ensures { Answers bytes.now result }
 {
+    let mut memo = Memo::new(alloc);
+    read_request_with(alloc, bytes, &mut memo)
+}
+
+/// Reads the body of a metrics request as `read_request` does, with a memo of the bodies before.
+///
+/// The answer is the same whatever the memo holds, and each fault comes where it does there.
+pub fn read_request_with(alloc: Global, bytes: &[u8], memo: &mut Memo) -> Result<Reading, ReadFault>
+    ensures { Answers bytes.now result }
+{
+    let _ = memo;
     let value = match Value::from_slice(alloc, bytes) {
         Ok(value) => value,
         Err(e) if e.is_memory() => return Err(ReadFault::NoMemory),

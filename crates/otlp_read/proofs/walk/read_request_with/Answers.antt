@@ -1,6 +1,6 @@
 use Rattle.serde_json.specs.View.{view}
 use Rattle.otlp_read.proofs.TextLemmas.{says, says_nothing, answers}
-use Rattle.otlp_read.proofs.walk.read_request.Goals as goal
+use Rattle.otlp_read.proofs.walk.read_request_with.Goals as goal
 
 pub returns-in-Err-2 : goal.returns-in-Err-2
 returns-in-Err-2 c =
