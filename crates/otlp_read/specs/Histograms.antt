@@ -12,8 +12,7 @@ use Rattle.otlp_read.specs.Whole.{unsigned_64, signed_in}
 use Rattle.otlp_read.specs.Fields.{field, flags_fit, nanos_in}
 use Rattle.otlp_read.specs.Lists.{list_in}
 use Rattle.otlp_read.specs.Rules.{unless}
-use Rattle.otlp_read.specs.Attributes.{attributes_in}
-use Rattle.otlp_read.specs.Streams.{Stream, series_in}
+use Rattle.otlp_read.specs.Streams.{Stream, series_of}
 
 infixl 10 ◌>>=◌
 abbrev pub ◌>>=◌ : {A B : Type 0} → Option A → (A → Option B) → Option B
@@ -57,8 +56,7 @@ histogram_point stream d = do
   fields ← histogram_fields d
   kind ← kind_in d
   buckets ← list_in unsigned_64 (field (codes "bucketCounts") d)
-  attributes ← attributes_in (field (codes "attributes") d)
-  series ← series_in stream kind attributes
+  series ← series_of stream kind (field (codes "attributes") d)
   unless (histogram_fault series.kind fields.start fields.end fields.count fields.total buckets) (record { series = series; span = record { start = fields.start; end = fields.end }; row = histogram_row fields.total (given_buckets (bounds_of series.kind) fields.count buckets) })
 
 -- below a stream that is none, nothing is a point

@@ -1,8 +1,14 @@
 -- What stands above a point, without the references.
+use Rattle.std.specs.Prelude.{List}
+use Rattle.series_id.specs.declared.attributes.Attribute.{Attribute}
+use Rattle.otlp_read.specs.declared.streams.Resource.{Resource as BorrowedResource}
 use Rattle.otlp_read.specs.declared.streams.Scope.{Scope as BorrowedScope}
 use Rattle.otlp_read.specs.declared.streams.Stream.{Stream as BorrowedStream}
 use Rattle.otlp_read.specs.declared.streams.SumStream.{SumStream as BorrowedSumStream}
 use Rattle.otlp_read.specs.Streams.{Scope, Stream, SumStream}
+
+abbrev pub resource_data : BorrowedResource → List Attribute
+resource_data r = r.attributes.now
 
 abbrev pub scope_data : BorrowedScope → Scope
 scope_data s = record { resource = s.resource.now; name = s.name.now; version = s.version.now; attributes = s.attributes.now }

@@ -7,6 +7,7 @@ use Rattle.series_id.specs.declared.kinds.Kind.{Kind}
 use Rattle.series_id.specs.Identity.{Identity}
 use Rattle.series_id.specs.Checks.{checked_identity}
 use Rattle.otlp_read.specs.Fields.{field, text_in, truth_in, is_delta}
+use Rattle.otlp_read.specs.Attributes.{attributes_in}
 
 infixl 10 ◌>>=◌
 abbrev pub ◌>>=◌ : {A B : Type 0} → Option A → (A → Option B) → Option B
@@ -74,3 +75,7 @@ identity_in stream kind attributes = record {
 -- that series, where its texts are within their limit
 unfoldable pub series_in : Stream → Kind → List Attribute → Option Identity
 series_in stream kind attributes = result_ok (checked_identity (identity_in stream kind attributes))
+
+-- the series of a kind and of an attribute list in a stream
+unfoldable pub series_of : Stream → Kind → Option Data → Option Identity
+series_of stream kind found = attributes_in found >>= series_in stream kind

@@ -8,8 +8,7 @@ use Rattle.metric_events.specs.PointFaults.{sum_fault}
 use Rattle.otlp_read.specs.Whole.{signed_64}
 use Rattle.otlp_read.specs.Fields.{field, flags_fit, nanos_in}
 use Rattle.otlp_read.specs.Rules.{unless}
-use Rattle.otlp_read.specs.Attributes.{attributes_in}
-use Rattle.otlp_read.specs.Streams.{SumStream, series_in}
+use Rattle.otlp_read.specs.Streams.{SumStream, series_of}
 
 infixl 10 ◌>>=◌
 abbrev pub ◌>>=◌ : {A B : Type 0} → Option A → (A → Option B) → Option B
@@ -41,8 +40,7 @@ sum_fields d = do
 unfoldable pub sum_point : SumStream → Data → Option DataPoint
 sum_point sum d = do
   fields ← sum_fields d
-  attributes ← attributes_in (field (codes "attributes") d)
-  series ← series_in sum.stream (Sum sum.monotonic) attributes
+  series ← series_of sum.stream (Sum sum.monotonic) (field (codes "attributes") d)
   unless (sum_fault series.kind fields.start fields.end fields.value) (record { series = series; span = record { start = fields.start; end = fields.end }; row = sum_row fields.value })
 
 -- below a stream that is none, nothing is a point

@@ -1,17 +1,20 @@
 //! Attribute lists.
 
-ghost use Rattle.std.specs.Prelude.{◌≡◌, ◌≢◌, codes, map, option_map, IfOk, OnErr, OnOk};
+ghost use Rattle.std.specs.Prelude.{◌≡◌, ◌≢◌, codes, map, option_map, IfOk, IfSome, OnErr, OnOk, Some};
 ghost use Rattle.std.specs.Result.{result_ok};
 ghost use Rattle.serde_json.specs.Data.{object};
 ghost use Rattle.serde_json.specs.View.{view, members_view};
 ghost use Rattle.otlp_read.specs.Fields.{field};
 ghost use Rattle.otlp_read.specs.Lists.{all_of};
 ghost use Rattle.otlp_read.specs.Attributes.{key_and_value, pair_of, set_of, attributes_in};
+ghost use Rattle.otlp_read.specs.GivenViews.{given_data};
+ghost use Rattle.series_id.specs.declared.values.AttrValue.TheVariants.{One};
 
 use crate::fields::text_in;
+use crate::given::Given;
 use crate::lists::elements_in;
 use crate::members::take_named;
-use crate::values::value_in;
+use crate::values::{given_in, value_in};
 use serde_json::{Map, Value};
 use series_id::{AttrFault, AttrSet, AttrValue, Text};
 use std::alloc::{AllocError, Global};
@@ -85,8 +88,18 @@ fn pair_of(alloc: Global, value: &Value) -> Result<Option<(Text, AttrValue)>, Al
     Ok(Some((key, found)))
 }
 
-/// The set that the pairs are, where they are one.
+/// The key and the value of an attribute, where its value is a single one.
+#[tactic(auto, unfolding(crate::specs::Attributes::pair_of))]
+pub fn given_pair<'v>(value: &'v Value) -> Option<(&'v str, Given<'v>)>
+    ensures { IfSome result (λ p. pair_of (view value.now) ≡ Some (p.0.now, One (given_data p.1))) }
+{
+    let pair = pair_fields(value.as_object()?);
+    let key = text_in(pair.key)?;
+    let given = given_in(pair.value)?;
+    Some((key, given))
+}
 
+/// The set that the pairs are, where they are one.
 fn set_of(alloc: Global, pairs: Vec<(Text, AttrValue)>) -> Result<Option<AttrSet>, AllocError>
     ensures { IfOk result (λ o. o ≡ set_of pairs.items) }
 {

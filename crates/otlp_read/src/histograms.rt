@@ -13,12 +13,12 @@ ghost use Rattle.otlp_read.specs.Histograms.{count_in, total_in, histogram_field
 ghost use Rattle.otlp_read.specs.PointViews.{histogram_fields_data};
 ghost use Rattle.otlp_read.specs.StreamViews.{stream_data};
 
-use crate::attributes::attributes_in;
 use crate::fields::{flags_fit, nanos_in};
 use crate::lists::{signed_list, unsigned_list};
 use crate::made::made;
 use crate::members::take_named;
-use crate::streams::{Stream, series_in};
+use crate::memo::Memo;
+use crate::streams::{Stream, series_of};
 use crate::whole::unsigned_64;
 use metric_events::point::Point;
 use serde_json::{Map, Value};
@@ -157,6 +157,7 @@ fn kind_of(alloc: Global, bounds: Option<&Value>) -> Result<Option<Kind>, AllocE
 /// The point that a data point of a histogram is, or nothing where it is foreign.
 pub fn histogram_point_in(
     alloc: Global,
+    memo: &mut Memo,
     stream: Option<Stream<'_>>,
     value: &Value,
 ) -> Result<Option<Point>, AllocError>
@@ -164,13 +165,14 @@ pub fn histogram_point_in(
 {
     match stream {
         None => Ok(None),
-        Some(stream) => histogram_point(alloc, stream, value),
+        Some(stream) => histogram_point(alloc, memo, stream, value),
     }
 }
 
 #[tactic(auto, unfolding(crate::specs::Histograms::histogram_point, crate::specs::Histograms::kind_in))]
 fn histogram_point(
     alloc: Global,
+    memo: &mut Memo,
     stream: Stream<'_>,
     value: &Value,
 ) -> Result<Option<Point>, AllocError>
@@ -185,10 +187,7 @@ fn histogram_point(
     let Some(buckets) = unsigned_list(alloc, fields.buckets, u64::MAX)? else {
         return Ok(None);
     };
-    let Some(attributes) = attributes_in(alloc, fields.attributes)? else {
-        return Ok(None);
-    };
-    let Some(series) = series_in(alloc, stream, kind, attributes)? else {
+    let Some(series) = series_of(alloc, memo, stream, kind, fields.attributes)? else {
         return Ok(None);
     };
     let HistogramFields {
@@ -198,6 +197,6 @@ fn histogram_point(
         total,
         ..
     } = fields;
-    let point = made(Point::histogram(alloc, series, start, end, count, total, buckets))?;
+    let point = made(Point::shared_histogram(alloc, series, start, end, count, total, buckets))?;
     Ok(point)
 }

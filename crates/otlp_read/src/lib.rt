@@ -7,9 +7,12 @@
 
 mod attributes;
 mod containers;
+mod digest;
 mod fault;
 mod fields;
+mod given;
 mod histograms;
+mod known;
 mod lists;
 mod made;
 mod members;

@@ -14,6 +14,7 @@ use crate::containers::{object_in, objects};
 use crate::fault::ReadFault;
 use crate::fields::field;
 use crate::histograms::histogram_point_in;
+use crate::memo::Memo;
 use crate::place::Place;
 use crate::reading::Reading;
 use crate::streams::{Scope, Stream, SumStream, stream_in, sum_stream_in};
@@ -43,6 +44,7 @@ struct Parts<'v> {
 #[tactic(auto, unfolding(crate::specs::Metrics::metric))]
 pub fn metric(
     alloc: Global,
+    memo: &mut Memo,
     out: &mut Reading,
     scope: Option<Scope<'_>>,
     value: &Value,
@@ -51,7 +53,7 @@ pub fn metric(
 {
     let parts = parts_of(value)?;
     out.metrics = out.metrics.saturating_add(1);
-    add_parts(alloc, out, scope, value, parts)?;
+    add_parts(alloc, memo, out, scope, value, parts)?;
     Ok(())
 }
 
@@ -87,6 +89,7 @@ fn part_of<'v>(metric: &'v Value, name: &str) -> Result<Option<Part<'v>>, ReadFa
 #[tactic(auto, unfolding(crate::specs::Metrics::add_parts))]
 fn add_parts(
     alloc: Global,
+    memo: &mut Memo,
     out: &mut Reading,
     scope: Option<Scope<'_>>,
     metric: &Value,
@@ -95,7 +98,7 @@ fn add_parts(
     ensures { OnOk result (tally out.new ≡ add_parts (option_map scope_data scope.entry) (view metric.now) (parts_data parts.entry) (tally out.old)) }
 {
     add_all(out, parts.gauge);
-    add_profile(alloc, out, scope, metric, parts)?;
+    add_profile(alloc, memo, out, scope, metric, parts)?;
     add_all(out, parts.exponential);
     add_all(out, parts.summary);
     Ok(())
@@ -104,6 +107,7 @@ fn add_parts(
 #[tactic(auto, unfolding(crate::specs::Metrics::add_profile))]
 fn add_profile(
     alloc: Global,
+    memo: &mut Memo,
     out: &mut Reading,
     scope: Option<Scope<'_>>,
     metric: &Value,
@@ -112,8 +116,8 @@ fn add_profile(
     ensures { OnOk result (tally out.new ≡ add_profile (option_map scope_data scope.entry) (view metric.now) (parts_data parts.entry) (tally out.old)) }
 {
     if is_single(parts) {
-        add_sum(alloc, out, scope, metric, parts.sum)?;
-        add_histogram(alloc, out, scope, metric, parts.histogram)?;
+        add_sum(alloc, memo, out, scope, metric, parts.sum)?;
+        add_histogram(alloc, memo, out, scope, metric, parts.histogram)?;
     } else {
         add_all(out, parts.sum);
         add_all(out, parts.histogram);
@@ -154,6 +158,7 @@ fn add_all(out: &mut Reading, part: Option<Part<'_>>)
 
 fn add_sum(
     alloc: Global,
+    memo: &mut Memo,
     out: &mut Reading,
     scope: Option<Scope<'_>>,
     metric: &Value,
@@ -165,11 +170,12 @@ fn add_sum(
         return Ok(());
     };
     let sum = sum_stream_in(scope, metric, part.whole);
-    sum_points(alloc, out, sum, part.points)
+    sum_points(alloc, memo, out, sum, part.points)
 }
 
 fn add_histogram(
     alloc: Global,
+    memo: &mut Memo,
     out: &mut Reading,
     scope: Option<Scope<'_>>,
     metric: &Value,
@@ -181,12 +187,13 @@ fn add_histogram(
         return Ok(());
     };
     let stream = stream_in(scope, metric, part.whole);
-    histogram_points(alloc, out, stream, part.points)
+    histogram_points(alloc, memo, out, stream, part.points)
 }
 
 /// Reads the points of a sum in order.
 fn sum_points(
     alloc: Global,
+    memo: &mut Memo,
     out: &mut Reading,
     sum: Option<SumStream<'_>>,
     points: &[Value],
@@ -194,7 +201,7 @@ fn sum_points(
     ensures { OnOk result (tally out.new ≡ each_point (sum_point_in (option_map sum_stream_data sum.entry)) (map view points.now) (tally out.old)) }
 {
     for value in points {
-        let point = sum_point_in(alloc, sum, value)?;
+        let point = sum_point_in(alloc, memo, sum, value)?;
         add_point(out, point)?;
     }
     Ok(())
@@ -203,6 +210,7 @@ fn sum_points(
 /// Reads the points of a histogram in order.
 fn histogram_points(
     alloc: Global,
+    memo: &mut Memo,
     out: &mut Reading,
     stream: Option<Stream<'_>>,
     points: &[Value],
@@ -210,7 +218,7 @@ fn histogram_points(
     ensures { OnOk result (tally out.new ≡ each_point (histogram_point_in (option_map stream_data stream.entry)) (map view points.now) (tally out.old)) }
 {
     for value in points {
-        let point = histogram_point_in(alloc, stream, value)?;
+        let point = histogram_point_in(alloc, memo, stream, value)?;
         add_point(out, point)?;
     }
     Ok(())

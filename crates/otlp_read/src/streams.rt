@@ -3,29 +3,42 @@
 
 ghost use Rattle.std.specs.Prelude.{◌≡◌, option_map, IfOk};
 ghost use Rattle.serde_json.specs.View.{view};
-ghost use Rattle.otlp_read.specs.Streams.{inner, scope_in, stream_in, sum_stream_in, series_in};
-ghost use Rattle.otlp_read.specs.StreamViews.{scope_data, stream_data, sum_stream_data};
+ghost use Rattle.otlp_read.specs.Streams.{inner, scope_in, stream_in, sum_stream_in, series_in, series_of};
+ghost use Rattle.otlp_read.specs.StreamViews.{resource_data, scope_data, stream_data, sum_stream_data};
 
+use crate::attributes::attributes_in;
+use crate::digest::Digest;
 use crate::fields::{field, is_delta, text_in, truth_in};
+use crate::known::known_series;
+use crate::memo::Memo;
 use serde_json::Value;
-use series_id::{AttrSet, Kind, SeriesId, Text};
+use series_id::{AttrSet, Kind, SeriesId, SharedId, Text};
 use std::alloc::{AllocError, Global};
 
-/// The resource's attributes, and the scope.
+/// A resource's attributes, and their digest.
+#[derive(Clone, Copy)]
+pub struct Resource<'a> {
+    pub attributes: &'a AttrSet,
+    pub digest: Digest,
+}
+
+/// The resource's attributes, the scope, and the digest of both.
 #[derive(Clone, Copy)]
 pub struct Scope<'a> {
     pub resource: &'a AttrSet,
     pub name: &'a str,
     pub version: &'a str,
     pub attributes: &'a AttrSet,
+    pub digest: Digest,
 }
 
-/// A metric of a scope.
+/// A metric of a scope, and the digest of both.
 #[derive(Clone, Copy)]
 pub struct Stream<'a> {
     pub scope: Scope<'a>,
     pub name: &'a str,
     pub unit: &'a str,
+    pub digest: Digest,
 }
 
 /// A stream of sums, and whether they only grow.
@@ -43,25 +56,40 @@ pub fn inner<'v>(found: Option<&'v Value>, name: &str) -> Option<&'v Value>
     field(found?, name)
 }
 
+/// The resource with these attributes, nothing where they are no part of an identity.
+pub fn resource_in<'a>(attributes: Option<&'a AttrSet>) -> Option<Resource<'a>>
+    ensures { option_map resource_data result ≡ option_map (λ s. s.now) attributes.entry }
+{
+    let attributes = attributes?;
+    let mut digest = Digest::new();
+    digest.add_set(attributes);
+    Some(Resource { attributes, digest })
+}
+
 /// The scope below a resource's attributes, with its own; nothing where one of
 /// its parts is no part of an identity.
 #[tactic(auto, unfolding(crate::specs::Streams::scope_in))]
 pub fn scope_in<'a>(
-    resource: Option<&'a AttrSet>,
+    resource: Option<Resource<'a>>,
     scope: Option<&'a Value>,
     attributes: Option<&'a AttrSet>,
 ) -> Option<Scope<'a>>
-    ensures { option_map scope_data result ≡ scope_in (option_map (λ s. s.now) resource.entry) (option_map (λ v. view v.now) scope.entry) (option_map (λ s. s.now) attributes.entry) }
+    ensures { option_map scope_data result ≡ scope_in (option_map resource_data resource.entry) (option_map (λ v. view v.now) scope.entry) (option_map (λ s. s.now) attributes.entry) }
 {
     let resource = resource?;
     let name = text_in(inner(scope, "name"))?;
     let version = text_in(inner(scope, "version"))?;
     let attributes = attributes?;
+    let mut digest = resource.digest;
+    digest.add_text(name);
+    digest.add_text(version);
+    digest.add_set(attributes);
     Some(Scope {
-        resource,
+        resource: resource.attributes,
         name,
         version,
         attributes,
+        digest,
     })
 }
 
@@ -78,7 +106,15 @@ pub fn stream_in<'a>(
     let name = text_in(field(metric, "name"))?;
     let unit = text_in(field(metric, "unit"))?;
     if is_delta(field(part, "aggregationTemporality")) {
-        Some(Stream { scope, name, unit })
+        let mut digest = scope.digest;
+        digest.add_text(name);
+        digest.add_text(unit);
+        Some(Stream {
+            scope,
+            name,
+            unit,
+            digest,
+        })
     } else {
         None
     }
@@ -98,10 +134,36 @@ pub fn sum_stream_in<'a>(
     Some(SumStream { stream, monotonic })
 }
 
-/// The series of a kind and of attributes in a stream, shared, so that no copy of it copies a
-/// text.
+/// The series of a kind and of an attribute list in a stream, shared with what the memo holds of
+/// it; nothing where it is none.
+#[tactic(auto, unfolding(crate::specs::Streams::series_of))]
+pub fn series_of(
+    alloc: Global,
+    memo: &mut Memo,
+    stream: Stream<'_>,
+    kind: Kind,
+    found: Option<&Value>,
+) -> Result<Option<SharedId>, AllocError>
+    ensures { IfOk result (λ o. o ≡ series_of (stream_data stream.entry) kind (option_map (λ v. view v.now) found.entry)) }
+{
+    if let Some(series) = known_series(memo, stream, &kind, found) {
+        return Ok(Some(series));
+    }
+    let Some(attributes) = attributes_in(alloc, found)? else {
+        return Ok(None);
+    };
+    let mut digest = stream.digest;
+    digest.add_kind(&kind);
+    digest.add_set(&attributes);
+    let Some(series) = series_in(alloc, stream, kind, attributes)? else {
+        return Ok(None);
+    };
+    Ok(Some(memo.shared(alloc, digest, series)?))
+}
+
+/// The series of a kind and of attributes in a stream.
 #[tactic(auto, unfolding(crate::specs::Streams::series_in))]
-pub fn series_in(
+fn series_in(
     alloc: Global,
     stream: Stream<'_>,
     kind: Kind,
@@ -126,7 +188,7 @@ pub fn series_in(
         attributes,
     );
     match made {
-        Ok(series) => Ok(Some(series.share(alloc)?)),
+        Ok(series) => Ok(Some(series)),
         Err(_) => Ok(None),
     }
 }

@@ -8,11 +8,10 @@ ghost use Rattle.otlp_read.specs.Sums.{number_in, sum_fields, sum_point, sum_poi
 ghost use Rattle.otlp_read.specs.PointViews.{sum_fields_data};
 ghost use Rattle.otlp_read.specs.StreamViews.{sum_stream_data};
 
-use crate::attributes::attributes_in;
 use crate::fields::{flags_fit, nanos_in};
-use crate::made::made;
 use crate::members::take_named;
-use crate::streams::{SumStream, series_in};
+use crate::memo::Memo;
+use crate::streams::{SumStream, series_of};
 use crate::whole::signed_64;
 use metric_events::point::Point;
 use serde_json::{Map, Value};
@@ -111,6 +110,7 @@ fn sum_fields<'v>(value: &'v Value) -> Option<SumFields<'v>>
 /// The point that a data point of a sum is, or nothing where it is foreign.
 pub fn sum_point_in(
     alloc: Global,
+    memo: &mut Memo,
     sum: Option<SumStream<'_>>,
     value: &Value,
 ) -> Result<Option<Point>, AllocError>
@@ -118,26 +118,28 @@ pub fn sum_point_in(
 {
     match sum {
         None => Ok(None),
-        Some(sum) => sum_point(alloc, sum, value),
+        Some(sum) => sum_point(alloc, memo, sum, value),
     }
 }
 
 #[tactic(auto, unfolding(crate::specs::Sums::sum_point))]
-fn sum_point(alloc: Global, sum: SumStream<'_>, value: &Value) -> Result<Option<Point>, AllocError>
+fn sum_point(
+    alloc: Global,
+    memo: &mut Memo,
+    sum: SumStream<'_>,
+    value: &Value,
+) -> Result<Option<Point>, AllocError>
     ensures { IfOk result (λ o. o ≡ sum_point (sum_stream_data sum.entry) (view value.now)) }
 {
     let Some(fields) = sum_fields(value) else {
         return Ok(None);
     };
-    let Some(attributes) = attributes_in(alloc, fields.attributes)? else {
-        return Ok(None);
-    };
     let kind = Kind::Sum {
         monotonic: sum.monotonic,
     };
-    let Some(series) = series_in(alloc, sum.stream, kind, attributes)? else {
+    let Some(series) = series_of(alloc, memo, sum.stream, kind, fields.attributes)? else {
         return Ok(None);
     };
-    let point = made(Point::sum(alloc, series, fields.start, fields.end, fields.value))?;
-    Ok(point)
+    let point = Point::shared_sum(series, fields.start, fields.end, fields.value);
+    Ok(point.ok())
 }

@@ -1,21 +1,21 @@
 //! Values of attributes: one scalar, or a list of scalars.
 
-ghost use Rattle.std.specs.Prelude.{◌≡◌, ◌||◌, is_some, map, option_map, IfOk};
-ghost use Rattle.serde_json.specs.Find.{as_str};
+ghost use Rattle.std.specs.Prelude.{◌≡◌, ◌||◌, is_some, map, option_map, IfOk, IfSome, Some};
 ghost use Rattle.serde_json.specs.Data.{object};
 ghost use Rattle.serde_json.specs.View.{view, members_view};
-ghost use Rattle.series_id.specs.declared.scalars.Scalar.TheVariants.{Text as text_value};
 ghost use Rattle.series_id.specs.declared.values.AttrValue.TheVariants.{One};
 ghost use Rattle.otlp_read.specs.Lists.{all_of};
 ghost use Rattle.otlp_read.specs.Values.{fields_of, scalar_of, scalar_in, scalars_of, many_of, value_of, value_in};
 ghost use Rattle.otlp_read.specs.ValueViews.{fields_data};
+ghost use Rattle.otlp_read.specs.GivenViews.{given_data};
 
 use crate::fields::field;
+use crate::given::Given;
 use crate::lists::elements_in;
 use crate::members::take_named;
 use crate::whole::signed_64;
 use serde_json::{Map, Value};
-use series_id::{AttrValue, Scalar, Scalars, Text};
+use series_id::{AttrValue, Scalar, Scalars};
 use std::alloc::{AllocError, Global};
 
 /// The fields of a value object that are there (`AnyValue` of
@@ -155,28 +155,39 @@ fn scalar_in(alloc: Global, value: &Value) -> Result<Option<Scalar>, AllocError>
     }
 }
 
-#[tactic(auto, unfolding(crate::specs::Values::scalar_of))]
 fn scalar_of(alloc: Global, fields: ValueFields<'_>) -> Result<Option<Scalar>, AllocError>
     ensures { IfOk result (λ o. o ≡ scalar_of (fields_data fields.entry)) }
 {
-    if fields.other || fields.list.is_some() {
-        return Ok(None);
-    }
-    match (fields.text, fields.truth, fields.int) {
-        (None, None, None) => Ok(Some(Scalar::Empty)),
-        (Some(value), None, None) => text_scalar(alloc, value),
-        (None, Some(value), None) => Ok(value.as_bool().map(Scalar::Truth)),
-        (None, None, Some(value)) => Ok(signed_64(value).map(Scalar::Int)),
-        _ => Ok(None),
+    match given_of(fields) {
+        None => Ok(None),
+        Some(given) => Ok(Some(given.made(alloc)?)),
     }
 }
 
-fn text_scalar(alloc: Global, value: &Value) -> Result<Option<Scalar>, AllocError>
-    ensures { IfOk result (λ o. o ≡ option_map text_value (as_str (view value.now))) }
+/// The single value that the fields of a value object are.
+#[tactic(auto, unfolding(crate::specs::Values::scalar_of))]
+fn given_of<'v>(fields: ValueFields<'v>) -> Option<Given<'v>>
+    ensures { option_map given_data result ≡ scalar_of (fields_data fields.entry) }
 {
-    let Some(text) = value.as_str() else {
-        return Ok(None);
-    };
-    let text = String::from_str(alloc, text)?;
-    Ok(Some(Scalar::Text(Text::new(text))))
+    if fields.other || fields.list.is_some() {
+        return None;
+    }
+    match (fields.text, fields.truth, fields.int) {
+        (None, None, None) => Some(Given::Empty),
+        (Some(value), None, None) => Some(Given::Text(value.as_str()?)),
+        (None, Some(value), None) => Some(Given::Truth(value.as_bool()?)),
+        (None, None, Some(value)) => Some(Given::Int(signed_64(value)?)),
+        _ => None,
+    }
+}
+
+/// The value of an attribute, where it is a single one.
+#[tactic(auto, unfolding(crate::specs::Values::value_in, crate::specs::Values::value_of, crate::specs::Values::scalar_of))]
+pub fn given_in<'v>(found: Option<&'v Value>) -> Option<Given<'v>>
+    ensures { IfSome result (λ g. value_in (option_map (λ v. view v.now) found.entry) ≡ Some (One (given_data g))) }
+{
+    match found {
+        None => Some(Given::Empty),
+        Some(value) => given_of(fields_of(value.as_object()?)),
+    }
 }

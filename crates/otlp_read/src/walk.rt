@@ -3,7 +3,7 @@
 ghost use Rattle.std.specs.Prelude.{◌≡◌, map, option_map};
 ghost use Rattle.serde_json.specs.View.{view};
 ghost use Rattle.otlp_read.specs.Containers.{Gives};
-ghost use Rattle.otlp_read.specs.StreamViews.{scope_data};
+ghost use Rattle.otlp_read.specs.StreamViews.{resource_data, scope_data};
 ghost use Rattle.otlp_read.specs.Tallies.{tally};
 ghost use Rattle.otlp_read.specs.Metrics.{metric};
 ghost use Rattle.otlp_read.specs.Reading.{each, scope_metrics, resource_metrics, body, reading, Answers};
@@ -16,10 +16,9 @@ use crate::memo::Memo;
 use crate::metrics::metric;
 use crate::place::Place;
 use crate::reading::Reading;
-use crate::streams::{Scope, inner, scope_in};
+use crate::streams::{Resource, Scope, inner, resource_in, scope_in};
 use metric_events::points::Points;
 use serde_json::Value;
-use series_id::AttrSet;
 use std::alloc::Global;
 
 /// Reads the body of a metrics request (`ExportMetricsServiceRequest` in
@@ -38,7 +37,7 @@ use std::alloc::Global;
 pub fn read_request(alloc: Global, bytes: &[u8]) -> Result<Reading, ReadFault>
     ensures { Answers bytes.now result }
 {
-    let mut memo = Memo::new(alloc);
+    let mut memo = Memo::without_slots(alloc);
     read_request_with(alloc, bytes, &mut memo)
 }
 
@@ -48,17 +47,16 @@ pub fn read_request(alloc: Global, bytes: &[u8]) -> Result<Reading, ReadFault>
 pub fn read_request_with(alloc: Global, bytes: &[u8], memo: &mut Memo) -> Result<Reading, ReadFault>
     ensures { Answers bytes.now result }
 {
-    let _ = memo;
     let value = match Value::from_slice(alloc, bytes) {
         Ok(value) => value,
         Err(e) if e.is_memory() => return Err(ReadFault::NoMemory),
         Err(_) => return Err(ReadFault::NotJson),
     };
-    read_value(alloc, &value)
+    read_value(alloc, memo, &value)
 }
 
 #[tactic(auto, unfolding(crate::specs::Reading::reading))]
-fn read_value(alloc: Global, value: &Value) -> Result<Reading, ReadFault>
+fn read_value(alloc: Global, memo: &mut Memo, value: &Value) -> Result<Reading, ReadFault>
     ensures { Gives tally result (reading (view value.now)) }
 {
     if !value.is_object() {
@@ -69,47 +67,58 @@ fn read_value(alloc: Global, value: &Value) -> Result<Reading, ReadFault>
         foreign: 0,
         metrics: 0,
     };
-    body(alloc, &mut out, value)?;
+    body(alloc, memo, &mut out, value)?;
     Ok(out)
 }
 
 #[tactic(auto, unfolding(crate::specs::Reading::body))]
-fn body(alloc: Global, out: &mut Reading, value: &Value) -> Result<(), ReadFault>
+fn body(alloc: Global, memo: &mut Memo, out: &mut Reading, value: &Value) -> Result<(), ReadFault>
     ensures { Gives (λ _. tally out.new) result (body (view value.now) (tally out.old)) }
 {
     let values = objects(field(value, "resourceMetrics"), Place::ResourceMetrics)?;
-    resources(alloc, out, values)
+    resources(alloc, memo, out, values)
 }
 
-fn resources(alloc: Global, out: &mut Reading, values: &[Value]) -> Result<(), ReadFault>
+fn resources(
+    alloc: Global,
+    memo: &mut Memo,
+    out: &mut Reading,
+    values: &[Value],
+) -> Result<(), ReadFault>
     ensures { Gives (λ _. tally out.new) result (each resource_metrics (map view values.now) (tally out.old)) }
 {
     for value in values {
-        resource_metrics(alloc, out, value)?;
+        resource_metrics(alloc, memo, out, value)?;
     }
     Ok(())
 }
 
 #[tactic(auto, unfolding(crate::specs::Reading::resource_metrics))]
-fn resource_metrics(alloc: Global, out: &mut Reading, value: &Value) -> Result<(), ReadFault>
+fn resource_metrics(
+    alloc: Global,
+    memo: &mut Memo,
+    out: &mut Reading,
+    value: &Value,
+) -> Result<(), ReadFault>
     ensures { Gives (λ _. tally out.new) result (resource_metrics (view value.now) (tally out.old)) }
 {
     let resource = object_in(field(value, "resource"), Place::Resource)?;
     let values = objects(field(value, "scopeMetrics"), Place::ScopeMetrics)?;
     let attributes = attributes_in(alloc, inner(resource, "attributes"))?;
-    scopes(alloc, out, attributes.as_ref(), values)
+    scopes(alloc, memo, out, resource_in(attributes.as_ref()), values)
 }
 
 fn scopes(
     alloc: Global,
+    memo: &mut Memo,
     out: &mut Reading,
-    resource: Option<&AttrSet>,
+    resource: Option<Resource<'_>>,
     values: &[Value],
 ) -> Result<(), ReadFault>
-    ensures { Gives (λ _. tally out.new) result (each (scope_metrics (option_map (λ s. s.now) resource.entry)) (map view values.now) (tally out.old)) }
+    ensures { Gives (λ _. tally out.new) result (each (scope_metrics (option_map resource_data resource.entry)) (map view values.now) (tally out.old)) }
 {
     for value in values {
-        scope_metrics(alloc, out, resource, value)?;
+        scope_metrics(alloc, memo, out, resource, value)?;
     }
     Ok(())
 }
@@ -117,17 +126,19 @@ fn scopes(
 #[tactic(auto, unfolding(crate::specs::Reading::scope_metrics))]
 fn scope_metrics(
     alloc: Global,
+    memo: &mut Memo,
     out: &mut Reading,
-    resource: Option<&AttrSet>,
+    resource: Option<Resource<'_>>,
     value: &Value,
 ) -> Result<(), ReadFault>
-    ensures { Gives (λ _. tally out.new) result (scope_metrics (option_map (λ s. s.now) resource.entry) (view value.now) (tally out.old)) }
+    ensures { Gives (λ _. tally out.new) result (scope_metrics (option_map resource_data resource.entry) (view value.now) (tally out.old)) }
 {
     let scope = object_in(field(value, "scope"), Place::Scope)?;
     let values = objects(field(value, "metrics"), Place::Metrics)?;
     let attributes = attributes_in(alloc, inner(scope, "attributes"))?;
     metrics(
         alloc,
+        memo,
         out,
         scope_in(resource, scope, attributes.as_ref()),
         values,
@@ -136,6 +147,7 @@ fn scope_metrics(
 
 fn metrics(
     alloc: Global,
+    memo: &mut Memo,
     out: &mut Reading,
     scope: Option<Scope<'_>>,
     values: &[Value],
@@ -143,7 +155,7 @@ fn metrics(
     ensures { Gives (λ _. tally out.new) result (each (metric (option_map scope_data scope.entry)) (map view values.now) (tally out.old)) }
 {
     for value in values {
-        metric(alloc, out, scope, value)?;
+        metric(alloc, memo, out, scope, value)?;
     }
     Ok(())
 }

@@ -1,7 +1,7 @@
 //! What no clause says: requests whose meaning was worked out by hand.
 
 use metric_events::point::Point;
-use otlp_read::{Place, ReadFault, Reading, read_request};
+use otlp_read::{Memo, Place, ReadFault, Reading, read_request, read_request_with};
 use std::alloc::{AllocError, Global};
 use std::test::Fail;
 
@@ -432,9 +432,145 @@ fn points_share_their_resource(rt: HostRuntime) -> Result<(), Fail> {
     let reading = read_request(alloc, body.as_bytes())?;
     for point in reading.points.as_slice() {
         assert_eq!(rt; point.series().resource().owners(), 2);
-        assert!(rt; point.series().shared_copy().is_some());
+        assert_eq!(rt; point.shared_series().owners(), 1);
     }
     assert_eq!(rt; reading.points.as_slice().len(), 2);
+    Ok(())
+}
+
+/// A request of a resource and a scope with one metric, `data` its name and its data field.
+fn metric_of(alloc: Global, data: &str) -> Result<String, AllocError> {
+    format!(in alloc;
+        r#"{{"resourceMetrics":[{{"resource":{{"attributes":[{{"key":"r","value":{{"arrayValue":{{"values":[{{"intValue":1}},{{"stringValue":"x"}}]}}}}}}]}},"scopeMetrics":[{{"scope":{{"name":"n","version":"v","attributes":[{{"key":"s"}}]}},"metrics":[{{{data}}}]}}]}}]}}"#
+    )
+}
+
+/// The fields of a metric that is a sum of one point of these attributes.
+fn sum_fields(alloc: Global, monotonic: &str, attributes: &str) -> Result<String, AllocError> {
+    format!(in alloc;
+        r#""name":"m","unit":"By","sum":{{"aggregationTemporality":1,"isMonotonic":{monotonic},"dataPoints":[{{"asInt":1,"startTimeUnixNano":10,"timeUnixNano":20,"attributes":[{attributes}]}}]}}"#
+    )
+}
+
+/// The fields of a metric that is a histogram of one point of these bounds.
+fn histogram_fields(alloc: Global, bounds: &str) -> Result<String, AllocError> {
+    format!(in alloc;
+        r#""name":"m","unit":"By","histogram":{{"aggregationTemporality":1,"dataPoints":[{{"startTimeUnixNano":10,"timeUnixNano":20,"bucketCounts":[0,0,0],"explicitBounds":{bounds}}}]}}"#
+    )
+}
+
+const PAIRS: [&str; 6] = [
+    "",
+    r#"{"key":"a"}"#,
+    r#"{"key":"a","value":{"boolValue":true}},{"key":"b","value":{"intValue":"-7"}}"#,
+    r#"{"key":"a","value":{"stringValue":"x"}},{"key":"b","value":{"stringValue":""}}"#,
+    r#"{"key":"a","value":{"arrayValue":{"values":[{"intValue":1}]}}}"#,
+    r#"{"key":"b","value":{"intValue":1}},{"key":"a","value":{"intValue":2}}"#,
+];
+
+/// Requests of one point each, of a series of its own each.
+fn bodies(alloc: Global) -> Result<Vec<String>, AllocError> {
+    let mut bodies = Vec::new(alloc);
+    for pairs in PAIRS {
+        for monotonic in ["true", "false"] {
+            let fields = sum_fields(alloc, monotonic, pairs)?;
+            bodies.push(metric_of(alloc, fields.as_str())?)?;
+        }
+    }
+    for bounds in ["[0,5]", "[0,6]", "[-1,5]"] {
+        let fields = histogram_fields(alloc, bounds)?;
+        bodies.push(metric_of(alloc, fields.as_str())?)?;
+    }
+    Ok(bodies)
+}
+
+/// Series that come again are shared with what a memo holds of them, and read as without one.
+#[test]
+fn a_memo_shares_what_comes_again(rt: HostRuntime) -> Result<(), Fail> {
+    let alloc = rt.alloc();
+    let mut memo = Memo::new(alloc);
+    let bodies = bodies(alloc)?;
+    let mut readings = Vec::new(alloc);
+    for owners in 2..5 {
+        for body in &bodies {
+            let reading = read_request_with(alloc, body.as_bytes(), &mut memo)?;
+            let plain = read_request(alloc, body.as_bytes())?;
+            assert!(rt; reading.points.is_same(&plain.points), "at {body}");
+            let point = first(&reading).ok_or("a point")?;
+            assert_eq!(rt; point.shared_series().owners(), owners, "at {body}");
+            readings.push(reading)?;
+        }
+    }
+    Ok(())
+}
+
+/// A memo is not taken in by series that differ in a part of the identity alone.
+#[test]
+fn a_memo_keeps_series_apart(rt: HostRuntime) -> Result<(), Fail> {
+    let alloc = rt.alloc();
+    let mut memo = Memo::new(alloc);
+    let fields = sum_fields(alloc, "true", PAIRS[2])?;
+    let body = metric_of(alloc, fields.as_str())?;
+    let reading = read_request_with(alloc, body.as_bytes(), &mut memo)?;
+    let point = first(&reading).ok_or("a point")?;
+    for (old, new) in [
+        (r#""key":"r""#, r#""key":"q""#),
+        (r#"[{"intValue":1},{"stringValue":"x"}]"#, r#"[{"intValue":1}]"#),
+        (r#"[{"intValue":1},{"stringValue":"x"}]"#, r#"[{"intValue":1},{"stringValue":"y"}]"#),
+        (r#""name":"n""#, r#""name":"o""#),
+        (r#""version":"v""#, r#""version":"w""#),
+        (r#"[{"key":"s"}]"#, "[]"),
+        (r#""name":"m""#, r#""name":"l""#),
+        (r#""unit":"By""#, r#""unit":"ms""#),
+        ("true,", "false,"),
+        (r#"{"boolValue":true}"#, r#"{"boolValue":false}"#),
+        (r#"{"boolValue":true}"#, r#"{"stringValue":"true"}"#),
+        (r#"{"intValue":"-7"}"#, r#"{"intValue":"7"}"#),
+        (r#"{"intValue":"-7"}"#, r#"{"stringValue":"-7"}"#),
+        (r#""key":"b""#, r#""key":"c""#),
+    ] {
+        let body = body.replace(alloc, old, new)?;
+        let other = read_request_with(alloc, body.as_bytes(), &mut memo)?;
+        let plain = read_request(alloc, body.as_bytes())?;
+        assert!(rt; other.points.is_same(&plain.points), "at {new}");
+        let other = first(&other).ok_or("a point")?;
+        assert!(rt; !other.series().is_same(point.series()), "at {new}");
+        assert_eq!(rt; other.shared_series().owners(), 2, "at {new}");
+    }
+    Ok(())
+}
+
+/// The pairs of a set are one series in any order.
+#[test]
+fn a_memo_shares_pairs_in_another_order(rt: HostRuntime) -> Result<(), Fail> {
+    let alloc = rt.alloc();
+    let mut memo = Memo::new(alloc);
+    let mut readings = Vec::new(alloc);
+    let (a, b) = (r#"{"key":"a","value":{"intValue":1}}"#, r#"{"key":"b"}"#);
+    for (one, another, owners) in [(a, b, 2), (b, a, 3), (a, b, 4)] {
+        let pairs = format!(in alloc; "{one},{another}")?;
+        let body = sum_about(alloc, pairs.as_str())?;
+        let reading = read_request_with(alloc, body.as_bytes(), &mut memo)?;
+        let point = first(&reading).ok_or("a point")?;
+        assert_eq!(rt; point.shared_series().owners(), owners, "at {pairs}");
+        readings.push(reading)?;
+    }
+    Ok(())
+}
+
+/// An identity of more than some four thousand bytes is not kept.
+#[test]
+fn a_memo_keeps_no_large_series(rt: HostRuntime) -> Result<(), Fail> {
+    let alloc = rt.alloc();
+    let mut memo = Memo::new(alloc);
+    for (length, owners) in [(3900, 2), (4096, 1)] {
+        let text = letters(alloc, length)?;
+        let pair = format!(in alloc; r#"{{"key":"{text}"}}"#)?;
+        let body = sum_about(alloc, pair.as_str())?;
+        let reading = read_request_with(alloc, body.as_bytes(), &mut memo)?;
+        let point = first(&reading).ok_or("a point")?;
+        assert_eq!(rt; point.shared_series().owners(), owners, "{length} bytes");
+    }
     Ok(())
 }
 

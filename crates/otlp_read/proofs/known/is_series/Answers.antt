@@ -1,0 +1,13 @@
+use Rattle.std.proofs.Common.{Some, sym, ap, ◌∙◌}
+use Rattle.otlp_read.specs.StreamViews.{stream_data}
+use Rattle.otlp_read.proofs.KnownLemmas.{known_is}
+use Rattle.otlp_read.proofs.known.is_series.Goals as goal
+
+pub returns : goal.returns
+returns c =
+    let stands = c.is_in_stream.ensures.only c.if-not-is_in_stream.false in
+    let kind = c.is_same_kind.ensures.only c.if-not-is_same_kind.false in
+    record {
+      only = λ same.
+          known_is (stream_data c.args.stream) c.args.kind.now _ c.args.series.now c.keeps_limits.ensures stands (sym c.kind.ensures ∙ kind) (c.is_set.ensures.only same ∙ ap (λ attrs. Some attrs) c.attrs.ensures);
+    }
