@@ -15,7 +15,7 @@ use http::Method;
 use http_edge::{Request, find_in};
 use metric_events::batch::Batch;
 use metric_events::sender_name::{NameFault, SenderName};
-use otlp_read::{ReadFault, read_request};
+use otlp_read::{Memo, ReadFault, read_request_with};
 use out_texts::success_text;
 use std::alloc::{AllocError, Global};
 
@@ -31,10 +31,10 @@ fn name_of(alloc: Global, bytes: &[u8]) -> Result<Option<SenderName>, AllocError
 }
 
 /// What the metrics of a sender ask for.
-fn read(alloc: Global, body: &[u8], sender: SenderName) -> Result<Ask, AllocError>
+fn read(alloc: Global, body: &[u8], sender: SenderName, memo: &mut Memo) -> Result<Ask, AllocError>
     ensures { IfOk result (λ ask. shown ask ≡ spec.read_as sender (text_reading body.now)) }
 {
-    match read_request(alloc, body) {
+    match read_request_with(alloc, body, memo) {
         Err(ReadFault::NoMemory) => return Err(AllocError),
         Err(ReadFault::NotJson) => return Ok(Ask::Turned(Refusal::NotJson)),
         Err(ReadFault::WrongShape(_)) => return Ok(Ask::Turned(Refusal::WrongShape)),
@@ -49,31 +49,41 @@ fn read(alloc: Global, body: &[u8], sender: SenderName) -> Result<Ask, AllocErro
     }
 }
 
-fn metrics_of(alloc: Global, request: &Request, sender: SenderName) -> Result<Ask, AllocError>
+fn metrics_of(
+    alloc: Global,
+    request: &Request,
+    sender: SenderName,
+    memo: &mut Memo,
+) -> Result<Ask, AllocError>
     ensures { IfOk result (λ ask. shown ask ≡ spec.metrics_of (message_in request.now) sender) }
 {
     if !is_plain_json(&request.headers) {
         return Ok(Ask::Turned(Refusal::BadContent));
     }
-    read(alloc, &request.body, sender)
+    read(alloc, &request.body, sender, memo)
 }
 
-fn metrics_named(alloc: Global, request: &Request, name: &[u8]) -> Result<Ask, AllocError>
+fn metrics_named(
+    alloc: Global,
+    request: &Request,
+    name: &[u8],
+    memo: &mut Memo,
+) -> Result<Ask, AllocError>
     ensures { IfOk result (λ ask. shown ask ≡ spec.named (spec.metrics_of (message_in request.now)) name.now) }
 {
     match name_of(alloc, name)? {
         None => return Ok(Ask::Turned(Refusal::BadSender)),
-        Some(sender) => return metrics_of(alloc, request, sender),
+        Some(sender) => return metrics_of(alloc, request, sender, memo),
     }
 }
 
-fn metrics(alloc: Global, request: &Request) -> Result<Ask, AllocError>
+fn metrics(alloc: Global, request: &Request, memo: &mut Memo) -> Result<Ask, AllocError>
     ensures { IfOk result (λ ask. shown ask ≡ spec.metrics (message_in request.now)) }
 {
     match request.find(b"x-sender") {
-        None => return metrics_named(alloc, request, b"-"),
+        None => return metrics_named(alloc, request, b"-", memo),
         Some((name, behind)) => match find_in(behind, b"x-sender") {
-            None => return metrics_named(alloc, request, name),
+            None => return metrics_named(alloc, request, name, memo),
             Some(_) => return Ok(Ask::Turned(Refusal::BadSender)),
         },
     }
@@ -111,12 +121,12 @@ fn is_get(request: &Request) -> bool
 
 /// What a request asks for, by its path.
 #[tactic(auto, unfolding(crate::specs::Asked::asked_at))]
-fn ask_at(alloc: Global, path: &[u8], request: &Request) -> Result<Ask, AllocError>
+fn ask_at(alloc: Global, path: &[u8], request: &Request, memo: &mut Memo) -> Result<Ask, AllocError>
     ensures { IfOk result (λ ask. shown ask ≡ spec.asked_at path.now (message_in request.now)) }
 {
     if path == b"/v1/metrics".as_slice() {
         if is_post(request) {
-            return metrics(alloc, request);
+            return metrics(alloc, request, memo);
         }
         return Ok(Ask::Turned(Refusal::WrongMethod(Allowed::Post)));
     }
@@ -147,9 +157,9 @@ fn ask_at(alloc: Global, path: &[u8], request: &Request) -> Result<Ask, AllocErr
     Ok(Ask::Turned(Refusal::NoSuchPath))
 }
 
-/// What a request asks for.
-pub fn ask_of(alloc: Global, request: &Request) -> Result<Ask, AllocError>
+/// What a request asks for. Its body is read with a memo of the bodies before.
+pub fn ask_of(alloc: Global, request: &Request, memo: &mut Memo) -> Result<Ask, AllocError>
     ensures { IfOk result (λ ask. shown ask ≡ spec.asked (message_in request.now)) }
 {
-    ask_at(alloc, before(b'?', &request.target), request)
+    ask_at(alloc, before(b'?', &request.target), request, memo)
 }

@@ -49,7 +49,7 @@ pub use order_fault::OrderFault;
 pub use pace::{NoPace, Pace, Spot};
 pub use refusal::{Allowed, Refusal};
 pub use served::Served;
-pub use serving::serve;
+pub use serving::{serve, serve_with};
 pub use shared_keeper::SharedKeeper;
 pub use store::Store;
 pub use turn::Turn;

@@ -10,6 +10,7 @@ use crate::pace::{Pace, Spot};
 use crate::refusal::{Refusal, of_http};
 use byte_ends::Source;
 use http_edge::{HttpFault, read_message};
+use otlp_read::Memo;
 use std::alloc::Global;
 
 /// What was heard of a reader.
@@ -34,7 +35,12 @@ fn heard_of(fault: HttpFault) -> Heard
 
 /// Reads a message, and what it asks for. No read follows the one that completes the message, or shows
 /// that there is none.
-pub fn listen<S: Source, P: Pace>(alloc: Global, reader: &mut S, pace: &mut P) -> Heard
+pub fn listen<S: Source, P: Pace>(
+    alloc: Global,
+    reader: &mut S,
+    pace: &mut P,
+    memo: &mut Memo,
+) -> Heard
     ensures heard { Hears (S.remaining reader.old) result }
     ensures failed { HearingFails S.one_more (S.failures reader.old) (S.failures reader.new) result }
     ensures stops { StopsReading NotYet (S.remaining reader.old) (S.remaining reader.new) (S.given reader.new) }
@@ -43,7 +49,7 @@ pub fn listen<S: Source, P: Pace>(alloc: Global, reader: &mut S, pace: &mut P) -
         Err(fault) => return heard_of(fault),
         Ok(request) => {
             pace.at(Spot::BodyRead);
-            match ask_of(alloc, &request) {
+            match ask_of(alloc, &request, memo) {
                 Ok(ask) => return Heard::Asks(ask),
                 Err(_) => return Heard::Asks(Ask::Turned(Refusal::NoMemory)),
             }

@@ -9,6 +9,7 @@ use crate::listening::{Heard, listen};
 use crate::pace::Pace;
 use crate::served::Served;
 use byte_ends::{Sink, Source};
+use otlp_read::Memo;
 use std::alloc::Global;
 
 /// Serves the request that the reader's bytes begin with. No read follows the one that completes it, so
@@ -25,7 +26,25 @@ pub fn serve<K: Keeper, S: Source, W: Sink, P: Pace>(
     ensures read { ReadingFails S.one_more (S.failures reader.old) (S.failures reader.new) result }
     ensures written { WritingFails W.one_more (W.failures writer.old) (W.failures writer.new) result }
 {
-    match listen(alloc, reader, pace) {
+    let mut memo = Memo::new(alloc);
+    serve_with(alloc, keeper, reader, writer, pace, &mut memo)
+}
+
+/// Serves a request as `serve` does. A body is read with a memo of the bodies before, whatever it holds.
+pub fn serve_with<K: Keeper, S: Source, W: Sink, P: Pace>(
+    alloc: Global,
+    keeper: &mut K,
+    reader: &mut S,
+    writer: &mut W,
+    pace: &mut P,
+    memo: &mut Memo,
+) -> Served
+    ensures served { IsServed K.gives (S.remaining reader.old) keeper.old keeper.new (W.contents writer.old) (W.contents writer.new) result }
+    ensures stops { StopsReading NotYet (S.remaining reader.old) (S.remaining reader.new) (S.given reader.new) }
+    ensures read { ReadingFails S.one_more (S.failures reader.old) (S.failures reader.new) result }
+    ensures written { WritingFails W.one_more (W.failures writer.old) (W.failures writer.new) result }
+{
+    match listen(alloc, reader, pace, memo) {
         Heard::Closed => return Served::Closed,
         Heard::Broken => return Served::Broken,
         Heard::Asks(ask) => {

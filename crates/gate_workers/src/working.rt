@@ -13,11 +13,12 @@ use crate::turning::flush_turn;
 use crate::uplink::Uplink;
 use crossbeam_channel::Receiver;
 use metric_events::limits::MAX_TAKEN;
+use otlp_read::Memo;
 use std::alloc::Global;
 use std::sync::Wait;
 
 /// Serves one connection after another. May wait for the next one. The keeper is asked for their requests,
-/// and for nothing else.
+/// and for nothing else. What one body leaves in the memo serves those after it.
 pub fn receiver_loop<C: Connection + Drop, K: Keeper, P: Pace, R: Wait>(
     rt: &R,
     alloc: Global,
@@ -27,8 +28,9 @@ pub fn receiver_loop<C: Connection + Drop, K: Keeper, P: Pace, R: Wait>(
 )
     ensures { (all : List Served) × AreServed K.gives all keeper.old keeper.new }
 {
+    let mut memo = Memo::new(alloc);
     for connection in connections.iter(rt) {
-        let _ = connection.serve(alloc, keeper, pace);
+        let _ = connection.serve(alloc, keeper, pace, &mut memo);
     }
 }
 

@@ -5,7 +5,8 @@ use crate::time_limit::{ANSWER_SECONDS, REFUSED_SECONDS, REQUEST_SECONDS};
 use crate::timed_reader::TimedReader;
 use crate::timed_writer::TimedWriter;
 use byte_ends::{FromReader, ToWriter, drain};
-use gate_workers::{Connection, Keeper, Pace, Served, serve};
+use gate_workers::{Connection, Keeper, Pace, Served, serve_with};
+use otlp_read::Memo;
 use std::alloc::Global;
 use std::net::{Shutdown, TcpStream};
 use std::time::Clock;
@@ -54,13 +55,19 @@ impl<'a, C: Clock> Caller<'a, C> {
 }
 
 impl<C: Clock> Connection for Caller<'_, C> {
-    fn serve<K: Keeper, P: Pace>(self, alloc: Global, keeper: &mut K, pace: &mut P) -> Served {
+    fn serve<K: Keeper, P: Pace>(
+        self,
+        alloc: Global,
+        keeper: &mut K,
+        pace: &mut P,
+        memo: &mut Memo,
+    ) -> Served {
         let stream = &self.stream;
         let input = TimedReader::new(stream, self.clock, REQUEST_SECONDS);
         let output = TimedWriter::new(stream, self.clock, ANSWER_SECONDS);
         let mut reader = FromReader::new(input);
         let mut writer = ToWriter::new(output);
-        let served = serve(alloc, keeper, &mut reader, &mut writer, pace);
+        let served = serve_with(alloc, keeper, &mut reader, &mut writer, pace, memo);
         if may_be_cut_off(served) {
             end_softly(self.clock, stream);
         }

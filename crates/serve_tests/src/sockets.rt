@@ -4,6 +4,7 @@ use back_answers::Answer;
 use delta_book::book::Book;
 use gate_workers::{BookKeeper, Connection, End, NoPace, Served, Uplink};
 use gateway_serve::{Backend, Caller};
+use otlp_read::Memo;
 use std::io::{Read, Write};
 use std::net::{Shutdown, TcpListener, TcpStream};
 use std::process::Abort;
@@ -22,7 +23,8 @@ fn answer_to<R: Abort, U: Uplink + Drop>(
     client.write_all(request)?;
     client.shutdown(Shutdown::Write)?;
     let (stream, _) = listener.accept()?;
-    let got = Caller::new(net, stream).serve(net.alloc(), keeper, &mut NoPace);
+    let mut memo = Memo::new(net.alloc());
+    let got = Caller::new(net, stream).serve(net.alloc(), keeper, &mut NoPace, &mut memo);
     assert_eq!(rt; got, served);
     let mut text = Vec::new(net.alloc());
     client.read_to_end(&mut text)?;
@@ -41,7 +43,8 @@ fn answers_before_the_end<R: Abort>(
     let mut client = TcpStream::connect(net, listener.local_addr()?)?;
     client.write_all(request)?;
     let (stream, _) = listener.accept()?;
-    let _ = Caller::new(net, stream).serve(net.alloc(), keeper, &mut NoPace);
+    let mut memo = Memo::new(net.alloc());
+    let _ = Caller::new(net, stream).serve(net.alloc(), keeper, &mut NoPace, &mut memo);
     let mut text = Vec::new(net.alloc());
     client.read_to_end(&mut text)?;
     assert!(rt; text.as_slice().starts_with(line));

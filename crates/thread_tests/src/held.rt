@@ -3,7 +3,8 @@ ghost use Rattle.std.specs.Prelude.{◌≡◌};
 
 use back_answers::Answer;
 use byte_ends::{Script, Tape};
-use gate_workers::{Connection, Keeper, Pace, Served, Spot, Uplink, serve};
+use gate_workers::{Connection, Keeper, Pace, Served, Spot, Uplink, serve_with};
+use otlp_read::Memo;
 use std::alloc::Global;
 use std::sync::atomic::{AtomicBool, Ordering};
 use std::thread;
@@ -127,10 +128,16 @@ impl<'a> Scripted<'a> {
 }
 
 impl Connection for Scripted<'_> {
-    fn serve<K: Keeper, P: Pace>(self, alloc: Global, keeper: &mut K, pace: &mut P) -> Served {
+    fn serve<K: Keeper, P: Pace>(
+        self,
+        alloc: Global,
+        keeper: &mut K,
+        pace: &mut P,
+        memo: &mut Memo,
+    ) -> Served {
         let mut reader = Script::new(self.bytes, &[]);
         let mut writer = Tape::new(alloc, &[]);
-        let served = serve(alloc, keeper, &mut reader, &mut writer, pace);
+        let served = serve_with(alloc, keeper, &mut reader, &mut writer, pace, memo);
         if writer.taken() == self.response {
             self.answered.store(true, Ordering::SeqCst);
         }
