@@ -19,13 +19,13 @@ use Rattle.delta_book.specs.declared.faults.QuarantineFault.TheVariants as holdi
 use Rattle.delta_book.specs.declared.faults.NotQuarantined.{NotQuarantined}
 use Rattle.http_edge.specs.declared.written.Written.{Written}
 use Rattle.http_edge.specs.declared.written.Written.TheVariants.{All, None_, Part}
-use Rattle.gate_workers.specs.declared.end.End.{End}
-use Rattle.gate_workers.specs.declared.end.End.TheVariants.{NoBatch}
-use Rattle.gate_workers.specs.declared.desk.BookKeeper.{BookKeeper}
-use Rattle.gate_workers.specs.declared.order_fault.OrderFault.{OrderFault}
+use Rattle.gate_workers.specs.declared.service.End.{End}
+use Rattle.gate_workers.specs.declared.service.End.TheVariants.{NoBatch}
+use Rattle.gate_workers.specs.declared.book_keeper.BookKeeper.{BookKeeper}
+use Rattle.gate_workers.specs.declared.order.OrderFault.{OrderFault}
 use Rattle.gate_workers.specs.declared.refusal.Refusal.{Refusal}
 use Rattle.gate_workers.specs.declared.refusal.Refusal.TheVariants.{NotQuarantined as not_quarantined, NoMemory}
-use Rattle.gate_workers.specs.declared.turn.Turn.{Turn}
+use Rattle.gate_workers.specs.declared.flush.Turn.{Turn}
 use Rattle.gate_workers.specs.Calls.{Call, admit, undo, confirm, quarantine, lift, totals, order}
 use Rattle.gate_workers.specs.Refusals.{of_admit, of_hold}
 use Rattle.gate_workers.specs.Responses.{Response, done, refused, marked, turned, reported}
@@ -33,8 +33,8 @@ use Rattle.gate_workers.specs.Asked.{Asked, Metrics, Hold, LetGo, FlushNow, Repo
 use Rattle.gate_workers.specs.Conversations.{IsConversation, IsPosted, IsAdmitted, IsClosed, IsUndone, SaysHeld, SaysLifted, SaysOrdered, SaysReport}
 use Rattle.gate_workers.specs.Turns.{Want, Nowhere, turn_of}
 use Rattle.gate_workers.specs.BookCalls.{KeeperGives, Adds, AreSent, entry_of}
-use Rattle.gate_workers.specs.declared.served.Served.{Served}
-use Rattle.gate_workers.specs.declared.served.Served.TheVariants.{Closed, Broken, Replied}
+use Rattle.gate_workers.specs.declared.service.Served.{Served}
+use Rattle.gate_workers.specs.declared.service.Served.TheVariants.{Closed, Broken, Replied}
 use Rattle.gate_workers.specs.Served.{IsServed}
 use Rattle.gate_workers.specs.ServedBook.{IsServedBook, Outcome, IsOutcome, IsOneOf, served, posted, admitted, admitted_or, held_or, lifted_or, flushed, happens, only_says, unless_marked, end_by, closed_by}
 use Rattle.gate_workers.proofs.BookTurns.{nothing_added, two_added}

@@ -17,9 +17,9 @@ use Rattle.delta_book.specs.declared.flush.Flush.{Flush}
 use Rattle.delta_book.specs.declared.faults.NotLive.{NotLive}
 use Rattle.delta_book.specs.declared.faults.TakeFault.{TakeFault}
 use Rattle.delta_book.specs.declared.faults.TakeFault.TheVariants as fault
-use Rattle.gate_workers.specs.declared.desk.Desk.{Desk}
-use Rattle.gate_workers.specs.declared.turn.Turn.{Turn}
-use Rattle.gate_workers.specs.declared.turn.Turn.TheVariants.{Idle, Full, NoMemory, Done}
+use Rattle.gate_workers.specs.declared.book_keeper.Desk.{Desk}
+use Rattle.gate_workers.specs.declared.flush.Turn.{Turn}
+use Rattle.gate_workers.specs.declared.flush.Turn.TheVariants.{Idle, Full, NoMemory, Done}
 use Rattle.gate_workers.specs.Calls.{Call, take}
 use Rattle.gate_workers.specs.Turns.{IsTurn, IsIdleTurn, IsUnsent, IsClosing, Want, Nowhere, ForFlush, ForText, Made, ending, sending, taking, turn_by, turn_of, without_events}
 use Rattle.gate_workers.specs.BookCalls.{BookGives, Adds, Ends, AreSent, IsMade, entry_of}

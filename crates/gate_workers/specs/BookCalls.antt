@@ -14,7 +14,7 @@ use Rattle.delta_book.specs.declared.faults.NotLive.{NotLive}
 use Rattle.delta_book.specs.declared.faults.TakeFault.TheVariants as taking
 use Rattle.delta_book.specs.declared.faults.QuarantineFault.TheVariants as holding
 use Rattle.back_answers.specs.declared.answer.Answer.{Answer}
-use Rattle.gate_workers.specs.declared.turn.Turn.{Turn}
+use Rattle.gate_workers.specs.declared.flush.Turn.{Turn}
 use Rattle.gate_workers.specs.Calls.{Call, admit, undo, confirm, take, settle, drop_flush, give_back, quarantine, lift, totals, order}
 use Rattle.gate_workers.specs.Turns.{Want, turn_of}
 

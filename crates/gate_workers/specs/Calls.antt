@@ -10,8 +10,8 @@ use Rattle.delta_book.specs.declared.faults.TakeFault.{TakeFault}
 use Rattle.delta_book.specs.declared.faults.NotLive.{NotLive}
 use Rattle.delta_book.specs.declared.faults.QuarantineFault.{QuarantineFault}
 use Rattle.delta_book.specs.declared.faults.NotQuarantined.{NotQuarantined}
-use Rattle.gate_workers.specs.declared.order_fault.OrderFault.{OrderFault}
-use Rattle.gate_workers.specs.declared.turn.Turn.{Turn}
+use Rattle.gate_workers.specs.declared.order.OrderFault.{OrderFault}
+use Rattle.gate_workers.specs.declared.flush.Turn.{Turn}
 
 pub data Call : Type 0 where
   admit : (body : Batch) (answer : Result ℕ (AdmitFault × Batch)) → Call

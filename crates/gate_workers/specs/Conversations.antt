@@ -11,10 +11,10 @@ use Rattle.delta_book.specs.declared.faults.QuarantineFault.{QuarantineFault}
 use Rattle.delta_book.specs.declared.faults.NotQuarantined.{NotQuarantined}
 use Rattle.http_edge.specs.declared.written.Written.{Written}
 use Rattle.http_edge.specs.declared.written.Written.TheVariants.{All, None_, Part}
-use Rattle.gate_workers.specs.declared.order_fault.OrderFault.{OrderFault}
-use Rattle.gate_workers.specs.declared.turn.Turn.{Turn}
-use Rattle.gate_workers.specs.declared.end.End.{End}
-use Rattle.gate_workers.specs.declared.end.End.TheVariants.{NoBatch, Confirmed, Undone}
+use Rattle.gate_workers.specs.declared.order.OrderFault.{OrderFault}
+use Rattle.gate_workers.specs.declared.flush.Turn.{Turn}
+use Rattle.gate_workers.specs.declared.service.End.{End}
+use Rattle.gate_workers.specs.declared.service.End.TheVariants.{NoBatch, Confirmed, Undone}
 use Rattle.gate_workers.specs.Calls.{Call, admit, undo, confirm, quarantine, lift, totals, order}
 use Rattle.gate_workers.specs.declared.refusal.Refusal.TheVariants.{NotQuarantined as not_quarantined}
 use Rattle.gate_workers.specs.Refusals.{of_admit, of_hold}

@@ -1,7 +1,7 @@
 -- What a keeper over a book is made of.
 use Rattle.std.specs.Prelude.{ℕ}
 use Rattle.delta_book.specs.Journal.{Journal}
-use Rattle.gate_workers.specs.declared.desk.BookKeeper.{BookKeeper}
+use Rattle.gate_workers.specs.declared.book_keeper.BookKeeper.{BookKeeper}
 
 abbrev pub book_of : {U : Type 0} → BookKeeper U → Journal
 book_of k = k.desk.book

@@ -1,9 +1,9 @@
 -- What comes back of an order.
 use Rattle.std.specs.Prelude.{Result, Ok, Err}
 use Rattle.crossbeam_channel.specs.declared.err.RecvError.{RecvError}
-use Rattle.gate_workers.specs.declared.order_fault.OrderFault.{OrderFault}
-use Rattle.gate_workers.specs.declared.order_fault.OrderFault.TheVariants.{Gone}
-use Rattle.gate_workers.specs.declared.turn.Turn.{Turn}
+use Rattle.gate_workers.specs.declared.order.OrderFault.{OrderFault}
+use Rattle.gate_workers.specs.declared.order.OrderFault.TheVariants.{Gone}
+use Rattle.gate_workers.specs.declared.flush.Turn.{Turn}
 
 -- the turn that was given back; without one nobody makes it
 abbrev pub given_back : Result Turn RecvError → Result Turn OrderFault

@@ -6,8 +6,8 @@ use Rattle.delta_book.specs.declared.faults.QuarantineFault.{QuarantineFault}
 use Rattle.delta_book.specs.declared.faults.QuarantineFault.TheVariants as hold
 use Rattle.http_edge.specs.declared.fault.HttpFault.{HttpFault}
 use Rattle.http_edge.specs.declared.fault.HttpFault.TheVariants as http
-use Rattle.gate_workers.specs.declared.order_fault.OrderFault.{OrderFault}
-use Rattle.gate_workers.specs.declared.order_fault.OrderFault.TheVariants as order
+use Rattle.gate_workers.specs.declared.order.OrderFault.{OrderFault}
+use Rattle.gate_workers.specs.declared.order.OrderFault.TheVariants as order
 use Rattle.gate_workers.specs.declared.refusal.Allowed.{Allowed}
 use Rattle.gate_workers.specs.declared.refusal.Allowed.TheVariants.{Post, Get}
 use Rattle.gate_workers.specs.declared.refusal.Refusal.{Refusal}

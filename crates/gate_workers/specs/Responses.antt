@@ -8,9 +8,9 @@ use Rattle.http_edge.specs.Sent.{Sent}
 use Rattle.http_edge.specs.declared.written.Written.{Written}
 use Rattle.out_texts.specs.Answers.{status_text, turn_text}
 use Rattle.out_texts.specs.Report.{report_text}
-use Rattle.gate_workers.specs.declared.order_fault.OrderFault.{OrderFault}
-use Rattle.gate_workers.specs.declared.turn.Turn.{Turn}
-use Rattle.gate_workers.specs.declared.turn.Turn.TheVariants.{Idle, Full as turn_full, NoMemory as turn_memory, Done}
+use Rattle.gate_workers.specs.declared.order.OrderFault.{OrderFault}
+use Rattle.gate_workers.specs.declared.flush.Turn.{Turn}
+use Rattle.gate_workers.specs.declared.flush.Turn.TheVariants.{Idle, Full as turn_full, NoMemory as turn_memory, Done}
 use Rattle.gate_workers.specs.declared.refusal.Refusal.{Refusal}
 use Rattle.gate_workers.specs.declared.refusal.Refusal.TheVariants.{Full, NoMemory}
 use Rattle.gate_workers.specs.Refusals.{refusal_status, refusal_message, refusal_allow, of_order}

@@ -1,9 +1,9 @@
 -- What serving one request comes to.
 use Rattle.std.specs.Prelude.{◌≡◌, ℕ, List, Option}
 use Rattle.http_edge.specs.Sent.{Failed}
-use Rattle.gate_workers.specs.declared.served.Served.{Served}
-use Rattle.gate_workers.specs.declared.served.Served.TheVariants.{Closed, Broken, Replied}
-use Rattle.gate_workers.specs.declared.replied.Replied.{Replied as Reply}
+use Rattle.gate_workers.specs.declared.service.Served.{Served}
+use Rattle.gate_workers.specs.declared.service.Served.TheVariants.{Closed, Broken, Replied}
+use Rattle.gate_workers.specs.declared.response.Replied.{Replied as Reply}
 use Rattle.gate_workers.specs.Asked.{Asked}
 use Rattle.gate_workers.specs.Asks.{IsHeard, IsEmpty}
 use Rattle.gate_workers.specs.Responses.{Response, IsSaid}

@@ -14,11 +14,11 @@ use Rattle.delta_book.specs.declared.faults.QuarantineFault.{QuarantineFault}
 use Rattle.delta_book.specs.declared.faults.NotQuarantined.{NotQuarantined}
 use Rattle.http_edge.specs.declared.written.Written.{Written}
 use Rattle.http_edge.specs.declared.written.Written.TheVariants.{All, None_, Part}
-use Rattle.gate_workers.specs.declared.end.End.{End}
-use Rattle.gate_workers.specs.declared.end.End.TheVariants.{NoBatch, Confirmed, Undone}
+use Rattle.gate_workers.specs.declared.service.End.{End}
+use Rattle.gate_workers.specs.declared.service.End.TheVariants.{NoBatch, Confirmed, Undone}
 use Rattle.gate_workers.specs.declared.refusal.Refusal.TheVariants.{NotQuarantined as not_quarantined, NoMemory}
-use Rattle.gate_workers.specs.declared.served.Served.{Served}
-use Rattle.gate_workers.specs.declared.served.Served.TheVariants.{Closed, Broken, Replied}
+use Rattle.gate_workers.specs.declared.service.Served.{Served}
+use Rattle.gate_workers.specs.declared.service.Served.TheVariants.{Closed, Broken, Replied}
 use Rattle.gate_workers.specs.Refusals.{of_admit, of_hold}
 use Rattle.gate_workers.specs.Asked.{Asked, Metrics, Hold, LetGo, FlushNow, Report, Turned}
 use Rattle.gate_workers.specs.Asks.{IsHeard, IsEmpty}

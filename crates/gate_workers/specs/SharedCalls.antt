@@ -14,7 +14,7 @@ use Rattle.delta_book.specs.declared.faults.TakeFault.TheVariants as taking
 use Rattle.delta_book.specs.declared.faults.QuarantineFault.TheVariants as holding
 use Rattle.shared_book.specs.Receipts.{SeatView}
 use Rattle.shared_book.specs.Moments.{AsOf, IsRecorded, IsTakenFor}
-use Rattle.gate_workers.specs.declared.order_fault.OrderFault.TheVariants.{Gone}
+use Rattle.gate_workers.specs.declared.order.OrderFault.TheVariants.{Gone}
 use Rattle.gate_workers.specs.Calls.{Call, admit, undo, confirm, take, settle, drop_flush, give_back, quarantine, lift, totals, order}
 
 -- what contracts see of a keeper over a shared book: what its seat was told, and whether it has an end for orders

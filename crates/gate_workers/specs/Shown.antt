@@ -1,6 +1,6 @@
 -- What an ask of the program asks.
-use Rattle.gate_workers.specs.declared.ask.Ask.{Ask}
-use Rattle.gate_workers.specs.declared.ask.Ask.TheVariants as ask
+use Rattle.gate_workers.specs.declared.request.Ask.{Ask}
+use Rattle.gate_workers.specs.declared.request.Ask.TheVariants as ask
 use Rattle.gate_workers.specs.Asked.{Asked, Metrics, Hold, LetGo, FlushNow, Report, Turned}
 
 abbrev pub shown : Ask → Asked

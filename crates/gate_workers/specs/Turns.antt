@@ -17,8 +17,8 @@ use Rattle.delta_book.specs.declared.faults.NotLive.{NotLive}
 use Rattle.delta_book.specs.declared.faults.TakeFault.{TakeFault}
 use Rattle.delta_book.specs.declared.faults.TakeFault.TheVariants as fault
 use Rattle.out_texts.specs.Request.{request_text}
-use Rattle.gate_workers.specs.declared.turn.Turn.{Turn}
-use Rattle.gate_workers.specs.declared.turn.Turn.TheVariants.{Idle, Full, NoMemory, Done}
+use Rattle.gate_workers.specs.declared.flush.Turn.{Turn}
+use Rattle.gate_workers.specs.declared.flush.Turn.TheVariants.{Idle, Full, NoMemory, Done}
 use Rattle.gate_workers.specs.Calls.{Call, take, settle, drop_flush, give_back}
 
 -- the closing call of a flush

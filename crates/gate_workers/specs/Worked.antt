@@ -1,8 +1,8 @@
 -- What the loops of workers come to.
 use Rattle.std.specs.Prelude.{◌≡◌, ℕ, List, [], ◌∷◌, Option}
 use Rattle.back_answers.specs.declared.answer.Answer.{Answer}
-use Rattle.gate_workers.specs.declared.served.Served.{Served}
-use Rattle.gate_workers.specs.declared.turn.Turn.{Turn}
+use Rattle.gate_workers.specs.declared.service.Served.{Served}
+use Rattle.gate_workers.specs.declared.flush.Turn.{Turn}
 use Rattle.gate_workers.specs.Conversations.{Giving}
 use Rattle.gate_workers.specs.Served.{IsServed}
 use Rattle.gate_workers.specs.Turns.{IsTurn}

@@ -1,23 +1,12 @@
 //! A keeper over a book of its own.
-ghost use Rattle.std.specs.Prelude.{◌≡◌, ◌≤◌};
-ghost use Rattle.http_edge.specs.Delivery.{StopsReading};
-ghost use Rattle.http_edge.specs.Reading.{NotYet};
+ghost use Rattle.std.specs.Prelude.{◌≤◌, ◌≡◌};
+ghost use Rattle.metric_events.specs.declared.limits.TheConstants.{MAX_TAKEN};
 ghost use Rattle.gate_workers.specs.BookCalls.{BookGives, KeeperGives, IsMade};
-ghost use Rattle.gate_workers.specs.Keepers.{book_of, seat_of, uplink_of, max_of};
-ghost use Rattle.gate_workers.specs.Served.{ReadingFails, WritingFails};
-ghost use Rattle.gate_workers.specs.ServedBook.{IsServedBook};
 
-use crate::desk::{BookKeeper, Desk};
-use crate::keeper::Keeper;
-use crate::order_fault::OrderFault;
-use crate::pace::{NoPace, Pace};
-use crate::served::Served;
-use crate::serving::serve;
-use crate::store::Store;
-use crate::turn::Turn;
-use crate::turning::flush_turn;
-use crate::uplink::Uplink;
-use byte_ends::{Sink, Source};
+use crate::flush::{Turn, Uplink, flush_turn};
+use crate::order::OrderFault;
+use crate::store::{Keeper, Store};
+use crate::worker::{NoPace, Pace};
 use delta_book::book::Book;
 use delta_book::faults::{
     AdmitFault, NotLive, NotOpen, NotQuarantined, QuarantineFault, TakeFault, UndoFault,
@@ -28,6 +17,23 @@ use metric_events::batch::Batch;
 use metric_events::limits::MAX_TAKEN;
 use metric_events::sender_name::SenderName;
 use std::alloc::{AllocError, Global};
+
+/// A book, and the seat that works on it.
+#[derive(Drop)]
+pub struct Desk {
+    pub book: Book,
+    pub seat: u16,
+}
+
+/// A keeper over a book and an uplink of its own, which waits for nobody.
+#[derive(Drop)]
+pub struct BookKeeper<U> {
+    pub(crate) desk: Desk,
+    pub(crate) uplink: U,
+    pub(crate) max: usize,
+    pub(crate) alloc: Global,
+    ghost few: { (1 ≤ max) × (max ≤ MAX_TAKEN) },
+}
 
 impl Store for Desk {
     ghost gives = { λ k c w. (w.seat ≡ k.seat) × BookGives k.seat k.book c w.book };
@@ -121,6 +127,8 @@ pub fn book_turn<U: Uplink, P: Pace>(
 }
 
 impl<U: Uplink + Drop> BookKeeper<U> {
+    ghost use Rattle.gate_workers.specs.Keepers.{book_of, seat_of, uplink_of, max_of};
+
     /// A keeper over a book, which works from this seat and takes so many series a flush.
     pub fn new(alloc: Global, book: Book, seat: u16, uplink: U, max: usize) -> BookKeeper<U>
         requires low { 1 ≤ max }
@@ -202,22 +210,4 @@ impl<U: Uplink + Drop> Keeper for BookKeeper<U> {
             self.max,
         ))
     }
-}
-
-/// Serves one request over a book. No read follows the one that completes it.
-pub fn serve_book<U: Uplink + Drop, S: Source, W: Sink, P: Pace>(
-    alloc: Global,
-    keeper: &mut BookKeeper<U>,
-    reader: &mut S,
-    writer: &mut W,
-    pace: &mut P,
-) -> Served
-    ensures seat { seat_of keeper.new ≡ seat_of keeper.old }
-    ensures max { max_of keeper.new ≡ max_of keeper.old }
-    ensures served { IsServedBook U.sends (seat_of keeper.old) (max_of keeper.old) (S.remaining reader.old) (book_of keeper.old) (book_of keeper.new) (uplink_of keeper.old) (uplink_of keeper.new) (W.contents writer.old) (W.contents writer.new) result }
-    ensures stops { StopsReading NotYet (S.remaining reader.old) (S.remaining reader.new) (S.given reader.new) }
-    ensures read { ReadingFails S.one_more (S.failures reader.old) (S.failures reader.new) result }
-    ensures written { WritingFails W.one_more (W.failures writer.old) (W.failures writer.new) result }
-{
-    serve(alloc, keeper, reader, writer, pace)
 }

@@ -1,13 +1,49 @@
-//! The content of a request.
-ghost use Rattle.std.specs.Prelude.{◌≡◌, codes};
+//! The content of a request, and parts of bytes.
+ghost use Rattle.std.specs.Prelude.{◌≡◌, ◌==◌, position, take, drop, codes};
+ghost use Rattle.gate_workers.specs.Asked as spec;
 ghost use Rattle.std.specs.Str.{str_eq_ignore_ascii_case};
 ghost use Rattle.std.specs.List.{list_all};
 ghost use Rattle.http_edge.specs.Framing.{is_named, values_of};
 ghost use Rattle.http_edge.specs.Request.{header_in, headers_in};
-ghost use Rattle.gate_workers.specs.Asked as spec;
 
-use crate::paths::{before, cut};
 use http_edge::{Header, find_in};
+
+fn place_of(mark: u8, bytes: &[u8]) -> Option<usize>
+    ensures { result ≡ position (λ b. b == mark) bytes.now }
+{
+    bytes.iter().position(|b| *b == mark)
+}
+
+fn front(bytes: &[u8], n: usize) -> &[u8]
+    ensures { result.now ≡ take n bytes.now }
+{
+    if n < bytes.len() {
+        return &bytes[..n];
+    }
+    bytes
+}
+
+/// The bytes before the first one of this value, or all.
+#[tactic(auto, unfolding(crate::specs::Asked::before))]
+pub fn before(mark: u8, bytes: &[u8]) -> &[u8]
+    ensures { result.now ≡ spec.before mark bytes.now }
+{
+    match place_of(mark, bytes) {
+        None => return bytes,
+        Some(i) => return front(bytes, i),
+    }
+}
+
+/// The first `n` bytes, or all, and those behind them.
+pub fn cut(bytes: &[u8], n: usize) -> (&[u8], &[u8])
+    ensures front { result.0.now ≡ take n bytes.now }
+    ensures behind { result.1.now ≡ drop n bytes.now }
+{
+    if n < bytes.len() {
+        return bytes.split_at(n);
+    }
+    (bytes, &[])
+}
 
 fn is_same(a: &[u8], b: &[u8]) -> bool
     ensures { result ≡ str_eq_ignore_ascii_case a.now b.now }

@@ -1,11 +1,19 @@
+//! An order for a flush turn.
 ghost use Rattle.std.specs.Prelude.{◌≡◌, Ok, Err};
 ghost use Rattle.gate_workers.specs.Orders.{given_back};
 
-use crate::order_fault::OrderFault;
-use crate::turn::Turn;
+use crate::flush::Turn;
 use crossbeam_channel::{RecvError, Sender, bounded};
 use std::alloc::Global;
 use std::sync::Wait;
+
+/// Why no turn was made.
+#[derive(Clone, Copy, Debug, PartialEq, Eq)]
+pub enum OrderFault {
+    /// No flusher takes the order.
+    Gone,
+    NoMemory,
+}
 
 /// How many orders, and how many connections, lie in their channel at most until a worker takes them.
 pub const CHANNEL_PLACES: usize = 64;

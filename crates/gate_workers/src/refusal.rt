@@ -2,7 +2,7 @@
 ghost use Rattle.std.specs.Prelude.{◌≡◌, ◌<◌, ◌^◌, IfOk, IfSome, string_bytes, option_map, length};
 ghost use Rattle.gate_workers.specs.Refusals.{refusal_status, refusal_message, refusal_allow, of_admit, of_http, of_hold, of_order};
 
-use crate::order_fault::OrderFault;
+use crate::order::OrderFault;
 use delta_book::faults::{AdmitFault, QuarantineFault};
 use http::StatusCode;
 use http_edge::HttpFault;

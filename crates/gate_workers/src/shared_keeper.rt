@@ -2,11 +2,9 @@
 ghost use Rattle.std.specs.Prelude.{◌≡◌, is_some};
 ghost use Rattle.gate_workers.specs.SharedCalls.{WorkerGives};
 
-use crate::keeper::Keeper;
-use crate::order::{Order, place_order};
-use crate::order_fault::OrderFault;
-use crate::store::Store;
-use crate::turn::Turn;
+use crate::flush::Turn;
+use crate::order::{Order, OrderFault, place_order};
+use crate::store::{Keeper, Store};
 use crossbeam_channel::Sender;
 use delta_book::faults::{
     AdmitFault, NotLive, NotOpen, NotQuarantined, QuarantineFault, TakeFault, UndoFault,

@@ -1,8 +1,11 @@
+//! What keeps the points.
 ghost use Rattle.std.specs.Prelude.{◌<◌, ◌≤◌, length, option_map};
 ghost use Rattle.std.specs.Result.{result_ok};
 ghost use Rattle.gate_workers.specs.Calls as call;
 ghost use Rattle.gate_workers.specs.Calls.{Call};
 
+use crate::flush::Turn;
+use crate::order::OrderFault;
 use delta_book::faults::{
     AdmitFault, NotLive, NotOpen, NotQuarantined, QuarantineFault, TakeFault, UndoFault,
 };
@@ -51,4 +54,12 @@ pub trait Store {
 
     fn totals(&mut self) -> Result<Vec<SeriesTotals>, AllocError>
         ensures { gives self.old (call.totals (option_map (λ v. v.items) (result_ok result))) self.new };
+}
+
+/// A store that can have a flush turn made. It is a trait of its own over the calls of the store,
+/// since what keeps both a store and an uplink can't lend both to a turn.
+pub trait Keeper: Store {
+    /// Has a turn made, and tells what it came to.
+    fn order(&mut self) -> Result<Turn, OrderFault>
+        ensures { Self.gives self.old (call.order result) self.new };
 }

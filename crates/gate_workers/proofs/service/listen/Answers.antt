@@ -1,0 +1,13 @@
+use Rattle.http_edge.specs.Request.{message_in}
+use Rattle.gate_workers.specs.Shown.{shown}
+use Rattle.gate_workers.proofs.Hearing.{heard_fault, heard_message, heard_without_memory}
+use Rattle.gate_workers.proofs.service.listen.Goals as goal
+
+pub returns-in-Err-clause-heard : goal.returns-in-Err-clause-heard
+returns-in-Err-clause-heard g c = rw c.heard_of.ensures (heard_fault (g.S.Source.remaining c.args.reader.now) c.in-Err.fault c.in-Err.ensures.says)
+
+pub returns-in-Ok-ask_of-clause-heard : goal.returns-in-Ok-ask_of-clause-heard
+returns-in-Ok-ask_of-clause-heard g c = heard_message (g.S.Source.remaining c.args.reader.now) (message_in c.in-Ok.request) (shown c.in-Ok-ask_of.ask) c.in-Ok.ensures.says c.in-Ok-ask_of.ensures
+
+pub returns-in-Err-ask_of-clause-heard : goal.returns-in-Err-ask_of-clause-heard
+returns-in-Err-ask_of-clause-heard g c = heard_without_memory (g.S.Source.remaining c.args.reader.now) (message_in c.in-Ok.request) c.in-Ok.ensures.says

@@ -1,0 +1,7 @@
+use Rattle.std.proofs.Common.{List}
+use Rattle.gate_workers.specs.declared.service.Served.{Served}
+use Rattle.gate_workers.specs.Worked.{AreServed}
+use Rattle.gate_workers.proofs.worker.receiver_loop.Given as goal
+
+abbrev pub invariant-loop-connection : goal.invariant-loop-connection
+invariant-loop-connection g l = (all : List Served) × AreServed g.K.Store.gives all l.fn.keeper l.keeper

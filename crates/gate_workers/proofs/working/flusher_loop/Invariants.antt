@@ -1,8 +1,0 @@
-use Rattle.std.proofs.Common.{List}
-use Rattle.gate_workers.specs.declared.turn.Turn.{Turn}
-use Rattle.gate_workers.specs.Worked.{AreMade}
-use Rattle.gate_workers.proofs.working.flusher_loop.Given as goal
-
-abbrev pub invariant-loop-order : goal.invariant-loop-order
-invariant-loop-order g l =
-    (all : List Turn) × AreMade g.K.Store.gives g.U.Uplink.sends l.max all l.fn.keeper l.keeper l.fn.uplink l.uplink

@@ -1,7 +1,0 @@
-use Rattle.std.proofs.Common.{List}
-use Rattle.gate_workers.specs.declared.served.Served.{Served}
-use Rattle.gate_workers.specs.Worked.{AreServed}
-use Rattle.gate_workers.proofs.working.receiver_loop.Given as goal
-
-abbrev pub invariant-loop-connection : goal.invariant-loop-connection
-invariant-loop-connection g l = (all : List Served) × AreServed g.K.Store.gives all l.fn.keeper l.keeper

@@ -1,0 +1,129 @@
+//! One flush turn, and the exchange with the back end that it makes.
+ghost use Rattle.std.specs.Prelude.{ℕ, List, ◌≡◌, ◌≤◌, length, ◌<◌, ◌^◌};
+ghost use Rattle.back_answers.specs.declared.answer.Answer.{Answer};
+ghost use Rattle.gate_workers.specs.Turns.{IsTurn, IsClosing};
+ghost use Rattle.http_edge.specs.Sent.{Sent, Failed};
+ghost use Rattle.http_edge.specs.Texts.{post_text};
+ghost use Rattle.http_edge.specs.declared.written.Written.{Written};
+ghost use Rattle.gate_workers.specs.Exchanged.{IsAnswered};
+
+use crate::store::Store;
+use crate::worker::{Pace, Spot};
+use back_answers::{Act, Answer, act, classify};
+use byte_ends::{Sink, Source};
+use delta_book::faults::TakeFault;
+use http_edge::{Written, read_response, write_post};
+use metric_events::limits::MAX_TAKEN;
+use out_texts::request_text;
+use std::alloc::Global;
+
+/// What a flush turn came to.
+#[derive(Clone, Copy, Debug, PartialEq, Eq)]
+pub enum Turn {
+    /// Nothing may be taken.
+    Idle,
+    /// Too many flushes are live, or there is no room in the journal.
+    Full,
+    /// No flush was taken, or it was given back before it was sent.
+    NoMemory,
+    /// A flush of so many points was sent and answered, and it ended by the act.
+    Done {
+        flush: u64,
+        points: u64,
+        answer: Answer,
+        act: Act,
+    },
+}
+
+/// The way to the back end.
+pub trait Uplink {
+    /// What a call with its bytes and its answer makes of it.
+    ghost sends: { Self → List ℕ → Answer → Self → Type 0 };
+
+    /// Sends a request's body, and tells what was answered.
+    fn send(&mut self, bytes: &[u8]) -> Answer
+        ensures { sends self.old bytes.now result self.new };
+}
+
+/// Ends a flush by the act. That it is not live changes nothing.
+fn end_flush<K: Store>(keeper: &mut K, flush: u64, by: Act)
+    ensures { IsClosing K.gives by flush keeper.old keeper.new }
+{
+    match by {
+        Act::Settle => {
+            let _ = keeper.settle(flush);
+            return;
+        }
+        Act::GiveBack => {
+            let _ = keeper.give_back(flush);
+            return;
+        }
+        Act::DropFlush => {
+            let _ = keeper.drop_flush(flush);
+            return;
+        }
+    }
+}
+
+/// Takes a flush, sends it, and ends it by the answer. Where its text finds no memory it is given back.
+pub fn flush_turn<K: Store, U: Uplink, P: Pace>(
+    alloc: Global,
+    keeper: &mut K,
+    uplink: &mut U,
+    pace: &mut P,
+    max: usize,
+) -> Turn
+    requires low { 1 ≤ max }
+    requires high { max ≤ MAX_TAKEN }
+    ensures { IsTurn K.gives U.sends max keeper.old keeper.new uplink.old uplink.new result }
+{
+    let flush = match keeper.take(max) {
+        Ok(None) => return Turn::Idle,
+        Err(TakeFault::Full) => return Turn::Full,
+        Err(TakeFault::NoMemory) => return Turn::NoMemory,
+        Ok(Some(flush)) => flush,
+    };
+    let Ok(text) = request_text(alloc, &flush) else {
+        end_flush(keeper, flush.number, Act::GiveBack);
+        return Turn::NoMemory;
+    };
+    pace.at(Spot::BeforeSend);
+    let answer = uplink.send(text.as_slice());
+    let by = act(answer);
+    end_flush(keeper, flush.number, by);
+    Turn::Done {
+        flush: flush.number,
+        points: flush.points.as_slice().len() as u64,
+        answer,
+        act: by,
+    }
+}
+
+/// Posts the body, and reads the head of what is answered: no read follows the one that completes it.
+/// Unknown unless all was written and a head was read.
+pub fn exchange<S: Source, W: Sink>(
+    alloc: Global,
+    reader: &mut S,
+    writer: &mut W,
+    host: &str,
+    body: &[u8],
+) -> Answer
+    requires { length host.now < 2 ^ 32 }
+    ensures { (written : Written)
+        × Sent (W.contents writer.old) (W.contents writer.new) (post_text host.now body.now) written
+        × Failed W.one_more (W.failures writer.old) (W.failures writer.new) written
+        × IsAnswered (S.remaining reader.old) (S.remaining reader.new) (S.given reader.new) S.one_more (S.failures reader.old) (S.failures reader.new) written result }
+{
+    match write_post(writer, host, body) {
+        Written::All => {}
+        Written::None_ => return Answer::Unknown,
+        Written::Part(_) => return Answer::Unknown,
+    }
+    match read_response(alloc, reader) {
+        Err(_) => return Answer::Unknown,
+        Ok(reply) => match &reply.retry_after {
+            None => return classify(reply.status, None),
+            Some(value) => return classify(reply.status, Some(value.as_slice())),
+        },
+    }
+}

@@ -1,0 +1,180 @@
+//! What a request asks for: the routes.
+ghost use Rattle.std.specs.Prelude.{◌≡◌, codes, IfOk};
+ghost use Rattle.http_edge.specs.Request.{message_in};
+ghost use Rattle.gate_workers.specs.Asked as spec;
+ghost use Rattle.gate_workers.specs.Shown.{shown};
+ghost use Rattle.gate_workers.specs.Naming.{IsName};
+ghost use Rattle.otlp_read.specs.Reading.{text_reading};
+ghost use Rattle.std.specs.Str.{bytes_eq};
+
+use crate::content::{before, is_plain_json};
+use crate::refusal::{Allowed, Refusal};
+use http::Method;
+use http_edge::{Request, find_in};
+use metric_events::batch::Batch;
+use metric_events::sender_name::{NameFault, SenderName};
+use otlp_read::{Memo, ReadFault, read_request_with};
+use out_texts::success_text;
+use std::alloc::{AllocError, Global};
+
+/// What a request asks for.
+#[derive(Drop)]
+pub enum Ask {
+    /// To admit this batch, which may have no point, and the text that says that it is done.
+    Metrics { body: Batch, text: Vec<u8> },
+    /// To hold this sender.
+    Hold(SenderName),
+    /// To let this sender go on.
+    LetGo(SenderName),
+    /// A flush turn.
+    FlushNow,
+    /// What the store has.
+    Report,
+    /// Nothing: it is refused before the keeper is asked.
+    Turned(Refusal),
+}
+
+/// The name of these bytes, where they are one.
+fn name_of(alloc: Global, bytes: &[u8]) -> Result<Option<SenderName>, AllocError>
+    ensures { IfOk result (λ o. IsName bytes.now o) }
+{
+    match SenderName::new(alloc, bytes) {
+        Ok(name) => Ok(Some(name)),
+        Err(NameFault::NoMemory) => Err(AllocError),
+        Err(_) => Ok(None),
+    }
+}
+
+/// What the metrics of a sender ask for.
+fn read(alloc: Global, body: &[u8], sender: SenderName, memo: &mut Memo) -> Result<Ask, AllocError>
+    ensures { IfOk result (λ ask. shown ask ≡ spec.read_as sender (text_reading body.now)) }
+{
+    match read_request_with(alloc, body, memo) {
+        Err(ReadFault::NoMemory) => return Err(AllocError),
+        Err(ReadFault::NotJson) => return Ok(Ask::Turned(Refusal::NotJson)),
+        Err(ReadFault::WrongShape(_)) => return Ok(Ask::Turned(Refusal::WrongShape)),
+        Ok(reading) => {
+            let text = success_text(alloc, reading.foreign)?;
+            let points = reading.points;
+            return Ok(Ask::Metrics {
+                body: Batch { sender, points },
+                text,
+            });
+        }
+    }
+}
+
+fn metrics_of(
+    alloc: Global,
+    request: &Request,
+    sender: SenderName,
+    memo: &mut Memo,
+) -> Result<Ask, AllocError>
+    ensures { IfOk result (λ ask. shown ask ≡ spec.metrics_of (message_in request.now) sender) }
+{
+    if !is_plain_json(&request.headers) {
+        return Ok(Ask::Turned(Refusal::BadContent));
+    }
+    read(alloc, &request.body, sender, memo)
+}
+
+fn metrics_named(
+    alloc: Global,
+    request: &Request,
+    name: &[u8],
+    memo: &mut Memo,
+) -> Result<Ask, AllocError>
+    ensures { IfOk result (λ ask. shown ask ≡ spec.named (spec.metrics_of (message_in request.now)) name.now) }
+{
+    match name_of(alloc, name)? {
+        None => return Ok(Ask::Turned(Refusal::BadSender)),
+        Some(sender) => return metrics_of(alloc, request, sender, memo),
+    }
+}
+
+fn metrics(alloc: Global, request: &Request, memo: &mut Memo) -> Result<Ask, AllocError>
+    ensures { IfOk result (λ ask. shown ask ≡ spec.metrics (message_in request.now)) }
+{
+    match request.find(b"x-sender") {
+        None => return metrics_named(alloc, request, b"-", memo),
+        Some((name, behind)) => match find_in(behind, b"x-sender") {
+            None => return metrics_named(alloc, request, name, memo),
+            Some(_) => return Ok(Ask::Turned(Refusal::BadSender)),
+        },
+    }
+}
+
+fn hold(alloc: Global, name: &[u8]) -> Result<Ask, AllocError>
+    ensures { IfOk result (λ ask. shown ask ≡ spec.named spec.Hold name.now) }
+{
+    match name_of(alloc, name)? {
+        None => return Ok(Ask::Turned(Refusal::BadSender)),
+        Some(sender) => return Ok(Ask::Hold(sender)),
+    }
+}
+
+fn let_go(alloc: Global, name: &[u8]) -> Result<Ask, AllocError>
+    ensures { IfOk result (λ ask. shown ask ≡ spec.named spec.LetGo name.now) }
+{
+    match name_of(alloc, name)? {
+        None => return Ok(Ask::Turned(Refusal::BadSender)),
+        Some(sender) => return Ok(Ask::LetGo(sender)),
+    }
+}
+
+fn is_post(request: &Request) -> bool
+    ensures { result ≡ bytes_eq request.now.method (codes "POST") }
+{
+    request.method == Method::POST
+}
+
+fn is_get(request: &Request) -> bool
+    ensures { result ≡ bytes_eq request.now.method (codes "GET") }
+{
+    request.method == Method::GET
+}
+
+/// What a request asks for, by its path.
+#[tactic(auto, unfolding(crate::specs::Asked::asked_at))]
+fn ask_at(alloc: Global, path: &[u8], request: &Request, memo: &mut Memo) -> Result<Ask, AllocError>
+    ensures { IfOk result (λ ask. shown ask ≡ spec.asked_at path.now (message_in request.now)) }
+{
+    if path == b"/v1/metrics".as_slice() {
+        if is_post(request) {
+            return metrics(alloc, request, memo);
+        }
+        return Ok(Ask::Turned(Refusal::WrongMethod(Allowed::Post)));
+    }
+    if path == b"/flush".as_slice() {
+        if is_post(request) {
+            return Ok(Ask::FlushNow);
+        }
+        return Ok(Ask::Turned(Refusal::WrongMethod(Allowed::Post)));
+    }
+    if path == b"/report".as_slice() {
+        if is_get(request) {
+            return Ok(Ask::Report);
+        }
+        return Ok(Ask::Turned(Refusal::WrongMethod(Allowed::Get)));
+    }
+    if let Some(name) = path.strip_prefix(b"/quarantine/") {
+        if is_post(request) {
+            return hold(alloc, name);
+        }
+        return Ok(Ask::Turned(Refusal::WrongMethod(Allowed::Post)));
+    }
+    if let Some(name) = path.strip_prefix(b"/lift/") {
+        if is_post(request) {
+            return let_go(alloc, name);
+        }
+        return Ok(Ask::Turned(Refusal::WrongMethod(Allowed::Post)));
+    }
+    Ok(Ask::Turned(Refusal::NoSuchPath))
+}
+
+/// What a request asks for. Its body is read with a memo of the bodies before.
+pub fn ask_of(alloc: Global, request: &Request, memo: &mut Memo) -> Result<Ask, AllocError>
+    ensures { IfOk result (λ ask. shown ask ≡ spec.asked (message_in request.now)) }
+{
+    ask_at(alloc, before(b'?', &request.target), request, memo)
+}

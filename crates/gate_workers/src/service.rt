@@ -1,0 +1,184 @@
+//! One request is served.
+ghost use Rattle.std.specs.Prelude.{◌≡◌};
+ghost use Rattle.http_edge.specs.Delivery.{StopsReading};
+ghost use Rattle.http_edge.specs.Reading.{NotYet};
+ghost use Rattle.gate_workers.specs.Heard.{Hears, HearingFails, heard_of};
+ghost use Rattle.gate_workers.specs.Conversations.{IsClosed};
+ghost use Rattle.gate_workers.specs.Served.{IsServed, ReadingFails, WritingFails};
+ghost use Rattle.gate_workers.specs.ServedBook.{IsServedBook};
+ghost use Rattle.gate_workers.specs.Keepers.{book_of, seat_of, uplink_of, max_of};
+
+use crate::book_keeper::BookKeeper;
+use crate::flush::Uplink;
+use crate::handle::answer;
+use crate::refusal::{Refusal, of_http};
+use crate::request::{Ask, ask_of};
+use crate::store::{Keeper, Store};
+use crate::worker::{Pace, Spot};
+use byte_ends::{Sink, Source};
+use delta_book::faults::UndoFault;
+use http_edge::{HttpFault, Written, read_message};
+use otlp_read::Memo;
+use std::alloc::Global;
+
+/// How the batch of a request ended.
+#[derive(Clone, Copy, Debug, PartialEq, Eq)]
+pub enum End {
+    /// None was admitted.
+    NoBatch,
+    Confirmed,
+    Undone,
+}
+
+/// What became of a request.
+#[derive(Clone, Copy, Debug, PartialEq, Eq)]
+pub enum Served {
+    /// The reader ended before a byte; nothing was written.
+    Closed,
+    /// A call of the reader failed; nothing was written.
+    Broken,
+    Replied {
+        status: u16,
+        written: Written,
+        end: End,
+    },
+}
+
+/// What was heard of a reader.
+#[derive(Drop)]
+pub enum Heard {
+    /// It ended before a byte.
+    Closed,
+    /// It failed.
+    Broken,
+    Asks(Ask),
+}
+
+fn heard_of(fault: HttpFault) -> Heard
+    ensures { result ≡ heard_of fault }
+{
+    match fault {
+        HttpFault::Closed => Heard::Closed,
+        HttpFault::Io => Heard::Broken,
+        _ => Heard::Asks(Ask::Turned(of_http(fault))),
+    }
+}
+
+/// Reads a message, and what it asks for. No read follows the one that completes the message, or shows
+/// that there is none.
+pub fn listen<S: Source, P: Pace>(
+    alloc: Global,
+    reader: &mut S,
+    pace: &mut P,
+    memo: &mut Memo,
+) -> Heard
+    ensures heard { Hears (S.remaining reader.old) result }
+    ensures failed { HearingFails S.one_more (S.failures reader.old) (S.failures reader.new) result }
+    ensures stops { StopsReading NotYet (S.remaining reader.old) (S.remaining reader.new) (S.given reader.new) }
+{
+    match read_message(alloc, reader) {
+        Err(fault) => return heard_of(fault),
+        Ok(request) => {
+            pace.at(Spot::BodyRead);
+            match ask_of(alloc, &request, memo) {
+                Ok(ask) => return Heard::Asks(ask),
+                Err(_) => return Heard::Asks(Ask::Turned(Refusal::NoMemory)),
+            }
+        }
+    }
+}
+
+/// Undoes a batch of whose response nothing was written, and confirms any other; one of which
+/// something was taken meanwhile is confirmed too.
+pub fn close<K: Store>(keeper: &mut K, batch: u64, written: Written) -> End
+    ensures { IsClosed K.gives batch written keeper.old keeper.new result }
+{
+    match written {
+        Written::None_ => return undo(keeper, batch),
+        Written::All => {
+            let _ = keeper.confirm(batch);
+            return End::Confirmed;
+        }
+        Written::Part(_) => {
+            let _ = keeper.confirm(batch);
+            return End::Confirmed;
+        }
+    }
+}
+
+fn undo<K: Store>(keeper: &mut K, batch: u64) -> End
+    ensures { IsClosed K.gives batch Written.None_ keeper.old keeper.new result }
+{
+    match keeper.undo(batch) {
+        Ok(()) => return End::Undone,
+        Err(UndoFault::NotOpen) => return End::Undone,
+        Err(UndoFault::Taken) => {
+            let _ = keeper.confirm(batch);
+            return End::Confirmed;
+        }
+    }
+}
+
+/// Serves the request that the reader's bytes begin with. No read follows the one that completes it, so
+/// whoever keeps an end open is not waited for.
+pub fn serve<K: Keeper, S: Source, W: Sink, P: Pace>(
+    alloc: Global,
+    keeper: &mut K,
+    reader: &mut S,
+    writer: &mut W,
+    pace: &mut P,
+) -> Served
+    ensures served { IsServed K.gives (S.remaining reader.old) keeper.old keeper.new (W.contents writer.old) (W.contents writer.new) result }
+    ensures stops { StopsReading NotYet (S.remaining reader.old) (S.remaining reader.new) (S.given reader.new) }
+    ensures read { ReadingFails S.one_more (S.failures reader.old) (S.failures reader.new) result }
+    ensures written { WritingFails W.one_more (W.failures writer.old) (W.failures writer.new) result }
+{
+    let mut memo = Memo::new(alloc);
+    serve_with(alloc, keeper, reader, writer, pace, &mut memo)
+}
+
+/// Serves a request as `serve` does. A body is read with a memo of the bodies before, whatever it holds.
+pub fn serve_with<K: Keeper, S: Source, W: Sink, P: Pace>(
+    alloc: Global,
+    keeper: &mut K,
+    reader: &mut S,
+    writer: &mut W,
+    pace: &mut P,
+    memo: &mut Memo,
+) -> Served
+    ensures served { IsServed K.gives (S.remaining reader.old) keeper.old keeper.new (W.contents writer.old) (W.contents writer.new) result }
+    ensures stops { StopsReading NotYet (S.remaining reader.old) (S.remaining reader.new) (S.given reader.new) }
+    ensures read { ReadingFails S.one_more (S.failures reader.old) (S.failures reader.new) result }
+    ensures written { WritingFails W.one_more (W.failures writer.old) (W.failures writer.new) result }
+{
+    match listen(alloc, reader, pace, memo) {
+        Heard::Closed => return Served::Closed,
+        Heard::Broken => return Served::Broken,
+        Heard::Asks(ask) => {
+            let replied = answer(alloc, keeper, writer, ask);
+            return Served::Replied {
+                status: replied.said.status,
+                written: replied.said.written,
+                end: replied.end,
+            };
+        }
+    }
+}
+
+/// Serves one request over a book. No read follows the one that completes it.
+pub fn serve_book<U: Uplink + Drop, S: Source, W: Sink, P: Pace>(
+    alloc: Global,
+    keeper: &mut BookKeeper<U>,
+    reader: &mut S,
+    writer: &mut W,
+    pace: &mut P,
+) -> Served
+    ensures seat { seat_of keeper.new ≡ seat_of keeper.old }
+    ensures max { max_of keeper.new ≡ max_of keeper.old }
+    ensures served { IsServedBook U.sends (seat_of keeper.old) (max_of keeper.old) (S.remaining reader.old) (book_of keeper.old) (book_of keeper.new) (uplink_of keeper.old) (uplink_of keeper.new) (W.contents writer.old) (W.contents writer.new) result }
+    ensures stops { StopsReading NotYet (S.remaining reader.old) (S.remaining reader.new) (S.given reader.new) }
+    ensures read { ReadingFails S.one_more (S.failures reader.old) (S.failures reader.new) result }
+    ensures written { WritingFails W.one_more (W.failures writer.old) (W.failures writer.new) result }
+{
+    serve(alloc, keeper, reader, writer, pace)
+}

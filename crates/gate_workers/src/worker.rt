@@ -1,0 +1,89 @@
+//! The loops of workers, and what they work on. Each works until its channel is empty and closed.
+ghost use Rattle.gate_workers.specs.Worked.{IsServedOnce, AreServed, AreMade};
+ghost use Rattle.std.specs.Prelude.{◌≤◌, List};
+ghost use Rattle.gate_workers.specs.declared.service.Served.{Served};
+ghost use Rattle.gate_workers.specs.declared.flush.Turn.{Turn};
+
+use crate::flush::{Uplink, flush_turn};
+use crate::order::Order;
+use crate::service::Served;
+use crate::store::{Keeper, Store};
+use crossbeam_channel::Receiver;
+use metric_events::limits::MAX_TAKEN;
+use otlp_read::Memo;
+use std::alloc::Global;
+use std::sync::Wait;
+
+/// Where a worker may be held.
+#[derive(Clone, Copy, Debug, PartialEq, Eq)]
+pub enum Spot {
+    /// A request was read, and the store was not yet asked.
+    BodyRead,
+    /// A flush was taken, and its request was not yet sent.
+    BeforeSend,
+}
+
+/// What may hold a worker. Tests do; the programs' pace does nothing.
+pub trait Pace {
+    fn at(&mut self, spot: Spot);
+}
+
+/// A pace that does nothing.
+#[derive(Drop)]
+pub struct NoPace;
+
+impl Pace for NoPace {
+    fn at(&mut self, _spot: Spot) {}
+}
+
+/// A connection with one request on it. It is a trait, since what a connection is belongs to the program.
+pub trait Connection {
+    /// Serves its request, as `serve_with` does, and ends it.
+    fn serve<K: Keeper, P: Pace>(
+        self,
+        alloc: Global,
+        keeper: &mut K,
+        pace: &mut P,
+        memo: &mut Memo,
+    ) -> Served
+        ensures { IsServedOnce K.gives keeper.old keeper.new result };
+}
+
+/// Serves one connection after another. May wait for the next one. The keeper is asked for their requests,
+/// and for nothing else. What one body leaves in the memo serves those after it.
+pub fn receiver_loop<C: Connection + Drop, K: Keeper, P: Pace, R: Wait>(
+    rt: &R,
+    alloc: Global,
+    connections: Receiver<C>,
+    keeper: &mut K,
+    pace: &mut P,
+)
+    ensures { (all : List Served) × AreServed K.gives all keeper.old keeper.new }
+{
+    let mut memo = Memo::new(alloc);
+    for connection in connections.iter(rt) {
+        let _ = connection.serve(alloc, keeper, pace, &mut memo);
+    }
+}
+
+/// Makes one flush turn for each order, and gives it back on the order's end; where nobody waits for it
+/// the turn stands all the same. May wait for the next order. The store is asked for these turns and
+/// nothing else, and nothing else is sent.
+pub fn flusher_loop<K: Store, U: Uplink, P: Pace, R: Wait>(
+    rt: &R,
+    alloc: Global,
+    orders: Receiver<Order>,
+    keeper: &mut K,
+    uplink: &mut U,
+    pace: &mut P,
+    max: usize,
+)
+    requires low { 1 ≤ max }
+    requires high { max ≤ MAX_TAKEN }
+    ensures { (all : List Turn) × AreMade K.gives U.sends max all keeper.old keeper.new uplink.old uplink.new }
+{
+    for order in orders.iter(rt) {
+        let turn = flush_turn(alloc, keeper, uplink, pace, max);
+        let _ = order.reply.send(rt, turn);
+    }
+}
