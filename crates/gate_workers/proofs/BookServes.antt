@@ -28,9 +28,9 @@ use Rattle.gate_workers.specs.declared.refusal.Refusal.TheVariants.{NotQuarantin
 use Rattle.gate_workers.specs.declared.flush.Turn.{Turn}
 use Rattle.gate_workers.specs.Calls.{Call, admit, undo, confirm, quarantine, lift, totals, order}
 use Rattle.gate_workers.specs.Refusals.{of_admit, of_hold}
-use Rattle.gate_workers.specs.Responses.{Response, done, refused, marked, turned, reported}
+use Rattle.gate_workers.specs.Responses.{Response, done, refused, marked, IsMarked, turned, reported}
 use Rattle.gate_workers.specs.Asked.{Asked, Metrics, Hold, LetGo, FlushNow, Report, Turned}
-use Rattle.gate_workers.specs.Conversations.{IsConversation, IsPosted, IsAdmitted, IsClosed, IsUndone, SaysHeld, SaysLifted, SaysOrdered, SaysReport}
+use Rattle.gate_workers.specs.Conversations.{IsConversation, IsPosted, SaysAdmitted, IsEnded, IsClosed, IsUndone, SaysHeld, SaysLifted, SaysOrdered, SaysReport}
 use Rattle.gate_workers.specs.Turns.{Want, Nowhere, turn_of}
 use Rattle.gate_workers.specs.BookCalls.{KeeperGives, Adds, AreSent, entry_of}
 use Rattle.gate_workers.specs.declared.service.Served.{Served}
@@ -77,13 +77,31 @@ refused_or of none fault None other mark some memory is =
 refused_or of none fault (Some f) other true some memory is = (true, refl)
 refused_or of none fault (Some f) other false some memory is = (false, some f ∙ ap (λ x. only_says (refused (of x))) (sym is))
 
+-- without a batch nothing follows the response
+unended : {U : Type 0} (sends : U → List ℕ → Answer → U → Type 0) (written : Written) (m k' : BookKeeper U) (end : End) (batch : Option ℕ)
+    → batch ≡ None → IsEnded (KeeperOver sends) batch written m k' end → (m ≡ k') × (end ≡ NoBatch)
+unended sends written m k' end None is h = h
+unended sends written m k' end (Some n) is h = let no : Some n ≡ None = is in cc
+
+called : {U : Type 0} (sends : U → List ℕ → Answer → U → Type 0) (c : Call) (written : Written) (k m k' : BookKeeper U) (end : End) (batch : Option ℕ)
+    → batch ≡ None → KeeperOver sends k c m → IsEnded (KeeperOver sends) batch written m k' end → KeeperOver sends k c k' × (end ≡ NoBatch)
+called {U} sends c written k m k' end batch is h e =
+    let P : BookKeeper U → Type 0 = λ (x : BookKeeper U). KeeperOver sends k c x in
+    let x = unended sends written m k' end batch is e in
+    (subst P x.0 h, x.1)
+
+-- a batch that was opened is closed
+closes : {U : Type 0} (sends : U → List ℕ → Answer → U → Type 0) (written : Written) (m k' : BookKeeper U) (end : End) (batch : Option ℕ) (n : ℕ)
+    → batch ≡ Some n → IsEnded (KeeperOver sends) batch written m k' end → IsClosed (KeeperOver sends) n written m k' end
+closes sends written m k' end batch n is h = let P : Option ℕ → Type 0 = λ b. IsEnded (KeeperOver sends) b written m k' end in subst P is h
+
 kept_turned : {U : Type 0} (sends : U → List ℕ → Answer → U → Type 0) (written : Written) (k k' : BookKeeper U) (response : Response) (end : End) (why : Refusal)
-    → IsConversation (KeeperOver sends) (Turned why) k k' response written end → IsKept sends (Turned why) written k k' response end
-kept_turned {U} sends written k k' response end why h = record {
-  seat = ap (λ (x : BookKeeper U). x.desk.seat) (sym h.0);
-  max = ap (λ (x : BookKeeper U). x.max) (sym h.0);
-  one = silent sends k.desk.seat k.max (Turned why) written k.desk.book k'.desk.book k.uplink k'.uplink response end h.1.0 (marked h.1.0 (refused why)) (marked_only h.1.0 (refused why)) h.1.1 h.2
-      (ap (λ (x : BookKeeper U). x.desk.book) (sym h.0)) (ap (λ (x : BookKeeper U). x.uplink) (sym h.0));
+    → k ≡ k' → IsMarked (refused why) response → end ≡ NoBatch → IsKept sends (Turned why) written k k' response end
+kept_turned {U} sends written k k' response end why same says ends = record {
+  seat = ap (λ (x : BookKeeper U). x.desk.seat) (sym same);
+  max = ap (λ (x : BookKeeper U). x.max) (sym same);
+  one = silent sends k.desk.seat k.max (Turned why) written k.desk.book k'.desk.book k.uplink k'.uplink response end says.0 (marked says.0 (refused why)) (marked_only says.0 (refused why)) says.1 ends
+      (ap (λ (x : BookKeeper U). x.desk.book) (sym same)) (ap (λ (x : BookKeeper U). x.uplink) (sym same));
 }
 
 kept_held : {U : Type 0} (sends : U → List ℕ → Answer → U → Type 0) (written : Written) (k k' : BookKeeper U) (response : Response) (end : End) (s : List ℕ) (r : Result (Unit {0}) QuarantineFault)
@@ -180,14 +198,14 @@ abbrev batch_of : List ℕ → List DataPoint → Batch
 batch_of sender points = record { sender = sender; points = points }
 
 kept_admitted : {U : Type 0} (sends : U → List ℕ → Answer → U → Type 0) (written : Written) (k m k' : BookKeeper U) (response : Response) (end : End) (body : Batch) (text : List ℕ) (p : DataPoint) (ps : List DataPoint)
-    (r : Result ℕ (AdmitFault × Batch)) → body.points ≡ p ∷ ps → KeeperOver sends k (admit (batch_of body.sender (p ∷ ps)) r) m → IsAdmitted (KeeperOver sends) text r m k' response written end
-    → IsKept sends (Metrics body text) written k k' response end
-kept_admitted {U} sends written k m k' response end body text p ps (Ok n) some h a =
+    (r : Result ℕ (AdmitFault × Batch)) (opened : Option ℕ) → body.points ≡ p ∷ ps → KeeperOver sends k (admit (batch_of body.sender (p ∷ ps)) r) m → SaysAdmitted text r response opened
+    → IsEnded (KeeperOver sends) opened written m k' end → IsKept sends (Metrics body text) written k k' response end
+kept_admitted {U} sends written k m k' response end body text p ps (Ok n) opened some h a e =
     let J = k.desk.book in
     let E = history J in
     let batch = batch_of body.sender (p ∷ ps) in
     let is_in = h.2.1 in
-    let c = closed sends m k' n end written is_in.opened is_in.undoable a.1 in
+    let c = closed sends m k' n end written is_in.opened is_in.undoable (closes sends written m k' end opened n a.1 e) in
     let entry : Appends m.desk.book k'.desk.book k.desk.seat (closed_by written n) = c.entry ∙ ap (λ s. appended m.desk.book (entry_of s (closed_by written n))) h.0 in
     let adds : Adds k.desk.seat J k'.desk.book (Admit n batch ∷ closed_by written n ∷ []) = two_added k.desk.seat J m.desk.book k'.desk.book (Admit n batch) (closed_by written n) is_in.entry entry in
     let is : served (Metrics body text) E k.max Unknown written false Nowhere ≡ admitted (admits E + 1) batch text written =
@@ -198,37 +216,51 @@ kept_admitted {U} sends written k m k' response end body text p ps (Ok n) some h
       one = outcome sends k.desk.seat k.max (Metrics body text) written J k'.desk.book k.uplink k'.uplink response end Unknown false Nowhere (admitted (admits E + 1) batch text written)
           is a.0 c.ends (adds ∙ ap (λ i. journal_of J.opening (J.entries ++ map (entry_of k.desk.seat) (Admit i batch ∷ closed_by written i ∷ []))) is_in.number) (c.uplink ∙ h.2.0);
     }
-kept_admitted {U} sends written k m k' response end body text p ps (Err e) some h a =
+kept_admitted {U} sends written k m k' response end body text p ps (Err fault) opened some h a e =
     let J = k.desk.book in
     let E = history J in
     let batch = batch_of body.sender (p ∷ ps) in
-    let x = refused_or of_admit admission.NoMemory e.0 (admit_refusal E batch) (λ o. admitted_or (admits E + 1) batch text written o) a.1.0 (λ f. refl) refl h.2.1.0 in
+    let x = refused_or of_admit admission.NoMemory fault.0 (admit_refusal E batch) (λ o. admitted_or (admits E + 1) batch text written o) a.0.0 (λ f. refl) refl h.2.1.0 in
+    let same = unended sends written m k' end opened a.1 e in
     record {
-      seat = ap (λ (w : BookKeeper U). w.desk.seat) (sym a.0) ∙ h.0;
-      max = ap (λ (w : BookKeeper U). w.max) (sym a.0) ∙ h.1;
-      one = silent sends k.desk.seat k.max (Metrics body text) written J k'.desk.book k.uplink k'.uplink response end x.0 (marked a.1.0 (refused (of_admit e.0)))
-          (ap (λ xs. unless_marked x.0 (posted E body.sender xs text written)) some ∙ x.1) a.1.1 a.2
-          (ap (λ (w : BookKeeper U). w.desk.book) (sym a.0) ∙ h.2.1.1) (ap (λ (w : BookKeeper U). w.uplink) (sym a.0) ∙ h.2.0);
+      seat = ap (λ (w : BookKeeper U). w.desk.seat) (sym same.0) ∙ h.0;
+      max = ap (λ (w : BookKeeper U). w.max) (sym same.0) ∙ h.1;
+      one = silent sends k.desk.seat k.max (Metrics body text) written J k'.desk.book k.uplink k'.uplink response end x.0 (marked a.0.0 (refused (of_admit fault.0)))
+          (ap (λ xs. unless_marked x.0 (posted E body.sender xs text written)) some ∙ x.1) a.0.1 same.1
+          (ap (λ (w : BookKeeper U). w.desk.book) (sym same.0) ∙ h.2.1.1) (ap (λ (w : BookKeeper U). w.uplink) (sym same.0) ∙ h.2.0);
     }
 
-kept_posted : {U : Type 0} (sends : U → List ℕ → Answer → U → Type 0) (written : Written) (k k' : BookKeeper U) (response : Response) (end : End) (body : Batch) (text : List ℕ) (points : List DataPoint)
-    → body.points ≡ points → IsPosted (KeeperOver sends) body.sender points text k k' response written end → IsKept sends (Metrics body text) written k k' response end
-kept_posted {U} sends written k k' response end body text [] none h = record {
-  seat = ap (λ (x : BookKeeper U). x.desk.seat) (sym h.0);
-  max = ap (λ (x : BookKeeper U). x.max) (sym h.0);
-  one = silent sends k.desk.seat k.max (Metrics body text) written k.desk.book k'.desk.book k.uplink k'.uplink response end false (done text)
-      (ap (λ xs. posted (history k.desk.book) body.sender xs text written) none) h.1 h.2 (ap (λ (x : BookKeeper U). x.desk.book) (sym h.0)) (ap (λ (x : BookKeeper U). x.uplink) (sym h.0));
-}
-kept_posted sends written k k' response end body text (p ∷ ps) some h = kept_admitted sends written k h.1 k' response end body text p ps h.0 some h.2 h.3
+kept_posted : {U : Type 0} (sends : U → List ℕ → Answer → U → Type 0) (written : Written) (k m k' : BookKeeper U) (response : Response) (end : End) (body : Batch) (text : List ℕ) (points : List DataPoint) (opened : Option ℕ)
+    → body.points ≡ points → IsPosted (KeeperOver sends) body.sender points text k m response opened → IsEnded (KeeperOver sends) opened written m k' end → IsKept sends (Metrics body text) written k k' response end
+kept_posted {U} sends written k m k' response end body text [] opened none h e =
+    let same = unended sends written m k' end opened h.2 e in
+    let all : k ≡ k' = h.0 ∙ same.0 in
+    record {
+      seat = ap (λ (x : BookKeeper U). x.desk.seat) (sym all);
+      max = ap (λ (x : BookKeeper U). x.max) (sym all);
+      one = silent sends k.desk.seat k.max (Metrics body text) written k.desk.book k'.desk.book k.uplink k'.uplink response end false (done text)
+          (ap (λ xs. posted (history k.desk.book) body.sender xs text written) none) h.1 same.1 (ap (λ (x : BookKeeper U). x.desk.book) (sym all)) (ap (λ (x : BookKeeper U). x.uplink) (sym all));
+    }
+kept_posted sends written k m k' response end body text (p ∷ ps) opened some h e = kept_admitted sends written k m k' response end body text p ps h.0 opened some h.1 h.2 e
 
 pub kept : {U : Type 0} (sends : U → List ℕ → Answer → U → Type 0) (asked : Asked) (written : Written) (k k' : BookKeeper U) (response : Response) (end : End)
     → IsConversation (KeeperOver sends) asked k k' response written end → IsKept sends asked written k k' response end
-kept sends (Metrics body text) written k k' response end h = kept_posted sends written k k' response end body text body.points refl h
-kept sends (Hold s) written k k' response end h = kept_held sends written k k' response end s h.0 h.1 h.2 h.3
-kept sends (LetGo s) written k k' response end h = kept_lifted sends written k k' response end s h.0 h.1 h.2 h.3
-kept sends FlushNow written k k' response end h = kept_ordered sends written k k' response end h.0 h.1 h.2 h.3
-kept sends Report written k k' response end h = kept_report sends written k k' response end h.0 h.1 h.2 h.3
-kept sends (Turned why) written k k' response end h = kept_turned sends written k k' response end why h
+kept sends (Metrics body text) written k k' response end h = kept_posted sends written k h.0 k' response end body text body.points h.1 refl h.2 h.3
+kept sends (Hold s) written k k' response end h =
+    let c = called sends (quarantine s h.2.0.0) written k h.0 k' end h.1 h.2.1 h.2.0.1 h.3 in
+    kept_held sends written k k' response end s h.2.0.0 c.0 h.2.0.2 c.1
+kept sends (LetGo s) written k k' response end h =
+    let c = called sends (lift s h.2.0.0) written k h.0 k' end h.1 h.2.1 h.2.0.1 h.3 in
+    kept_lifted sends written k k' response end s h.2.0.0 c.0 h.2.0.2 c.1
+kept sends FlushNow written k k' response end h =
+    let c = called sends (order h.2.0.0) written k h.0 k' end h.1 h.2.1 h.2.0.1 h.3 in
+    kept_ordered sends written k k' response end h.2.0.0 c.0 h.2.0.2 c.1
+kept sends Report written k k' response end h =
+    let c = called sends (totals h.2.0.0) written k h.0 k' end h.1 h.2.1 h.2.0.1 h.3 in
+    kept_report sends written k k' response end h.2.0.0 c.0 h.2.0.2 c.1
+kept sends (Turned why) written k k' response end h =
+    let e = unended sends written h.0 k' end h.1 h.2.2 h.3 in
+    kept_turned sends written k k' response end why (h.2.0 ∙ e.0) h.2.1 e.1
 
 -- a request that was served over a keeper is served over its book
 pub record IsServedKeeper {U : Type 0} (sends : U → List ℕ → Answer → U → Type 0) (input : Option (List ℕ)) (k k' : BookKeeper U) (old new : Option (List ℕ)) (s : Served) : Type 0 where

@@ -1,5 +1,5 @@
 -- What a keeper is asked for a request, and what is said of its answers. Where a keeper is shared, other calls may come between.
-use Rattle.std.specs.Prelude.{◌≡◌, ℕ, Bool, List, [], ◌∷◌, Option, Result, Ok, Err, codes}
+use Rattle.std.specs.Prelude.{◌≡◌, ℕ, List, [], ◌∷◌, Option, Some, None, Result, Ok, Err, codes}
 use Rattle.metric_events.specs.DataPoint.{DataPoint}
 use Rattle.metric_events.specs.declared.batch.Batch.{Batch}
 use Rattle.delta_book.specs.declared.totals.SeriesTotals.{SeriesTotals}
@@ -18,43 +18,47 @@ use Rattle.gate_workers.specs.declared.service.End.TheVariants.{NoBatch, Confirm
 use Rattle.gate_workers.specs.Calls.{Call, admit, undo, confirm, quarantine, lift, totals, order}
 use Rattle.gate_workers.specs.declared.refusal.Refusal.TheVariants.{NotQuarantined as not_quarantined}
 use Rattle.gate_workers.specs.Refusals.{of_admit, of_hold}
-use Rattle.gate_workers.specs.Responses.{Response, done, refused, marked, ordered, reported}
+use Rattle.gate_workers.specs.Responses.{Response, done, refused, IsMarked, ordered, reported}
 use Rattle.gate_workers.specs.Asked.{Asked, Metrics, Hold, LetGo, FlushNow, Report, Turned}
 
 -- what a call with its answer makes of a keeper
 abbrev pub Giving : Type 0 → Type 1
 Giving K = K → Call → K → Type 0
 
+abbrev pub IsConfirmed : {K : Type 0} → Giving K → ℕ → K → K → End → Type 0
+IsConfirmed gives batch k k' end = (r : Result (Unit {0}) NotOpen) × gives k (confirm batch r) k' × (end ≡ Confirmed)
+
 -- after the answer to an undo: one that is refused as Taken is followed by the Confirm
 abbrev pub IsUndone : {K : Type 0} → Giving K → ℕ → Result (Unit {0}) UndoFault → K → K → End → Type 0
-IsUndone gives batch (Err Taken) k k' end = (r : Result (Unit {0}) NotOpen) × gives k (confirm batch r) k' × (end ≡ Confirmed)
+IsUndone gives batch (Err Taken) k k' end = IsConfirmed gives batch k k' end
 IsUndone gives batch (Err not_open) k k' end = (k ≡ k') × (end ≡ Undone)
 IsUndone gives batch (Ok u) k k' end = (k ≡ k') × (end ≡ Undone)
 
 -- an admitted batch is closed by what was written of the response
 abbrev pub IsClosed : {K : Type 0} → Giving K → ℕ → Written → K → K → End → Type 0
 IsClosed {K} gives batch None_ k k' end = (r : Result (Unit {0}) UndoFault) × (m : K) × gives k (undo batch r) m × IsUndone gives batch r m k' end
-IsClosed {K} gives batch All k k' end = (r : Result (Unit {0}) NotOpen) × gives k (confirm batch r) k' × (end ≡ Confirmed)
-IsClosed {K} gives batch (Part n) k k' end = (r : Result (Unit {0}) NotOpen) × gives k (confirm batch r) k' × (end ≡ Confirmed)
+IsClosed {K} gives batch All k k' end = IsConfirmed gives batch k k' end
+IsClosed {K} gives batch (Part n) k k' end = IsConfirmed gives batch k k' end
 
--- that is the response, or that there was no memory for it
-abbrev pub IsMarked : Response → Response → Type 0
-IsMarked said response = (mark : Bool) × (response ≡ marked mark said)
+-- the batch that a request opened, if it did, is closed by what was written of the response
+abbrev pub IsEnded : {K : Type 0} → Giving K → Option ℕ → Written → K → K → End → Type 0
+IsEnded gives None written k k' end = (k ≡ k') × (end ≡ NoBatch)
+IsEnded gives (Some batch) written k k' end = IsClosed gives batch written k k' end
 
--- after the answer to an admission
-abbrev pub IsAdmitted : {K : Type 0} → Giving K → List ℕ → Result ℕ (AdmitFault × Batch) → K → K → Response → Written → End → Type 0
-IsAdmitted gives text (Ok batch) k k' response written end = (response ≡ done text) × IsClosed gives batch written k k' end
-IsAdmitted gives text (Err e) k k' response written end = (k ≡ k') × IsMarked (refused (of_admit e.0)) response × (end ≡ NoBatch)
+-- what is said of an admission, and the batch that is open then
+abbrev pub SaysAdmitted : List ℕ → Result ℕ (AdmitFault × Batch) → Response → Option ℕ → Type 0
+SaysAdmitted text (Ok number) response batch = (response ≡ done text) × (batch ≡ Some number)
+SaysAdmitted text (Err e) response batch = IsMarked (refused (of_admit e.0)) response × (batch ≡ None)
 
 -- without points the keeper is not asked
-abbrev pub IsPosted : {K : Type 0} → Giving K → List ℕ → List DataPoint → List ℕ → K → K → Response → Written → End → Type 0
-IsPosted {K} gives sender [] text k k' response written end = (k ≡ k') × (response ≡ done text) × (end ≡ NoBatch)
-IsPosted {K} gives sender (p ∷ ps) text k k' response written end =
-    (r : Result ℕ (AdmitFault × Batch)) × (m : K) × gives k (admit (record { sender = sender; points = p ∷ ps }) r) m × IsAdmitted gives text r m k' response written end
+abbrev pub IsPosted : {K : Type 0} → Giving K → List ℕ → List DataPoint → List ℕ → K → K → Response → Option ℕ → Type 0
+IsPosted {K} gives sender [] text k k' response batch = (k ≡ k') × (response ≡ done text) × (batch ≡ None)
+IsPosted {K} gives sender (p ∷ ps) text k k' response batch =
+    (r : Result ℕ (AdmitFault × Batch)) × gives k (admit (record { sender = sender; points = p ∷ ps }) r) k' × SaysAdmitted text r response batch
 
 -- one call, and what is said of its answer
-abbrev pub IsOneCall : {K A : Type 0} → Giving K → (A → Call) → (A → Response → Type 0) → K → K → Response → End → Type 0
-IsOneCall {K} {A} gives call Says k k' response end = (a : A) × gives k (call a) k' × Says a response × (end ≡ NoBatch)
+abbrev pub IsOneCall : {K A : Type 0} → Giving K → (A → Call) → (A → Response → Type 0) → K → K → Response → Type 0
+IsOneCall {K} {A} gives call Says k k' response = (a : A) × gives k (call a) k' × Says a response
 
 abbrev pub SaysHeld : Result (Unit {0}) QuarantineFault → Response → Type 0
 SaysHeld (Ok u) response = response ≡ done (codes "{}")
@@ -70,10 +74,16 @@ SaysOrdered answer response = IsMarked (ordered answer) response
 abbrev pub SaysReport : Option (List SeriesTotals) → Response → Type 0
 SaysReport rows response = IsMarked (reported rows) response
 
+-- the calls before the response is written: what is said, and the batch that is open until then
+abbrev pub IsHandled : {K : Type 0} → Giving K → Asked → K → K → Response → Option ℕ → Type 0
+IsHandled gives (Metrics body text) k k' response batch = IsPosted gives body.sender body.points text k k' response batch
+IsHandled gives (Hold sender) k k' response batch = IsOneCall gives (quarantine sender) SaysHeld k k' response × (batch ≡ None)
+IsHandled gives (LetGo sender) k k' response batch = IsOneCall gives (lift sender) SaysLifted k k' response × (batch ≡ None)
+IsHandled gives FlushNow k k' response batch = IsOneCall gives order SaysOrdered k k' response × (batch ≡ None)
+IsHandled gives Report k k' response batch = IsOneCall gives totals SaysReport k k' response × (batch ≡ None)
+IsHandled gives (Turned why) k k' response batch = (k ≡ k') × IsMarked (refused why) response × (batch ≡ None)
+
+-- the calls of a request: those that its response is said of, and those that close its batch
 abbrev pub IsConversation : {K : Type 0} → Giving K → Asked → K → K → Response → Written → End → Type 0
-IsConversation gives (Metrics body text) k k' response written end = IsPosted gives body.sender body.points text k k' response written end
-IsConversation gives (Hold sender) k k' response written end = IsOneCall gives (quarantine sender) SaysHeld k k' response end
-IsConversation gives (LetGo sender) k k' response written end = IsOneCall gives (lift sender) SaysLifted k k' response end
-IsConversation gives FlushNow k k' response written end = IsOneCall gives order SaysOrdered k k' response end
-IsConversation gives Report k k' response written end = IsOneCall gives totals SaysReport k k' response end
-IsConversation gives (Turned why) k k' response written end = (k ≡ k') × IsMarked (refused why) response × (end ≡ NoBatch)
+IsConversation {K} gives asked k k' response written end =
+    (m : K) × (batch : Option ℕ) × IsHandled gives asked k m response batch × IsEnded gives batch written m k' end

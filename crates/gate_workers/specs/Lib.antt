@@ -5,6 +5,7 @@ pub mod Shown
 pub mod Naming
 pub mod Asks
 pub mod Heard
+pub mod Bodies
 pub mod Responses
 pub mod Conversations
 pub mod Turns

@@ -41,6 +41,10 @@ abbrev pub marked : Bool → Response → Response
 marked true r = refused NoMemory
 marked false r = r
 
+-- that is the response, or that there was no memory for it
+abbrev pub IsMarked : Response → Response → Type 0
+IsMarked said response = (mark : Bool) × (response ≡ marked mark said)
+
 -- the seconds that an answer asks to wait
 abbrev pub after_of : Answer → Option ℕ
 after_of Success = None

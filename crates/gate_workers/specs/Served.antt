@@ -3,16 +3,10 @@ use Rattle.std.specs.Prelude.{◌≡◌, ℕ, List, Option}
 use Rattle.http_edge.specs.Sent.{Failed}
 use Rattle.gate_workers.specs.declared.service.Served.{Served}
 use Rattle.gate_workers.specs.declared.service.Served.TheVariants.{Closed, Broken, Replied}
-use Rattle.gate_workers.specs.declared.response.Replied.{Replied as Reply}
 use Rattle.gate_workers.specs.Asked.{Asked}
 use Rattle.gate_workers.specs.Asks.{IsHeard, IsEmpty}
 use Rattle.gate_workers.specs.Responses.{Response, IsSaid}
 use Rattle.gate_workers.specs.Conversations.{Giving, IsConversation}
-
--- the keeper was asked for this, and its answers were said
-abbrev pub IsReplied : {K : Type 0} → Giving K → Asked → K → K → Option (List ℕ) → Option (List ℕ) → Reply → Type 0
-IsReplied gives asked k k' old new reply =
-    (response : Response) × IsConversation gives asked k k' response reply.said.written reply.end × IsSaid old new response reply.said.status reply.said.written
 
 -- nothing was done and nothing written, or what the bytes ask for was done and said
 abbrev pub IsServed : {K : Type 0} → Giving K → Option (List ℕ) → K → K → Option (List ℕ) → Option (List ℕ) → Served → Type 0

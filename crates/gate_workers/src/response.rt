@@ -1,99 +1,217 @@
-//! Responses, and how they are written.
-ghost use Rattle.std.specs.Prelude.{◌≡◌, ◌<◌, ◌^◌, Bool, length, IfOk};
-ghost use Rattle.http_edge.specs.Sent.{Failed};
-ghost use Rattle.gate_workers.specs.Responses.{IsSaid, done, marked, refused, told};
+//! The response to a request: a value, which is written once.
+ghost use Rattle.std.specs.Prelude.{◌≡◌, ◌<◌, ◌^◌, codes, length, option_map, IfOk};
+ghost use Rattle.http_edge.specs.Sent.{Sent, Failed};
+ghost use Rattle.gate_workers.specs.Refusals.{allowed_name};
+ghost use Rattle.gate_workers.specs.Responses as spec;
+ghost use Rattle.gate_workers.specs.Responses.{IsMarked};
+ghost use Rattle.gate_workers.specs.Bodies.{kind_of, text_of};
 
-use crate::refusal::{Refusal, allow_of, message_of, status_of};
-use crate::service::End;
+use crate::flush::Turn;
+use crate::order::OrderFault;
+use crate::refusal::{Allowed, Refusal};
+use back_answers::Answer;
 use byte_ends::Sink;
+use delta_book::totals::SeriesTotals;
 use http::StatusCode;
 use http_edge::{Written, write_response};
-use out_texts::{no_memory_text, status_text};
+use out_texts::{no_memory_text, report_text, status_text, turn_text};
 use std::alloc::{AllocError, Global};
+use std::marker::Model;
 
-/// The status of a response, and how far it was written.
-#[derive(Clone, Copy, Debug, PartialEq, Eq)]
-pub struct Said {
-    pub status: u16,
-    pub written: Written,
+/// The body of a response: a text that was made, or one that takes no memory.
+#[derive(Drop)]
+pub enum Body {
+    Json(Vec<u8>),
+    Plain(Vec<u8>),
+    /// An object without members.
+    Empty,
+    /// Nothing was there to flush.
+    Idle,
+    /// There is no memory for another text.
+    NoMemory,
 }
 
-/// A response, and how the request's batch ended.
-#[derive(Clone, Copy, Debug, PartialEq, Eq)]
-pub struct Replied {
-    pub said: Said,
-    pub end: End,
-}
+impl Body {
+    /// The media type.
+    fn kind(&self) -> &'static str
+        ensures name { result.now ≡ kind_of self.now }
+        ensures short { length result.now < 2 ^ 32 }
+    {
+        match self {
+            Body::Plain(_) => "text/plain",
+            _ => "application/json",
+        }
+    }
 
-/// The media type of all but the report.
-const JSON: &str = "application/json";
-
-/// Says that it is done.
-pub fn say_done<W: Sink>(writer: &mut W, body: &[u8]) -> Said
-    requires { length body.now < 2 ^ 63 }
-    ensures said { IsSaid (W.contents writer.old) (W.contents writer.new) (done body.now) result.status result.written }
-    ensures failed { Failed W.one_more (W.failures writer.old) (W.failures writer.new) result.written }
-{
-    let written = write_response(writer, StatusCode::OK, JSON, None, body);
-    Said {
-        status: 200,
-        written,
+    fn text(&self) -> &[u8]
+        ensures text { result.now ≡ text_of self.now }
+        ensures short { length result.now < 2 ^ 63 }
+    {
+        match self {
+            Body::Json(text) => text.as_slice(),
+            Body::Plain(text) => text.as_slice(),
+            Body::Empty => b"{}",
+            Body::Idle => b"{\"act\":\"nothing\"}",
+            Body::NoMemory => no_memory_text(),
+        }
     }
 }
 
-/// Says the report.
-pub fn say_report<W: Sink>(writer: &mut W, body: &[u8]) -> Said
-    requires { length body.now < 2 ^ 63 }
-    ensures said { IsSaid (W.contents writer.old) (W.contents writer.new) (told body.now) result.status result.written }
-    ensures failed { Failed W.one_more (W.failures writer.old) (W.failures writer.new) result.written }
-{
-    let written = write_response(writer, StatusCode::OK, "text/plain", None, body);
-    Said {
-        status: 200,
-        written,
-    }
+/// A response: its status, its body with the media type, and the method that is allowed where a request
+/// had another. Contracts see what is written of it.
+#[derive(Drop)]
+pub struct Response {
+    status: StatusCode,
+    allow: Option<Allowed>,
+    body: Body,
+}
+
+impl Model for Response {
+    ghost use Rattle.std.specs.Prelude.{option_map};
+    ghost use Rattle.gate_workers.specs.Refusals.{allowed_name};
+    ghost use Rattle.gate_workers.specs.Responses.{Response};
+    ghost use Rattle.gate_workers.specs.Bodies.{kind_of, text_of};
+
+    ghost Value = { Response };
+
+    ghost view = { λ r. record {
+      status = r.status;
+      kind = kind_of r.body;
+      allow = option_map allowed_name r.allow;
+      body = text_of r.body;
+    } };
 }
 
 /// The text of a refusal.
 fn refusal_text(alloc: Global, why: Refusal) -> Result<Vec<u8>, AllocError>
-    ensures { IfOk result (λ text. text.items ≡ (refused why).body) }
+    ensures { IfOk result (λ text. text.items ≡ (spec.refused why).body) }
 {
-    let message = message_of(alloc, why)?;
+    let message = why.message(alloc)?;
     status_text(alloc, message.as_str())
 }
 
-/// Says why it is refused; where there is no memory for that, says so.
-pub fn say_refused<W: Sink>(alloc: Global, writer: &mut W, why: Refusal) -> Said
-    ensures said { (mark : Bool) × IsSaid (W.contents writer.old) (W.contents writer.new) (marked mark (refused why)) result.status result.written }
-    ensures failed { Failed W.one_more (W.failures writer.old) (W.failures writer.new) result.written }
+/// The seconds that an answer asks to wait.
+fn after_of(answer: Answer) -> Option<u64>
+    ensures { result ≡ spec.after_of answer }
 {
-    match refusal_text(alloc, why) {
-        Ok(text) => {
-            let status = status_of(why);
-            let written = write_response(writer, status, JSON, allow_of(why), text.as_slice());
-            return Said {
-                status: status.as_u16(),
-                written,
-            };
-        }
-        Err(_) => return say_no_memory(writer),
+    match answer {
+        Answer::Retryable { after } => after,
+        Answer::Success | Answer::Final | Answer::Unknown => None,
     }
 }
 
-/// Says that there is no memory, without any.
-pub fn say_no_memory<W: Sink>(writer: &mut W) -> Said
-    ensures said { IsSaid (W.contents writer.old) (W.contents writer.new) (refused Refusal.NoMemory) result.status result.written }
-    ensures failed { Failed W.one_more (W.failures writer.old) (W.failures writer.new) result.written }
-{
-    let written = write_response(
-        writer,
-        StatusCode::SERVICE_UNAVAILABLE,
-        JSON,
-        None,
-        no_memory_text(),
-    );
-    Said {
-        status: 503,
-        written,
+impl Response {
+    /// 200, with this body.
+    fn ok(body: Body) -> Response
+        ensures status { result.status ≡ 200 }
+        ensures kind { result.kind ≡ kind_of body }
+        ensures allow { result.allow ≡ None }
+        ensures body { result.body ≡ text_of body }
+    {
+        Response {
+            status: StatusCode::OK,
+            allow: None,
+            body,
+        }
+    }
+
+    /// 200, with this JSON.
+    pub fn json(text: Vec<u8>) -> Response
+        ensures { result ≡ spec.done text.items }
+    {
+        Response::ok(Body::Json(text))
+    }
+
+    /// 200, with an object without members.
+    pub fn empty() -> Response
+        ensures { result ≡ spec.done (codes "{}") }
+    {
+        Response::ok(Body::Empty)
+    }
+
+    /// That there is no memory. Takes none.
+    pub fn no_memory() -> Response
+        ensures { result ≡ spec.refused Refusal.NoMemory }
+    {
+        Response {
+            status: StatusCode::SERVICE_UNAVAILABLE,
+            allow: None,
+            body: Body::NoMemory,
+        }
+    }
+
+    /// Why a request is refused; where there is no memory for that text, that there is none.
+    pub fn refusal(alloc: Global, why: Refusal) -> Response
+        ensures { IsMarked (spec.refused why) result }
+    {
+        match refusal_text(alloc, why) {
+            Ok(text) => Response {
+                status: why.status(),
+                allow: why.allowed(),
+                body: Body::Json(text),
+            },
+            Err(_) => Response::no_memory(),
+        }
+    }
+
+    /// The report of these rows; where there is no memory for its text, that there is none.
+    pub fn report(alloc: Global, rows: &[SeriesTotals]) -> Response
+        ensures { IsMarked (spec.reported (Some rows.now)) result }
+    {
+        match report_text(alloc, rows) {
+            Ok(text) => Response::ok(Body::Plain(text)),
+            Err(_) => Response::no_memory(),
+        }
+    }
+
+    /// What a flush turn came to; where there is no memory for its text, that there is none.
+    pub fn turn(alloc: Global, turn: Turn) -> Response
+        ensures { IsMarked (spec.turned turn) result }
+    {
+        match turn {
+            Turn::Idle => Response::ok(Body::Idle),
+            Turn::Full => Response::refusal(alloc, Refusal::Full),
+            Turn::NoMemory => Response::no_memory(),
+            Turn::Done {
+                flush,
+                points,
+                answer,
+                act,
+            } => match turn_text(alloc, flush, points, act, after_of(answer)) {
+                Ok(text) => Response::json(text),
+                Err(_) => Response::no_memory(),
+            },
+        }
+    }
+
+    /// What an order came to.
+    pub fn order(alloc: Global, answer: Result<Turn, OrderFault>) -> Response
+        ensures { IsMarked (spec.ordered answer) result }
+    {
+        match answer {
+            Ok(turn) => Response::turn(alloc, turn),
+            Err(fault) => Response::refusal(alloc, Refusal::from(fault)),
+        }
+    }
+
+    pub fn status(&self) -> u16
+        ensures { result ≡ self.now.status }
+    {
+        self.status.as_u16()
+    }
+
+    /// Writes it, and tells how much of it the sink took. Takes no memory.
+    pub fn write<W: Sink>(&self, writer: &mut W) -> Written
+        ensures sent { Sent (W.contents writer.old) (W.contents writer.new) (spec.bytes_of self.now) result }
+        ensures failed { Failed W.one_more (W.failures writer.old) (W.failures writer.new) result }
+    {
+        let kind = self.body.kind();
+        let text = self.body.text();
+        match self.allow {
+            None => write_response(writer, self.status, kind, None, text),
+            Some(allowed) => {
+                write_response(writer, self.status, kind, Some(allowed.name()), text)
+            }
+        }
     }
 }

@@ -3,15 +3,15 @@ ghost use Rattle.std.specs.Prelude.{◌≡◌};
 ghost use Rattle.http_edge.specs.Delivery.{StopsReading};
 ghost use Rattle.http_edge.specs.Reading.{NotYet};
 ghost use Rattle.gate_workers.specs.Heard.{Hears, HearingFails, heard_of};
-ghost use Rattle.gate_workers.specs.Conversations.{IsClosed};
+ghost use Rattle.gate_workers.specs.Conversations.{IsConfirmed, IsClosed, IsEnded};
 ghost use Rattle.gate_workers.specs.Served.{IsServed, ReadingFails, WritingFails};
 ghost use Rattle.gate_workers.specs.ServedBook.{IsServedBook};
 ghost use Rattle.gate_workers.specs.Keepers.{book_of, seat_of, uplink_of, max_of};
 
 use crate::book_keeper::BookKeeper;
 use crate::flush::Uplink;
-use crate::handle::answer;
-use crate::refusal::{Refusal, of_http};
+use crate::handle::{Handled, handle};
+use crate::refusal::Refusal;
 use crate::request::{Ask, ask_of};
 use crate::store::{Keeper, Store};
 use crate::worker::{Pace, Spot};
@@ -60,7 +60,7 @@ fn heard_of(fault: HttpFault) -> Heard
     match fault {
         HttpFault::Closed => Heard::Closed,
         HttpFault::Io => Heard::Broken,
-        _ => Heard::Asks(Ask::Turned(of_http(fault))),
+        _ => Heard::Asks(Ask::Turned(Refusal::from(fault))),
     }
 }
 
@@ -88,34 +88,42 @@ pub fn listen<S: Source, P: Pace>(
     }
 }
 
-/// Undoes a batch of whose response nothing was written, and confirms any other; one of which
-/// something was taken meanwhile is confirmed too.
-pub fn close<K: Store>(keeper: &mut K, batch: u64, written: Written) -> End
-    ensures { IsClosed K.gives batch written keeper.old keeper.new result }
+/// Confirms a batch. That it is not open changes nothing.
+fn confirm<K: Store>(keeper: &mut K, batch: u64) -> End
+    ensures { IsConfirmed K.gives batch keeper.old keeper.new result }
 {
-    match written {
-        Written::None_ => return undo(keeper, batch),
-        Written::All => {
-            let _ = keeper.confirm(batch);
-            return End::Confirmed;
-        }
-        Written::Part(_) => {
-            let _ = keeper.confirm(batch);
-            return End::Confirmed;
-        }
-    }
+    let _ = keeper.confirm(batch);
+    End::Confirmed
 }
 
+/// Undoes a batch. One of which something was taken meanwhile is confirmed.
 fn undo<K: Store>(keeper: &mut K, batch: u64) -> End
     ensures { IsClosed K.gives batch Written.None_ keeper.old keeper.new result }
 {
     match keeper.undo(batch) {
         Ok(()) => return End::Undone,
         Err(UndoFault::NotOpen) => return End::Undone,
-        Err(UndoFault::Taken) => {
-            let _ = keeper.confirm(batch);
-            return End::Confirmed;
-        }
+        Err(UndoFault::Taken) => return confirm(keeper, batch),
+    }
+}
+
+/// Undoes a batch of whose response nothing was written, and confirms any other.
+fn close_batch<K: Store>(keeper: &mut K, batch: u64, written: Written) -> End
+    ensures { IsClosed K.gives batch written keeper.old keeper.new result }
+{
+    match written {
+        Written::None_ => undo(keeper, batch),
+        Written::All | Written::Part(_) => confirm(keeper, batch),
+    }
+}
+
+/// Closes the batch of a request, if it has one.
+fn close<K: Store>(keeper: &mut K, batch: Option<u64>, written: Written) -> End
+    ensures { IsEnded K.gives batch written keeper.old keeper.new result }
+{
+    match batch {
+        None => End::NoBatch,
+        Some(batch) => close_batch(keeper, batch, written),
     }
 }
 
@@ -155,11 +163,13 @@ pub fn serve_with<K: Keeper, S: Source, W: Sink, P: Pace>(
         Heard::Closed => return Served::Closed,
         Heard::Broken => return Served::Broken,
         Heard::Asks(ask) => {
-            let replied = answer(alloc, keeper, writer, ask);
+            let Handled { response, batch } = handle(alloc, keeper, ask);
+            let written = response.write(writer);
+            let end = close(keeper, batch, written);
             return Served::Replied {
-                status: replied.said.status,
-                written: replied.said.written,
-                end: replied.end,
+                status: response.status(),
+                written,
+                end,
             };
         }
     }
