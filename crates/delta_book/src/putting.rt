@@ -169,7 +169,7 @@ fn put_next(
     ensures next { OnOk result ((qs : List Accepted) → AreCells cells.old.items qs → next_fault qs sender.now place point.now ≡ None) }
     ensures stop { IfErr result (λ e. (qs : List Accepted) → AreCells cells.old.items qs → StopsAt e qs sender.now place point.now) }
 {
-    match find_place(cells, point.series()) {
+    match find_place(cells, point.shared_series()) {
         Ok(i) => put_at(cells, i, sender, point, place, part, number),
         Err(i) => open_at(alloc, cells, i, sender, point, part, number),
     }

@@ -18,8 +18,8 @@ use metric_events::point::Point;
 use series_cell::cell::Cell;
 use series_id::{SeriesId, SharedId};
 
-/// Where the cell of a series is, or where it goes.
-pub fn find_place(cells: &[Cell], series: &SeriesId) -> Result<usize, usize>
+/// Where the cell of a series is, or where it goes, by a search.
+fn search_place(cells: &[Cell], series: &SeriesId) -> Result<usize, usize>
     ensures { MatchResult result (λ i. (i < length cells.now) × IdAt cells.now i series.now) (λ i. (i ≤ length cells.now) × (is_ascending (map id_of cells.now) ≡ true → IsGap cells.now i series.now)) }
 {
     let mut low = 0;
@@ -38,11 +38,27 @@ pub fn find_place(cells: &[Cell], series: &SeriesId) -> Result<usize, usize>
     Err(low)
 }
 
+/// Where the cell of a series is, or where it goes. It is looked for first where this identity
+/// stood before; where it stands now is noted.
+pub fn find_place(cells: &[Cell], series: &SharedId) -> Result<usize, usize>
+    ensures { MatchResult result (λ i. (i < length cells.now) × IdAt cells.now i series.now) (λ i. (i ≤ length cells.now) × (is_ascending (map id_of cells.now) ≡ true → IsGap cells.now i series.now)) }
+{
+    let hint = series.place();
+    if hint < cells.len() && series.as_series().is_same(cells[hint].id()) {
+        return Ok(hint);
+    }
+    let found = search_place(cells, series.as_series());
+    series.note_place(match found {
+        Ok(place) | Err(place) => place,
+    });
+    found
+}
+
 /// Where the cell of a series stands.
 pub fn find_cell(cells: &[Cell], series: &SharedId) -> Option<usize>
     ensures { MatchOption result (is_ascending (map id_of cells.now) ≡ true → is_among series.now (map id_of cells.now) ≡ false) (λ i. (i < length cells.now) × IdAt cells.now i series.now) }
 {
-    match find_place(cells, series.as_series()) {
+    match find_place(cells, series) {
         Ok(i) => Some(i),
         Err(_) => None,
     }

@@ -8,6 +8,7 @@
 mod attributes;
 mod checks;
 mod faults;
+mod kept;
 mod kinds;
 pub mod laws;
 pub mod limits;

@@ -3,14 +3,17 @@
 ghost use Rattle.std.specs.Prelude.{◌≡◌, ◌↔◌, ◌<◌, IfErr, IfOk, IsTrue};
 ghost use Rattle.series_id.specs.Order.{same_series};
 
+use crate::kept::Kept;
 use crate::series::SeriesId;
 use std::alloc::{AllocError, AllocFailed, Global};
 use std::marker::Model;
 use std::sync::Arc;
+use std::sync::atomic::AtomicUsize;
+use std::sync::atomic::Ordering::Relaxed;
 
 /// An identity behind a count of its owners, one word wide. Contracts see it as an `Identity`.
 pub struct SharedId {
-    series: Arc<SeriesId, Global>,
+    kept: Arc<Kept, Global>,
 }
 
 impl Model for SharedId {
@@ -19,13 +22,13 @@ impl Model for SharedId {
 
     ghost Value = { Identity };
 
-    ghost view = { λ s. arc_value s.series };
+    ghost view = { λ s. (arc_value s.kept).series };
 }
 
 // Written out, since what a derive writes is proved again in each crate that lets one go.
 impl Drop for SharedId {
     fn drop(self) {
-        let SharedId { series: _ } = self;
+        let SharedId { kept: _ } = self;
     }
 }
 
@@ -35,15 +38,20 @@ impl SharedId {
         ensures same { IfOk result (λ shared. shared ≡ series) }
         ensures back { IfErr result (λ refused. refused.value ≡ series) }
     {
-        let series = Arc::new(alloc, series)?;
-        Ok(SharedId { series })
+        let place = AtomicUsize::new(0);
+        match Arc::new(alloc, Kept { series, place }) {
+            Ok(kept) => Ok(SharedId { kept }),
+            Err(refused) => Err(AllocFailed {
+                value: refused.value.series,
+            }),
+        }
     }
 
     /// The identity.
     pub fn as_series(&self) -> &SeriesId
         ensures { result.now ≡ self.now }
     {
-        &self.series
+        &self.kept.series
     }
 
     /// The same identity, with one owner more. Takes no memory: it fails only where the count is
@@ -51,15 +59,26 @@ impl SharedId {
     pub fn share(&self) -> Result<SharedId, AllocError>
         ensures { IfOk result (λ shared. shared ≡ self.now) }
     {
-        let series = Arc::try_clone(&self.series)?;
-        Ok(SharedId { series })
+        let kept = Arc::try_clone(&self.kept)?;
+        Ok(SharedId { kept })
     }
 
     /// How many own this identity at the moment, this one counted.
     pub fn owners(&self) -> usize
         ensures { 0 < result }
     {
-        Arc::strong_count(&self.series)
+        Arc::strong_count(&self.kept)
+    }
+
+    /// The place that was noted last, by any owner; 0 where none was. It is a place to look first,
+    /// and may be out of date: no clause says anything of it.
+    pub fn place(&self) -> usize {
+        self.kept.place.load(Relaxed)
+    }
+
+    /// Notes the place where this identity stands in a list. Takes no memory.
+    pub fn note_place(&self, place: usize) {
+        self.kept.place.store(place, Relaxed);
     }
 
     /// Whether both are of one series: whether all fields are equal.

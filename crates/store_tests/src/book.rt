@@ -420,3 +420,22 @@ fn a_cell_shares_the_identity_of_its_first_point(rt: HostRuntime) -> Result<(), 
     );
     Ok(())
 }
+
+// An identity is found wherever it was noted: at another series' cell, or past the last one.
+#[test]
+fn a_noted_place_may_be_wrong(rt: HostRuntime) -> Result<(), Fail> {
+    let alloc = rt.alloc();
+    let mut book = Book::new(alloc)?;
+    run(&rt, alloc, &mut book, &[Ones(0, 3, 1, Ok(1))])?;
+    let series = series(alloc, 2, Kind::Sum { monotonic: false })?;
+    let shared = SharedId::new(alloc, series)?;
+    for (number, place) in [(2, 0), (3, 1), (4, 2), (5, usize::MAX)] {
+        shared.note_place(place);
+        let body = batch_of(alloc, shared.share()?, number)?;
+        assert_eq!(rt; admitted(&rt, &mut book, body), Ok(number));
+        look::count(&rt, shared.place(), 2, "the place");
+    }
+    let cell = book.cells().last().ok_or("no cell")?;
+    look::words(&rt, cell.accepted(), &[5, 5, 0], "of the series");
+    Ok(())
+}

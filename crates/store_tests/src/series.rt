@@ -461,6 +461,17 @@ fn shared_identities_are_one(rt: HostRuntime) {
     check_sets(&rt, copy.as_series());
 }
 
+#[test]
+fn owners_share_a_noted_place(rt: HostRuntime) {
+    let alloc = rt.alloc();
+    let own = series(&rt, alloc, "h1", "requests", Kind::Sum { monotonic: true });
+    let shared = SharedId::new(alloc, own).ok().expect(&rt, "memory");
+    let other = shared.share().expect(&rt, "a count");
+    look::count(&rt, other.place(), 0, "the first place");
+    shared.note_place(7);
+    look::count(&rt, other.place(), 7, "the noted place");
+}
+
 /// Looks at whether two series share a resource, a scope and a stream.
 fn check_shares(rt: &impl Abort, first: &SeriesId, second: &SeriesId, shares: [bool; 3]) {
     let shared = [

@@ -3,7 +3,7 @@ use Rattle.std.specs.List.{list_all}
 use Rattle.series_id.specs.Order.{series_before}
 use Rattle.metric_events.specs.Series.{is_ascending}
 use Rattle.delta_book.specs.Tables.{id_of}
-use Rattle.delta_book.proofs.table.find_place.Given as goal
+use Rattle.delta_book.proofs.table.search_place.Given as goal
 
 abbrev pub invariant-loop-low : goal.invariant-loop-low
 invariant-loop-low l = record {
