@@ -15,9 +15,9 @@ fn put_head(out: &mut Vec<u8>, past: &PastTotals) -> Result<(), AllocError>
     ensures { OnOk result (out.new.items ≡ out.old.items ++ spec.past_head (told past.now)) }
 {
     out.extend_from_slice(b"past ")?;
-    put_series_name(out, &past.series)?;
+    put_series_name(out, past.series.as_series())?;
     out.extend_from_slice(b" ")?;
-    put_kind(out, past.series.kind())
+    put_kind(out, past.series.as_series().kind())
 }
 
 /// Puts a place and its row.

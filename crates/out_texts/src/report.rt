@@ -15,9 +15,9 @@ fn put_head(out: &mut Vec<u8>, totals: &SeriesTotals) -> Result<(), AllocError>
     ensures { OnOk result (out.new.items ≡ out.old.items ++ spec.series_head totals.now) }
 {
     out.extend_from_slice(b"series ")?;
-    put_series_name(out, &totals.series)?;
+    put_series_name(out, totals.series.as_series())?;
     out.extend_from_slice(b" ")?;
-    put_kind(out, totals.series.kind())?;
+    put_kind(out, totals.series.as_series().kind())?;
     out.extend_from_slice(b" owner ")?;
     out.extend_from_slice(totals.owner.as_bytes())?;
     out.extend_from_slice(b" frontier ")?;
