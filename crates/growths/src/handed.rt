@@ -9,12 +9,12 @@ use bucket_lanes::{fits, is_zero};
 use metric_events::point::Point;
 use metric_events::points::Points;
 use series_cell::cell::Cell;
-use series_id::{AttrSet, Kind, SeriesId, Text};
+use series_id::{AttrSet, Kind, SeriesId, SharedId, Text};
 use std::alloc::{AllocError, Global};
 
 /// The calls, in the order in which they are made.
 pub const CALLS: [&str; 5] = [
-    "SeriesId::share",
+    "SharedId::new",
     "Points::push",
     "Cell::put",
     "Cell::put_span",
@@ -24,7 +24,7 @@ pub const CALLS: [&str; 5] = [
 /// Makes a call on a value of its own.
 pub fn make(rt: &impl Print, alloc: Global, call: &str) -> Result<(), AllocError> {
     match call {
-        "SeriesId::share" => share(rt, alloc),
+        "SharedId::new" => share(rt, alloc),
         "Points::push" => push(rt, alloc),
         "Cell::put" => put(rt, alloc),
         "Cell::put_span" => put_span(rt, alloc),
@@ -32,7 +32,7 @@ pub fn make(rt: &impl Print, alloc: Global, call: &str) -> Result<(), AllocError
     }
 }
 
-/// A sum's identity that is not shared yet.
+/// A sum's identity.
 fn own_series(alloc: Global) -> Result<SeriesId, AllocError> {
     let made = SeriesId::new(
         AttrSet::empty(alloc),
@@ -50,19 +50,19 @@ fn own_series(alloc: Global) -> Result<SeriesId, AllocError> {
     }
 }
 
-/// An identity that is handed back is shared at the second call.
+/// An identity that is handed back is kept at the second call.
 fn share(rt: &impl Print, alloc: Global) -> Result<(), AllocError> {
     let mut series = own_series(alloc)?;
     let same = own_series(alloc)?;
     for _ in 0..2 {
-        match series.share(alloc) {
+        match SharedId::new(alloc, series) {
             Ok(shared) => {
-                tell(rt, "SeriesId::share", shared.is_same(&same));
+                tell(rt, "SharedId::new", shared.as_series().is_same(&same));
                 return Ok(());
             }
             Err(refused) => {
                 series = refused.value;
-                no_memory(rt, "SeriesId::share", series.is_same(&same));
+                no_memory(rt, "SharedId::new", series.is_same(&same));
             }
         }
     }

@@ -8,7 +8,7 @@ use crate::telling::{tell, tell_number};
 use delta_book::book::Book;
 use metric_events::sender_name::SenderName;
 use series_cell::cell::Cell;
-use series_id::SeriesId;
+use series_id::SharedId;
 use std::alloc::{AllocError, Global};
 
 /// The seat of all events.
@@ -20,7 +20,7 @@ const SEAT: u16 = 0;
 pub struct Kept {
     book: Book,
     held: SenderName,
-    shared: SeriesId,
+    shared: SharedId,
 }
 
 fn admit(alloc: Global, book: &mut Book, body: &[u8]) -> Result<(), AllocError> {
@@ -53,7 +53,7 @@ pub fn prepare(alloc: Global) -> Result<Kept, AllocError> {
         return Err(AllocError);
     }
     let held = name_of(alloc, b"H")?;
-    let shared = first_point(alloc, MIXED)?.series().copy(alloc)?;
+    let shared = first_point(alloc, MIXED)?.shared_series().share()?;
     Ok(Kept { book, held, shared })
 }
 
@@ -76,9 +76,9 @@ fn are_ended(cells: &[Cell]) -> bool {
 }
 
 /// Whether a shared identity, and the set of its resource, is copied.
-fn is_copied(alloc: Global, series: &SeriesId) -> bool {
-    match (series.copy(alloc), series.resource().copy(alloc)) {
-        (Ok(copy), Ok(set)) => copy.is_same(series) && set.pairs().len() == 1,
+fn is_copied(alloc: Global, shared: &SharedId) -> bool {
+    match (shared.share(), shared.as_series().resource().copy(alloc)) {
+        (Ok(copy), Ok(set)) => copy.is_same(shared) && set.pairs().len() == 1,
         _ => false,
     }
 }

@@ -73,11 +73,14 @@ fn row_of_words(alloc: Global) -> Result<String, AllocError> {
 fn series_list_copy(alloc: Global) -> Result<String, AllocError> {
     let mut series = Vec::new(alloc);
     for point in points_of(alloc, MIXED)?.as_slice() {
-        series.push(point.series().copy(alloc)?)?;
+        series.push(point.shared_series().share()?)?;
     }
     let copy = SeriesList::new(series).copy(alloc)?;
     match copy.as_slice() {
-        [h, m] => told(alloc, h.name().as_str() == "h" && m.name().as_str() == "m"),
+        [h, m] => {
+            let names = [h.as_series().name().as_str(), m.as_series().name().as_str()];
+            told(alloc, names[0] == "h" && names[1] == "m")
+        }
         _ => told(alloc, false),
     }
 }

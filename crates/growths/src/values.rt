@@ -93,7 +93,7 @@ fn kind_copy(alloc: Global) -> Result<String, AllocError> {
     }
 }
 
-/// A sum's identity that is not shared yet.
+/// A sum's identity.
 fn own_series(alloc: Global) -> Result<SeriesId, AllocError> {
     let made = SeriesId::new(
         AttrSet::empty(alloc),
