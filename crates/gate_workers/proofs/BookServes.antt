@@ -27,16 +27,17 @@ use Rattle.gate_workers.specs.declared.refusal.Refusal.{Refusal}
 use Rattle.gate_workers.specs.declared.refusal.Refusal.TheVariants.{NotQuarantined as not_quarantined, NoMemory}
 use Rattle.gate_workers.specs.declared.flush.Turn.{Turn}
 use Rattle.gate_workers.specs.Calls.{Call, admit, undo, confirm, quarantine, lift, totals, order}
-use Rattle.gate_workers.specs.Refusals.{of_admit, of_hold}
-use Rattle.gate_workers.specs.Responses.{Response, done, refused, marked, IsMarked, turned, reported}
-use Rattle.gate_workers.specs.Asked.{Asked, Metrics, Hold, LetGo, FlushNow, Report, Turned}
-use Rattle.gate_workers.specs.Conversations.{IsConversation, IsPosted, SaysAdmitted, IsEnded, IsClosed, IsUndone, SaysHeld, SaysLifted, SaysOrdered, SaysReport}
+use Rattle.gate_workers.specs.Refusals.{of_admit, of_quarantine}
+use Rattle.gate_workers.specs.Responses.{Response, json_response, refusal_response, or_no_memory, IsThatOrNoMemory, turn_response, report_response}
+use Rattle.gate_workers.specs.Asked as ask
+use Rattle.gate_workers.specs.Asked.{Asked}
+use Rattle.gate_workers.specs.Conversations.{IsConversation, IsPosted, SaysAdmission, IsEnded, IsClosed, IsUndone, SaysQuarantine, SaysLift, SaysOrder, SaysReport}
 use Rattle.gate_workers.specs.Turns.{Want, Nowhere, turn_of}
 use Rattle.gate_workers.specs.BookCalls.{KeeperGives, Adds, AreSent, entry_of}
 use Rattle.gate_workers.specs.declared.service.Served.{Served}
 use Rattle.gate_workers.specs.declared.service.Served.TheVariants.{Closed, Broken, Replied}
 use Rattle.gate_workers.specs.Served.{IsServed}
-use Rattle.gate_workers.specs.ServedBook.{IsServedBook, Outcome, IsOutcome, IsOneOf, served, posted, admitted, admitted_or, held_or, lifted_or, flushed, happens, only_says, unless_marked, end_by, closed_by}
+use Rattle.gate_workers.specs.ServedBook.{IsServedBook, Outcome, IsOutcome, IsOneOf, served, post_outcome, admission_outcome, admission_or, quarantine_or, lift_or, flush_outcome, happens, only_says, unless_marked, end_by, closed_by}
 use Rattle.gate_workers.proofs.BookTurns.{nothing_added, two_added}
 
 abbrev pub KeeperOver : {U : Type 0} → (U → List ℕ → Answer → U → Type 0) → BookKeeper U → Call → BookKeeper U → Type 0
@@ -61,21 +62,21 @@ silent : {U : Type 0} (sends : U → List ℕ → Answer → U → Type 0) (seat
 silent sends seat max asked written J J' u u' response end mark r is says ends book uplink =
     outcome sends seat max asked written J J' u u' response end Unknown mark Nowhere (only_says r) is says ends (nothing_added seat J J' book) uplink
 
-marked_only : (mark : Bool) (r : Response) → unless_marked mark (only_says r) ≡ only_says (marked mark r)
+marked_only : (mark : Bool) (r : Response) → unless_marked mark (only_says r) ≡ only_says (or_no_memory mark r)
 marked_only true r = refl
 marked_only false r = refl
 
-marked_memory : (mark : Bool) → marked mark (refused NoMemory) ≡ refused NoMemory
+marked_memory : (mark : Bool) → or_no_memory mark (refusal_response NoMemory) ≡ refusal_response NoMemory
 marked_memory true = refl
 marked_memory false = refl
 
 -- a refusal that was said, or that there was no memory
-refused_or : {F : Type 0} (of : F → Refusal) (none fault : F) (refusal : Option F) (other : Option F → Outcome) (mark : Bool) → ((f : F) → other (Some f) ≡ only_says (refused (of f)))
-    → of none ≡ NoMemory → fault ≡ unwrap_or refusal none → (m : Bool) × (unless_marked m (other refusal) ≡ only_says (marked mark (refused (of fault))))
+refused_or : {F : Type 0} (of : F → Refusal) (none fault : F) (refusal : Option F) (other : Option F → Outcome) (mark : Bool) → ((f : F) → other (Some f) ≡ only_says (refusal_response (of f)))
+    → of none ≡ NoMemory → fault ≡ unwrap_or refusal none → (m : Bool) × (unless_marked m (other refusal) ≡ only_says (or_no_memory mark (refusal_response (of fault))))
 refused_or of none fault None other mark some memory is =
-    (true, ap only_says (sym (marked_memory mark)) ∙ ap (λ (w : Refusal). only_says (marked mark (refused w))) (sym (ap of is ∙ memory)))
+    (true, ap only_says (sym (marked_memory mark)) ∙ ap (λ (w : Refusal). only_says (or_no_memory mark (refusal_response w))) (sym (ap of is ∙ memory)))
 refused_or of none fault (Some f) other true some memory is = (true, refl)
-refused_or of none fault (Some f) other false some memory is = (false, some f ∙ ap (λ x. only_says (refused (of x))) (sym is))
+refused_or of none fault (Some f) other false some memory is = (false, some f ∙ ap (λ x. only_says (refusal_response (of x))) (sym is))
 
 -- without a batch nothing follows the response
 unended : {U : Type 0} (sends : U → List ℕ → Answer → U → Type 0) (written : Written) (m k' : BookKeeper U) (end : End) (batch : Option ℕ)
@@ -96,69 +97,69 @@ closes : {U : Type 0} (sends : U → List ℕ → Answer → U → Type 0) (writ
 closes sends written m k' end batch n is h = let P : Option ℕ → Type 0 = λ b. IsEnded (KeeperOver sends) b written m k' end in subst P is h
 
 kept_turned : {U : Type 0} (sends : U → List ℕ → Answer → U → Type 0) (written : Written) (k k' : BookKeeper U) (response : Response) (end : End) (why : Refusal)
-    → k ≡ k' → IsMarked (refused why) response → end ≡ NoBatch → IsKept sends (Turned why) written k k' response end
+    → k ≡ k' → IsThatOrNoMemory (refusal_response why) response → end ≡ NoBatch → IsKept sends (ask.Refused why) written k k' response end
 kept_turned {U} sends written k k' response end why same says ends = record {
   seat = ap (λ (x : BookKeeper U). x.desk.seat) (sym same);
   max = ap (λ (x : BookKeeper U). x.max) (sym same);
-  one = silent sends k.desk.seat k.max (Turned why) written k.desk.book k'.desk.book k.uplink k'.uplink response end says.0 (marked says.0 (refused why)) (marked_only says.0 (refused why)) says.1 ends
+  one = silent sends k.desk.seat k.max (ask.Refused why) written k.desk.book k'.desk.book k.uplink k'.uplink response end says.0 (or_no_memory says.0 (refusal_response why)) (marked_only says.0 (refusal_response why)) says.1 ends
       (ap (λ (x : BookKeeper U). x.desk.book) (sym same)) (ap (λ (x : BookKeeper U). x.uplink) (sym same));
 }
 
 kept_held : {U : Type 0} (sends : U → List ℕ → Answer → U → Type 0) (written : Written) (k k' : BookKeeper U) (response : Response) (end : End) (s : List ℕ) (r : Result (Unit {0}) QuarantineFault)
-    → KeeperOver sends k (quarantine s r) k' → SaysHeld r response → end ≡ NoBatch → IsKept sends (Hold s) written k k' response end
+    → KeeperOver sends k (quarantine s r) k' → SaysQuarantine r response → end ≡ NoBatch → IsKept sends (ask.Quarantine s) written k k' response end
 kept_held sends written k k' response end s (Ok x) h says ends = record {
   seat = h.0;
   max = h.1;
-  one = outcome sends k.desk.seat k.max (Hold s) written k.desk.book k'.desk.book k.uplink k'.uplink response end Unknown false Nowhere (happens (Quarantine s) (done (codes "{}")))
-      (ap (held_or s) h.2.1.0) says ends h.2.1.1 h.2.0;
+  one = outcome sends k.desk.seat k.max (ask.Quarantine s) written k.desk.book k'.desk.book k.uplink k'.uplink response end Unknown false Nowhere (happens (Quarantine s) (json_response (codes "{}")))
+      (ap (quarantine_or s) h.2.1.0) says ends h.2.1.1 h.2.0;
 }
 kept_held sends written k k' response end s (Err fault) h says ends =
-    let m = refused_or of_hold holding.NoMemory fault (quarantine_refusal (history k.desk.book) s) (held_or s) says.0 (λ f. refl) refl h.2.1.0 in
+    let m = refused_or of_quarantine holding.NoMemory fault (quarantine_refusal (history k.desk.book) s) (quarantine_or s) says.0 (λ f. refl) refl h.2.1.0 in
     record {
       seat = h.0;
       max = h.1;
-      one = silent sends k.desk.seat k.max (Hold s) written k.desk.book k'.desk.book k.uplink k'.uplink response end m.0 (marked says.0 (refused (of_hold fault))) m.1 says.1 ends h.2.1.1 h.2.0;
+      one = silent sends k.desk.seat k.max (ask.Quarantine s) written k.desk.book k'.desk.book k.uplink k'.uplink response end m.0 (or_no_memory says.0 (refusal_response (of_quarantine fault))) m.1 says.1 ends h.2.1.1 h.2.0;
     }
 
 kept_lifted : {U : Type 0} (sends : U → List ℕ → Answer → U → Type 0) (written : Written) (k k' : BookKeeper U) (response : Response) (end : End) (s : List ℕ) (r : Result (Unit {0}) NotQuarantined)
-    → KeeperOver sends k (lift s r) k' → SaysLifted r response → end ≡ NoBatch → IsKept sends (LetGo s) written k k' response end
+    → KeeperOver sends k (lift s r) k' → SaysLift r response → end ≡ NoBatch → IsKept sends (ask.Lift s) written k k' response end
 kept_lifted sends written k k' response end s (Ok x) h says ends = record {
   seat = h.0;
   max = h.1;
-  one = outcome sends k.desk.seat k.max (LetGo s) written k.desk.book k'.desk.book k.uplink k'.uplink response end Unknown false Nowhere (happens (Lift s) (done (codes "{}")))
-      (ap (lifted_or s) h.2.1.0) says ends h.2.1.1 h.2.0;
+  one = outcome sends k.desk.seat k.max (ask.Lift s) written k.desk.book k'.desk.book k.uplink k'.uplink response end Unknown false Nowhere (happens (Lift s) (json_response (codes "{}")))
+      (ap (lift_or s) h.2.1.0) says ends h.2.1.1 h.2.0;
 }
 kept_lifted sends written k k' response end s (Err fault) h says ends = record {
   seat = h.0;
   max = h.1;
-  one = silent sends k.desk.seat k.max (LetGo s) written k.desk.book k'.desk.book k.uplink k'.uplink response end says.0 (marked says.0 (refused not_quarantined))
-      (ap (λ o. unless_marked says.0 (lifted_or s o)) h.2.1.0 ∙ marked_only says.0 (refused not_quarantined)) says.1 ends h.2.1.1 h.2.0;
+  one = silent sends k.desk.seat k.max (ask.Lift s) written k.desk.book k'.desk.book k.uplink k'.uplink response end says.0 (or_no_memory says.0 (refusal_response not_quarantined))
+      (ap (λ o. unless_marked says.0 (lift_or s o)) h.2.1.0 ∙ marked_only says.0 (refusal_response not_quarantined)) says.1 ends h.2.1.1 h.2.0;
 }
 
 kept_ordered : {U : Type 0} (sends : U → List ℕ → Answer → U → Type 0) (written : Written) (k k' : BookKeeper U) (response : Response) (end : End) (r : Result Turn OrderFault)
-    → KeeperOver sends k (order r) k' → SaysOrdered r response → end ≡ NoBatch → IsKept sends FlushNow written k k' response end
+    → KeeperOver sends k (order r) k' → SaysOrder r response → end ≡ NoBatch → IsKept sends ask.FlushNow written k k' response end
 kept_ordered sends written k k' response end (Ok t) h says ends =
     let made = h.2 in
     record {
       seat = h.0;
       max = h.1;
-      one = outcome sends k.desk.seat k.max FlushNow written k.desk.book k'.desk.book k.uplink k'.uplink response end made.0 says.0 made.1 (flushed says.0 (turn_of (history k.desk.book) k.max made.0 made.1))
-          refl (says.1 ∙ ap (λ x. marked says.0 (turned x)) made.2) ends made.3 made.4;
+      one = outcome sends k.desk.seat k.max ask.FlushNow written k.desk.book k'.desk.book k.uplink k'.uplink response end made.0 says.0 made.1 (flush_outcome says.0 (turn_of (history k.desk.book) k.max made.0 made.1))
+          refl (says.1 ∙ ap (λ x. or_no_memory says.0 (turn_response x)) made.2) ends made.3 made.4;
     }
 kept_ordered sends written k k' response end (Err fault) h says ends = absurd h.2
 
 kept_report : {U : Type 0} (sends : U → List ℕ → Answer → U → Type 0) (written : Written) (k k' : BookKeeper U) (response : Response) (end : End) (rows : Option (List SeriesTotals))
-    → KeeperOver sends k (totals rows) k' → SaysReport rows response → end ≡ NoBatch → IsKept sends Report written k k' response end
+    → KeeperOver sends k (totals rows) k' → SaysReport rows response → end ≡ NoBatch → IsKept sends ask.Report written k k' response end
 kept_report sends written k k' response end None h says ends = record {
   seat = h.0;
   max = h.1;
-  one = silent sends k.desk.seat k.max Report written k.desk.book k'.desk.book k.uplink k'.uplink response end true (refused NoMemory) refl (says.1 ∙ marked_memory says.0) ends h.2.1 h.2.0;
+  one = silent sends k.desk.seat k.max ask.Report written k.desk.book k'.desk.book k.uplink k'.uplink response end true (refusal_response NoMemory) refl (says.1 ∙ marked_memory says.0) ends h.2.1 h.2.0;
 }
 kept_report sends written k k' response end (Some rows) h says ends = record {
   seat = h.0;
   max = h.1;
-  one = silent sends k.desk.seat k.max Report written k.desk.book k'.desk.book k.uplink k'.uplink response end says.0 (marked says.0 (reported (Some (totals_rows (history k.desk.book)))))
-      (marked_only says.0 _) (says.1 ∙ ap (λ x. marked says.0 (reported (Some x))) h.2.1.0) ends h.2.1.1 h.2.0;
+  one = silent sends k.desk.seat k.max ask.Report written k.desk.book k'.desk.book k.uplink k'.uplink response end says.0 (or_no_memory says.0 (report_response (Some (totals_rows (history k.desk.book)))))
+      (marked_only says.0 _) (says.1 ∙ ap (λ x. or_no_memory says.0 (report_response (Some x))) h.2.1.0) ends h.2.1.1 h.2.0;
 }
 
 -- a batch that was just admitted is closed by what was written
@@ -198,8 +199,8 @@ abbrev batch_of : List ℕ → List DataPoint → Batch
 batch_of sender points = record { sender = sender; points = points }
 
 kept_admitted : {U : Type 0} (sends : U → List ℕ → Answer → U → Type 0) (written : Written) (k m k' : BookKeeper U) (response : Response) (end : End) (body : Batch) (text : List ℕ) (p : DataPoint) (ps : List DataPoint)
-    (r : Result ℕ (AdmitFault × Batch)) (opened : Option ℕ) → body.points ≡ p ∷ ps → KeeperOver sends k (admit (batch_of body.sender (p ∷ ps)) r) m → SaysAdmitted text r response opened
-    → IsEnded (KeeperOver sends) opened written m k' end → IsKept sends (Metrics body text) written k k' response end
+    (r : Result ℕ (AdmitFault × Batch)) (opened : Option ℕ) → body.points ≡ p ∷ ps → KeeperOver sends k (admit (batch_of body.sender (p ∷ ps)) r) m → SaysAdmission text r response opened
+    → IsEnded (KeeperOver sends) opened written m k' end → IsKept sends (ask.Metrics body text) written k k' response end
 kept_admitted {U} sends written k m k' response end body text p ps (Ok n) opened some h a e =
     let J = k.desk.book in
     let E = history J in
@@ -208,57 +209,57 @@ kept_admitted {U} sends written k m k' response end body text p ps (Ok n) opened
     let c = closed sends m k' n end written is_in.opened is_in.undoable (closes sends written m k' end opened n a.1 e) in
     let entry : Appends m.desk.book k'.desk.book k.desk.seat (closed_by written n) = c.entry ∙ ap (λ s. appended m.desk.book (entry_of s (closed_by written n))) h.0 in
     let adds : Adds k.desk.seat J k'.desk.book (Admit n batch ∷ closed_by written n ∷ []) = two_added k.desk.seat J m.desk.book k'.desk.book (Admit n batch) (closed_by written n) is_in.entry entry in
-    let is : served (Metrics body text) E k.max Unknown written false Nowhere ≡ admitted (admits E + 1) batch text written =
-    ap (λ xs. posted E body.sender xs text written) some ∙ ap (λ o. admitted_or (admits E + 1) batch text written o) is_in.none in
+    let is : served (ask.Metrics body text) E k.max Unknown written false Nowhere ≡ admission_outcome (admits E + 1) batch text written =
+    ap (λ xs. post_outcome E body.sender xs text written) some ∙ ap (λ o. admission_or (admits E + 1) batch text written o) is_in.none in
     record {
       seat = c.seat ∙ h.0;
       max = c.max ∙ h.1;
-      one = outcome sends k.desk.seat k.max (Metrics body text) written J k'.desk.book k.uplink k'.uplink response end Unknown false Nowhere (admitted (admits E + 1) batch text written)
+      one = outcome sends k.desk.seat k.max (ask.Metrics body text) written J k'.desk.book k.uplink k'.uplink response end Unknown false Nowhere (admission_outcome (admits E + 1) batch text written)
           is a.0 c.ends (adds ∙ ap (λ i. journal_of J.opening (J.entries ++ map (entry_of k.desk.seat) (Admit i batch ∷ closed_by written i ∷ []))) is_in.number) (c.uplink ∙ h.2.0);
     }
 kept_admitted {U} sends written k m k' response end body text p ps (Err fault) opened some h a e =
     let J = k.desk.book in
     let E = history J in
     let batch = batch_of body.sender (p ∷ ps) in
-    let x = refused_or of_admit admission.NoMemory fault.0 (admit_refusal E batch) (λ o. admitted_or (admits E + 1) batch text written o) a.0.0 (λ f. refl) refl h.2.1.0 in
+    let x = refused_or of_admit admission.NoMemory fault.0 (admit_refusal E batch) (λ o. admission_or (admits E + 1) batch text written o) a.0.0 (λ f. refl) refl h.2.1.0 in
     let same = unended sends written m k' end opened a.1 e in
     record {
       seat = ap (λ (w : BookKeeper U). w.desk.seat) (sym same.0) ∙ h.0;
       max = ap (λ (w : BookKeeper U). w.max) (sym same.0) ∙ h.1;
-      one = silent sends k.desk.seat k.max (Metrics body text) written J k'.desk.book k.uplink k'.uplink response end x.0 (marked a.0.0 (refused (of_admit fault.0)))
-          (ap (λ xs. unless_marked x.0 (posted E body.sender xs text written)) some ∙ x.1) a.0.1 same.1
+      one = silent sends k.desk.seat k.max (ask.Metrics body text) written J k'.desk.book k.uplink k'.uplink response end x.0 (or_no_memory a.0.0 (refusal_response (of_admit fault.0)))
+          (ap (λ xs. unless_marked x.0 (post_outcome E body.sender xs text written)) some ∙ x.1) a.0.1 same.1
           (ap (λ (w : BookKeeper U). w.desk.book) (sym same.0) ∙ h.2.1.1) (ap (λ (w : BookKeeper U). w.uplink) (sym same.0) ∙ h.2.0);
     }
 
 kept_posted : {U : Type 0} (sends : U → List ℕ → Answer → U → Type 0) (written : Written) (k m k' : BookKeeper U) (response : Response) (end : End) (body : Batch) (text : List ℕ) (points : List DataPoint) (opened : Option ℕ)
-    → body.points ≡ points → IsPosted (KeeperOver sends) body.sender points text k m response opened → IsEnded (KeeperOver sends) opened written m k' end → IsKept sends (Metrics body text) written k k' response end
+    → body.points ≡ points → IsPosted (KeeperOver sends) body.sender points text k m response opened → IsEnded (KeeperOver sends) opened written m k' end → IsKept sends (ask.Metrics body text) written k k' response end
 kept_posted {U} sends written k m k' response end body text [] opened none h e =
     let same = unended sends written m k' end opened h.2 e in
     let all : k ≡ k' = h.0 ∙ same.0 in
     record {
       seat = ap (λ (x : BookKeeper U). x.desk.seat) (sym all);
       max = ap (λ (x : BookKeeper U). x.max) (sym all);
-      one = silent sends k.desk.seat k.max (Metrics body text) written k.desk.book k'.desk.book k.uplink k'.uplink response end false (done text)
-          (ap (λ xs. posted (history k.desk.book) body.sender xs text written) none) h.1 same.1 (ap (λ (x : BookKeeper U). x.desk.book) (sym all)) (ap (λ (x : BookKeeper U). x.uplink) (sym all));
+      one = silent sends k.desk.seat k.max (ask.Metrics body text) written k.desk.book k'.desk.book k.uplink k'.uplink response end false (json_response text)
+          (ap (λ xs. post_outcome (history k.desk.book) body.sender xs text written) none) h.1 same.1 (ap (λ (x : BookKeeper U). x.desk.book) (sym all)) (ap (λ (x : BookKeeper U). x.uplink) (sym all));
     }
 kept_posted sends written k m k' response end body text (p ∷ ps) opened some h e = kept_admitted sends written k m k' response end body text p ps h.0 opened some h.1 h.2 e
 
 pub kept : {U : Type 0} (sends : U → List ℕ → Answer → U → Type 0) (asked : Asked) (written : Written) (k k' : BookKeeper U) (response : Response) (end : End)
     → IsConversation (KeeperOver sends) asked k k' response written end → IsKept sends asked written k k' response end
-kept sends (Metrics body text) written k k' response end h = kept_posted sends written k h.0 k' response end body text body.points h.1 refl h.2 h.3
-kept sends (Hold s) written k k' response end h =
+kept sends (ask.Metrics body text) written k k' response end h = kept_posted sends written k h.0 k' response end body text body.points h.1 refl h.2 h.3
+kept sends (ask.Quarantine s) written k k' response end h =
     let c = called sends (quarantine s h.2.0.0) written k h.0 k' end h.1 h.2.1 h.2.0.1 h.3 in
     kept_held sends written k k' response end s h.2.0.0 c.0 h.2.0.2 c.1
-kept sends (LetGo s) written k k' response end h =
+kept sends (ask.Lift s) written k k' response end h =
     let c = called sends (lift s h.2.0.0) written k h.0 k' end h.1 h.2.1 h.2.0.1 h.3 in
     kept_lifted sends written k k' response end s h.2.0.0 c.0 h.2.0.2 c.1
-kept sends FlushNow written k k' response end h =
+kept sends ask.FlushNow written k k' response end h =
     let c = called sends (order h.2.0.0) written k h.0 k' end h.1 h.2.1 h.2.0.1 h.3 in
     kept_ordered sends written k k' response end h.2.0.0 c.0 h.2.0.2 c.1
-kept sends Report written k k' response end h =
+kept sends ask.Report written k k' response end h =
     let c = called sends (totals h.2.0.0) written k h.0 k' end h.1 h.2.1 h.2.0.1 h.3 in
     kept_report sends written k k' response end h.2.0.0 c.0 h.2.0.2 c.1
-kept sends (Turned why) written k k' response end h =
+kept sends (ask.Refused why) written k k' response end h =
     let e = unended sends written h.0 k' end h.1 h.2.2 h.3 in
     kept_turned sends written k k' response end why (h.2.0 ∙ e.0) h.2.1 e.1
 

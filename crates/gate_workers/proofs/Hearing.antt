@@ -8,11 +8,11 @@ use Rattle.http_edge.specs.Reading.{BeginsWith}
 use Rattle.http_edge.specs.declared.fault.HttpFault.{HttpFault}
 use Rattle.http_edge.specs.declared.fault.HttpFault.TheVariants as http
 use Rattle.gate_workers.specs.declared.refusal.Refusal.TheVariants.{Malformed, BodyTooLong, NoMemory}
-use Rattle.gate_workers.specs.Asked.{Asked, Turned, asked}
+use Rattle.gate_workers.specs.Asked.{Asked, Refused, asked}
 use Rattle.gate_workers.specs.Asks.{IsHeard}
 use Rattle.gate_workers.specs.Heard.{Hears, heard_of}
 
-malformed : (e : HttpFault) (input : Option (List ℕ)) → ((bytes : List ℕ) → SaysFault e bytes → IsMalformed bytes) → IfSome input (λ bytes. SaysFault e bytes) → IsHeard input (Turned Malformed)
+malformed : (e : HttpFault) (input : Option (List ℕ)) → ((bytes : List ℕ) → SaysFault e bytes → IsMalformed bytes) → IfSome input (λ bytes. SaysFault e bytes) → IsHeard input (Refused Malformed)
 malformed e None is h = tt
 malformed e (Some bytes) is h = let m = is bytes h in (m.0, inr (inr (inr (m, refl))))
 
@@ -20,11 +20,11 @@ closed : (input : Option (List ℕ)) → IfSome input (λ bytes. SaysFault http.
 closed None h = tt
 closed (Some bytes) h = h
 
-too_long : (input : Option (List ℕ)) → IfSome input (λ bytes. SaysFault http.BodyTooLong bytes) → IsHeard input (Turned BodyTooLong)
+too_long : (input : Option (List ℕ)) → IfSome input (λ bytes. SaysFault http.BodyTooLong bytes) → IsHeard input (Refused BodyTooLong)
 too_long None h = tt
 too_long (Some bytes) h = (size_has_bytes bytes h, inr (inr (inl (h, refl))))
 
-no_memory : (input : Option (List ℕ)) → IfSome input (λ bytes. SaysFault http.NoMemory bytes) → IsHeard input (Turned NoMemory)
+no_memory : (input : Option (List ℕ)) → IfSome input (λ bytes. SaysFault http.NoMemory bytes) → IsHeard input (Refused NoMemory)
 no_memory None h = tt
 no_memory (Some bytes) h = (h, inl refl)
 
@@ -45,6 +45,6 @@ pub heard_message : (input : Option (List ℕ)) (m : Message) (a : Asked) → If
 heard_message None m a h is = tt
 heard_message (Some bytes) m a h is = (message_has_bytes bytes m h, inr (inl (m, h, is)))
 
-pub heard_without_memory : (input : Option (List ℕ)) (m : Message) → IfSome input (λ bytes. BeginsWith bytes m) → IsHeard input (Turned NoMemory)
+pub heard_without_memory : (input : Option (List ℕ)) (m : Message) → IfSome input (λ bytes. BeginsWith bytes m) → IsHeard input (Refused NoMemory)
 heard_without_memory None m h = tt
 heard_without_memory (Some bytes) m h = (message_has_bytes bytes m h, inl refl)

@@ -19,11 +19,11 @@ use Rattle.gate_workers.specs.Refusals.{allowed_name}
 
 pub data Asked : Type 0 where
   Metrics : (body : Batch) (text : List ℕ) → Asked
-  Hold : (sender : List ℕ) → Asked
-  LetGo : (sender : List ℕ) → Asked
+  Quarantine : (sender : List ℕ) → Asked
+  Lift : (sender : List ℕ) → Asked
   FlushNow : Asked
   Report : Asked
-  Turned : (why : Refusal) → Asked
+  Refused : (why : Refusal) → Asked
 
 abbrev pub up_to : Option ℕ → List ℕ → List ℕ
 up_to None bytes = bytes
@@ -41,15 +41,15 @@ abbrev pub begins : List ℕ → List ℕ → Bool
 begins prefix p = bytes_eq (take (length prefix) p) prefix
 
 -- a name that a sender may have
-abbrev pub named_by : (List ℕ → Asked) → List ℕ → Option NameFault → Asked
-named_by asks name None = asks name
-named_by asks name (Some fault) = Turned BadSender
+abbrev pub if_named : (List ℕ → Asked) → List ℕ → Option NameFault → Asked
+if_named asks name None = asks name
+if_named asks name (Some fault) = Refused BadSender
 
-abbrev pub named : (List ℕ → Asked) → List ℕ → Asked
-named asks name = named_by asks name (name_fault name)
+abbrev pub with_name : (List ℕ → Asked) → List ℕ → Asked
+with_name asks name = if_named asks name (name_fault name)
 
 abbrev pub by_method : Allowed → Message → Asked → Asked
-by_method allowed m asked = if bytes_eq m.method (allowed_name allowed) then asked else Turned (WrongMethod allowed)
+by_method allowed m asked = if bytes_eq m.method (allowed_name allowed) then asked else Refused (WrongMethod allowed)
 
 -- a blank or a tab
 abbrev pub is_blank : ℕ → Bool
@@ -80,31 +80,31 @@ abbrev pub is_plain_json : List Header → Bool
 is_plain_json hs = is_json_type (first (values_of (codes "content-type") hs)) && list_all is_uncoded hs
 
 abbrev pub read_as : List ℕ → Option (Result Tally Place) → Asked
-read_as sender None = Turned NotJson
-read_as sender (Some (Err place)) = Turned WrongShape
+read_as sender None = Refused NotJson
+read_as sender (Some (Err place)) = Refused WrongShape
 read_as sender (Some (Ok t)) = Metrics (record { sender = sender; points = t.points }) (success_text t.foreign)
 
 abbrev pub metrics_of : Message → List ℕ → Asked
-metrics_of m sender = if is_plain_json m.headers then read_as sender (text_reading m.body) else Turned BadContent
+metrics_of m sender = if is_plain_json m.headers then read_as sender (text_reading m.body) else Refused BadContent
 
 -- the sender of a request with these values of x-sender: '-' where there is none
 abbrev pub metrics_by : Message → List (List ℕ) → Asked
 metrics_by m [] = metrics_of m (codes "-")
-metrics_by m (v ∷ []) = named (metrics_of m) v
-metrics_by m (v ∷ w ∷ vs) = Turned BadSender
+metrics_by m (v ∷ []) = with_name (metrics_of m) v
+metrics_by m (v ∷ w ∷ vs) = Refused BadSender
 
 abbrev pub metrics : Message → Asked
 metrics m = metrics_by m (values_of (codes "x-sender") m.headers)
 
--- by the path
+-- the routes: by the path, and then by the method
 unfoldable pub asked_at : List ℕ → Message → Asked
 asked_at p m =
     if bytes_eq p (codes "/v1/metrics") then by_method Post m (metrics m)
     else (if bytes_eq p (codes "/flush") then by_method Post m FlushNow
     else (if bytes_eq p (codes "/report") then by_method Get m Report
-    else (if begins (codes "/quarantine/") p then by_method Post m (named Hold (drop 12 p))
-    else (if begins (codes "/lift/") p then by_method Post m (named LetGo (drop 6 p))
-    else Turned NoSuchPath))))
+    else (if begins (codes "/quarantine/") p then by_method Post m (with_name Quarantine (drop 12 p))
+    else (if begins (codes "/lift/") p then by_method Post m (with_name Lift (drop 6 p))
+    else Refused NoSuchPath))))
 
 abbrev pub asked : Message → Asked
 asked m = asked_at (path m.target) m

@@ -17,9 +17,9 @@ use Rattle.gate_workers.specs.declared.service.End.{End}
 use Rattle.gate_workers.specs.declared.service.End.TheVariants.{NoBatch, Confirmed, Undone}
 use Rattle.gate_workers.specs.Calls.{Call, admit, undo, confirm, quarantine, lift, totals, order}
 use Rattle.gate_workers.specs.declared.refusal.Refusal.TheVariants.{NotQuarantined as not_quarantined}
-use Rattle.gate_workers.specs.Refusals.{of_admit, of_hold}
-use Rattle.gate_workers.specs.Responses.{Response, done, refused, IsMarked, ordered, reported}
-use Rattle.gate_workers.specs.Asked.{Asked, Metrics, Hold, LetGo, FlushNow, Report, Turned}
+use Rattle.gate_workers.specs.Refusals.{of_admit, of_quarantine}
+use Rattle.gate_workers.specs.Responses.{Response, json_response, refusal_response, IsThatOrNoMemory, order_response, report_response}
+use Rattle.gate_workers.specs.Asked.{Asked, Metrics, Quarantine, Lift, FlushNow, Report, Refused}
 
 -- what a call with its answer makes of a keeper
 abbrev pub Giving : Type 0 → Type 1
@@ -46,42 +46,42 @@ IsEnded gives None written k k' end = (k ≡ k') × (end ≡ NoBatch)
 IsEnded gives (Some batch) written k k' end = IsClosed gives batch written k k' end
 
 -- what is said of an admission, and the batch that is open then
-abbrev pub SaysAdmitted : List ℕ → Result ℕ (AdmitFault × Batch) → Response → Option ℕ → Type 0
-SaysAdmitted text (Ok number) response batch = (response ≡ done text) × (batch ≡ Some number)
-SaysAdmitted text (Err e) response batch = IsMarked (refused (of_admit e.0)) response × (batch ≡ None)
+abbrev pub SaysAdmission : List ℕ → Result ℕ (AdmitFault × Batch) → Response → Option ℕ → Type 0
+SaysAdmission text (Ok number) response batch = (response ≡ json_response text) × (batch ≡ Some number)
+SaysAdmission text (Err e) response batch = IsThatOrNoMemory (refusal_response (of_admit e.0)) response × (batch ≡ None)
 
 -- without points the keeper is not asked
 abbrev pub IsPosted : {K : Type 0} → Giving K → List ℕ → List DataPoint → List ℕ → K → K → Response → Option ℕ → Type 0
-IsPosted {K} gives sender [] text k k' response batch = (k ≡ k') × (response ≡ done text) × (batch ≡ None)
+IsPosted {K} gives sender [] text k k' response batch = (k ≡ k') × (response ≡ json_response text) × (batch ≡ None)
 IsPosted {K} gives sender (p ∷ ps) text k k' response batch =
-    (r : Result ℕ (AdmitFault × Batch)) × gives k (admit (record { sender = sender; points = p ∷ ps }) r) k' × SaysAdmitted text r response batch
+    (r : Result ℕ (AdmitFault × Batch)) × gives k (admit (record { sender = sender; points = p ∷ ps }) r) k' × SaysAdmission text r response batch
 
 -- one call, and what is said of its answer
 abbrev pub IsOneCall : {K A : Type 0} → Giving K → (A → Call) → (A → Response → Type 0) → K → K → Response → Type 0
 IsOneCall {K} {A} gives call Says k k' response = (a : A) × gives k (call a) k' × Says a response
 
-abbrev pub SaysHeld : Result (Unit {0}) QuarantineFault → Response → Type 0
-SaysHeld (Ok u) response = response ≡ done (codes "{}")
-SaysHeld (Err fault) response = IsMarked (refused (of_hold fault)) response
+abbrev pub SaysQuarantine : Result (Unit {0}) QuarantineFault → Response → Type 0
+SaysQuarantine (Ok u) response = response ≡ json_response (codes "{}")
+SaysQuarantine (Err fault) response = IsThatOrNoMemory (refusal_response (of_quarantine fault)) response
 
-abbrev pub SaysLifted : Result (Unit {0}) NotQuarantined → Response → Type 0
-SaysLifted (Ok u) response = response ≡ done (codes "{}")
-SaysLifted (Err fault) response = IsMarked (refused not_quarantined) response
+abbrev pub SaysLift : Result (Unit {0}) NotQuarantined → Response → Type 0
+SaysLift (Ok u) response = response ≡ json_response (codes "{}")
+SaysLift (Err fault) response = IsThatOrNoMemory (refusal_response not_quarantined) response
 
-abbrev pub SaysOrdered : Result Turn OrderFault → Response → Type 0
-SaysOrdered answer response = IsMarked (ordered answer) response
+abbrev pub SaysOrder : Result Turn OrderFault → Response → Type 0
+SaysOrder answer response = IsThatOrNoMemory (order_response answer) response
 
 abbrev pub SaysReport : Option (List SeriesTotals) → Response → Type 0
-SaysReport rows response = IsMarked (reported rows) response
+SaysReport rows response = IsThatOrNoMemory (report_response rows) response
 
 -- the calls before the response is written: what is said, and the batch that is open until then
 abbrev pub IsHandled : {K : Type 0} → Giving K → Asked → K → K → Response → Option ℕ → Type 0
 IsHandled gives (Metrics body text) k k' response batch = IsPosted gives body.sender body.points text k k' response batch
-IsHandled gives (Hold sender) k k' response batch = IsOneCall gives (quarantine sender) SaysHeld k k' response × (batch ≡ None)
-IsHandled gives (LetGo sender) k k' response batch = IsOneCall gives (lift sender) SaysLifted k k' response × (batch ≡ None)
-IsHandled gives FlushNow k k' response batch = IsOneCall gives order SaysOrdered k k' response × (batch ≡ None)
+IsHandled gives (Quarantine sender) k k' response batch = IsOneCall gives (quarantine sender) SaysQuarantine k k' response × (batch ≡ None)
+IsHandled gives (Lift sender) k k' response batch = IsOneCall gives (lift sender) SaysLift k k' response × (batch ≡ None)
+IsHandled gives FlushNow k k' response batch = IsOneCall gives order SaysOrder k k' response × (batch ≡ None)
 IsHandled gives Report k k' response batch = IsOneCall gives totals SaysReport k k' response × (batch ≡ None)
-IsHandled gives (Turned why) k k' response batch = (k ≡ k') × IsMarked (refused why) response × (batch ≡ None)
+IsHandled gives (Refused why) k k' response batch = (k ≡ k') × IsThatOrNoMemory (refusal_response why) response × (batch ≡ None)
 
 -- the calls of a request: those that its response is said of, and those that close its batch
 abbrev pub IsConversation : {K : Type 0} → Giving K → Asked → K → K → Response → Written → End → Type 0

@@ -13,14 +13,14 @@ use Rattle.gate_workers.specs.Shown.{shown}
 abbrev pub heard_of : HttpFault → Heard
 heard_of http.Closed = heard.Closed
 heard_of http.Io = heard.Broken
-heard_of http.BadHead = heard.Asks (ask.Turned Malformed)
-heard_of http.TooManyHeaders = heard.Asks (ask.Turned Malformed)
-heard_of http.HeadTooLong = heard.Asks (ask.Turned Malformed)
-heard_of http.BadLength = heard.Asks (ask.Turned Malformed)
-heard_of http.BadChunk = heard.Asks (ask.Turned Malformed)
-heard_of http.Truncated = heard.Asks (ask.Turned Malformed)
-heard_of http.BodyTooLong = heard.Asks (ask.Turned BodyTooLong)
-heard_of http.NoMemory = heard.Asks (ask.Turned NoMemory)
+heard_of http.BadHead = heard.Asks (ask.Refused Malformed)
+heard_of http.TooManyHeaders = heard.Asks (ask.Refused Malformed)
+heard_of http.HeadTooLong = heard.Asks (ask.Refused Malformed)
+heard_of http.BadLength = heard.Asks (ask.Refused Malformed)
+heard_of http.BadChunk = heard.Asks (ask.Refused Malformed)
+heard_of http.Truncated = heard.Asks (ask.Refused Malformed)
+heard_of http.BodyTooLong = heard.Asks (ask.Refused BodyTooLong)
+heard_of http.NoMemory = heard.Asks (ask.Refused NoMemory)
 
 -- what is heard of a reader whose bytes are these, where they are known
 abbrev pub Hears : Option (List ℕ) → Heard → Type 0

@@ -6,6 +6,6 @@ use Rattle.gate_workers.specs.declared.order.OrderFault.TheVariants.{Gone}
 use Rattle.gate_workers.specs.declared.flush.Turn.{Turn}
 
 -- the turn that was given back; without one nobody makes it
-abbrev pub given_back : Result Turn RecvError → Result Turn OrderFault
-given_back (Ok turn) = Ok turn
-given_back (Err e) = Err Gone
+abbrev pub turn_or_gone : Result Turn RecvError → Result Turn OrderFault
+turn_or_gone (Ok turn) = Ok turn
+turn_or_gone (Err e) = Err Gone

@@ -88,10 +88,10 @@ of_admit admit.TooManySeries = TooManySeries
 of_admit admit.TooLarge = TooLarge
 of_admit admit.NoMemory = NoMemory
 
-abbrev pub of_hold : QuarantineFault → Refusal
-of_hold hold.Already = Already
-of_hold hold.Full = Full
-of_hold hold.NoMemory = NoMemory
+abbrev pub of_quarantine : QuarantineFault → Refusal
+of_quarantine hold.Already = Already
+of_quarantine hold.Full = Full
+of_quarantine hold.NoMemory = NoMemory
 
 abbrev pub of_order : OrderFault → Refusal
 of_order order.Gone = NoFlusher

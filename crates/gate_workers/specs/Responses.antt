@@ -26,24 +26,24 @@ abbrev pub bytes_of : Response → List ℕ
 bytes_of r = response_text r.status r.kind r.allow r.body
 
 -- 200, with that JSON
-abbrev pub done : List ℕ → Response
-done body = record { status = 200; kind = codes "application/json"; allow = None; body = body }
+abbrev pub json_response : List ℕ → Response
+json_response body = record { status = 200; kind = codes "application/json"; allow = None; body = body }
 
 -- 200, with that text
-abbrev pub told : List ℕ → Response
-told body = record { status = 200; kind = codes "text/plain"; allow = None; body = body }
+abbrev pub text_response : List ℕ → Response
+text_response body = record { status = 200; kind = codes "text/plain"; allow = None; body = body }
 
-abbrev pub refused : Refusal → Response
-refused why = record { status = refusal_status why; kind = codes "application/json"; allow = refusal_allow why; body = status_text (refusal_message why) }
+abbrev pub refusal_response : Refusal → Response
+refusal_response why = record { status = refusal_status why; kind = codes "application/json"; allow = refusal_allow why; body = status_text (refusal_message why) }
 
 -- where a mark says that there was no memory for its text, that is said
-abbrev pub marked : Bool → Response → Response
-marked true r = refused NoMemory
-marked false r = r
+abbrev pub or_no_memory : Bool → Response → Response
+or_no_memory true r = refusal_response NoMemory
+or_no_memory false r = r
 
 -- that is the response, or that there was no memory for it
-abbrev pub IsMarked : Response → Response → Type 0
-IsMarked said response = (mark : Bool) × (response ≡ marked mark said)
+abbrev pub IsThatOrNoMemory : Response → Response → Type 0
+IsThatOrNoMemory said response = (mark : Bool) × (response ≡ or_no_memory mark said)
 
 -- the seconds that an answer asks to wait
 abbrev pub after_of : Answer → Option ℕ
@@ -52,19 +52,19 @@ after_of (Retryable after) = after
 after_of Final = None
 after_of Unknown = None
 
-abbrev pub turned : Turn → Response
-turned Idle = done (codes "{\"act\":\"nothing\"}")
-turned turn_full = refused Full
-turned turn_memory = refused NoMemory
-turned (Done flush points answer act) = done (turn_text flush points act (after_of answer))
+abbrev pub turn_response : Turn → Response
+turn_response Idle = json_response (codes "{\"act\":\"nothing\"}")
+turn_response turn_full = refusal_response Full
+turn_response turn_memory = refusal_response NoMemory
+turn_response (Done flush points answer act) = json_response (turn_text flush points act (after_of answer))
 
-abbrev pub ordered : Result Turn OrderFault → Response
-ordered (Ok t) = turned t
-ordered (Err fault) = refused (of_order fault)
+abbrev pub order_response : Result Turn OrderFault → Response
+order_response (Ok t) = turn_response t
+order_response (Err fault) = refusal_response (of_order fault)
 
-abbrev pub reported : Option (List SeriesTotals) → Response
-reported None = refused NoMemory
-reported (Some rows) = told (report_text rows)
+abbrev pub report_response : Option (List SeriesTotals) → Response
+report_response None = refusal_response NoMemory
+report_response (Some rows) = text_response (report_text rows)
 
 -- the response was written so far
 pub record IsSaid (old new : Option (List ℕ)) (r : Response) (status : ℕ) (written : Written) : Type 0 where

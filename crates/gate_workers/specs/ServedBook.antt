@@ -19,10 +19,11 @@ use Rattle.gate_workers.specs.declared.service.End.TheVariants.{NoBatch, Confirm
 use Rattle.gate_workers.specs.declared.refusal.Refusal.TheVariants.{NotQuarantined as not_quarantined, NoMemory}
 use Rattle.gate_workers.specs.declared.service.Served.{Served}
 use Rattle.gate_workers.specs.declared.service.Served.TheVariants.{Closed, Broken, Replied}
-use Rattle.gate_workers.specs.Refusals.{of_admit, of_hold}
-use Rattle.gate_workers.specs.Asked.{Asked, Metrics, Hold, LetGo, FlushNow, Report, Turned}
+use Rattle.gate_workers.specs.Refusals.{of_admit, of_quarantine}
+use Rattle.gate_workers.specs.Asked as ask
+use Rattle.gate_workers.specs.Asked.{Asked}
 use Rattle.gate_workers.specs.Asks.{IsHeard, IsEmpty}
-use Rattle.gate_workers.specs.Responses.{Response, done, refused, marked, turned, reported, IsSaid}
+use Rattle.gate_workers.specs.Responses.{Response, json_response, refusal_response, or_no_memory, turn_response, report_response, IsSaid}
 use Rattle.gate_workers.specs.Turns.{Want, Made, turn_of}
 use Rattle.gate_workers.specs.BookCalls.{Adds, AreSent}
 
@@ -50,44 +51,44 @@ closed_by None_ b = Undo b
 closed_by All b = Confirm b
 closed_by (Part n) b = Confirm b
 
-abbrev pub admitted : ℕ → Batch → List ℕ → Written → Outcome
-admitted b body text written = record { response = done text; end = end_by written; events = Admit b body ∷ closed_by written b ∷ []; sent = [] }
+abbrev pub admission_outcome : ℕ → Batch → List ℕ → Written → Outcome
+admission_outcome b body text written = record { response = json_response text; end = end_by written; events = Admit b body ∷ closed_by written b ∷ []; sent = [] }
 
-abbrev pub admitted_or : ℕ → Batch → List ℕ → Written → Option AdmitFault → Outcome
-admitted_or b body text written (Some fault) = only_says (refused (of_admit fault))
-admitted_or b body text written None = admitted b body text written
+abbrev pub admission_or : ℕ → Batch → List ℕ → Written → Option AdmitFault → Outcome
+admission_or b body text written (Some fault) = only_says (refusal_response (of_admit fault))
+admission_or b body text written None = admission_outcome b body text written
 
 -- without points the book is not asked
-abbrev pub posted : History → List ℕ → List DataPoint → List ℕ → Written → Outcome
-posted E sender [] text written = only_says (done text)
-posted E sender (p ∷ ps) text written =
-    admitted_or (admits E + 1) (record { sender = sender; points = p ∷ ps }) text written (admit_refusal E (record { sender = sender; points = p ∷ ps }))
+abbrev pub post_outcome : History → List ℕ → List DataPoint → List ℕ → Written → Outcome
+post_outcome E sender [] text written = only_says (json_response text)
+post_outcome E sender (p ∷ ps) text written =
+    admission_or (admits E + 1) (record { sender = sender; points = p ∷ ps }) text written (admit_refusal E (record { sender = sender; points = p ∷ ps }))
 
-abbrev pub held_or : List ℕ → Option QuarantineFault → Outcome
-held_or s (Some fault) = only_says (refused (of_hold fault))
-held_or s None = happens (Quarantine s) (done (codes "{}"))
+abbrev pub quarantine_or : List ℕ → Option QuarantineFault → Outcome
+quarantine_or s (Some fault) = only_says (refusal_response (of_quarantine fault))
+quarantine_or s None = happens (Quarantine s) (json_response (codes "{}"))
 
-abbrev pub lifted_or : List ℕ → Option NotQuarantined → Outcome
-lifted_or s (Some fault) = only_says (refused not_quarantined)
-lifted_or s None = happens (Lift s) (done (codes "{}"))
+abbrev pub lift_or : List ℕ → Option NotQuarantined → Outcome
+lift_or s (Some fault) = only_says (refusal_response not_quarantined)
+lift_or s None = happens (Lift s) (json_response (codes "{}"))
 
 -- a turn that was made stands, also where its reply's text found no memory
-abbrev pub flushed : Bool → Made → Outcome
-flushed mark made = record { response = marked mark (turned made.turn); end = NoBatch; events = made.events; sent = made.sent }
+abbrev pub flush_outcome : Bool → Made → Outcome
+flush_outcome mark made = record { response = or_no_memory mark (turn_response made.turn); end = NoBatch; events = made.events; sent = made.sent }
 
 -- a marked request found no memory
 abbrev pub unless_marked : Bool → Outcome → Outcome
-unless_marked true o = only_says (refused NoMemory)
+unless_marked true o = only_says (refusal_response NoMemory)
 unless_marked false o = o
 
 -- what a request comes to: by what it asks, the history, the most series of a flush, the back end's answer, how far the response was written, and where there was no memory
 abbrev pub served : Asked → History → ℕ → Answer → Written → Bool → Want → Outcome
-served (Metrics body text) E max answer written mark want = unless_marked mark (posted E body.sender body.points text written)
-served (Hold s) E max answer written mark want = unless_marked mark (held_or s (quarantine_refusal E s))
-served (LetGo s) E max answer written mark want = unless_marked mark (lifted_or s (lift_refusal E s))
-served FlushNow E max answer written mark want = flushed mark (turn_of E max answer want)
-served Report E max answer written mark want = unless_marked mark (only_says (reported (Some (totals_rows E))))
-served (Turned why) E max answer written mark want = unless_marked mark (only_says (refused why))
+served (ask.Metrics body text) E max answer written mark want = unless_marked mark (post_outcome E body.sender body.points text written)
+served (ask.Quarantine s) E max answer written mark want = unless_marked mark (quarantine_or s (quarantine_refusal E s))
+served (ask.Lift s) E max answer written mark want = unless_marked mark (lift_or s (lift_refusal E s))
+served ask.FlushNow E max answer written mark want = flush_outcome mark (turn_of E max answer want)
+served ask.Report E max answer written mark want = unless_marked mark (only_says (report_response (Some (totals_rows E))))
+served (ask.Refused why) E max answer written mark want = unless_marked mark (only_says (refusal_response why))
 
 -- the journal, the uplink and the response are those of the outcome
 pub record IsOutcome {U : Type 0} (sends : U → List ℕ → Answer → U → Type 0) (seat : ℕ) (answer : Answer) (J J' : Journal) (u u' : U) (o : Outcome) (response : Response) (end : End) : Type 0 where

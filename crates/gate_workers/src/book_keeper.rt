@@ -39,74 +39,43 @@ impl Store for Desk {
     ghost gives = { λ k c w. (w.seat ≡ k.seat) × BookGives k.seat k.book c w.book };
 
     fn admit(&mut self, body: Batch) -> Result<u64, (AdmitFault, Batch)> {
-        match self.book.admit(self.seat, body) {
-            Ok(number) => return Ok(number),
-            Err(refused) => return Err(refused),
-        }
+        self.book.admit(self.seat, body)
     }
 
     fn undo(&mut self, batch: u64) -> Result<(), UndoFault> {
-        match self.book.undo(self.seat, batch) {
-            Ok(()) => return Ok(()),
-            Err(fault) => return Err(fault),
-        }
+        self.book.undo(self.seat, batch)
     }
 
     fn confirm(&mut self, batch: u64) -> Result<(), NotOpen> {
-        match self.book.confirm(self.seat, batch) {
-            Ok(()) => return Ok(()),
-            Err(fault) => return Err(fault),
-        }
+        self.book.confirm(self.seat, batch)
     }
 
     fn take(&mut self, max: usize) -> Result<Option<Flush>, TakeFault> {
-        match self.book.take(self.seat, max) {
-            Ok(None) => return Ok(None),
-            Ok(Some(flush)) => return Ok(Some(flush)),
-            Err(fault) => return Err(fault),
-        }
+        self.book.take(self.seat, max)
     }
 
     fn settle(&mut self, flush: u64) -> Result<(), NotLive> {
-        match self.book.settle(self.seat, flush) {
-            Ok(()) => return Ok(()),
-            Err(fault) => return Err(fault),
-        }
+        self.book.settle(self.seat, flush)
     }
 
     fn drop_flush(&mut self, flush: u64) -> Result<(), NotLive> {
-        match self.book.drop_flush(self.seat, flush) {
-            Ok(()) => return Ok(()),
-            Err(fault) => return Err(fault),
-        }
+        self.book.drop_flush(self.seat, flush)
     }
 
     fn give_back(&mut self, flush: u64) -> Result<(), NotLive> {
-        match self.book.give_back(self.seat, flush) {
-            Ok(()) => return Ok(()),
-            Err(fault) => return Err(fault),
-        }
+        self.book.give_back(self.seat, flush)
     }
 
     fn quarantine(&mut self, sender: SenderName) -> Result<(), QuarantineFault> {
-        match self.book.quarantine(self.seat, sender) {
-            Ok(()) => return Ok(()),
-            Err(fault) => return Err(fault),
-        }
+        self.book.quarantine(self.seat, sender)
     }
 
     fn lift(&mut self, sender: &SenderName) -> Result<(), NotQuarantined> {
-        match self.book.lift(self.seat, sender) {
-            Ok(()) => return Ok(()),
-            Err(fault) => return Err(fault),
-        }
+        self.book.lift(self.seat, sender)
     }
 
     fn totals(&mut self) -> Result<Vec<SeriesTotals>, AllocError> {
-        match self.book.totals() {
-            Ok(rows) => return Ok(rows),
-            Err(fault) => return Err(fault),
-        }
+        self.book.totals()
     }
 }
 
@@ -121,7 +90,8 @@ pub fn book_turn<U: Uplink, P: Pace>(
     requires low { 1 ≤ max }
     requires high { max ≤ MAX_TAKEN }
     ensures seat { desk.new.seat ≡ desk.old.seat }
-    ensures made { IsMade U.sends desk.old.seat max desk.old.book desk.new.book uplink.old uplink.new result }
+    ensures made { IsMade U.sends desk.old.seat max desk.old.book desk.new.book uplink.old
+        uplink.new result }
 {
     flush_turn(alloc, desk, uplink, pace, max)
 }
@@ -157,7 +127,8 @@ impl<U: Uplink + Drop> BookKeeper<U> {
 }
 
 impl<U: Uplink + Drop> Store for BookKeeper<U> {
-    ghost gives = { λ k c w. (w.desk.seat ≡ k.desk.seat) × (w.max ≡ k.max) × KeeperGives U.sends k.desk.seat k.max k.desk.book k.uplink c w.desk.book w.uplink };
+    ghost gives = { λ k c w. (w.desk.seat ≡ k.desk.seat) × (w.max ≡ k.max)
+        × KeeperGives U.sends k.desk.seat k.max k.desk.book k.uplink c w.desk.book w.uplink };
 
     fn admit(&mut self, body: Batch) -> Result<u64, (AdmitFault, Batch)> {
         self.desk.admit(body)

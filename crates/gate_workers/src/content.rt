@@ -29,8 +29,8 @@ pub fn before(mark: u8, bytes: &[u8]) -> &[u8]
     ensures { result.now ≡ spec.before mark bytes.now }
 {
     match place_of(mark, bytes) {
-        None => return bytes,
-        Some(i) => return front(bytes, i),
+        None => bytes,
+        Some(i) => front(bytes, i),
     }
 }
 
@@ -97,11 +97,12 @@ fn are_uncoded(headers: &[Header]) -> bool
 
 /// Whether the first content type is JSON's.
 fn is_json(headers: &[Header]) -> bool
-    ensures { result ≡ spec.is_json_type (spec.first (values_of (codes "content-type") (headers_in headers.now))) }
+    ensures { result ≡ spec.is_json_type
+        (spec.first (values_of (codes "content-type") (headers_in headers.now))) }
 {
     match find_in(headers, b"content-type") {
-        None => return false,
-        Some((value, _)) => return is_words(b"application/json", before(b';', value)),
+        None => false,
+        Some((value, _)) => is_words(b"application/json", before(b';', value)),
     }
 }
 

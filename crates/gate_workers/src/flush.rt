@@ -52,20 +52,18 @@ fn end_flush<K: Store>(keeper: &mut K, flush: u64, by: Act)
     match by {
         Act::Settle => {
             let _ = keeper.settle(flush);
-            return;
         }
         Act::GiveBack => {
             let _ = keeper.give_back(flush);
-            return;
         }
         Act::DropFlush => {
             let _ = keeper.drop_flush(flush);
-            return;
         }
     }
 }
 
-/// Takes a flush, sends it, and ends it by the answer. Where its text finds no memory it is given back.
+/// Takes a flush, sends it, and ends it by the answer. Where its text finds no memory it is given
+/// back.
 pub fn flush_turn<K: Store, U: Uplink, P: Pace>(
     alloc: Global,
     keeper: &mut K,
@@ -99,8 +97,8 @@ pub fn flush_turn<K: Store, U: Uplink, P: Pace>(
     }
 }
 
-/// Posts the body, and reads the head of what is answered: no read follows the one that completes it.
-/// Unknown unless all was written and a head was read.
+/// Posts the body, and reads the head of what is answered: no read follows the one that completes
+/// it. Unknown unless all was written and a head was read.
 pub fn exchange<S: Source, W: Sink>(
     alloc: Global,
     reader: &mut S,
@@ -112,7 +110,8 @@ pub fn exchange<S: Source, W: Sink>(
     ensures { (written : Written)
         × Sent (W.contents writer.old) (W.contents writer.new) (post_text host.now body.now) written
         × Failed W.one_more (W.failures writer.old) (W.failures writer.new) written
-        × IsAnswered (S.remaining reader.old) (S.remaining reader.new) (S.given reader.new) S.one_more (S.failures reader.old) (S.failures reader.new) written result }
+        × IsAnswered (S.remaining reader.old) (S.remaining reader.new) (S.given reader.new)
+        S.one_more (S.failures reader.old) (S.failures reader.new) written result }
 {
     match write_post(writer, host, body) {
         Written::All => {}
@@ -120,10 +119,10 @@ pub fn exchange<S: Source, W: Sink>(
         Written::Part(_) => return Answer::Unknown,
     }
     match read_response(alloc, reader) {
-        Err(_) => return Answer::Unknown,
+        Err(_) => Answer::Unknown,
         Ok(reply) => match &reply.retry_after {
-            None => return classify(reply.status, None),
-            Some(value) => return classify(reply.status, Some(value.as_slice())),
+            None => classify(reply.status, None),
+            Some(value) => classify(reply.status, Some(value.as_slice())),
         },
     }
 }

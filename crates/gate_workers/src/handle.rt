@@ -1,7 +1,8 @@
 //! What is asked is done: the calls of the store that a request leads to, and its response.
 ghost use Rattle.std.specs.Prelude.{◌≡◌, None};
 ghost use Rattle.gate_workers.specs.Calls as call;
-ghost use Rattle.gate_workers.specs.Conversations.{IsHandled, IsPosted, IsOneCall, SaysHeld, SaysLifted, SaysOrdered, SaysReport};
+ghost use Rattle.gate_workers.specs.Conversations.{IsHandled, IsPosted, IsOneCall};
+ghost use Rattle.gate_workers.specs.Conversations.{SaysQuarantine, SaysLift, SaysOrder, SaysReport};
 ghost use Rattle.gate_workers.specs.Shown.{shown};
 
 use crate::refusal::Refusal;
@@ -12,7 +13,8 @@ use metric_events::batch::Batch;
 use metric_events::sender_name::SenderName;
 use std::alloc::Global;
 
-/// What a request came to: its response, and its batch, if one is open until the response is written.
+/// What a request came to: its response, and the batch that is open until the response is written,
+/// if there is one.
 #[derive(Drop)]
 pub struct Handled {
     pub response: Response,
@@ -31,42 +33,42 @@ fn without_batch(response: Response) -> Handled
 
 /// Admits a batch. One without points is done without asking the store.
 fn post<K: Store>(alloc: Global, keeper: &mut K, body: Batch, text: Vec<u8>) -> Handled
-    ensures { IsPosted K.gives body.sender body.points text.items keeper.old keeper.new result.response result.batch }
+    ensures { IsPosted K.gives body.sender body.points text.items keeper.old keeper.new
+        result.response result.batch }
 {
     if body.points.as_slice().is_empty() {
         return without_batch(Response::json(text));
     }
     match keeper.admit(body) {
-        Err((fault, _)) => return without_batch(Response::refusal(alloc, Refusal::from(fault))),
-        Ok(batch) => {
-            return Handled {
-                response: Response::json(text),
-                batch: Some(batch),
-            };
-        }
+        Err((fault, _)) => without_batch(Response::refusal(alloc, Refusal::from(fault))),
+        Ok(batch) => Handled {
+            response: Response::json(text),
+            batch: Some(batch),
+        },
     }
 }
 
 fn quarantine<K: Store>(alloc: Global, keeper: &mut K, sender: SenderName) -> Response
-    ensures { IsOneCall K.gives (call.quarantine sender) SaysHeld keeper.old keeper.new result }
+    ensures { IsOneCall K.gives (call.quarantine sender) SaysQuarantine keeper.old keeper.new
+        result }
 {
     match keeper.quarantine(sender) {
-        Ok(()) => return Response::empty(),
-        Err(fault) => return Response::refusal(alloc, Refusal::from(fault)),
+        Ok(()) => Response::empty(),
+        Err(fault) => Response::refusal(alloc, Refusal::from(fault)),
     }
 }
 
 fn lift<K: Store>(alloc: Global, keeper: &mut K, sender: SenderName) -> Response
-    ensures { IsOneCall K.gives (call.lift sender) SaysLifted keeper.old keeper.new result }
+    ensures { IsOneCall K.gives (call.lift sender) SaysLift keeper.old keeper.new result }
 {
     match keeper.lift(&sender) {
-        Ok(()) => return Response::empty(),
-        Err(_) => return Response::refusal(alloc, Refusal::NotQuarantined),
+        Ok(()) => Response::empty(),
+        Err(_) => Response::refusal(alloc, Refusal::NotQuarantined),
     }
 }
 
 fn flush<K: Keeper>(alloc: Global, keeper: &mut K) -> Response
-    ensures { IsOneCall K.gives call.order SaysOrdered keeper.old keeper.new result }
+    ensures { IsOneCall K.gives call.order SaysOrder keeper.old keeper.new result }
 {
     let answer = keeper.order();
     Response::order(alloc, answer)
@@ -76,8 +78,8 @@ fn report<K: Store>(alloc: Global, keeper: &mut K) -> Response
     ensures { IsOneCall K.gives call.totals SaysReport keeper.old keeper.new result }
 {
     match keeper.totals() {
-        Err(_) => return Response::no_memory(),
-        Ok(rows) => return Response::report(alloc, rows.as_slice()),
+        Err(_) => Response::no_memory(),
+        Ok(rows) => Response::report(alloc, rows.as_slice()),
     }
 }
 
@@ -86,11 +88,11 @@ pub fn handle<K: Keeper>(alloc: Global, keeper: &mut K, ask: Ask) -> Handled
     ensures { IsHandled K.gives (shown ask) keeper.old keeper.new result.response result.batch }
 {
     match ask {
-        Ask::Metrics { body, text } => return post(alloc, keeper, body, text),
-        Ask::Hold(sender) => return without_batch(quarantine(alloc, keeper, sender)),
-        Ask::LetGo(sender) => return without_batch(lift(alloc, keeper, sender)),
-        Ask::FlushNow => return without_batch(flush(alloc, keeper)),
-        Ask::Report => return without_batch(report(alloc, keeper)),
-        Ask::Turned(why) => return without_batch(Response::refusal(alloc, why)),
+        Ask::Metrics { body, text } => post(alloc, keeper, body, text),
+        Ask::Quarantine(sender) => without_batch(quarantine(alloc, keeper, sender)),
+        Ask::Lift(sender) => without_batch(lift(alloc, keeper, sender)),
+        Ask::FlushNow => without_batch(flush(alloc, keeper)),
+        Ask::Report => without_batch(report(alloc, keeper)),
+        Ask::Refused(why) => without_batch(Response::refusal(alloc, why)),
     }
 }

@@ -1,10 +1,10 @@
 //! What a worker does over a store: it serves one request, makes one flush turn, and exchanges one
 //! request with the back end.
-//! `serve` and `flush_turn` are over any store that tells its calls (`Store`, `Keeper`); a `BookKeeper`
-//! is one over a `Book` of its own, and `serve_book` and `book_turn` say what they come to over its journal;
-//! a `SharedKeeper` is one over a book that threads share, from a seat of it. `receiver_loop` and
-//! `flusher_loop` are what its threads run.
-//! Nothing here opens a connection or tries again, and nothing but a `SharedKeeper` and the loops waits.
+//! `serve` and `flush_turn` are over any store that tells its calls (`Store`, `Keeper`). A
+//! `BookKeeper` is one over a `Book` of its own, and `serve_book` and `book_turn` say what they
+//! come to over its journal; a `SharedKeeper` is one over a book that threads share, from a seat.
+//! `receiver_loop` and `flusher_loop` are what its threads run.
+//! Nothing here opens a connection or tries again, and only a `SharedKeeper` and the loops wait.
 #![tactic(auto)]
 
 mod book_keeper;

@@ -1,6 +1,6 @@
 //! An order for a flush turn.
 ghost use Rattle.std.specs.Prelude.{◌≡◌, Ok, Err};
-ghost use Rattle.gate_workers.specs.Orders.{given_back};
+ghost use Rattle.gate_workers.specs.Orders.{turn_or_gone};
 
 use crate::flush::Turn;
 use crossbeam_channel::{RecvError, Sender, bounded};
@@ -15,7 +15,8 @@ pub enum OrderFault {
     NoMemory,
 }
 
-/// How many orders, and how many connections, lie in their channel at most until a worker takes them.
+/// How many orders, and how many connections, lie in their channel at most until a worker takes
+/// them.
 pub const CHANNEL_PLACES: usize = 64;
 
 /// An order for one flush turn, with the end that the turn goes back on.
@@ -25,8 +26,8 @@ pub struct Order {
 }
 
 /// What came back of an order: without a turn, whoever took it is gone.
-fn given_back(answer: Result<Turn, RecvError>) -> Result<Turn, OrderFault>
-    ensures { result ≡ given_back answer }
+fn turn_or_gone(answer: Result<Turn, RecvError>) -> Result<Turn, OrderFault>
+    ensures { result ≡ turn_or_gone answer }
 {
     match answer {
         Ok(turn) => Ok(turn),
@@ -34,8 +35,9 @@ fn given_back(answer: Result<Turn, RecvError>) -> Result<Turn, OrderFault>
     }
 }
 
-/// Has one turn made by whoever takes the order, and waits for it. Gone where no end takes the order or
-/// gives a turn back; NoMemory where the way back can't be made, and then nothing was ordered.
+/// Has one turn made by whoever takes the order, and waits for it. Gone where no end takes the
+/// order or gives a turn back; NoMemory where the way back can't be made, and then nothing was
+/// ordered.
 pub(crate) fn place_order<R: Wait>(
     rt: &R,
     alloc: Global,
@@ -47,5 +49,5 @@ pub(crate) fn place_order<R: Wait>(
     if orders.send(rt, Order { reply }).is_err() {
         return Err(OrderFault::Gone);
     }
-    given_back(answer.recv(rt))
+    turn_or_gone(answer.recv(rt))
 }

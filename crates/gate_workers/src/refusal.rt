@@ -1,6 +1,8 @@
 //! Why a request is refused.
 ghost use Rattle.std.specs.Prelude.{◌≡◌, ◌<◌, ◌^◌, IfOk, string_bytes, option_map, length};
-ghost use Rattle.gate_workers.specs.Refusals.{allowed_name, refusal_status, refusal_message, refusal_allow, of_admit, of_http, of_hold, of_order};
+ghost use Rattle.gate_workers.specs.Refusals.{allowed_name, refusal_status, refusal_message};
+ghost use Rattle.gate_workers.specs.Refusals.{refusal_allow};
+ghost use Rattle.gate_workers.specs.Refusals.{of_admit, of_http, of_quarantine, of_order};
 
 use crate::order::OrderFault;
 use delta_book::faults::{AdmitFault, QuarantineFault};
@@ -132,7 +134,7 @@ impl From<AdmitFault> for Refusal {
 }
 
 impl From<QuarantineFault> for Refusal {
-    ghost from_gives = { λ fault why. why ≡ of_hold fault };
+    ghost from_gives = { λ fault why. why ≡ of_quarantine fault };
 
     fn from(fault: QuarantineFault) -> Refusal {
         match fault {

@@ -22,16 +22,16 @@ use std::alloc::{AllocError, Global};
 pub enum Ask {
     /// To admit this batch, which may have no point, and the text that says that it is done.
     Metrics { body: Batch, text: Vec<u8> },
-    /// To hold this sender.
-    Hold(SenderName),
-    /// To let this sender go on.
-    LetGo(SenderName),
+    /// To quarantine this sender.
+    Quarantine(SenderName),
+    /// To release this sender.
+    Lift(SenderName),
     /// A flush turn.
     FlushNow,
     /// What the store has.
     Report,
     /// Nothing: it is refused before the keeper is asked.
-    Turned(Refusal),
+    Refused(Refusal),
 }
 
 /// The name of these bytes, where they are one.
@@ -46,20 +46,25 @@ fn name_of(alloc: Global, bytes: &[u8]) -> Result<Option<SenderName>, AllocError
 }
 
 /// What the metrics of a sender ask for.
-fn read(alloc: Global, body: &[u8], sender: SenderName, memo: &mut Memo) -> Result<Ask, AllocError>
+fn read_body(
+    alloc: Global,
+    body: &[u8],
+    sender: SenderName,
+    memo: &mut Memo,
+) -> Result<Ask, AllocError>
     ensures { IfOk result (λ ask. shown ask ≡ spec.read_as sender (text_reading body.now)) }
 {
     match read_request_with(alloc, body, memo) {
-        Err(ReadFault::NoMemory) => return Err(AllocError),
-        Err(ReadFault::NotJson) => return Ok(Ask::Turned(Refusal::NotJson)),
-        Err(ReadFault::WrongShape(_)) => return Ok(Ask::Turned(Refusal::WrongShape)),
+        Err(ReadFault::NoMemory) => Err(AllocError),
+        Err(ReadFault::NotJson) => Ok(Ask::Refused(Refusal::NotJson)),
+        Err(ReadFault::WrongShape(_)) => Ok(Ask::Refused(Refusal::WrongShape)),
         Ok(reading) => {
             let text = success_text(alloc, reading.foreign)?;
             let points = reading.points;
-            return Ok(Ask::Metrics {
+            Ok(Ask::Metrics {
                 body: Batch { sender, points },
                 text,
-            });
+            })
         }
     }
 }
@@ -73,9 +78,9 @@ fn metrics_of(
     ensures { IfOk result (λ ask. shown ask ≡ spec.metrics_of (message_in request.now) sender) }
 {
     if !is_plain_json(&request.headers) {
-        return Ok(Ask::Turned(Refusal::BadContent));
+        return Ok(Ask::Refused(Refusal::BadContent));
     }
-    read(alloc, &request.body, sender, memo)
+    read_body(alloc, &request.body, sender, memo)
 }
 
 fn metrics_named(
@@ -84,11 +89,12 @@ fn metrics_named(
     name: &[u8],
     memo: &mut Memo,
 ) -> Result<Ask, AllocError>
-    ensures { IfOk result (λ ask. shown ask ≡ spec.named (spec.metrics_of (message_in request.now)) name.now) }
+    ensures { IfOk result (λ ask.
+        shown ask ≡ spec.with_name (spec.metrics_of (message_in request.now)) name.now) }
 {
     match name_of(alloc, name)? {
-        None => return Ok(Ask::Turned(Refusal::BadSender)),
-        Some(sender) => return metrics_of(alloc, request, sender, memo),
+        None => Ok(Ask::Refused(Refusal::BadSender)),
+        Some(sender) => metrics_of(alloc, request, sender, memo),
     }
 }
 
@@ -96,29 +102,29 @@ fn metrics(alloc: Global, request: &Request, memo: &mut Memo) -> Result<Ask, All
     ensures { IfOk result (λ ask. shown ask ≡ spec.metrics (message_in request.now)) }
 {
     match request.find(b"x-sender") {
-        None => return metrics_named(alloc, request, b"-", memo),
+        None => metrics_named(alloc, request, b"-", memo),
         Some((name, behind)) => match find_in(behind, b"x-sender") {
-            None => return metrics_named(alloc, request, name, memo),
-            Some(_) => return Ok(Ask::Turned(Refusal::BadSender)),
+            None => metrics_named(alloc, request, name, memo),
+            Some(_) => Ok(Ask::Refused(Refusal::BadSender)),
         },
     }
 }
 
-fn hold(alloc: Global, name: &[u8]) -> Result<Ask, AllocError>
-    ensures { IfOk result (λ ask. shown ask ≡ spec.named spec.Hold name.now) }
+fn quarantine(alloc: Global, name: &[u8]) -> Result<Ask, AllocError>
+    ensures { IfOk result (λ ask. shown ask ≡ spec.with_name spec.Quarantine name.now) }
 {
     match name_of(alloc, name)? {
-        None => return Ok(Ask::Turned(Refusal::BadSender)),
-        Some(sender) => return Ok(Ask::Hold(sender)),
+        None => Ok(Ask::Refused(Refusal::BadSender)),
+        Some(sender) => Ok(Ask::Quarantine(sender)),
     }
 }
 
-fn let_go(alloc: Global, name: &[u8]) -> Result<Ask, AllocError>
-    ensures { IfOk result (λ ask. shown ask ≡ spec.named spec.LetGo name.now) }
+fn lift(alloc: Global, name: &[u8]) -> Result<Ask, AllocError>
+    ensures { IfOk result (λ ask. shown ask ≡ spec.with_name spec.Lift name.now) }
 {
     match name_of(alloc, name)? {
-        None => return Ok(Ask::Turned(Refusal::BadSender)),
-        Some(sender) => return Ok(Ask::LetGo(sender)),
+        None => Ok(Ask::Refused(Refusal::BadSender)),
+        Some(sender) => Ok(Ask::Lift(sender)),
     }
 }
 
@@ -134,47 +140,47 @@ fn is_get(request: &Request) -> bool
     request.method == Method::GET
 }
 
-/// What a request asks for, by its path.
+/// The routes: each path, or how it begins, with its method and what it asks for.
 #[tactic(auto, unfolding(crate::specs::Asked::asked_at))]
-fn ask_at(alloc: Global, path: &[u8], request: &Request, memo: &mut Memo) -> Result<Ask, AllocError>
+fn route(alloc: Global, path: &[u8], request: &Request, memo: &mut Memo) -> Result<Ask, AllocError>
     ensures { IfOk result (λ ask. shown ask ≡ spec.asked_at path.now (message_in request.now)) }
 {
     if path == b"/v1/metrics".as_slice() {
         if is_post(request) {
             return metrics(alloc, request, memo);
         }
-        return Ok(Ask::Turned(Refusal::WrongMethod(Allowed::Post)));
+        return Ok(Ask::Refused(Refusal::WrongMethod(Allowed::Post)));
     }
     if path == b"/flush".as_slice() {
         if is_post(request) {
             return Ok(Ask::FlushNow);
         }
-        return Ok(Ask::Turned(Refusal::WrongMethod(Allowed::Post)));
+        return Ok(Ask::Refused(Refusal::WrongMethod(Allowed::Post)));
     }
     if path == b"/report".as_slice() {
         if is_get(request) {
             return Ok(Ask::Report);
         }
-        return Ok(Ask::Turned(Refusal::WrongMethod(Allowed::Get)));
+        return Ok(Ask::Refused(Refusal::WrongMethod(Allowed::Get)));
     }
     if let Some(name) = path.strip_prefix(b"/quarantine/") {
         if is_post(request) {
-            return hold(alloc, name);
+            return quarantine(alloc, name);
         }
-        return Ok(Ask::Turned(Refusal::WrongMethod(Allowed::Post)));
+        return Ok(Ask::Refused(Refusal::WrongMethod(Allowed::Post)));
     }
     if let Some(name) = path.strip_prefix(b"/lift/") {
         if is_post(request) {
-            return let_go(alloc, name);
+            return lift(alloc, name);
         }
-        return Ok(Ask::Turned(Refusal::WrongMethod(Allowed::Post)));
+        return Ok(Ask::Refused(Refusal::WrongMethod(Allowed::Post)));
     }
-    Ok(Ask::Turned(Refusal::NoSuchPath))
+    Ok(Ask::Refused(Refusal::NoSuchPath))
 }
 
 /// What a request asks for. Its body is read with a memo of the bodies before.
 pub fn ask_of(alloc: Global, request: &Request, memo: &mut Memo) -> Result<Ask, AllocError>
     ensures { IfOk result (λ ask. shown ask ≡ spec.asked (message_in request.now)) }
 {
-    ask_at(alloc, before(b'?', &request.target), request, memo)
+    route(alloc, before(b'?', &request.target), request, memo)
 }

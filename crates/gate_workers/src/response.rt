@@ -3,7 +3,7 @@ ghost use Rattle.std.specs.Prelude.{◌≡◌, ◌<◌, ◌^◌, codes, length, 
 ghost use Rattle.http_edge.specs.Sent.{Sent, Failed};
 ghost use Rattle.gate_workers.specs.Refusals.{allowed_name};
 ghost use Rattle.gate_workers.specs.Responses as spec;
-ghost use Rattle.gate_workers.specs.Responses.{IsMarked};
+ghost use Rattle.gate_workers.specs.Responses.{IsThatOrNoMemory};
 ghost use Rattle.gate_workers.specs.Bodies.{kind_of, text_of};
 
 use crate::flush::Turn;
@@ -57,8 +57,8 @@ impl Body {
     }
 }
 
-/// A response: its status, its body with the media type, and the method that is allowed where a request
-/// had another. Contracts see what is written of it.
+/// A response: its status, its body with the media type, and the method that is allowed where a
+/// request had another. Contracts see what is written of it.
 #[derive(Drop)]
 pub struct Response {
     status: StatusCode,
@@ -84,7 +84,7 @@ impl Model for Response {
 
 /// The text of a refusal.
 fn refusal_text(alloc: Global, why: Refusal) -> Result<Vec<u8>, AllocError>
-    ensures { IfOk result (λ text. text.items ≡ (spec.refused why).body) }
+    ensures { IfOk result (λ text. text.items ≡ (spec.refusal_response why).body) }
 {
     let message = why.message(alloc)?;
     status_text(alloc, message.as_str())
@@ -117,21 +117,21 @@ impl Response {
 
     /// 200, with this JSON.
     pub fn json(text: Vec<u8>) -> Response
-        ensures { result ≡ spec.done text.items }
+        ensures { result ≡ spec.json_response text.items }
     {
         Response::ok(Body::Json(text))
     }
 
     /// 200, with an object without members.
     pub fn empty() -> Response
-        ensures { result ≡ spec.done (codes "{}") }
+        ensures { result ≡ spec.json_response (codes "{}") }
     {
         Response::ok(Body::Empty)
     }
 
     /// That there is no memory. Takes none.
     pub fn no_memory() -> Response
-        ensures { result ≡ spec.refused Refusal.NoMemory }
+        ensures { result ≡ spec.refusal_response Refusal.NoMemory }
     {
         Response {
             status: StatusCode::SERVICE_UNAVAILABLE,
@@ -142,7 +142,7 @@ impl Response {
 
     /// Why a request is refused; where there is no memory for that text, that there is none.
     pub fn refusal(alloc: Global, why: Refusal) -> Response
-        ensures { IsMarked (spec.refused why) result }
+        ensures { IsThatOrNoMemory (spec.refusal_response why) result }
     {
         match refusal_text(alloc, why) {
             Ok(text) => Response {
@@ -156,7 +156,7 @@ impl Response {
 
     /// The report of these rows; where there is no memory for its text, that there is none.
     pub fn report(alloc: Global, rows: &[SeriesTotals]) -> Response
-        ensures { IsMarked (spec.reported (Some rows.now)) result }
+        ensures { IsThatOrNoMemory (spec.report_response (Some rows.now)) result }
     {
         match report_text(alloc, rows) {
             Ok(text) => Response::ok(Body::Plain(text)),
@@ -166,7 +166,7 @@ impl Response {
 
     /// What a flush turn came to; where there is no memory for its text, that there is none.
     pub fn turn(alloc: Global, turn: Turn) -> Response
-        ensures { IsMarked (spec.turned turn) result }
+        ensures { IsThatOrNoMemory (spec.turn_response turn) result }
     {
         match turn {
             Turn::Idle => Response::ok(Body::Idle),
@@ -186,7 +186,7 @@ impl Response {
 
     /// What an order came to.
     pub fn order(alloc: Global, answer: Result<Turn, OrderFault>) -> Response
-        ensures { IsMarked (spec.ordered answer) result }
+        ensures { IsThatOrNoMemory (spec.order_response answer) result }
     {
         match answer {
             Ok(turn) => Response::turn(alloc, turn),
@@ -202,7 +202,8 @@ impl Response {
 
     /// Writes it, and tells how much of it the sink took. Takes no memory.
     pub fn write<W: Sink>(&self, writer: &mut W) -> Written
-        ensures sent { Sent (W.contents writer.old) (W.contents writer.new) (spec.bytes_of self.now) result }
+        ensures sent { Sent (W.contents writer.old) (W.contents writer.new) (spec.bytes_of self.now)
+            result }
         ensures failed { Failed W.one_more (W.failures writer.old) (W.failures writer.new) result }
     {
         let kind = self.body.kind();

@@ -60,12 +60,12 @@ fn heard_of(fault: HttpFault) -> Heard
     match fault {
         HttpFault::Closed => Heard::Closed,
         HttpFault::Io => Heard::Broken,
-        _ => Heard::Asks(Ask::Turned(Refusal::from(fault))),
+        _ => Heard::Asks(Ask::Refused(Refusal::from(fault))),
     }
 }
 
-/// Reads a message, and what it asks for. No read follows the one that completes the message, or shows
-/// that there is none.
+/// Reads a message, and what it asks for. No read follows the one that completes the message, or
+/// shows that there is none.
 pub fn listen<S: Source, P: Pace>(
     alloc: Global,
     reader: &mut S,
@@ -73,8 +73,10 @@ pub fn listen<S: Source, P: Pace>(
     memo: &mut Memo,
 ) -> Heard
     ensures heard { Hears (S.remaining reader.old) result }
-    ensures failed { HearingFails S.one_more (S.failures reader.old) (S.failures reader.new) result }
-    ensures stops { StopsReading NotYet (S.remaining reader.old) (S.remaining reader.new) (S.given reader.new) }
+    ensures failed { HearingFails S.one_more (S.failures reader.old) (S.failures reader.new)
+        result }
+    ensures stops { StopsReading NotYet (S.remaining reader.old) (S.remaining reader.new)
+        (S.given reader.new) }
 {
     match read_message(alloc, reader) {
         Err(fault) => return heard_of(fault),
@@ -82,7 +84,7 @@ pub fn listen<S: Source, P: Pace>(
             pace.at(Spot::BodyRead);
             match ask_of(alloc, &request, memo) {
                 Ok(ask) => return Heard::Asks(ask),
-                Err(_) => return Heard::Asks(Ask::Turned(Refusal::NoMemory)),
+                Err(_) => return Heard::Asks(Ask::Refused(Refusal::NoMemory)),
             }
         }
     }
@@ -101,9 +103,9 @@ fn undo<K: Store>(keeper: &mut K, batch: u64) -> End
     ensures { IsClosed K.gives batch Written.None_ keeper.old keeper.new result }
 {
     match keeper.undo(batch) {
-        Ok(()) => return End::Undone,
-        Err(UndoFault::NotOpen) => return End::Undone,
-        Err(UndoFault::Taken) => return confirm(keeper, batch),
+        Ok(()) => End::Undone,
+        Err(UndoFault::NotOpen) => End::Undone,
+        Err(UndoFault::Taken) => confirm(keeper, batch),
     }
 }
 
@@ -127,8 +129,8 @@ fn close<K: Store>(keeper: &mut K, batch: Option<u64>, written: Written) -> End
     }
 }
 
-/// Serves the request that the reader's bytes begin with. No read follows the one that completes it, so
-/// whoever keeps an end open is not waited for.
+/// Serves the request that the reader's bytes begin with. No read follows the one that completes
+/// it, so whoever keeps an end open is not waited for.
 pub fn serve<K: Keeper, S: Source, W: Sink, P: Pace>(
     alloc: Global,
     keeper: &mut K,
@@ -136,16 +138,20 @@ pub fn serve<K: Keeper, S: Source, W: Sink, P: Pace>(
     writer: &mut W,
     pace: &mut P,
 ) -> Served
-    ensures served { IsServed K.gives (S.remaining reader.old) keeper.old keeper.new (W.contents writer.old) (W.contents writer.new) result }
-    ensures stops { StopsReading NotYet (S.remaining reader.old) (S.remaining reader.new) (S.given reader.new) }
+    ensures served { IsServed K.gives (S.remaining reader.old) keeper.old keeper.new
+        (W.contents writer.old) (W.contents writer.new) result }
+    ensures stops { StopsReading NotYet (S.remaining reader.old) (S.remaining reader.new)
+        (S.given reader.new) }
     ensures read { ReadingFails S.one_more (S.failures reader.old) (S.failures reader.new) result }
-    ensures written { WritingFails W.one_more (W.failures writer.old) (W.failures writer.new) result }
+    ensures written { WritingFails W.one_more (W.failures writer.old) (W.failures writer.new)
+        result }
 {
     let mut memo = Memo::new(alloc);
     serve_with(alloc, keeper, reader, writer, pace, &mut memo)
 }
 
-/// Serves a request as `serve` does. A body is read with a memo of the bodies before, whatever it holds.
+/// Serves a request as `serve` does. A body is read with a memo of the bodies before, whatever it
+/// holds.
 pub fn serve_with<K: Keeper, S: Source, W: Sink, P: Pace>(
     alloc: Global,
     keeper: &mut K,
@@ -154,23 +160,26 @@ pub fn serve_with<K: Keeper, S: Source, W: Sink, P: Pace>(
     pace: &mut P,
     memo: &mut Memo,
 ) -> Served
-    ensures served { IsServed K.gives (S.remaining reader.old) keeper.old keeper.new (W.contents writer.old) (W.contents writer.new) result }
-    ensures stops { StopsReading NotYet (S.remaining reader.old) (S.remaining reader.new) (S.given reader.new) }
+    ensures served { IsServed K.gives (S.remaining reader.old) keeper.old keeper.new
+        (W.contents writer.old) (W.contents writer.new) result }
+    ensures stops { StopsReading NotYet (S.remaining reader.old) (S.remaining reader.new)
+        (S.given reader.new) }
     ensures read { ReadingFails S.one_more (S.failures reader.old) (S.failures reader.new) result }
-    ensures written { WritingFails W.one_more (W.failures writer.old) (W.failures writer.new) result }
+    ensures written { WritingFails W.one_more (W.failures writer.old) (W.failures writer.new)
+        result }
 {
     match listen(alloc, reader, pace, memo) {
-        Heard::Closed => return Served::Closed,
-        Heard::Broken => return Served::Broken,
+        Heard::Closed => Served::Closed,
+        Heard::Broken => Served::Broken,
         Heard::Asks(ask) => {
             let Handled { response, batch } = handle(alloc, keeper, ask);
             let written = response.write(writer);
             let end = close(keeper, batch, written);
-            return Served::Replied {
+            Served::Replied {
                 status: response.status(),
                 written,
                 end,
-            };
+            }
         }
     }
 }
@@ -185,10 +194,15 @@ pub fn serve_book<U: Uplink + Drop, S: Source, W: Sink, P: Pace>(
 ) -> Served
     ensures seat { seat_of keeper.new ≡ seat_of keeper.old }
     ensures max { max_of keeper.new ≡ max_of keeper.old }
-    ensures served { IsServedBook U.sends (seat_of keeper.old) (max_of keeper.old) (S.remaining reader.old) (book_of keeper.old) (book_of keeper.new) (uplink_of keeper.old) (uplink_of keeper.new) (W.contents writer.old) (W.contents writer.new) result }
-    ensures stops { StopsReading NotYet (S.remaining reader.old) (S.remaining reader.new) (S.given reader.new) }
+    ensures served { IsServedBook U.sends (seat_of keeper.old) (max_of keeper.old)
+        (S.remaining reader.old) (book_of keeper.old) (book_of keeper.new)
+        (uplink_of keeper.old) (uplink_of keeper.new)
+        (W.contents writer.old) (W.contents writer.new) result }
+    ensures stops { StopsReading NotYet (S.remaining reader.old) (S.remaining reader.new)
+        (S.given reader.new) }
     ensures read { ReadingFails S.one_more (S.failures reader.old) (S.failures reader.new) result }
-    ensures written { WritingFails W.one_more (W.failures writer.old) (W.failures writer.new) result }
+    ensures written { WritingFails W.one_more (W.failures writer.old) (W.failures writer.new)
+        result }
 {
     serve(alloc, keeper, reader, writer, pace)
 }

@@ -20,9 +20,9 @@ use std::alloc::{AllocError, Global};
 use std::marker::Model;
 use std::sync::Wait;
 
-/// A keeper over a shared book, from a seat of it. Each call takes the lock of the book for itself, and
-/// may wait for it; `order` takes none, and may wait for whoever makes the turn. Contracts see what the
-/// seat was told, and whether the keeper can order.
+/// A keeper over a shared book, from a seat of it. Each call takes the lock of the book for itself,
+/// and may wait for it; `order` takes none, and may wait for whoever makes the turn. Contracts see
+/// what the seat was told, and whether the keeper can order.
 #[derive(Drop)]
 pub struct SharedKeeper<'a, L: Round, R: Wait> {
     rt: &'a R,
@@ -42,8 +42,8 @@ impl<'a, L: Round, R: Wait> Model for SharedKeeper<'a, L, R> {
 }
 
 impl<'a, L: Round, R: Wait> SharedKeeper<'a, L, R> {
-    /// A keeper that works from this seat, and orders by this end. A flusher has none, so that the channel
-    /// closes once the receivers have ended; its `order` answers Gone.
+    /// A keeper that works from this seat, and orders by this end. A flusher has none, so that the
+    /// channel closes once the receivers have ended; its `order` answers Gone.
     pub fn new(
         rt: &'a R,
         alloc: Global,
@@ -76,74 +76,43 @@ impl<'a, L: Round, R: Wait> Store for SharedKeeper<'a, L, R> {
     ghost gives = { λ k c w. WorkerGives L.parts L.opening k c w };
 
     fn admit(&mut self, body: Batch) -> Result<u64, (AdmitFault, Batch)> {
-        match self.shared.admit(self.rt, &mut self.seat, body) {
-            Ok(number) => return Ok(number),
-            Err(refused) => return Err(refused),
-        }
+        self.shared.admit(self.rt, &mut self.seat, body)
     }
 
     fn undo(&mut self, batch: u64) -> Result<(), UndoFault> {
-        match self.shared.undo(self.rt, &mut self.seat, batch) {
-            Ok(()) => return Ok(()),
-            Err(fault) => return Err(fault),
-        }
+        self.shared.undo(self.rt, &mut self.seat, batch)
     }
 
     fn confirm(&mut self, batch: u64) -> Result<(), NotOpen> {
-        match self.shared.confirm(self.rt, &mut self.seat, batch) {
-            Ok(()) => return Ok(()),
-            Err(fault) => return Err(fault),
-        }
+        self.shared.confirm(self.rt, &mut self.seat, batch)
     }
 
     fn take(&mut self, max: usize) -> Result<Option<Flush>, TakeFault> {
-        match self.shared.take(self.rt, &mut self.seat, max) {
-            Ok(None) => return Ok(None),
-            Ok(Some(flush)) => return Ok(Some(flush)),
-            Err(fault) => return Err(fault),
-        }
+        self.shared.take(self.rt, &mut self.seat, max)
     }
 
     fn settle(&mut self, flush: u64) -> Result<(), NotLive> {
-        match self.shared.settle(self.rt, &mut self.seat, flush) {
-            Ok(()) => return Ok(()),
-            Err(fault) => return Err(fault),
-        }
+        self.shared.settle(self.rt, &mut self.seat, flush)
     }
 
     fn drop_flush(&mut self, flush: u64) -> Result<(), NotLive> {
-        match self.shared.drop_flush(self.rt, &mut self.seat, flush) {
-            Ok(()) => return Ok(()),
-            Err(fault) => return Err(fault),
-        }
+        self.shared.drop_flush(self.rt, &mut self.seat, flush)
     }
 
     fn give_back(&mut self, flush: u64) -> Result<(), NotLive> {
-        match self.shared.give_back(self.rt, &mut self.seat, flush) {
-            Ok(()) => return Ok(()),
-            Err(fault) => return Err(fault),
-        }
+        self.shared.give_back(self.rt, &mut self.seat, flush)
     }
 
     fn quarantine(&mut self, sender: SenderName) -> Result<(), QuarantineFault> {
-        match self.shared.quarantine(self.rt, &mut self.seat, sender) {
-            Ok(()) => return Ok(()),
-            Err(fault) => return Err(fault),
-        }
+        self.shared.quarantine(self.rt, &mut self.seat, sender)
     }
 
     fn lift(&mut self, sender: &SenderName) -> Result<(), NotQuarantined> {
-        match self.shared.lift(self.rt, &mut self.seat, sender) {
-            Ok(()) => return Ok(()),
-            Err(fault) => return Err(fault),
-        }
+        self.shared.lift(self.rt, &mut self.seat, sender)
     }
 
     fn totals(&mut self) -> Result<Vec<SeriesTotals>, AllocError> {
-        match self.shared.totals(self.rt, &mut self.seat) {
-            Ok(rows) => return Ok(rows),
-            Err(fault) => return Err(fault),
-        }
+        self.shared.totals(self.rt, &mut self.seat)
     }
 }
 

@@ -18,8 +18,8 @@ use std::alloc::AllocError;
 
 /// What keeps the points: the calls of a `Book`, from one seat.
 pub trait Store {
-    /// What a call with its answer makes of it. Over a store of one's own that is all that the answer
-    /// is and what is stored then; over a shared one, what its seat is told.
+    /// What a call with its answer makes of it. Over a store of one's own that is all that the
+    /// answer is and what is stored then; over a shared one, what its seat is told.
     ghost gives: { Self → Call → Self → Type 0 };
 
     fn admit(&mut self, body: Batch) -> Result<u64, (AdmitFault, Batch)>
@@ -53,7 +53,8 @@ pub trait Store {
         ensures { gives self.old (call.lift sender.now result) self.new };
 
     fn totals(&mut self) -> Result<Vec<SeriesTotals>, AllocError>
-        ensures { gives self.old (call.totals (option_map (λ v. v.items) (result_ok result))) self.new };
+        ensures { gives self.old
+            (call.totals (option_map (λ v. v.items) (result_ok result))) self.new };
 }
 
 /// A store that can have a flush turn made. It is a trait of its own over the calls of the store,

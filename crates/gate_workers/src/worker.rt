@@ -36,7 +36,8 @@ impl Pace for NoPace {
     fn at(&mut self, _spot: Spot) {}
 }
 
-/// A connection with one request on it. It is a trait, since what a connection is belongs to the program.
+/// A connection with one request on it. It is a trait, since what a connection is belongs to the
+/// program.
 pub trait Connection {
     /// Serves its request, as `serve_with` does, and ends it.
     fn serve<K: Keeper, P: Pace>(
@@ -49,8 +50,8 @@ pub trait Connection {
         ensures { IsServedOnce K.gives keeper.old keeper.new result };
 }
 
-/// Serves one connection after another. May wait for the next one. The keeper is asked for their requests,
-/// and for nothing else. What one body leaves in the memo serves those after it.
+/// Serves one connection after another. May wait for the next one. The keeper is asked for their
+/// requests, and for nothing else. What one body leaves in the memo serves those after it.
 pub fn receiver_loop<C: Connection + Drop, K: Keeper, P: Pace, R: Wait>(
     rt: &R,
     alloc: Global,
@@ -66,9 +67,9 @@ pub fn receiver_loop<C: Connection + Drop, K: Keeper, P: Pace, R: Wait>(
     }
 }
 
-/// Makes one flush turn for each order, and gives it back on the order's end; where nobody waits for it
-/// the turn stands all the same. May wait for the next order. The store is asked for these turns and
-/// nothing else, and nothing else is sent.
+/// Makes one flush turn for each order, and gives it back on the order's end; where nobody waits
+/// for it the turn stands all the same. May wait for the next order. The store is asked for these
+/// turns and nothing else, and nothing else is sent.
 pub fn flusher_loop<K: Store, U: Uplink, P: Pace, R: Wait>(
     rt: &R,
     alloc: Global,
@@ -80,7 +81,8 @@ pub fn flusher_loop<K: Store, U: Uplink, P: Pace, R: Wait>(
 )
     requires low { 1 ≤ max }
     requires high { max ≤ MAX_TAKEN }
-    ensures { (all : List Turn) × AreMade K.gives U.sends max all keeper.old keeper.new uplink.old uplink.new }
+    ensures { (all : List Turn) × AreMade K.gives U.sends max all keeper.old keeper.new
+        uplink.old uplink.new }
 {
     for order in orders.iter(rt) {
         let turn = flush_turn(alloc, keeper, uplink, pace, max);
