@@ -1,7 +1,8 @@
 -- The command line, and what its words mean.
 use Rattle.std.specs.Prelude.{◌≡◌, ◌≤◌, ℕ, List, [], ◌∷◌, Option, Some, None, codes, pos, true, false, option_and_then}
 use Rattle.std.specs.Option.{option_map_or}
-use Rattle.clap.specs.Words.{App, Row, Rule, Text, first_of, new_app, new_rule, subcommand_of, with_rule, with_subcommand}
+use Rattle.clap.specs.Words.{App, Row, Rule, Text, app_of, first_of, new_app, new_rule, subcommand_of, with_rule, with_subcommand}
+use Rattle.clap.specs.declared.builder.command.Command.{Command, out-Command}
 use Rattle.clap.specs.declared.builder.value_parser.ValueParser.TheVariants as vp
 use Rattle.decimals.specs.Numbers.{number_up_to}
 use Rattle.gateway_options.specs.declared.told.Options.{Options}
@@ -62,18 +63,28 @@ senders = record { name = codes "senders"; default = Some (codes "2"); least = 1
 abbrev pub batches : Number
 batches = record { name = codes "batches"; default = Some (codes "3"); least = 1; most = 100 }
 
--- a command that takes one more number
-abbrev pub with_number : App → Number → App
-with_number app n = with_rule app (number_rule n)
+-- a command that takes these numbers too
+abbrev pub with_numbers : App → List Number → App
+with_numbers app [] = app
+with_numbers app (n ∷ ns) = with_numbers (with_rule app (number_rule n)) ns
 
 -- `serve`
 abbrev pub serve : App
 serve =
-    with_number (with_number (with_number (with_number (with_number (with_rule (with_rule (new_app (codes "serve")) backend) listen) connections) receivers) flushers) flush_series) round
+    with_numbers (with_rule (with_rule (new_app (codes "serve")) backend) listen)
+    (connections ∷ receivers ∷ flushers ∷ flush_series ∷ round ∷ [])
 
 -- `rehearse`
 abbrev pub rehearse : App
-rehearse = with_number (with_number (new_app (codes "rehearse")) senders) batches
+rehearse = with_numbers (new_app (codes "rehearse")) (senders ∷ batches ∷ [])
+
+-- no argument of the command is one of its subcommands too
+abbrev pub IsOwn : Command → Type 0
+IsOwn c = (out-Command c).has_globals ≡ false
+
+-- the command by clap's rules, with arguments of its own alone
+abbrev pub IsCommand : App → Command → Type 0
+IsCommand app c = (app_of c ≡ app) × IsOwn c
 
 -- the command before it has subcommands, one of which must be given
 abbrev pub bare : App

@@ -1,8 +1,9 @@
 //! The command line: its options, their ranges and their defaults.
 ghost use Rattle.std.specs.Prelude.{◌≡◌, IfOk, IfSome, false, map};
-ghost use Rattle.clap.specs.Words.{app_of, rule_of, found_of, rows_of, subcommand_rows_of, with_subcommand};
+ghost use Rattle.clap.specs.Words.{app_of, rule_of, found_of, rows_of, subcommand_rows_of};
 ghost use Rattle.gateway_options.specs.CommandLine as spec;
-ghost use Rattle.gateway_options.specs.CommandLine.{IsMeant, IsGiven, AreServed, AreRehearsed};
+ghost use Rattle.gateway_options.specs.CommandLine.{IsCommand, IsOwn, IsMeant, IsGiven, AreServed, AreRehearsed, with_numbers};
+ghost use Rattle.gateway_options.specs.NumberOption.{described};
 
 use crate::line_fault::LineFault;
 use crate::number_option::NumberOption;
@@ -13,61 +14,55 @@ use clap::error::ErrorKind;
 use clap::{Arg, ArgMatches, Command, Error};
 use std::alloc::Global;
 
-const CONNECTIONS: NumberOption<'static> = NumberOption {
-    name: "connections",
-    help: "How many connections are served before the gateway ends, 0 to 1000000",
-    default: None,
-    least: 0,
-    most: 1_000_000,
-};
+/// An option whose value is a number in a range: by it clap and `read` refuse, and the help text names it.
+macro_rules! number {
+    ($name:literal, $help:literal, $least:literal to $most:literal, $default:expr) => {
+        NumberOption {
+            name: $name,
+            help: concat!($help, " (", $least, " to ", $most, ")"),
+            default: $default,
+            least: $least,
+            most: $most,
+        }
+    };
+}
 
-const RECEIVERS: NumberOption<'static> = NumberOption {
-    name: "receivers",
-    help: "Threads that serve connections, 1 to 8. An order to flush keeps its receiver until its turn is made: as many as orders at once, and two more",
-    default: Some("2"),
-    least: 1,
-    most: 8,
-};
+const CONNECTIONS: NumberOption<'static> = number!(
+    "connections",
+    "How many connections are served before the gateway ends",
+    0 to 1000000,
+    None
+);
 
-const FLUSHERS: NumberOption<'static> = NumberOption {
-    name: "flushers",
-    help: "Threads that carry out the flushes that are ordered, 1 to 4",
-    default: Some("1"),
-    least: 1,
-    most: 4,
-};
+const RECEIVERS: NumberOption<'static> = number!(
+    "receivers",
+    "Threads that serve connections. An order to flush keeps its receiver until its turn is made: as many as orders at once, and two more",
+    1 to 8,
+    Some("2")
+);
 
-const FLUSH_SERIES: NumberOption<'static> = NumberOption {
-    name: "flush-series",
-    help: "The most series of one flush, 1 to 1000",
-    default: Some("1000"),
-    least: 1,
-    most: 1000,
-};
+const FLUSHERS: NumberOption<'static> = number!(
+    "flushers",
+    "Threads that carry out the flushes that are ordered",
+    1 to 4,
+    Some("1")
+);
 
-const ROUND: NumberOption<'static> = NumberOption {
-    name: "round",
-    help: "Connections of a round, 1 to 32000; behind them the store begins a new round",
-    default: Some("32000"),
-    least: 1,
-    most: 32_000,
-};
+const FLUSH_SERIES: NumberOption<'static> =
+    number!("flush-series", "The most series of one flush", 1 to 1000, Some("1000"));
 
-const SENDERS: NumberOption<'static> = NumberOption {
-    name: "senders",
-    help: "Senders that post at once, 1 to 4",
-    default: Some("2"),
-    least: 1,
-    most: 4,
-};
+const ROUND: NumberOption<'static> = number!(
+    "round",
+    "Connections of a round, behind which the store begins a new one",
+    1 to 32000,
+    Some("32000")
+);
 
-const BATCHES: NumberOption<'static> = NumberOption {
-    name: "batches",
-    help: "Batches of each sender, 1 to 100",
-    default: Some("3"),
-    least: 1,
-    most: 100,
-};
+const SENDERS: NumberOption<'static> =
+    number!("senders", "Senders that post at once", 1 to 4, Some("2"));
+
+const BATCHES: NumberOption<'static> =
+    number!("batches", "Batches of each sender", 1 to 100, Some("3"));
 
 /// The most bytes of the back end's address.
 const LONGEST_BACKEND: usize = 4_294_967_295;
@@ -96,29 +91,37 @@ fn listen<'a>(alloc: Global) -> Arg<'a>
         .default_value("127.0.0.1:4318")
 }
 
-/// The command with the subcommand `serve` as well.
-fn with_serve<'a>(command: Command<'a>, alloc: Global) -> Result<Command<'a>, Error>
-    ensures { IfOk result (λ c. app_of c ≡ with_subcommand (app_of command.entry) spec.serve.top) }
+/// The command with an option for each of these numbers.
+fn with_numbers<'a>(
+    command: Command<'a>,
+    alloc: Global,
+    numbers: &[NumberOption<'static>],
+) -> Result<Command<'a>, Error>
+    requires own { IsOwn command }
+    ensures { IfOk result (IsCommand (with_numbers (app_of command.entry) (map described numbers.now))) }
 {
-    let serve = Command::new(alloc, "serve")
-        .arg(backend(alloc))?
-        .arg(listen(alloc))?
-        .arg(CONNECTIONS.argument(alloc))?
-        .arg(RECEIVERS.argument(alloc))?
-        .arg(FLUSHERS.argument(alloc))?
-        .arg(FLUSH_SERIES.argument(alloc))?
-        .arg(ROUND.argument(alloc))?;
-    Ok(command.subcommand(serve)?)
+    let mut command = command;
+    for number in numbers {
+        command = command.arg(number.argument(alloc))?;
+    }
+    Ok(command)
 }
 
-/// The command with the subcommand `rehearse` as well.
-fn with_rehearse<'a>(command: Command<'a>, alloc: Global) -> Result<Command<'a>, Error>
-    ensures { IfOk result (λ c. app_of c ≡ with_subcommand (app_of command.entry) spec.rehearse.top) }
+/// The subcommand `serve`.
+fn serve<'a>(alloc: Global) -> Result<Command<'a>, Error>
+    ensures { IfOk result (IsCommand spec.serve) }
 {
-    let rehearse = Command::new(alloc, "rehearse")
-        .arg(SENDERS.argument(alloc))?
-        .arg(BATCHES.argument(alloc))?;
-    Ok(command.subcommand(rehearse)?)
+    let bare = Command::new(alloc, "serve");
+    let addressed = bare.arg(backend(alloc))?.arg(listen(alloc))?;
+    let numbers = [CONNECTIONS, RECEIVERS, FLUSHERS, FLUSH_SERIES, ROUND];
+    with_numbers(addressed, alloc, &numbers)
+}
+
+/// The subcommand `rehearse`.
+fn rehearse<'a>(alloc: Global) -> Result<Command<'a>, Error>
+    ensures { IfOk result (IsCommand spec.rehearse) }
+{
+    with_numbers(Command::new(alloc, "rehearse"), alloc, &[SENDERS, BATCHES])
 }
 
 /// The two subcommands, one of which must be given.
@@ -126,7 +129,10 @@ fn command<'a>(alloc: Global) -> Result<Command<'a>, Error>
     ensures { IfOk result (λ c. app_of c ≡ spec.gateway) }
 {
     let bare = Command::new(alloc, "gateway").subcommand_required(true);
-    with_rehearse(with_serve(bare, alloc)?, alloc)
+    Ok(
+        bare.subcommand(serve(alloc)?)?
+            .subcommand(rehearse(alloc)?)?,
+    )
 }
 
 /// The options of `serve`, where its numbers are digits in their ranges.
