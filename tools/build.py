@@ -20,7 +20,7 @@ from steps import GIGABYTE, Failed, Step, Steps, told
 from workspace import BuildSpace, lock_room
 
 PROGRAMS = ["play", "gateway"]
-CHECKED = re.compile(r"checked \S+, (\d+ of \d+)$")
+SO_FAR = re.compile(r"so far: (\d+ of \d+) functions checked")
 # A check of a crate takes a gigabyte or two for what it loads, and about a megabyte a line.
 LEAST_MEMORY = 3 * GIGABYTE // 2
 LINE_MEMORY = GIGABYTE // 1000
@@ -57,27 +57,24 @@ class Building:
 
     def build(self, crate, step):
         """Proves a crate and builds it over what the proof has kept."""
-        jobs = ["--jobs", str(step.jobs)]
+        # Either command proves what it builds; a check before it would only load all of it once more.
+        verb, why = ("run", "not proved, or it did not run") if crate.is_program else ("lib", "not proved")
+        words = ["--", *args_of(crate)] if args_of(crate) else []
         with BuildSpace(crate) as space:
-            if crate.is_program:
-                words = ["--", *args_of(crate)] if args_of(crate) else []
-                call(step, ["rt", "run", *jobs, *words], space.folder, "not proved, or it did not run")
-            else:
-                call(step, ["rt", "check", *jobs], space.folder, "not proved", lambda line: count(step, line))
-                call(step, ["rt", "lib", *jobs], space.folder, "no library was built")
+            call(step, ["rt", verb, "--jobs", str(step.jobs), *words], space.folder, why)
         with open(mark_of(crate), "wb") as file:
             file.write(self.mark(crate))
         return "proved"
 
 
-def call(step, command, folder, why, read_line=None):
-    if step.run(command, folder, read_line) != 0:
+def call(step, command, folder, why):
+    if step.run(command, folder, lambda line: count(step, line)) != 0:
         raise Failed(why)
 
 
 def count(step, line):
-    """Shows how many functions of a crate are checked."""
-    found = CHECKED.match(line)
+    """Shows how many functions of a large crate are checked."""
+    found = SO_FAR.match(line)
     if found:
         step.count = found[1]
 

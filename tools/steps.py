@@ -17,8 +17,9 @@ from crates import ROOT
 
 LOGS = f"{ROOT}/out/logs"
 GIGABYTE = 1_000_000_000
-# What each further job of a check may take.
+# What each further job of a check may take, and how much of a processor: a check begins and ends with one job.
 JOB_MEMORY = 3 * GIGABYTE // 2
+JOB_SHARE = 0.5
 END_OF_LOG = 30
 MOST_ERRORS = 10
 # For what an interrupted step puts back, in seconds.
@@ -56,6 +57,10 @@ class Step:
         self.count = ""
         self.say = print
         self.log = f"{LOGS}/{log or name}.log"
+
+    def share(self):
+        """How many processors it keeps busy."""
+        return 1 + JOB_SHARE * (self.jobs - 1)
 
     def needs(self, jobs):
         return self.memory + JOB_MEMORY * (jobs - 1) if self.memory else 0
@@ -253,16 +258,17 @@ class Steps:
 
     def jobs_for(self, step, behind):
         """How many jobs a step gets: none where it has to wait, and more than one where processors would
-        stand idle or all that is left waits for its chain."""
-        idle = self.processors - sum(it.jobs for it in self.running)
+        stand idle or all that is left waits for its chain, whatever runs beside it."""
+        idle = self.processors - sum(it.share() for it in self.running)
         is_apart = step.alone or any(it.alone for it in self.running)
         if self.running and (is_apart or any(it.lane and it.lane == step.lane for it in self.running)):
             return 0
-        if idle < 1:
+        if idle < JOB_SHARE:
             return 0
         rest = [*self.running, *self.waiting]
         leads = self.chain[step.name] == max(self.chain[it.name] for it in rest)
-        jobs = min(max(idle - behind, idle // 2 if leads else 1), idle, step.most_jobs)
+        left = 1 + int((idle - behind - 1) / JOB_SHARE)
+        jobs = min(max(left, self.processors - 1 if leads else 1, 1), step.most_jobs)
         room = self.memory - sum(it.needs(it.jobs) for it in self.running)
         while jobs > 1 and step.needs(jobs) > room:
             jobs -= 1
