@@ -10,28 +10,14 @@ Each request, head and body, byte by byte as it came, is written to FOLDER/reque
 import socket
 import sys
 
-
-def request_of(connection):
-    """The bytes of a request whose head tells its Content-Length."""
-    taken = b""
-    wanted = None
-    while wanted is None or len(taken) < wanted:
-        piece = connection.recv(65536)
-        if not piece:
-            break
-        taken += piece
-        head, mark, _ = taken.partition(b"\r\n\r\n")
-        if mark and wanted is None:
-            lengths = [line for line in head.split(b"\r\n") if line.lower().startswith(b"content-length:")]
-            wanted = len(head) + 4 + int(lengths[0].split(b":")[1])
-    return taken
+from loopback import answered, request_of
 
 
 def answer_of(told):
     """The bytes of an answer."""
     status, _, seconds = told.partition(",")
     retry = f"Retry-After: {seconds}\r\n" if seconds else ""
-    return f"HTTP/1.1 {status} Told\r\n{retry}Content-Length: 0\r\nConnection: close\r\n\r\n".encode()
+    return answered(f"{status} Told\r\n{retry}".encode())
 
 
 def main():

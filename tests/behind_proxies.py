@@ -10,8 +10,8 @@ gateway alone. Then names by token and certificate, HTTP/2, hidden routes, sizes
 The levels are these gateways with an upper gateway as their back end, and a haproxy between them.
 
 It needs haproxy, nginx, curl, openssl and socat, for gzip libnginx-mod-http-lua and lua-zlib. Where one is missing a line
-says what is left out, and the status is 77. Each other line tells one check; the last one tells how many there were and
-how many were wrong, and then the status is 1.
+says what is left out, and the status is 77. Each other line tells one check; the last one tells how many passed and
+failed, and the status is 1 where one failed.
 """
 import contextlib
 import gzip
@@ -348,4 +348,4 @@ def work(program, checks, stack):
 
 
 if __name__ == "__main__":
-    run_script("behind proxies", 170, work)
+    run_script(170, work)

@@ -9,8 +9,8 @@ Call: tests/hostile_input.py PROGRAM, with the path of the built gateway.
   - The back end closes in the middle of flush 1, a later point of the series is admitted meanwhile, and
     flush 2 forwards one point over both with their sum.
   - A back end that does not answer holds one flusher: another flush and the receivers go on.
-Each line tells one check; the last line tells how many there were and how many were wrong, and the status
-is 0 where none was.
+Each line tells one check; the last line tells how many passed and failed, and the status is 0 where none
+failed.
 """
 import os
 import socket
@@ -18,6 +18,7 @@ import struct
 import sys
 import threading
 
+from checks import Checks
 from loopback import SECONDS, BackEnd, Gateway, is_whole, ordered, point, posted, response, sent_points
 
 JSON = b"application/json"
@@ -52,25 +53,6 @@ INPUTS = [
     ("a resource that is null", posted(b'{"resourceMetrics":[null]}'), WRONG_SHAPE),
     ("a point that is a number", posted(NUMBER_POINT), WRONG_SHAPE),
 ]
-
-
-class Checks:
-    """How many checks there were, and how many were wrong."""
-
-    def __init__(self):
-        self.count = self.wrong = 0
-
-    def same(self, what, wanted, found):
-        self.count += 1
-        if wanted == found:
-            print(f"right: {what}")
-        else:
-            self.wrong += 1
-            print(f"wrong: {what}: wanted {wanted}, found {found}")
-
-    def end(self):
-        print(f"hostile input: checks {self.count}, wrong {self.wrong}")
-        return 0 if self.wrong == 0 else 1
 
 
 def break_off(gateway, part):

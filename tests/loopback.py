@@ -150,16 +150,12 @@ class BackEnd:
 
     def answer(self, connection):
         """Reads a whole request, keeps its body and answers it."""
-        text = b""
         connection.settimeout(SECONDS)
-        while not is_whole(text):
-            piece = connection.recv(65536)
-            if not piece:
-                return
-            text += piece
-        answer = self.answer_to(text.partition(b"\r\n\r\n")[2])
-        if answer is not None:
-            connection.sendall(b"HTTP/1.1 " + answer + b"Content-Length: 0\r\n\r\n")
+        request = request_of(connection)
+        if is_whole(request):
+            answer = self.answer_to(request.partition(b"\r\n\r\n")[2])
+            if answer is not None:
+                connection.sendall(answered(answer))
 
     def answer_to(self, body):
         """Keeps the body, and gives the next answer."""
@@ -171,6 +167,22 @@ class BackEnd:
         self.listener.shutdown(socket.SHUT_RDWR)
         self.thread.join(SECONDS)
         self.listener.close()
+
+
+def request_of(connection):
+    """The bytes of a request, whose head tells its Content-Length, or of what came of it."""
+    text = b""
+    while not is_whole(text):
+        piece = connection.recv(65536)
+        if not piece:
+            break
+        text += piece
+    return text
+
+
+def answered(lines):
+    """The bytes of an answer without a body, by its status and what lines there are behind it."""
+    return b"HTTP/1.1 " + lines + b"Content-Length: 0\r\n\r\n"
 
 
 def is_whole(text):

@@ -5,7 +5,7 @@ says nothing and goes away; and the line by which the service starts the gateway
     tests/operating_scripts.py PROGRAM
 
 It needs curl and flock; where one is missing a line says what is left out, and the status is 77. Each other line tells one
-check; the last one tells how many there were and how many were wrong, and then the status is 1.
+check; the last one tells how many passed and failed, and the status is 1 where one failed.
 """
 import os
 import re
@@ -220,4 +220,4 @@ def work(program, checks, stack):
 
 
 if __name__ == "__main__":
-    run_script("operating scripts", 170, work)
+    run_script(170, work)

@@ -9,7 +9,7 @@ doubles written as whole numbers, as JavaScript writes them. The answers count t
 for each series one point, over all its spans, with its values, buckets and sums added up here.
 
 It needs python3-protobuf; where that is missing a line says so, and the status is 77. Each other line tells one check;
-the last one tells how many there were and how many were wrong, and then the status is 1.
+the last one tells how many passed and failed, and the status is 1 where one failed.
 """
 import importlib.util
 import json
@@ -310,4 +310,4 @@ def work(program, checks, stack):
 
 
 if __name__ == "__main__":
-    run_script("protobuf bodies", 120, work)
+    run_script(120, work)

@@ -14,7 +14,7 @@ while all from k on are, and makes the exchanges below over loopback.
   - At the end the gateway prints the report that all this leads to and how many points were admitted and
     acknowledged, status 0, or ends with `gateway: no memory`, status 1, and prints nothing; so it ends
     too where it can't start, or with `gateway: cannot start a thread`.
-The last line tells the counts, and the status is 0 where nothing was wrong.
+The last line tells how many runs passed and failed, and the status is 0 where none failed.
 """
 import copy
 import os

@@ -11,7 +11,7 @@ lines are put behind each script, which tell what the store holds at its end.
     run of the script without those lines; a `wire` may also have taken its flush and given it back.
   - Or the run ends with `play: no memory` after whole replies, which are those of such a run.
   - Or each line is answered as in the full run, where the program can do without what it was refused.
-The last line tells the counts, and the status is 0 where nothing was wrong.
+The last line tells how many runs passed and failed, and the status is 0 where none failed.
 """
 import concurrent.futures
 import glob

@@ -12,7 +12,7 @@ is crates/growths/stdout. For each k from 1 until a run meets no refusal:
   - No call says that something changed, and none but the last ones ends the program.
   - Where the two books that it keeps find no memory the program ends with `growths: no memory`, and no
     line.
-The last line tells the counts, and the status is 0 where nothing was wrong.
+The last line tells how many runs passed and failed, and the status is 0 where none failed.
 """
 import os
 import sys

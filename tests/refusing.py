@@ -77,23 +77,23 @@ class Counts:
     def __init__(self, what):
         self.what = what
         self.lock = threading.Lock()
-        self.runs = self.refused = self.wrong = 0
+        self.runs = self.refused = self.failed = 0
         self.ways = {}
 
     def add(self, run, way, told=None):
-        """Counts a run: by which way a refusal ended, or what is wrong, which is told."""
+        """Counts a run: by which way a refusal ended, or why it failed, which is told."""
         with self.lock:
             self.runs += 1
             if run.refused is None or run.refused:
                 self.refused += 1
             if way is None:
-                self.wrong += 1
-                print(f"wrong: {told}", flush=True)
+                self.failed += 1
+                print(f"failed: {told}", flush=True)
             else:
                 self.ways[way] = self.ways.get(way, 0) + 1
 
     def tell(self):
         ways = ", ".join(f"{count} {way}" for way, count in sorted(self.ways.items()))
         print(f"{self.what}: {ways}")
-        print(f"{self.what}: runs {self.runs}, refused {self.refused}, wrong {self.wrong}", flush=True)
-        return 0 if self.wrong == 0 and self.refused > 0 else 1
+        print(f"{self.runs - self.failed} passed, {self.failed} failed, {self.refused} with a refusal", flush=True)
+        return 0 if self.failed == 0 and self.refused > 0 else 1

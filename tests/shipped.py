@@ -1,5 +1,5 @@
-"""What the scripts share that run the files of operate/ with the real programs: checks and their count, programs
-that are ended in every case, copies of the shipped files, and senders whose points are followed to the back end."""
+"""What the scripts share that run the files of operate/ with the real programs: programs that are ended in every case,
+copies of the shipped files, and senders whose points are followed to the back end."""
 import collections
 import contextlib
 import http.client
@@ -14,46 +14,13 @@ import tempfile
 import threading
 import time
 
+from checks import Checks
 from loopback import SECONDS, BackEnd, Gateway
 
 OPERATE = os.path.join(os.path.dirname(os.path.abspath(__file__)), "..", "operate")
-# The status of a script that left something out for want of a program.
-LEFT_OUT = 77
 CONNECTIONS = 1_000_000
 METRICS = 3
 os.environ["PATH"] += ":/usr/sbin:/sbin"
-
-
-class Checks:
-    """How many checks there were, and how many were wrong."""
-
-    def __init__(self, name):
-        self.name = name
-        self.count = self.wrong = 0
-        self.left_out = False
-
-    def same(self, what, wanted, found):
-        self.count += 1
-        if wanted == found:
-            print(f"right: {what}", flush=True)
-        else:
-            self.wrong += 1
-            print(f"wrong: {what}: wanted {wanted!r}, found {found!r}", flush=True)
-
-    def has(self, what, *missing):
-        """Whether nothing is missing; else says in one line what is left out."""
-        if missing:
-            self.left_out = True
-            print(f"{self.name}: left out {what}, missing: {' '.join(missing)}", flush=True)
-        return not missing
-
-    def end(self):
-        """The status of the script, and its last line."""
-        if self.count or not self.left_out:
-            print(f"{self.name}: {self.count} checks, {self.wrong} wrong", flush=True)
-        if self.wrong:
-            return 1
-        return LEFT_OUT if self.left_out else 0
 
 
 def missing(programs, *files):
@@ -61,12 +28,12 @@ def missing(programs, *files):
     return [word for word in programs if not shutil.which(word)] + [file for file in files if not os.path.exists(file)]
 
 
-def run_script(name, seconds, work):
+def run_script(seconds, work):
     """Runs work(program, checks, stack) for a script with the argument PROGRAM, and ends all that it started: also where
-    it fails, is stopped, or is not done in so many seconds, which is wrong."""
+    it fails, is stopped, or is not done in so many seconds, which fails."""
     if len(sys.argv) < 2 or not os.access(sys.argv[1], os.X_OK):
         sys.exit(f"usage: {sys.argv[0]} PROGRAM")
-    checks = Checks(name)
+    checks = Checks()
 
     def stop(number, frame):
         raise TimeoutError("no end in time" if number == signal.SIGALRM else "stopped")

@@ -13,7 +13,7 @@ runs the crowd of 24 too, which takes three minutes.
   - Bodies of 9, 20 and 50 MB are refused, each read by a client that sends all before it reads.
   - Two orders to a back end that hangs: posts and the report are answered by the receivers that are left.
 All run side by side, in a little more than a minute, nearly all of it waiting. Each line tells one check;
-the last line tells how many there were and how many were wrong, and the status is 0 where none was.
+the last line tells how many passed and failed, and the status is 0 where none failed.
 """
 import http.client
 import os
@@ -22,7 +22,9 @@ import sys
 import threading
 import time
 
+from checks import Checks
 from loopback import BackEnd, Gateway, ordered, point, posted, read_all, response
+from shipped import listens, wait_until
 
 # What a request and an answer may take, as docs/FORMATS.md has it, and what the test allows beside.
 REQUEST_SECONDS = 60
@@ -33,29 +35,6 @@ AT_ONCE = 5
 ROUND = 20
 DONE = response(b"200 OK", b"application/json", b"{}")
 NOBODY = 9
-
-
-class Checks:
-    """How many checks there were, and how many were wrong. Threads share it."""
-
-    def __init__(self):
-        self.lock = threading.Lock()
-        self.count = self.wrong = 0
-
-    def true(self, what, holds, found):
-        with self.lock:
-            self.count += 1
-            if holds:
-                print(f"right: {what}", flush=True)
-            else:
-                self.wrong += 1
-                print(f"wrong: {what}: found {found!r}", flush=True)
-
-    def same(self, what, wanted, found):
-        self.true(what, wanted == found, found)
-
-    def between(self, what, least, most, seconds):
-        self.true(what, least <= seconds <= most, f"{seconds:.1f} seconds")
 
 
 def asked(gateway, request):
@@ -229,7 +208,7 @@ def long_bodies(program, checks):
     gateway = Gateway(program, NOBODY, len(sizes))
     for size in sizes:
         client = http.client.HTTPConnection("127.0.0.1", gateway.port, timeout=REQUEST_SECONDS)
-        wait_until_listens(gateway)
+        wait_until(lambda: listens(gateway.port))
         try:
             client.request("POST", "/v1/metrics", b" " * (size * 1_000_000), {"Content-Type": "application/json"})
             answer = client.getresponse()
@@ -239,16 +218,6 @@ def long_bodies(program, checks):
         client.close()
         checks.same(f"a body of {size} MB is refused", (413, b'{"message":"body too long"}'), found)
     checks.same("long bodies: the end", (0, b"end\nadmitted 0 acknowledged 0\n", b""), end_of(gateway))
-
-
-def wait_until_listens(gateway):
-    """The kernel's table tells it: a connection would be one of those that are served."""
-    row = f"0100007F:{gateway.port:04X} 00000000:0000 0A"
-    for _ in range(1000):
-        with open("/proc/net/tcp") as table:
-            if row in table.read():
-                return
-        time.sleep(0.01)
 
 
 class HungBackEnd(BackEnd):
@@ -314,8 +283,7 @@ def main(program, long):
         thread.start()
     for thread in threads:
         thread.join()
-    print(f"slow parties: {checks.count} checks, {checks.wrong} wrong")
-    return 0 if checks.wrong == 0 else 1
+    return checks.end()
 
 
 if __name__ == "__main__":
