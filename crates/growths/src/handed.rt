@@ -3,13 +3,13 @@
 ghost use Rattle.std.specs.Prelude.{◌≡◌};
 
 use crate::bodies::{MIXED, SUMS};
-use crate::making::{first_point, name_of, points_of};
+use crate::making::{first_point, name_of, own_series, points_of};
 use crate::telling::{no_memory, tell};
 use bucket_lanes::{fits, is_zero};
 use metric_events::point::Point;
 use metric_events::points::Points;
 use series_cell::cell::Cell;
-use series_id::{AttrSet, Kind, SeriesId, SharedId, Text};
+use series_id::SharedId;
 use std::alloc::{AllocError, Global};
 
 /// The calls, in the order in which they are made.
@@ -29,24 +29,6 @@ pub fn make(rt: &impl Print, alloc: Global, call: &str) -> Result<(), AllocError
         "Cell::put" => put(rt, alloc),
         "Cell::put_span" => put_span(rt, alloc),
         _ => reserve(rt, alloc),
-    }
-}
-
-/// A sum's identity.
-fn own_series(alloc: Global) -> Result<SeriesId, AllocError> {
-    let made = SeriesId::new(
-        AttrSet::empty(alloc),
-        Text::new(String::new(alloc)),
-        Text::new(String::new(alloc)),
-        AttrSet::empty(alloc),
-        Text::new(String::from_str(alloc, "x")?),
-        Text::new(String::new(alloc)),
-        Kind::Sum { monotonic: false },
-        AttrSet::empty(alloc),
-    );
-    match made {
-        Ok(series) => Ok(series),
-        Err(_) => Err(AllocError),
     }
 }
 

@@ -4,6 +4,7 @@ use metric_events::point::Point;
 use metric_events::points::Points;
 use metric_events::sender_name::SenderName;
 use otlp_read::read_request;
+use series_id::{AttrSet, Kind, SeriesId, Text};
 use std::alloc::{AllocError, Global};
 
 /// The points of a body.
@@ -49,4 +50,27 @@ pub fn text_of(alloc: Global, bytes: Vec<u8>) -> Result<String, AllocError> {
 /// Whether two values are one, told in a word.
 pub fn told(alloc: Global, same: bool) -> Result<String, AllocError> {
     String::from_str(alloc, if same { "same" } else { "other" })
+}
+
+/// A text of an identity.
+pub fn text(alloc: Global, text: &str) -> Result<Text, AllocError> {
+    Ok(Text::new(String::from_str(alloc, text)?))
+}
+
+/// A sum's identity that is not shared yet.
+pub fn own_series(alloc: Global) -> Result<SeriesId, AllocError> {
+    let made = SeriesId::new(
+        AttrSet::empty(alloc),
+        Text::new(String::new(alloc)),
+        Text::new(String::new(alloc)),
+        AttrSet::empty(alloc),
+        text(alloc, "x")?,
+        Text::new(String::new(alloc)),
+        Kind::Sum { monotonic: false },
+        AttrSet::empty(alloc),
+    );
+    match made {
+        Ok(series) => Ok(series),
+        Err(_) => Err(AllocError),
+    }
 }

@@ -1,15 +1,11 @@
 //! Calls that copy what identities, points and flushes are made of.
 use crate::bodies::MIXED;
-use crate::making::{points_of, told};
+use crate::making::{points_of, text, told};
 use delta_book::totals::row_of;
 use metric_events::row::Row;
 use metric_events::series_list::SeriesList;
-use series_id::{AttrValue, Attribute, Kind, Scalar, Scalars, Text};
+use series_id::{AttrValue, Attribute, Kind, Scalar, Scalars};
 use std::alloc::{AllocError, Global};
-
-fn text(alloc: Global, text: &str) -> Result<Text, AllocError> {
-    Ok(Text::new(String::from_str(alloc, text)?))
-}
 
 /// Whether a value is this text.
 fn is_text(value: &Scalar, text: &str) -> bool {

@@ -1,7 +1,7 @@
 //! Calls that make a value of what they are lent: identities, events, texts and messages. Each is made
 //! on values of its own, so that what it leaves is what it answers.
 use crate::bodies::{CHUNKED, LATER, MIXED, SUMS, WAIT};
-use crate::making::{batch_of, first_point, name_of, points_of, text_of, told};
+use crate::making::{batch_of, first_point, name_of, own_series, points_of, text, text_of, told};
 use crate::parts;
 use back_answers::Act;
 use byte_ends::Script;
@@ -10,7 +10,7 @@ use metric_events::point::Point;
 use otlp_read::{ReadFault, read_request};
 use out_texts::{put_number, put_row, put_series_name, status_text, success_text, turn_text};
 use series_cell::cell::Cell;
-use series_id::{AttrFault, AttrSet, AttrValue, Kind, Scalar, SeriesId, Text};
+use series_id::{AttrFault, AttrSet, AttrValue, Kind, Scalar, Text};
 use std::alloc::{AllocError, Global};
 
 /// The calls, in the order in which they are made.
@@ -51,10 +51,6 @@ pub const CALLS: [&str; 34] = [
     "Decoder::feed",
 ];
 
-fn text(alloc: Global, text: &str) -> Result<Text, AllocError> {
-    Ok(Text::new(String::from_str(alloc, text)?))
-}
-
 fn text_copy(alloc: Global) -> Result<String, AllocError> {
     let name = text(alloc, "requests")?;
     let copy = name.copy(alloc)?;
@@ -90,24 +86,6 @@ fn kind_copy(alloc: Global) -> Result<String, AllocError> {
     match point.series().kind().copy(alloc)? {
         Kind::Histogram { bounds } => told(alloc, bounds.as_slice() == [0, 5, 10].as_slice()),
         Kind::Sum { .. } => told(alloc, false),
-    }
-}
-
-/// A sum's identity.
-fn own_series(alloc: Global) -> Result<SeriesId, AllocError> {
-    let made = SeriesId::new(
-        AttrSet::empty(alloc),
-        Text::new(String::new(alloc)),
-        Text::new(String::new(alloc)),
-        AttrSet::empty(alloc),
-        text(alloc, "x")?,
-        Text::new(String::new(alloc)),
-        Kind::Sum { monotonic: false },
-        AttrSet::empty(alloc),
-    );
-    match made {
-        Ok(series) => Ok(series),
-        Err(_) => Err(AllocError),
     }
 }
 
