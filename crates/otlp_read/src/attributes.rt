@@ -7,11 +7,10 @@ ghost use Rattle.serde_json.specs.View.{view, members_view};
 ghost use Rattle.otlp_read.specs.Fields.{field};
 ghost use Rattle.otlp_read.specs.Lists.{all_of};
 ghost use Rattle.otlp_read.specs.Attributes.{key_and_value, pair_of, set_of, attributes_in};
-ghost use Rattle.otlp_read.specs.GivenViews.{given_data};
-ghost use Rattle.series_id.specs.declared.values.AttrValue.TheVariants.{One};
+ghost use Rattle.otlp_read.specs.GivenViews.{pair_data};
 
 use crate::fields::text_in;
-use crate::given::Given;
+use crate::given::Pair;
 use crate::lists::elements_in;
 use crate::members::take_named;
 use crate::values::{given_in, value_in};
@@ -88,15 +87,15 @@ fn pair_of(alloc: Global, value: &Value) -> Result<Option<(Text, AttrValue)>, Al
     Ok(Some((key, found)))
 }
 
-/// The key and the value of an attribute, where its value is a single one.
+/// An attribute, where its value is a single one.
 #[tactic(auto, unfolding(crate::specs::Attributes::pair_of))]
-pub fn given_pair<'v>(value: &'v Value) -> Option<(&'v str, Given<'v>)>
-    ensures { IfSome result (λ p. pair_of (view value.now) ≡ Some (p.0.now, One (given_data p.1))) }
+pub fn given_pair<'v>(value: &'v Value) -> Option<Pair<'v>>
+    ensures { IfSome result (λ p. pair_of (view value.now) ≡ Some (pair_data p)) }
 {
     let pair = pair_fields(value.as_object()?);
     let key = text_in(pair.key)?;
-    let given = given_in(pair.value)?;
-    Some((key, given))
+    let value = given_in(pair.value)?;
+    Some(Pair { key, value })
 }
 
 /// The set that the pairs are, where they are one.

@@ -1,6 +1,6 @@
 //! Where a memo looks for an identity.
 
-use crate::given::Given;
+use crate::given::{Given, Pair};
 use series_id::{AttrSet, AttrValue, Attribute, Kind};
 use std::hash::{FoldHasher, Hasher};
 
@@ -37,8 +37,16 @@ impl Digest {
         self.add_size(text.len());
     }
 
+    /// Goes on with attributes, in the order in which they stand.
+    pub fn add_pairs(&mut self, pairs: &[Pair<'_>]) {
+        for pair in pairs {
+            self.add_text(pair.key);
+            self.add_given(pair.value);
+        }
+    }
+
     /// Goes on with a single value.
-    pub fn add_given(&mut self, given: Given<'_>) {
+    fn add_given(&mut self, given: Given<'_>) {
         match given {
             Given::Empty => self.add_size(0),
             Given::Truth(truth) => self.add_number(i64::from(truth)),

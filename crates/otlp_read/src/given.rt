@@ -6,6 +6,13 @@ ghost use Rattle.otlp_read.specs.GivenViews.{given_data};
 use series_id::{Scalar, Text};
 use std::alloc::{AllocError, Global};
 
+/// An attribute of a single value, as a document has it.
+#[derive(Clone, Copy)]
+pub struct Pair<'v> {
+    pub key: &'v str,
+    pub value: Given<'v>,
+}
+
 /// A single value of an attribute, as a document or a set has it.
 #[derive(Clone, Copy)]
 pub enum Given<'v> {

@@ -1,24 +1,28 @@
 //! Identities that a memo holds already, found before anything of them is made.
 
-ghost use Rattle.std.specs.Prelude.{◌≡◌, IfSome, IsTrue, Some, map, option_map};
+ghost use Rattle.std.specs.Prelude.{◌≡◌, ◌≤◌, IfSome, IsPermutation, IsTrue, OnSome, Some, length, map, option_and_then, option_map, take};
 ghost use Rattle.serde_json.specs.View.{view};
 ghost use Rattle.series_id.specs.Sorting.{pair_of as pair_in};
 ghost use Rattle.otlp_read.specs.Lists.{all_of};
-ghost use Rattle.otlp_read.specs.Attributes.{attributes_in, pair_of};
-ghost use Rattle.otlp_read.specs.Streams.{identity_in, series_of};
+ghost use Rattle.otlp_read.specs.Attributes.{pair_of, set_of};
+ghost use Rattle.otlp_read.specs.GivenViews.{pair_data};
+ghost use Rattle.otlp_read.specs.Streams.{identity_in, series_in, series_of};
 ghost use Rattle.otlp_read.specs.StreamViews.{scope_data, stream_data};
 
 use crate::attributes::given_pair;
-use crate::digest::Digest;
-use crate::given::Given;
+use crate::given::{Given, Pair};
 use crate::lists::elements_in;
 use crate::memo::Memo;
 use crate::streams::{Scope, Stream};
 use serde_json::Value;
 use series_id::{AttrSet, AttrValue, Attribute, Kind, Scalar, SeriesId, SharedId};
 
-/// The series of a kind and of an attribute list in a stream, where the memo holds it and the
-/// list is in the order of a set, of single values. Takes no memory.
+/// The most attributes of a point that is looked up.
+const MOST_PAIRS: usize = 16;
+
+/// The series of a kind and of an attribute list in a stream, where the memo holds it, and the
+/// list is of at most `MOST_PAIRS` single values, in whatever order. Takes no memory.
+#[tactic(auto, unfolding(crate::specs::Streams::series_of))]
 pub fn known_series(
     memo: &Memo,
     stream: Stream<'_>,
@@ -30,47 +34,73 @@ pub fn known_series(
     if memo.is_empty() {
         return None;
     }
-    let digest = digest_of(stream, kind, elements_in(found)?)?;
-    match known_at(memo, digest.place(), stream, kind, found) {
-        Some(series) => Some(series),
-        None => known_at(memo, digest.other_place(), stream, kind, found),
+    let values = elements_in(found)?;
+    if values.len() > MOST_PAIRS {
+        return None;
     }
+    let mut room = [Pair {
+        key: "",
+        value: Given::Empty,
+    }; MOST_PAIRS];
+    put_pairs(&mut room, values)?;
+    let pairs = &mut room[..values.len()];
+    sort_pairs(pairs);
+    known_of(memo, stream, kind, pairs)
 }
 
-/// The digest of the identity that an attribute list has in a stream, nothing where the list is
-/// none of single values.
-fn digest_of(stream: Stream<'_>, kind: &Kind, values: &[Value]) -> Option<Digest> {
+/// Puts the attributes of a list into a room from its front on, nothing where one has no single
+/// value.
+fn put_pairs<'v>(room: &mut [Pair<'v>], values: &'v [Value]) -> Option<()>
+    requires { length values.now ≤ length room.old }
+    ensures { OnSome result (all_of pair_of (map view values.now) ≡ Some (map pair_data (take (length values.now) room.new))) }
+{
+    for i in 0..values.len() {
+        room[i] = given_pair(&values[i])?;
+    }
+    Some(())
+}
+
+/// Puts attributes in the order of their keys.
+fn sort_pairs(pairs: &mut [Pair<'_>])
+    ensures { IsPermutation pairs.old pairs.new }
+{
+    pairs.sort_unstable_by_key(|pair| pair.key);
+}
+
+/// The series of a kind and of attributes, in the order of their keys, in a stream.
+fn known_of(memo: &Memo, stream: Stream<'_>, kind: &Kind, pairs: &[Pair<'_>]) -> Option<SharedId>
+    ensures { IfSome result (λ s. option_and_then (series_in (stream_data stream.entry) kind.now) (set_of (map pair_data pairs.now)) ≡ Some s) }
+{
     let mut digest = stream.digest;
     digest.add_kind(kind);
-    for value in values {
-        let (key, given) = given_pair(value)?;
-        digest.add_text(key);
-        digest.add_given(given);
+    digest.add_pairs(pairs);
+    match known_at(memo, digest.place(), stream, kind, pairs) {
+        Some(series) => Some(series),
+        None => known_at(memo, digest.other_place(), stream, kind, pairs),
     }
-    Some(digest)
 }
 
-/// The series at a place, where it is that of a kind and of an attribute list in a stream.
+/// The series at a place, where it is that of a kind and of attributes in a stream.
 fn known_at(
     memo: &Memo,
     place: usize,
     stream: Stream<'_>,
     kind: &Kind,
-    found: Option<&Value>,
+    pairs: &[Pair<'_>],
 ) -> Option<SharedId>
-    ensures { IfSome result (λ s. series_of (stream_data stream.entry) kind.now (option_map (λ v. view v.now) found.entry) ≡ Some s) }
+    ensures { IfSome result (λ s. option_and_then (series_in (stream_data stream.entry) kind.now) (set_of (map pair_data pairs.now)) ≡ Some s) }
 {
     let kept = memo.at(place)?;
-    if is_series(kept.as_series(), stream, kind, found) {
+    if is_series(kept.as_series(), stream, kind, pairs) {
         kept.share().ok()
     } else {
         None
     }
 }
 
-/// Whether a series is that of a kind and of an attribute list in a stream.
-fn is_series(series: &SeriesId, stream: Stream<'_>, kind: &Kind, found: Option<&Value>) -> bool
-    ensures only { IsTrue result → series_of (stream_data stream.entry) kind.now (option_map (λ v. view v.now) found.entry) ≡ Some series.now }
+/// Whether a series is that of a kind and of attributes in a stream.
+fn is_series(series: &SeriesId, stream: Stream<'_>, kind: &Kind, pairs: &[Pair<'_>]) -> bool
+    ensures only { IsTrue result → option_and_then (series_in (stream_data stream.entry) kind.now) (set_of (map pair_data pairs.now)) ≡ Some series.now }
 {
     series.keeps_limits();
     if !is_in_stream(series, stream) {
@@ -79,7 +109,7 @@ fn is_series(series: &SeriesId, stream: Stream<'_>, kind: &Kind, found: Option<&
     if !is_same_kind(series.kind(), kind) {
         return false;
     }
-    is_set(found, series.attrs())
+    are_pairs(pairs, series.attrs().pairs())
 }
 
 /// Whether a series stands in a stream.
@@ -173,39 +203,28 @@ fn is_same_scalar(one: &Scalar, other: &Scalar) -> bool
     Given::of(one).is_same(Given::of(other))
 }
 
-/// Whether an attribute list is a set, pair by pair.
-fn is_set(found: Option<&Value>, set: &AttrSet) -> bool
-    ensures only { IsTrue result → attributes_in (option_map (λ v. view v.now) found.entry) ≡ Some set.now }
+/// Whether attributes are those of a set, one by one.
+fn are_pairs(pairs: &[Pair<'_>], its: &[Attribute]) -> bool
+    ensures only { IsTrue result → map pair_data pairs.now ≡ map pair_in its.now }
 {
-    set.keeps_limits();
-    match elements_in(found) {
-        None => false,
-        Some(values) => are_pairs(values, set.pairs()),
-    }
-}
-
-fn are_pairs(values: &[Value], pairs: &[Attribute]) -> bool
-    ensures only { IsTrue result → all_of pair_of (map view values.now) ≡ Some (map pair_in pairs.now) }
-{
-    if values.len() != pairs.len() {
+    if pairs.len() != its.len() {
         return false;
     }
-    for i in 0..values.len() {
-        if !is_pair(&values[i], &pairs[i]) {
+    for i in 0..pairs.len() {
+        if !is_pair(&pairs[i], &its[i]) {
             return false;
         }
     }
     true
 }
 
-fn is_pair(value: &Value, pair: &Attribute) -> bool
-    ensures only { IsTrue result → pair_of (view value.now) ≡ Some (pair_in pair.now) }
+fn is_pair(pair: &Pair<'_>, its: &Attribute) -> bool
+    ensures only { IsTrue result → pair_data pair.now ≡ pair_in its.now }
 {
-    let Some((key, given)) = given_pair(value) else {
-        return false;
-    };
-    match &pair.value {
-        AttrValue::One(scalar) => key == pair.key.as_str() && given.is_same(Given::of(scalar)),
+    match &its.value {
+        AttrValue::One(scalar) => {
+            pair.key == its.key.as_str() && pair.value.is_same(Given::of(scalar))
+        }
         AttrValue::Many(_) => false,
     }
 }

@@ -459,13 +459,14 @@ fn histogram_fields(alloc: Global, bounds: &str) -> Result<String, AllocError> {
     )
 }
 
-const PAIRS: [&str; 6] = [
+const PAIRS: [&str; 7] = [
     "",
     r#"{"key":"a"}"#,
     r#"{"key":"a","value":{"boolValue":true}},{"key":"b","value":{"intValue":"-7"}}"#,
     r#"{"key":"a","value":{"stringValue":"x"}},{"key":"b","value":{"stringValue":""}}"#,
     r#"{"key":"a","value":{"arrayValue":{"values":[{"intValue":1}]}}}"#,
     r#"{"key":"b","value":{"intValue":1}},{"key":"a","value":{"intValue":2}}"#,
+    r#"{"key":"q"},{"key":"p"},{"key":"o"},{"key":"n"},{"key":"m"},{"key":"l"},{"key":"k"},{"key":"j"},{"key":"i"},{"key":"h"},{"key":"g"},{"key":"f"},{"key":"e"},{"key":"d"},{"key":"c"},{"key":"b"},{"key":"a"}"#,
 ];
 
 /// Requests of one point each, of a series of its own each.
@@ -515,8 +516,14 @@ fn a_memo_keeps_series_apart(rt: HostRuntime) -> Result<(), Fail> {
     let point = first(&reading).ok_or("a point")?;
     for (old, new) in [
         (r#""key":"r""#, r#""key":"q""#),
-        (r#"[{"intValue":1},{"stringValue":"x"}]"#, r#"[{"intValue":1}]"#),
-        (r#"[{"intValue":1},{"stringValue":"x"}]"#, r#"[{"intValue":1},{"stringValue":"y"}]"#),
+        (
+            r#"[{"intValue":1},{"stringValue":"x"}]"#,
+            r#"[{"intValue":1}]"#,
+        ),
+        (
+            r#"[{"intValue":1},{"stringValue":"x"}]"#,
+            r#"[{"intValue":1},{"stringValue":"y"}]"#,
+        ),
         (r#""name":"n""#, r#""name":"o""#),
         (r#""version":"v""#, r#""version":"w""#),
         (r#"[{"key":"s"}]"#, "[]"),

@@ -1,4 +1,5 @@
-use Rattle.std.proofs.Common.{Some, sym, ap, ◌∙◌}
+use Rattle.std.proofs.Common.{map, sym, ap, ◌∙◌}
+use Rattle.series_id.specs.Sorting.{pair_of as pair_in}
 use Rattle.otlp_read.specs.StreamViews.{stream_data}
 use Rattle.otlp_read.proofs.KnownLemmas.{known_is}
 use Rattle.otlp_read.proofs.known.is_series.Goals as goal
@@ -9,5 +10,5 @@ returns c =
     let kind = c.is_same_kind.ensures.only c.if-not-is_same_kind.false in
     record {
       only = λ same.
-          known_is (stream_data c.args.stream) c.args.kind.now _ c.args.series.now c.keeps_limits.ensures stands (sym c.kind.ensures ∙ kind) (c.is_set.ensures.only same ∙ ap (λ attrs. Some attrs) c.attrs.ensures);
+          known_is (stream_data c.args.stream) c.args.kind.now _ c.args.series.now c.keeps_limits.ensures stands (sym c.kind.ensures ∙ kind) (c.are_pairs.ensures.only same ∙ ap (map pair_in) (c.pairs.ensures ∙ c.attrs.ensures));
     }
