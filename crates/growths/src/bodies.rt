@@ -36,6 +36,12 @@ pub const FOURTH: &[u8] = b"{\"resourceMetrics\":[{\"scopeMetrics\":[{\"metrics\
         \"sum\":{\"aggregationTemporality\":1,\"dataPoints\":[{\"asInt\":4,\
         \"startTimeUnixNano\":\"10\",\"timeUnixNano\":\"20\"}]}}]}]}]}";
 
+/// A body that is no JSON.
+pub const NO_JSON: &[u8] = b"{\"resourceMetrics\":[{\"a\":\"b\"}";
+
+/// A body of another shape than a request.
+pub const NO_REQUEST: &[u8] = b"{\"resourceMetrics\":[null]}";
+
 /// A request in chunks.
 pub const CHUNKED: &[u8] = b"POST /v1/metrics HTTP/1.1\r\n\
         Content-Type: application/json\r\n\

@@ -1,20 +1,20 @@
 //! Calls that make a value of what they are lent: identities, events, texts and messages. Each is made
 //! on values of its own, so that what it leaves is what it answers.
-use crate::bodies::{CHUNKED, LATER, MIXED, SUMS, WAIT};
+use crate::bodies::{CHUNKED, LATER, MIXED, NO_JSON, NO_REQUEST, SUMS, WAIT};
 use crate::making::{batch_of, first_point, name_of, own_series, points_of, text, text_of, told};
 use crate::parts;
 use back_answers::Act;
 use byte_ends::Script;
 use http_edge::{Decoder, HttpFault, read_message, read_response};
 use metric_events::point::Point;
-use otlp_read::{ReadFault, read_request};
+use otlp_read::{Memo, ReadFault, Reading, read_request, read_request_with};
 use out_texts::{put_number, put_row, put_series_name, status_text, success_text, turn_text};
 use series_cell::cell::Cell;
 use series_id::{AttrFault, AttrSet, AttrValue, Kind, Scalar, Text};
 use std::alloc::{AllocError, Global};
 
 /// The calls, in the order in which they are made.
-pub const CALLS: [&str; 34] = [
+pub const CALLS: [&str; 36] = [
     "Text::copy",
     "Scalar::copy",
     "Scalars::copy",
@@ -40,6 +40,8 @@ pub const CALLS: [&str; 34] = [
     "read_request of sums",
     "read_request of no JSON",
     "read_request of another shape",
+    "read_request_with",
+    "read_request_with of sums",
     "status_text",
     "success_text",
     "turn_text",
@@ -145,8 +147,8 @@ fn cell_new(alloc: Global) -> Result<String, AllocError> {
     told(alloc, cell.accepted() == [0, 0, 0].as_slice())
 }
 
-fn reading(alloc: Global, body: &[u8]) -> Result<String, AllocError> {
-    match read_request(alloc, body) {
+fn reading(alloc: Global, answer: Result<Reading, ReadFault>) -> Result<String, AllocError> {
+    match answer {
         Ok(reading) => format!(in alloc;
             "points {} foreign {} metrics {}",
             reading.points.as_slice().len(),
@@ -157,6 +159,19 @@ fn reading(alloc: Global, body: &[u8]) -> Result<String, AllocError> {
         Err(ReadFault::NotJson) => String::from_str(alloc, "not JSON"),
         Err(ReadFault::WrongShape(_)) => String::from_str(alloc, "wrong shape"),
     }
+}
+
+/// A body that is read without a memo, and with one when it is new and when it comes again.
+fn readings(alloc: Global, body: &[u8]) -> Result<String, AllocError> {
+    let plain = reading(alloc, read_request(alloc, body))?;
+    let mut memo = Memo::new(alloc);
+    for _ in 0..2 {
+        let told = reading(alloc, read_request_with(alloc, body, &mut memo))?;
+        if told.as_str() != plain.as_str() {
+            return String::from_str(alloc, "another reading");
+        }
+    }
+    Ok(plain)
 }
 
 fn series_name(alloc: Global) -> Result<String, AllocError> {
@@ -247,10 +262,12 @@ fn event_answer(alloc: Global, call: &str) -> Result<String, AllocError> {
 /// What a call answers, in words.
 pub fn answer_of(alloc: Global, call: &str) -> Result<String, AllocError> {
     match call {
-        "read_request" => reading(alloc, MIXED),
-        "read_request of sums" => reading(alloc, SUMS),
-        "read_request of no JSON" => reading(alloc, b"{\"resourceMetrics\":[{\"a\":\"b\"}"),
-        "read_request of another shape" => reading(alloc, b"{\"resourceMetrics\":[null]}"),
+        "read_request" => reading(alloc, read_request(alloc, MIXED)),
+        "read_request of sums" => reading(alloc, read_request(alloc, SUMS)),
+        "read_request of no JSON" => reading(alloc, read_request(alloc, NO_JSON)),
+        "read_request of another shape" => reading(alloc, read_request(alloc, NO_REQUEST)),
+        "read_request_with" => readings(alloc, MIXED),
+        "read_request_with of sums" => readings(alloc, SUMS),
         "status_text" => text_of(alloc, status_text(alloc, "a \"message\"")?),
         "success_text" => text_of(alloc, success_text(alloc, 3)?),
         "turn_text" => text_of(alloc, turn_text(alloc, 1, 2, Act::GiveBack, Some(7))?),
