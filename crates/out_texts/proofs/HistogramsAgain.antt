@@ -25,7 +25,7 @@ use Rattle.otlp_read.specs.Whole.{unsigned_in, signed_in}
 use Rattle.otlp_read.specs.Fields.{field, flags_fit, nanos_in, text_in, is_delta}
 use Rattle.otlp_read.specs.Lists.{elements_in, list_in}
 use Rattle.otlp_read.specs.Containers.{is_object, objects, object_in}
-use Rattle.otlp_read.specs.Streams.{Scope, Stream, stream_in}
+use Rattle.otlp_read.specs.Streams.{Scope, Stream, series_of, stream_in}
 use Rattle.otlp_read.specs.Histograms.{count_in, total_in, histogram_fields, kind_in, histogram_point, histogram_point_in}
 use Rattle.otlp_read.specs.Tallies.{Tally, add_metric}
 use Rattle.otlp_read.specs.Metrics.{part, parts, is_single, add_profile, add_parts, metric}
@@ -144,7 +144,7 @@ kind_again bs h attributes counts count start end total =
     rw (bounds_field attributes counts bs count start end total, bounds_read bs (recursion_from_All IsBound bs h.small), bounds_again bs h) refl
 
 pub histogram_again : (p : DataPoint) (bs : List ℤ) → p.series.kind ≡ Histogram bs → IsMerged p → histogram_point (stream_of p.series) (histogram_point_value bs p) ≡ Some (point_read p)
-unfolding histogram_point
+unfolding histogram_point series_of
 histogram_again p bs k h =
     let long : length p.row ≡ length bs + 4 = h.long ∙ ap row_length k in
     let within : fits (Histogram bs) p.row ≡ true = ap (λ (kind : Kind). fits kind p.row) (sym k) ∙ h.within in

@@ -17,7 +17,7 @@ use Rattle.metric_events.specs.Interval.{Interval, IsInterval}
 use Rattle.metric_events.specs.Rows.{fits, keeps_sign, sum_row}
 use Rattle.metric_events.specs.PointFaults.{sum_fault, is_negative}
 use Rattle.otlp_read.specs.Fields.{field, flags_fit, nanos_in}
-use Rattle.otlp_read.specs.Streams.{Scope, Stream, identity_in, series_in}
+use Rattle.otlp_read.specs.Streams.{Scope, Stream, identity_in, series_in, series_of}
 use Rattle.otlp_read.specs.Sums.{number_in, is_whole_value, sum_fields, sum_point}
 use Rattle.out_texts.specs.Attributes.{attributes_value, attribute_value}
 use Rattle.out_texts.specs.Points.{sum_of, sum_point_value}
@@ -101,7 +101,7 @@ unfolding field attributes_value
 sum_attributes p = refl
 
 pub sum_again : (p : DataPoint) (m : Bool) → p.series.kind ≡ Sum m → IsMerged p → sum_point (record { stream = stream_of p.series; monotonic = m }) (sum_point_value p) ≡ Some (point_read p)
-unfolding sum_point
+unfolding sum_point series_of
 sum_again p m k h =
     let long : length p.row ≡ 3 = h.long ∙ ap row_length k in
     let within : fits (Sum m) p.row ≡ true = ap (λ (kind : Kind). fits kind p.row) (sym k) ∙ h.within in
