@@ -1,2 +1,1 @@
-mod ClosedRounds
 mod ServedRounds

@@ -10,6 +10,7 @@ mod channels;
 mod crew;
 mod fault;
 mod last_line;
+mod one_round;
 mod rounds;
 mod serving;
 mod sums;

@@ -1,18 +1,17 @@
 //! Connections are served by workers over one store, and the report is told at the end.
-ghost use Rattle.std.specs.Prelude.{◌≡◌, ◌++◌, IfOk};
-ghost use Rattle.delta_book.specs.Journal.{history};
-ghost use Rattle.delta_book.specs.Totals.{totals_rows};
-ghost use Rattle.gateway_serve.specs.Ended.{IsEnding};
-ghost use Rattle.gateway_serve.specs.LastLine.{last_line};
-ghost use Rattle.out_texts.specs.Report.{report_text as written_report};
+ghost use Rattle.std.specs.Prelude.{◌≡◌, IfOk, List, [], ◌∷◌};
+ghost use Rattle.gateway_serve.specs.Ended.{IsEnding, ending_text};
+ghost use Rattle.gateway_serve.specs.Rounds.{AreServed, CanServe, IsOver, ServedRound};
 
 use crate::fault::GatewayFault;
 use crate::last_line::put_last_line;
+use crate::one_round::one_round;
 use crate::rounds::serve_rounds;
 use crate::sums::Sums;
 use delta_book::book::Book;
 use gateway_options::ServeOptions;
 use out_texts::report_text;
+use shared_book::audit::Audit;
 use std::alloc::{AllocError, Global};
 use std::net::{Net, TcpListener, TcpStream};
 use std::sync::Wait;
@@ -21,12 +20,29 @@ use std::time::Clock;
 
 /// The report of a book, and the line of the sums.
 fn ending_of(alloc: Global, book: &Book, sums: Sums) -> Result<Vec<u8>, AllocError>
-    ensures { IfOk result (λ text. text.items ≡ written_report (totals_rows (history book.now)) ++ last_line sums) }
+    ensures { IfOk result (λ text. text.items ≡ ending_text book.now sums) }
 {
     let rows = book.totals()?;
     let mut text = report_text(alloc, rows.as_slice())?;
     put_last_line(&mut text, sums)?;
     Ok(text)
+}
+
+/// Has all connections served in rounds, and gives what is to be printed: the report of the last round,
+/// and the sums of all audits.
+fn tell_rounds<F: FnMut(Book, u64) -> Result<(Book, Audit), GatewayFault>>(
+    serve_round: &mut F,
+    alloc: Global,
+    options: &ServeOptions<'_>,
+) -> Result<Vec<u8>, GatewayFault>
+    requires { CanServe F.pre F.step }
+    ensures { IfOk result (λ text. (latest : ServedRound) × (earlier : List ServedRound) × AreServed F.step serve_round.old (latest ∷ earlier) serve_round.new × IsEnding options.now.connections options.now.round latest earlier text.items) }
+{
+    let (book, sums) = serve_rounds(serve_round, alloc, options)?;
+    match ending_of(alloc, &book, sums) {
+        Ok(text) => Ok(text),
+        Err(_) => Err(GatewayFault::NoMemory),
+    }
 }
 
 /// Serves so many connections of a listener by its workers, each flush on a connection of its own to the
@@ -44,20 +60,20 @@ pub fn serve_bound<
     listener: &TcpListener,
     options: &ServeOptions<'_>,
 ) -> Result<Vec<u8>, GatewayFault>
-    ensures { IfOk result (λ text. IsEnding text.items) }
+    ensures { IfOk result (λ text. (latest : ServedRound) × (earlier : List ServedRound) × IsEnding options.now.connections options.now.round latest earlier text.items) }
 {
-    let (book, sums) = serve_rounds(rt, alloc, listener, options)?;
-    match ending_of(alloc, &book, sums) {
-        Ok(text) => Ok(text),
-        Err(_) => Err(GatewayFault::NoMemory),
-    }
+    let mut serve_round = |book: Book, connections: u64| -> Result<(Book, Audit), GatewayFault>
+        requires { book.entries ≡ [] }
+        ensures { IfOk result (λ r. IsOver book r.0 r.1) }
+    { one_round(rt, alloc, listener, options, book, connections) };
+    tell_rounds(&mut serve_round, alloc, options)
 }
 
 /// Listens, and serves as `serve_bound`. `CannotListen` where the address is refused.
 pub fn serve_all<
     R: Net<Listener = TcpListener, Stream = TcpStream> + Threads + Wait + Clock + Sync,
 >(rt: &R, alloc: Global, options: &ServeOptions<'_>) -> Result<Vec<u8>, GatewayFault>
-    ensures { IfOk result (λ text. IsEnding text.items) }
+    ensures { IfOk result (λ text. (latest : ServedRound) × (earlier : List ServedRound) × IsEnding options.now.connections options.now.round latest earlier text.items) }
 {
     let Ok(listener) = TcpListener::bind(rt, options.listen) else {
         return Err(GatewayFault::CannotListen);

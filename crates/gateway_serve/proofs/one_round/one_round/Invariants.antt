@@ -1,4 +1,4 @@
-use Rattle.gateway_serve.proofs.rounds.one_round.Given as goal
+use Rattle.gateway_serve.proofs.one_round.one_round.Given as goal
 
 abbrev pub ghosts-round_over-L-Ledger : goal.ghosts-round_over-L-Ledger
 ghosts-round_over-L-Ledger g a = record { name = a.blank.name; parts = a.blank.parts }

@@ -1,0 +1,68 @@
+//! One round, served by workers in threads.
+ghost use Rattle.std.specs.Prelude.{◌≡◌, ◌+◌, [], IfOk};
+ghost use Rattle.gateway_serve.specs.Rounds.{IsOver};
+
+use crate::crew::serve_beside;
+use crate::fault::GatewayFault;
+use delta_book::book::Book;
+use gateway_options::ServeOptions;
+use shared_book::audit::Audit;
+use shared_book::round::Round;
+use shared_book::shared::SharedBook;
+use std::alloc::Global;
+use std::marker::Brand;
+use std::net::{Net, TcpListener, TcpStream};
+use std::sync::Wait;
+use std::sync::ledger::Blank;
+use std::thread::Threads;
+use std::time::Clock;
+
+/// One round over a ledger: the book is shared, so many connections are served, and all that the
+/// workers were told is compared with the book.
+fn round_over<
+    L: Round + Send + Sync,
+    R: Net<Listener = TcpListener, Stream = TcpStream> + Threads + Wait + Clock + Sync,
+>(
+    rt: &R,
+    alloc: Global,
+    blank: Blank,
+    book: Book,
+    listener: &TcpListener,
+    options: &ServeOptions<'_>,
+    connections: u64,
+) -> Result<(Book, Audit), GatewayFault>
+    requires ledger { (blank.name ≡ L.name) × (blank.parts ≡ L.parts) }
+    requires parts { blank.parts ≡ options.now.receivers + options.now.flushers }
+    requires empty { book.entries ≡ [] }
+    requires opening { book.opening ≡ L.opening }
+    ensures { IfOk result (λ r. IsOver book r.0 r.1) }
+{
+    let seats = options.receivers + options.flushers;
+    let Ok((shared, seats)) = SharedBook::<L>::new(alloc, book, blank, seats) else {
+        return Err(GatewayFault::NoMemory);
+    };
+    let seats = serve_beside(rt, alloc, &shared, seats, listener, options, connections)?;
+    match shared.finish(seats) {
+        Ok(done) => Ok(done),
+        Err(_) => Err(GatewayFault::AuditFailed),
+    }
+}
+
+/// One round over a ledger of its own.
+pub fn one_round<
+    R: Net<Listener = TcpListener, Stream = TcpStream> + Threads + Wait + Clock + Sync,
+>(
+    rt: &R,
+    alloc: Global,
+    listener: &TcpListener,
+    options: &ServeOptions<'_>,
+    book: Book,
+    connections: u64,
+) -> Result<(Book, Audit), GatewayFault>
+    requires empty { book.entries ≡ [] }
+    ensures { IfOk result (λ r. IsOver book r.0 r.1) }
+{
+    let parts = u64::from(options.receivers) + u64::from(options.flushers);
+    let blank = Blank::new(parts);
+    round_over::<Brand, R>(rt, alloc, blank, book, listener, options, connections)
+}
