@@ -1,1 +1,2 @@
+mod SameEnds
 mod ServedRounds

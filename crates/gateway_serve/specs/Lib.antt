@@ -2,3 +2,4 @@ pub mod LastLine
 pub mod Ended
 pub mod TimeLimit
 pub mod Rounds
+pub mod Dialled

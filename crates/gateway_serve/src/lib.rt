@@ -8,6 +8,8 @@ mod backend;
 mod caller;
 mod channels;
 mod crew;
+mod dial;
+mod dialler;
 mod fault;
 mod last_line;
 mod one_round;
@@ -22,6 +24,8 @@ mod worker;
 
 pub use backend::Backend;
 pub use caller::{Caller, MOST_REFUSED};
+pub use dial::Dial;
+pub use dialler::Dialler;
 pub use fault::GatewayFault;
 pub use serving::{serve_all, serve_bound};
 pub use sums::Sums;

@@ -1,5 +1,6 @@
 use crate::backend::Backend;
 use crate::channels::Work;
+use crate::dialler::Dialler;
 use gate_workers::{NoPace, SharedKeeper, flusher_loop, receiver_loop};
 use gateway_options::ServeOptions;
 use shared_book::round::Round;
@@ -27,7 +28,11 @@ pub fn work<L: Round, R: Net<Stream = TcpStream> + Wait + Clock>(
         }
         Work::Flush { orders } => {
             let mut keeper = SharedKeeper::new(rt, alloc, shared, seat, None);
-            let mut backend = Backend::new(rt, alloc, options.backend);
+            let mut backend = Backend::new(
+                Dialler::new(rt, options.backend),
+                alloc,
+                options.backend,
+            );
             let most = options.flush_series;
             flusher_loop(
                 rt,

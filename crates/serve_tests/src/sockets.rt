@@ -3,7 +3,7 @@ use crate::desk::{ACCEPTED, Fixed, POSTED, done, keeper, refused};
 use back_answers::Answer;
 use delta_book::book::Book;
 use gate_workers::{BookKeeper, Connection, End, NoPace, Served, Uplink};
-use gateway_serve::{Backend, Caller};
+use gateway_serve::{Backend, Caller, Dialler};
 use otlp_read::Memo;
 use std::io::{Read, Write};
 use std::net::{Shutdown, TcpListener, TcpStream};
@@ -108,7 +108,7 @@ fn a_body_that_is_too_long_and_still_comes_is_answered(rt: HostRuntime) -> Resul
 #[test]
 fn a_flush_to_nobody_is_returned(rt: HostRuntime) -> Result<(), Fail> {
     let alloc = rt.alloc();
-    let backend = Backend::new(&rt, alloc, "127.0.0.1:9");
+    let backend = Backend::new(Dialler::new(&rt, "127.0.0.1:9"), alloc, "127.0.0.1:9");
     let mut keeper = BookKeeper::new(alloc, Book::new(alloc)?, 0, backend, 1000);
     let _ = answer_to(&rt, &rt, &mut keeper, POSTED, done(End::Confirmed))?;
     let text = answer_to(

@@ -1,0 +1,11 @@
+-- What is said of ends holds of those that tell the same bytes.
+use Rattle.std.proofs.Common.{◌≡◌, ℕ, List, sym}
+use Rattle.std.specs.Prelude.{Option}
+use Rattle.back_answers.specs.declared.answer.Answer.{Answer}
+use Rattle.http_edge.specs.Sent.{Sent}
+use Rattle.http_edge.specs.declared.written.Written.{Written}
+use Rattle.gate_workers.specs.Exchanged.{IsAnswered}
+
+-- an exchange with the back end
+pub exchanged_alike : (i j o p left taken : Option (List ℕ)) (given : ℕ) (one_more : ℕ → ℕ) (old new : ℕ) (request : List ℕ) (w : Written) (a : Answer) → i ≡ j → o ≡ p → Sent o taken request w → IsAnswered i left given one_more old new w a → (Sent p taken request w) × IsAnswered j left given one_more old new w a
+exchanged_alike i j o p left taken given one_more old new request w a input output sent answered = (rw (sym output) sent, rw (sym input) answered)
