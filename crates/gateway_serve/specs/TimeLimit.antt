@@ -1,15 +1,38 @@
 -- What is left of a time that a connection has.
-use Rattle.std.specs.Prelude.{◌≡◌, ◌+◌, ◌-◌, ◌<◌, Option, IfSome}
+use Rattle.std.specs.Prelude.{◌≡◌, ◌-◌, ◌*◌, ◌<◌, ◌≤◌, ℕ, Option, Some, None}
 use Rattle.std.specs.Duration.{as_nanos}
 use Rattle.std.specs.Time.{instant_nanos}
 use Rattle.std.specs.declared.time.Duration.{Duration}
+use Rattle.std.specs.declared.time.Instant.{Instant}
 use Rattle.gateway_serve.specs.declared.time_limit.Run.{Run}
+use Rattle.gateway_serve.specs.declared.time_limit.TheConstants.{LEAST_NANOS, STANDS_MILLIS}
 
--- a wait is what is left of the whole at the moment at which it is told, and that is something
-abbrev pub IsLeft : Duration → Duration → Run → Type 0
-IsLeft whole wait run =
-    (0 < as_nanos wait) × (as_nanos wait + (instant_nanos run.told - instant_nanos run.begun) ≡ as_nanos whole)
+-- how many nanoseconds lie between two moments
+abbrev pub nanos_since : Instant → Instant → ℕ
+nanos_since begun now = instant_nanos now - instant_nanos begun
 
--- what has begun to run goes on from that moment
-abbrev pub GoesOn : Option Run → Option Run → Type 0
-GoesOn old new = IfSome old (λ r. IfSome new (λ s. s.begun ≡ r.begun))
+-- since when a limit runs at this moment: it begins now, if it has not begun
+abbrev pub begun_at : Option Run → Instant → Instant
+begun_at None now = now
+begun_at (Some run) now = run.begun
+
+-- what is left of the whole at this moment
+abbrev pub left_at : Duration → Option Run → Instant → ℕ
+left_at whole run now = as_nanos whole - nanos_since (begun_at run now) now
+
+-- the socket was told a moment ago
+abbrev pub IsFresh : Option Run → Instant → Type 0
+IsFresh None now = ⊥
+IsFresh (Some run) now = nanos_since run.told now < STANDS_MILLIS * 1_000_000
+
+-- what a call answers at this moment, and how the limit runs then. Nothing: the time is over. No wait: a fresh one stands. Else what is left
+abbrev pub IsWaitAt : Duration → Option Run → Instant → Option (Option Duration) → Option Run → Type 0
+IsWaitAt whole run now None next = (left_at whole run now < LEAST_NANOS) × (next ≡ run)
+IsWaitAt whole run now (Some None) next = (LEAST_NANOS ≤ left_at whole run now) × IsFresh run now × (next ≡ run)
+IsWaitAt whole run now (Some (Some wait)) next =
+    (LEAST_NANOS ≤ left_at whole run now) × ¬ (IsFresh run now) × (as_nanos wait ≡ left_at whole run now) × (next ≡ Some (record { begun = begun_at run now; told = now }))
+
+-- the same by a clock: where it fails, the call fails and the limit runs as before
+abbrev pub IsWait : Duration → Option Run → Option Instant → Option (Option Duration) → Option Run → Type 0
+IsWait whole run None answer next = (answer ≡ None) × (next ≡ run)
+IsWait whole run (Some now) answer next = IsWaitAt whole run now answer next

@@ -12,6 +12,7 @@ mod dial;
 mod dialler;
 mod fault;
 mod last_line;
+mod moments;
 mod one_round;
 mod rounds;
 mod serving;

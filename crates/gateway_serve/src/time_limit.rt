@@ -1,11 +1,14 @@
 //! How long a connection may take as a whole.
-ghost use Rattle.std.specs.Prelude.{◌≡◌, ◌*◌, None, IsSome, IfOk, IfSome};
+ghost use Rattle.std.specs.Prelude.{◌≡◌, ◌-◌, ◌*◌, ◌<◌, ◌↔◌, Option, None, IsNone, IfSome};
 ghost use Rattle.std.specs.Duration.{as_nanos};
-ghost use Rattle.gateway_serve.specs.TimeLimit.{GoesOn, IsLeft};
+ghost use Rattle.std.specs.Result.{result_ok};
+ghost use Rattle.std.specs.declared.time.Instant.{Instant};
+ghost use Rattle.gateway_serve.specs.TimeLimit.{IsWait};
 
+use crate::moments::Moments;
 use std::io;
 use std::io::ErrorKind;
-use std::time::{Clock, Duration, Instant};
+use std::time::{Duration, Instant};
 
 /// How many seconds a request has to come whole, head and body, from when a receiver takes its
 /// connection.
@@ -19,7 +22,10 @@ pub const REFUSED_SECONDS: u64 = 5;
 
 /// For how many milliseconds a wait that a socket was told stands before the socket is told anew, so
 /// that what comes at once costs no further call. A wait may end so much behind the limit.
-const STALE_MILLIS: u64 = 10;
+const STANDS_MILLIS: u64 = 10;
+
+/// The least wait that a socket takes, in nanoseconds.
+const LEAST_NANOS: u128 = 1_000;
 
 /// When a limit began to run, and when a socket was last told what was left of it.
 #[derive(Clone, Copy)]
@@ -28,22 +34,36 @@ struct Run {
     told: Instant,
 }
 
-/// So many seconds by the monotonic clock, which begin to run at the first call.
+/// What is left of a limit after so long. None where that is less than a socket takes.
+fn wait_left(limit: Duration, elapsed: Duration) -> Option<Duration>
+    ensures over { IsNone result ↔ (as_nanos limit - as_nanos elapsed < LEAST_NANOS) }
+    ensures left { IfSome result (λ d. as_nanos d ≡ as_nanos limit - as_nanos elapsed) }
+{
+    let left = limit.saturating_sub(elapsed);
+    if left.as_nanos() < LEAST_NANOS {
+        None
+    } else {
+        Some(left)
+    }
+}
+
+/// So many seconds, which begin to run at the first call.
 #[derive(Drop)]
-pub struct TimeLimit<'a, C> {
-    clock: &'a C,
+pub struct TimeLimit<M> {
+    moments: M,
     whole: Duration,
     run: Option<Run>,
 }
 
-impl<'a, C: Clock> TimeLimit<'a, C> {
+impl<M: Moments> TimeLimit<M> {
     /// So many seconds, which have not begun.
-    pub fn new(clock: &'a C, seconds: u64) -> Self
+    pub fn new(moments: M, seconds: u64) -> Self
+        ensures moments { result.moments ≡ moments }
         ensures whole { as_nanos result.whole ≡ seconds * 1_000_000_000 }
         ensures run { result.run ≡ None }
     {
         TimeLimit {
-            clock,
+            moments,
             whole: Duration::from_secs(seconds),
             run: None,
         }
@@ -52,29 +72,24 @@ impl<'a, C: Clock> TimeLimit<'a, C> {
     /// How long the socket may wait at its next call, where it has to be told: what is left. `TimedOut`
     /// once nothing is. A clock that fails fails the call: without one nothing would bound the wait.
     pub fn next_wait(&mut self) -> io::Result<Option<Duration>>
-        ensures first { self.old.run ≡ None → IfOk result (λ wait. IsSome wait) }
-        ensures left { IfOk result (λ wait. IfSome wait (λ d. IfSome self.new.run (IsLeft self.new.whole d))) }
-        ensures begun { GoesOn self.old.run self.new.run }
+        ensures wait { (now : Option Instant) × M.tells self.old.moments now self.new.moments × IsWait self.old.whole self.old.run now (result_ok result) self.new.run }
         ensures whole { self.new.whole ≡ self.old.whole }
     {
-        let now = Instant::now(self.clock)?;
-        let run = self.run.unwrap_or(Run {
-            begun: now,
-            told: now,
-        });
-        let left = self.whole.saturating_sub(now.duration_since(run.begun));
-        // A socket takes no wait of less than a microsecond.
-        if left.as_micros() == 0 {
+        let now = self.moments.now()?;
+        let begun = match self.run {
+            Some(run) => run.begun,
+            None => now,
+        };
+        let Some(left) = wait_left(self.whole, now.duration_since(begun)) else {
             return Err(io::Error::from(ErrorKind::TimedOut));
+        };
+        let stands = Duration::from_millis(STANDS_MILLIS);
+        if let Some(run) = self.run {
+            if now.duration_since(run.told) < stands {
+                return Ok(None);
+            }
         }
-        let stale = Duration::from_millis(STALE_MILLIS);
-        if self.run.is_some() && now.duration_since(run.told) < stale {
-            return Ok(None);
-        }
-        self.run = Some(Run {
-            begun: run.begun,
-            told: now,
-        });
+        self.run = Some(Run { begun, told: now });
         Ok(Some(left))
     }
 }

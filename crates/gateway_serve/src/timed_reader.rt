@@ -1,33 +1,33 @@
 ghost use Rattle.std.specs.Prelude.{◌≡◌};
 
+use crate::moments::Moments;
 use crate::time_limit::TimeLimit;
 use crate::waits::Waits;
 use std::io;
 use std::io::Read;
-use std::time::Clock;
 
 /// A reader that has so many seconds for all its reads, from the first on, however the bytes trickle.
 /// Once they are over each read fails and moves no byte. What the stream says of its bytes, this reader
 /// says.
 #[derive(Drop)]
-pub struct TimedReader<'a, S, C> {
+pub struct TimedReader<S, M> {
     stream: S,
-    limit: TimeLimit<'a, C>,
+    limit: TimeLimit<M>,
 }
 
-impl<'a, S: Read + Waits, C: Clock> TimedReader<'a, S, C> {
+impl<S: Read + Waits, M: Moments> TimedReader<S, M> {
     /// A reader of this stream, whose seconds have not begun.
-    pub fn new(stream: S, clock: &'a C, seconds: u64) -> Self
-        ensures { ⟦<TimedReader<'a, S, C> as Read>⟧.remaining result ≡ S.remaining stream }
+    pub fn new(stream: S, moments: M, seconds: u64) -> Self
+        ensures { ⟦<TimedReader<S, M> as Read>⟧.remaining result ≡ S.remaining stream }
     {
         TimedReader {
             stream,
-            limit: TimeLimit::new(clock, seconds),
+            limit: TimeLimit::new(moments, seconds),
         }
     }
 }
 
-impl<S: Read + Waits, C: Clock> Read for TimedReader<'_, S, C> {
+impl<S: Read + Waits, M: Moments> Read for TimedReader<S, M> {
     ghost remaining = { λ r. S.remaining r.stream };
 
     /// Fails also where the stream takes no bound: no wait is without one.
