@@ -4,7 +4,14 @@ use Rattle.std.specs.Prelude.{Option}
 use Rattle.back_answers.specs.declared.answer.Answer.{Answer}
 use Rattle.http_edge.specs.Sent.{Sent}
 use Rattle.http_edge.specs.declared.written.Written.{Written}
+use Rattle.gate_workers.specs.Conversations.{Giving}
 use Rattle.gate_workers.specs.Exchanged.{IsAnswered}
+use Rattle.gate_workers.specs.Served.{IsServed}
+use Rattle.gate_workers.specs.declared.served.Served.{Served}
+
+-- a request that was served
+pub served_alike : {K : Type 0} (gives : Giving K) (k l : K) (i j o p n : Option (List ℕ)) (s : Served) → i ≡ j → o ≡ p → IsServed gives i k l o n s → IsServed gives j k l p n s
+served_alike gives k l i j o p n s input output h = rw (sym input) (rw (sym output) h)
 
 -- an exchange with the back end
 pub exchanged_alike : (i j o p left taken : Option (List ℕ)) (given : ℕ) (one_more : ℕ → ℕ) (old new : ℕ) (request : List ℕ) (w : Written) (a : Answer) → i ≡ j → o ≡ p → Sent o taken request w → IsAnswered i left given one_more old new w a → (Sent p taken request w) × IsAnswered j left given one_more old new w a

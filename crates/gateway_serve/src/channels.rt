@@ -1,4 +1,4 @@
-use crate::caller::Caller;
+use crate::client_connection::ClientConnection;
 use crate::fault::GatewayFault;
 use crossbeam_channel::{Receiver, Sender, bounded};
 use gate_workers::{CHANNEL_PLACES, Order};
@@ -10,7 +10,7 @@ use std::time::Clock;
 pub enum Work<'a, C> {
     /// It serves connections, and orders flushes.
     Receive {
-        callers: Receiver<Caller<'a, C>>,
+        clients: Receiver<ClientConnection<'a, C>>,
         order: Sender<Order>,
     },
     /// It carries out the flushes that are ordered.
@@ -23,8 +23,8 @@ pub enum Work<'a, C> {
 /// and the workers' are dropped both channels are closed.
 #[derive(Drop)]
 pub struct Channels<'a, C> {
-    hand: Sender<Caller<'a, C>>,
-    callers: Receiver<Caller<'a, C>>,
+    accepted: Sender<ClientConnection<'a, C>>,
+    clients: Receiver<ClientConnection<'a, C>>,
     order: Sender<Order>,
     orders: Receiver<Order>,
 }
@@ -32,15 +32,15 @@ pub struct Channels<'a, C> {
 impl<'a, C: Clock> Channels<'a, C> {
     /// Two empty channels.
     pub fn new(alloc: Global) -> Result<Self, GatewayFault> {
-        let Ok((hand, callers)) = bounded(alloc, CHANNEL_PLACES) else {
+        let Ok((accepted, clients)) = bounded(alloc, CHANNEL_PLACES) else {
             return Err(GatewayFault::NoMemory);
         };
         let Ok((order, orders)) = bounded(alloc, CHANNEL_PLACES) else {
             return Err(GatewayFault::NoMemory);
         };
         Ok(Channels {
-            hand,
-            callers,
+            accepted,
+            clients,
             order,
             orders,
         })
@@ -48,11 +48,11 @@ impl<'a, C: Clock> Channels<'a, C> {
 
     /// The work of a receiver.
     pub fn receiving(&self) -> Result<Work<'a, C>, GatewayFault> {
-        let Ok(callers) = self.callers.clone() else {
+        let Ok(clients) = self.clients.clone() else {
             return Err(GatewayFault::NoMemory);
         };
         match self.order.clone() {
-            Ok(order) => Ok(Work::Receive { callers, order }),
+            Ok(order) => Ok(Work::Receive { clients, order }),
             Err(_) => Err(GatewayFault::NoMemory),
         }
     }
@@ -65,9 +65,9 @@ impl<'a, C: Clock> Channels<'a, C> {
         }
     }
 
-    /// The end that connections are handed to the receivers by. The others are dropped.
-    pub fn into_hand(self) -> Sender<Caller<'a, C>> {
-        let Channels { hand, .. } = self;
-        hand
+    /// The end that accepted connections are handed to the receivers by. The others are dropped.
+    pub fn into_accepted(self) -> Sender<ClientConnection<'a, C>> {
+        let Channels { accepted, .. } = self;
+        accepted
     }
 }

@@ -5,12 +5,12 @@
 #![tactic(auto)]
 
 mod backend;
-mod caller;
 mod channels;
-mod crew;
+mod client_connection;
 mod dial;
 mod dialler;
 mod fault;
+mod finish;
 mod last_line;
 mod moments;
 mod one_round;
@@ -22,9 +22,10 @@ mod timed_reader;
 mod timed_writer;
 mod waits;
 mod worker;
+mod workers;
 
 pub use backend::Backend;
-pub use caller::{Caller, MOST_REFUSED};
+pub use client_connection::{ClientConnection, MOST_REFUSED};
 pub use dial::Dial;
 pub use dialler::Dialler;
 pub use fault::GatewayFault;

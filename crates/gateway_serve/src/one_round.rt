@@ -2,8 +2,8 @@
 ghost use Rattle.std.specs.Prelude.{◌≡◌, ◌+◌, [], IfOk};
 ghost use Rattle.gateway_serve.specs.Rounds.{IsOver};
 
-use crate::crew::serve_beside;
 use crate::fault::GatewayFault;
+use crate::workers::serve_beside;
 use delta_book::book::Book;
 use gateway_options::ServeOptions;
 use shared_book::audit::Audit;

@@ -20,3 +20,13 @@ impl Waits for &TcpStream {
         self.set_write_timeout(Some(wait))
     }
 }
+
+impl<S: Waits> Waits for &mut S {
+    fn bound_reads(&self, wait: Duration) -> io::Result<()> {
+        (**self).bound_reads(wait)
+    }
+
+    fn bound_writes(&self, wait: Duration) -> io::Result<()> {
+        (**self).bound_writes(wait)
+    }
+}

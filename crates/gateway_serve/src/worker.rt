@@ -21,9 +21,9 @@ pub fn work<L: Round, R: Net<Stream = TcpStream> + Wait + Clock>(
     work: Work<'_, R>,
 ) -> Seat<L> {
     match work {
-        Work::Receive { callers, order } => {
+        Work::Receive { clients, order } => {
             let mut keeper = SharedKeeper::new(rt, alloc, shared, seat, Some(order));
-            receiver_loop(rt, alloc, callers, &mut keeper, &mut NoPace);
+            receiver_loop(rt, alloc, clients, &mut keeper, &mut NoPace);
             keeper.into_seat()
         }
         Work::Flush { orders } => {

@@ -3,7 +3,7 @@ use crate::desk::{ACCEPTED, Fixed, POSTED, done, keeper, refused};
 use back_answers::Answer;
 use delta_book::book::Book;
 use gate_workers::{BookKeeper, Connection, End, NoPace, Served, Uplink};
-use gateway_serve::{Backend, Caller, Dialler};
+use gateway_serve::{Backend, ClientConnection, Dialler};
 use otlp_read::Memo;
 use std::io::{Read, Write};
 use std::net::{Shutdown, TcpListener, TcpStream};
@@ -24,7 +24,7 @@ fn answer_to<R: Abort, U: Uplink + Drop>(
     client.shutdown(Shutdown::Write)?;
     let (stream, _) = listener.accept()?;
     let mut memo = Memo::new(net.alloc());
-    let got = Caller::new(net, stream).serve(net.alloc(), keeper, &mut NoPace, &mut memo);
+    let got = ClientConnection::new(net, stream).serve(net.alloc(), keeper, &mut NoPace, &mut memo);
     assert_eq!(rt; got, served);
     let mut text = Vec::new(net.alloc());
     client.read_to_end(&mut text)?;
@@ -44,7 +44,7 @@ fn answers_before_the_end<R: Abort>(
     client.write_all(request)?;
     let (stream, _) = listener.accept()?;
     let mut memo = Memo::new(net.alloc());
-    let _ = Caller::new(net, stream).serve(net.alloc(), keeper, &mut NoPace, &mut memo);
+    let _ = ClientConnection::new(net, stream).serve(net.alloc(), keeper, &mut NoPace, &mut memo);
     let mut text = Vec::new(net.alloc());
     client.read_to_end(&mut text)?;
     assert!(rt; text.as_slice().starts_with(line));

@@ -1,6 +1,6 @@
 //! The workers of a round, each in a thread of its own.
-use crate::caller::Caller;
 use crate::channels::{Channels, Work};
+use crate::client_connection::ClientConnection;
 use crate::fault::GatewayFault;
 use crate::worker::work;
 use gateway_options::ServeOptions;
@@ -39,12 +39,15 @@ fn accept_all<'a, R: Wait + Clock>(
     connections: u64,
 ) -> Result<(), GatewayFault> {
     started?;
-    let hand = channels.into_hand();
+    let accepted = channels.into_accepted();
     for _ in 0..connections {
         let Ok((stream, _)) = listener.accept() else {
             return Err(GatewayFault::CannotAccept);
         };
-        if hand.send(rt, Caller::new(rt, stream)).is_err() {
+        if accepted
+            .send(rt, ClientConnection::new(rt, stream))
+            .is_err()
+        {
             return Err(GatewayFault::NoMemory);
         }
     }
