@@ -3,3 +3,4 @@ pub mod Ended
 pub mod TimeLimit
 pub mod Rounds
 pub mod Dialled
+pub mod Passed

@@ -4,6 +4,7 @@
 //! the connections is which calls the keeper gets.
 #![tactic(auto)]
 
+mod accepting;
 mod backend;
 mod channels;
 mod client_connection;

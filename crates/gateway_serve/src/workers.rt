@@ -1,6 +1,6 @@
 //! The workers of a round, each in a thread of its own.
+use crate::accepting::{Entrance, accept_all};
 use crate::channels::{Channels, Work};
-use crate::client_connection::ClientConnection;
 use crate::fault::GatewayFault;
 use crate::worker::work;
 use gateway_options::ServeOptions;
@@ -31,7 +31,7 @@ fn work_of<'a, C: Clock>(
 
 /// Accepts so many connections where all workers have started, and hands them to the receivers. May
 /// wait for a free one. Drops all these ends of the channels.
-fn accept_all<'a, R: Wait + Clock>(
+fn accept_for<'a, R: Wait + Clock>(
     rt: &'a R,
     started: Result<(), GatewayFault>,
     channels: Channels<'a, R>,
@@ -39,19 +39,9 @@ fn accept_all<'a, R: Wait + Clock>(
     connections: u64,
 ) -> Result<(), GatewayFault> {
     started?;
-    let accepted = channels.into_accepted();
-    for _ in 0..connections {
-        let Ok((stream, _)) = listener.accept() else {
-            return Err(GatewayFault::CannotAccept);
-        };
-        if accepted
-            .send(rt, ClientConnection::new(rt, stream))
-            .is_err()
-        {
-            return Err(GatewayFault::NoMemory);
-        }
-    }
-    Ok(())
+    let mut entrance = Entrance::new(rt, listener);
+    let mut receivers = channels.into_accepted();
+    accept_all(rt, &mut entrance, &mut receivers, connections)
 }
 
 /// Waits for all workers, and gives their seats.
@@ -104,7 +94,7 @@ pub fn serve_beside<
                 break;
             }
         }
-        let served = accept_all(rt, started, channels, listener, connections);
+        let served = accept_for(rt, started, channels, listener, connections);
         let seats = join_all(rt, alloc, running);
         served?;
         seats
