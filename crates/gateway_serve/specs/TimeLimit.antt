@@ -1,5 +1,5 @@
 -- What is left of a time that a connection has.
-use Rattle.std.specs.Prelude.{◌≡◌, ◌-◌, ◌*◌, ◌<◌, ◌≤◌, ℕ, Option, Some, None}
+use Rattle.std.specs.Prelude.{◌≡◌, ◌-◌, ◌*◌, ◌<◌, ◌≤◌, ℕ, Option, Some, None, Result, IsErr, OnOk}
 use Rattle.std.specs.Duration.{as_nanos}
 use Rattle.std.specs.Time.{instant_nanos}
 use Rattle.std.specs.declared.time.Duration.{Duration}
@@ -36,3 +36,9 @@ IsWaitAt whole run now (Some (Some wait)) next =
 abbrev pub IsWait : Duration → Option Run → Option Instant → Option (Option Duration) → Option Run → Type 0
 IsWait whole run None answer next = (answer ≡ None) × (next ≡ run)
 IsWait whole run (Some now) answer next = IsWaitAt whole run now answer next
+
+-- a call of an end with a limit asks it once, and fails where the time is over; where it has a wait to tell, it goes on only once that was told
+abbrev pub IsTimed : {X E : Type 0} → Option (Option Duration) → (Duration → Type 0) → Result X E → Type 0
+IsTimed None told result = IsErr result
+IsTimed (Some None) told result = Unit {0}
+IsTimed (Some (Some wait)) told result = OnOk result (told wait)

@@ -1,7 +1,8 @@
 //! The gateway as a library: its sockets, its threads, and the rounds of its store. What is done with
 //! a request and with a flush is `gate_workers`'s, and what the workers share is `shared_book`'s; here
-//! are the calls of the system. No contract can say what a socket gives or takes, so what is proved of
-//! the connections is which calls the keeper gets.
+//! are the calls of the system. No contract can say what a socket gives or takes. So what is proved
+//! stands over traits, of what accepts, dials and tells the moment, and of streams; their impls over
+//! the system's only forward.
 #![tactic(auto)]
 
 mod accepting;
@@ -30,6 +31,7 @@ pub use client_connection::{ClientConnection, MOST_REFUSED};
 pub use dial::Dial;
 pub use dialler::Dialler;
 pub use fault::GatewayFault;
+pub use moments::Moments;
 pub use serving::{serve_all, serve_bound};
 pub use sums::Sums;
 pub use time_limit::{ANSWER_SECONDS, REFUSED_SECONDS, REQUEST_SECONDS};

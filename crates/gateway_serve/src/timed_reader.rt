@@ -1,4 +1,9 @@
-ghost use Rattle.std.specs.Prelude.{◌≡◌};
+ghost use Rattle.std.specs.Prelude.{◌≡◌, Option};
+ghost use Rattle.std.specs.Io.{ReadsAtMost};
+ghost use Rattle.std.specs.Io.KnownBytes.{ReadConsumes};
+ghost use Rattle.std.specs.declared.time.Duration.{Duration};
+ghost use Rattle.std.specs.declared.time.Instant.{Instant};
+ghost use Rattle.gateway_serve.specs.TimeLimit.{IsTimed, IsWait};
 
 use crate::moments::Moments;
 use crate::time_limit::TimeLimit;
@@ -31,7 +36,11 @@ impl<S: Read + Waits, M: Moments> Read for TimedReader<S, M> {
     ghost remaining = { λ r. S.remaining r.stream };
 
     /// Fails also where the stream takes no bound: no wait is without one.
-    fn read(&mut self, buf: &mut [u8]) -> io::Result<usize> {
+    fn read(&mut self, buf: &mut [u8]) -> io::Result<usize>
+        ensures bound { ReadsAtMost result buf.new }
+        ensures bytes { ReadConsumes (S.remaining self.old.stream) (S.remaining self.new.stream) result buf.new }
+        ensures timed { (now : Option Instant) × (answer : Option (Option Duration)) × M.tells self.old.limit.moments now self.new.limit.moments × IsWait self.old.limit.whole self.old.limit.run now answer self.new.limit.run × IsTimed answer (S.bounds_reads self.old.stream) result }
+    {
         if let Some(wait) = self.limit.next_wait()? {
             self.stream.bound_reads(wait)?;
         }

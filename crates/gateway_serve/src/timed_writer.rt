@@ -1,4 +1,9 @@
-ghost use Rattle.std.specs.Prelude.{◌≡◌};
+ghost use Rattle.std.specs.Prelude.{◌≡◌, Option};
+ghost use Rattle.std.specs.Io.{WritesAtMost};
+ghost use Rattle.std.specs.Io.KnownBytes.{WriteAppends};
+ghost use Rattle.std.specs.declared.time.Duration.{Duration};
+ghost use Rattle.std.specs.declared.time.Instant.{Instant};
+ghost use Rattle.gateway_serve.specs.TimeLimit.{IsTimed, IsWait};
 
 use crate::moments::Moments;
 use crate::time_limit::TimeLimit;
@@ -31,7 +36,11 @@ impl<S: Write + Waits, M: Moments> Write for TimedWriter<S, M> {
     ghost contents = { λ w. S.contents w.stream };
 
     /// Fails also where the stream takes no bound: no wait is without one.
-    fn write(&mut self, bytes: &[u8]) -> io::Result<usize> {
+    fn write(&mut self, bytes: &[u8]) -> io::Result<usize>
+        ensures bound { WritesAtMost result bytes.now }
+        ensures bytes { WriteAppends (S.contents self.old.stream) (S.contents self.new.stream) result bytes.now }
+        ensures timed { (now : Option Instant) × (answer : Option (Option Duration)) × M.tells self.old.limit.moments now self.new.limit.moments × IsWait self.old.limit.whole self.old.limit.run now answer self.new.limit.run × IsTimed answer (S.bounds_writes self.old.stream) result }
+    {
         if let Some(wait) = self.limit.next_wait()? {
             self.stream.bound_writes(wait)?;
         }
