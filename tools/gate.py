@@ -36,6 +36,7 @@ STEPS = (
     ("gateway_rehearses.sh", GATEWAY, 5, False),
     ("hostile_input.py", GATEWAY, 5, False),
     ("play_ends.sh", PLAY, 1, False),
+    ("readme_examples.py", PLAY, 1, False),
     ("gateway_load.py", GATEWAY, 5, True),
 )
 STEP_LIMIT = 600

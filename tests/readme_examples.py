@@ -1,0 +1,58 @@
+#!/usr/bin/env python3
+"""What the READMEs show is what is run: each crate's example is a file of crates/examples, whose tests the gate
+runs, and the top README's script has the replies of the built program play.
+
+    tests/readme_examples.py PROGRAM
+
+PROGRAM is the built play. The last line tells how many examples there were and how many were wrong, and then the
+status is 1.
+"""
+import os
+import re
+import subprocess
+import sys
+
+ROOT = os.path.dirname(os.path.dirname(os.path.abspath(__file__)))
+CRATE_BLOCK = re.compile(r"^## Example\n.*?^```rust\n(.*?)^```$", re.MULTILINE | re.DOTALL)
+PLAY_BLOCK = re.compile(r"^\$ (printf .*\| )bin/play\n(.*?)^```$", re.MULTILINE | re.DOTALL)
+
+
+def content(path):
+    with open(f"{ROOT}/{path}", encoding="utf-8") as file:
+        return file.read()
+
+
+def crate_examples():
+    """Of each crate with a README its name, the example there, and the file that is run."""
+    for name in sorted(os.listdir(f"{ROOT}/crates")):
+        if os.path.isfile(f"{ROOT}/crates/{name}/README.md"):
+            found = CRATE_BLOCK.findall(content(f"crates/{name}/README.md"))
+            path = f"crates/examples/src/uses_{name}.rt"
+            ran = content(path) if os.path.isfile(f"{ROOT}/{path}") else None
+            yield f"crates/{name}/README.md", found, [ran]
+
+
+def play_examples(program):
+    """Of each script of the top README what is shown as its replies, and what the program replies."""
+    for number, (before, shown) in enumerate(PLAY_BLOCK.findall(content("README.md")), 1):
+        command = f'{before}"$0"'
+        ran = subprocess.run(["sh", "-c", command, program], stdout=subprocess.PIPE, timeout=60)
+        yield f"README.md, script {number}", shown, ran.stdout.decode()
+
+
+def main(words):
+    if len(words) != 1 or not os.access(words[0], os.X_OK):
+        sys.exit(f"usage: {sys.argv[0]} PROGRAM")
+    scripts = list(play_examples(os.path.abspath(words[0])))
+    examples = [*crate_examples(), *scripts]
+    wrong = [where for where, shown, ran in examples if shown != ran]
+    if not scripts:
+        wrong.append("README.md: no script of play")
+    for where in wrong:
+        print(f"wrong: {where}")
+    print(f"{len(examples)} examples, {len(wrong)} wrong")
+    return 1 if wrong else 0
+
+
+if __name__ == "__main__":
+    sys.exit(main(sys.argv[1:]))
