@@ -28,10 +28,10 @@ pub struct Desk {
 /// A keeper over a book and an uplink of its own, which waits for nobody.
 #[derive(Drop)]
 pub struct BookKeeper<U> {
-    pub(crate) desk: Desk,
-    pub(crate) uplink: U,
-    pub(crate) max: usize,
-    pub(crate) alloc: Global,
+    desk: Desk,
+    uplink: U,
+    max: usize,
+    alloc: Global,
     ghost few: { (1 ≤ max) × (max ≤ MAX_TAKEN) },
 }
 

@@ -35,7 +35,7 @@ pub fn before(mark: u8, bytes: &[u8]) -> &[u8]
 }
 
 /// The first `n` bytes, or all, and those behind them.
-pub fn cut(bytes: &[u8], n: usize) -> (&[u8], &[u8])
+fn cut(bytes: &[u8], n: usize) -> (&[u8], &[u8])
     ensures front { result.0.now ≡ take n bytes.now }
     ensures behind { result.1.now ≡ drop n bytes.now }
 {

@@ -66,12 +66,7 @@ fn heard_of(fault: HttpFault) -> Heard
 
 /// Reads a message, and what it asks for. No read follows the one that completes the message, or
 /// shows that there is none.
-pub fn listen<S: Source, P: Pace>(
-    alloc: Global,
-    reader: &mut S,
-    pace: &mut P,
-    memo: &mut Memo,
-) -> Heard
+fn listen<S: Source, P: Pace>(alloc: Global, reader: &mut S, pace: &mut P, memo: &mut Memo) -> Heard
     ensures heard { Hears (S.remaining reader.old) result }
     ensures failed { HearingFails S.one_more (S.failures reader.old) (S.failures reader.new)
         result }
