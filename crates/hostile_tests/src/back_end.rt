@@ -1,5 +1,5 @@
 //! A back end that breaks off, over scripted ends: what the exchange answers, and what becomes of the flush.
-use crate::gate::{ACCEPTED, POSTED, bytewise};
+use crate::gate::bytewise;
 use back_answers::Answer;
 use byte_ends::{Script, Step, Tape};
 use delta_book::book::Book;
@@ -7,6 +7,7 @@ use gate_workers::{BookKeeper, NoPace, Uplink, exchange, serve_book};
 use std::alloc::Global;
 use std::process::Abort;
 use std::test::Fail;
+use test_support::{ACCEPTED, POSTED};
 
 const OK: &[u8] = b"HTTP/1.1 200 OK\r\n\r\n";
 

@@ -1,5 +1,5 @@
 //! Input that is no request, and bodies that are no metrics, each with its whole answer.
-use crate::gate::{MALFORMED, POSTED, joined, outcome_of, repeated};
+use crate::gate::{MALFORMED, joined, outcome_of, repeated};
 use byte_ends::Step;
 use gate_workers::{End, Served};
 use http_edge::Written;
@@ -7,26 +7,40 @@ use otlp_read::{Place, ReadFault, read_request};
 use std::alloc::Global;
 use std::process::Abort;
 use std::test::Fail;
+use test_support::{POSTED, post};
 
-const TOO_LONG: &[u8] =
-    b"HTTP/1.1 413 Payload Too Large\r\nContent-Type: application/json\r\nContent-Length: 27\r\nConnection: close\r\n\r\n{\"message\":\"body too long\"}";
+const TOO_LONG: &[u8] = b"HTTP/1.1 413 Payload Too Large\r\n\
+        Content-Type: application/json\r\n\
+        Content-Length: 27\r\n\
+        Connection: close\r\n\r\n\
+        {\"message\":\"body too long\"}";
 
-const NOT_JSON: &[u8] =
-    b"HTTP/1.1 400 Bad Request\r\nContent-Type: application/json\r\nContent-Length: 22\r\nConnection: close\r\n\r\n{\"message\":\"not JSON\"}";
+const NOT_JSON: &[u8] = b"HTTP/1.1 400 Bad Request\r\n\
+        Content-Type: application/json\r\n\
+        Content-Length: 22\r\n\
+        Connection: close\r\n\r\n\
+        {\"message\":\"not JSON\"}";
 
-const WRONG_SHAPE: &[u8] =
-    b"HTTP/1.1 400 Bad Request\r\nContent-Type: application/json\r\nContent-Length: 25\r\nConnection: close\r\n\r\n{\"message\":\"wrong shape\"}";
+const WRONG_SHAPE: &[u8] = b"HTTP/1.1 400 Bad Request\r\n\
+        Content-Type: application/json\r\n\
+        Content-Length: 25\r\n\
+        Connection: close\r\n\r\n\
+        {\"message\":\"wrong shape\"}";
 
 /// The report of an empty book.
-const NO_SERIES: &[u8] =
-    b"HTTP/1.1 200 OK\r\nContent-Type: text/plain\r\nContent-Length: 4\r\nConnection: close\r\n\r\nend\n";
+const NO_SERIES: &[u8] = b"HTTP/1.1 200 OK\r\n\
+        Content-Type: text/plain\r\n\
+        Content-Length: 4\r\n\
+        Connection: close\r\n\r\n\
+        end\n";
 
 /// A list whose first element is null.
 const NULL_RESOURCE: &[u8] = b"{\"resourceMetrics\":[null]}";
 
 /// Points of which the second is a number.
 const NUMBER_POINT: &[u8] =
-    b"{\"resourceMetrics\":[{\"scopeMetrics\":[{\"metrics\":[{\"sum\":{\"dataPoints\":[{},5]}}]}]}]}";
+    b"{\"resourceMetrics\":[{\"scopeMetrics\":[{\"metrics\":[{\"sum\":{\"dataPoints\":[{},\
+        5]}}]}]}]}";
 
 /// The request is answered by this text, of this status, and nothing is entered. Gives how many of its
 /// bytes were not read.
@@ -49,15 +63,6 @@ fn answered<R: Abort>(
     Ok(got.unread)
 }
 
-/// A post of this body.
-fn posted(alloc: Global, body: &[u8]) -> Result<Vec<u8>, Fail> {
-    let head = format!(in alloc;
-        "POST /v1/metrics HTTP/1.1\r\nContent-Type: application/json\r\nContent-Length: {}\r\n\r\n",
-        body.len()
-    )?;
-    joined(alloc, &[head.as_bytes(), body])
-}
-
 #[test]
 fn a_head_without_end(rt: HostRuntime) -> Result<(), Fail> {
     let endless = repeated(rt.alloc(), b"a", 100_000)?;
@@ -69,9 +74,25 @@ fn a_head_without_end(rt: HostRuntime) -> Result<(), Fail> {
 #[test]
 fn heads_that_frame_no_body(rt: HostRuntime) -> Result<(), Fail> {
     let requests: [&[u8]; 3] = [
-        b"POST /v1/metrics HTTP/1.1\r\nContent-Type: application/json\r\nContent-Length: 2\r\nContent-Length: 2\r\n\r\n{}",
-        b"POST /v1/metrics HTTP/1.1\r\nContent-Type: application/json\r\nContent-Length: 2\r\nTransfer-Encoding: chunked\r\n\r\n2\r\n{}\r\n0\r\n\r\n",
-        b"POST /v1/metrics HTTP/1.1\r\nContent-Type: application/json\r\nTransfer-Encoding: chunked\r\nContent-Length: 2\r\n\r\n2\r\n{}\r\n0\r\n\r\n",
+        b"POST /v1/metrics HTTP/1.1\r\n\
+            Content-Type: application/json\r\n\
+            Content-Length: 2\r\n\
+            Content-Length: 2\r\n\r\n\
+            {}",
+        b"POST /v1/metrics HTTP/1.1\r\n\
+            Content-Type: application/json\r\n\
+            Content-Length: 2\r\n\
+            Transfer-Encoding: chunked\r\n\r\n\
+            2\r\n\
+            {}\r\n\
+            0\r\n\r\n",
+        b"POST /v1/metrics HTTP/1.1\r\n\
+            Content-Type: application/json\r\n\
+            Transfer-Encoding: chunked\r\n\
+            Content-Length: 2\r\n\r\n\
+            2\r\n\
+            {}\r\n\
+            0\r\n\r\n",
     ];
     for request in requests {
         let _ = answered(&rt, rt.alloc(), request, 400, MALFORMED)?;
@@ -83,7 +104,11 @@ fn heads_that_frame_no_body(rt: HostRuntime) -> Result<(), Fail> {
 fn another_version_and_a_chunk_without_end(rt: HostRuntime) -> Result<(), Fail> {
     let requests: [&[u8]; 2] = [
         b"GET /report HTTP/2.0\r\n\r\n",
-        b"POST /v1/metrics HTTP/1.1\r\nContent-Type: application/json\r\nTransfer-Encoding: chunked\r\n\r\n2\r\n{}xx",
+        b"POST /v1/metrics HTTP/1.1\r\n\
+            Content-Type: application/json\r\n\
+            Transfer-Encoding: chunked\r\n\r\n\
+            2\r\n\
+            {}xx",
     ];
     for request in requests {
         let _ = answered(&rt, rt.alloc(), request, 400, MALFORMED)?;
@@ -95,8 +120,10 @@ fn another_version_and_a_chunk_without_end(rt: HostRuntime) -> Result<(), Fail> 
 fn chunks_that_add_up_to_too_much(rt: HostRuntime) -> Result<(), Fail> {
     let alloc = rt.alloc();
     let chunk: Vec<u8> = vec![in alloc; b' '; 4_194_304]?;
-    let head =
-        b"POST /v1/metrics HTTP/1.1\r\nContent-Type: application/json\r\nTransfer-Encoding: chunked\r\n\r\n400000\r\n";
+    let head = b"POST /v1/metrics HTTP/1.1\r\n\
+            Content-Type: application/json\r\n\
+            Transfer-Encoding: chunked\r\n\r\n\
+            400000\r\n";
     let request = joined(alloc, &[head, chunk.as_slice(), b"\r\n1\r\n"])?;
     let _ = answered(&rt, alloc, request.as_slice(), 413, TOO_LONG)?;
     Ok(())
@@ -121,7 +148,7 @@ fn nested_arrays(rt: HostRuntime) -> Result<(), Fail> {
         let opened = repeated(alloc, b"[", depth)?;
         let closed = repeated(alloc, b"]", depth)?;
         let body = joined(alloc, &[opened.as_slice(), closed.as_slice()])?;
-        let request = posted(alloc, body.as_slice())?;
+        let request = post(alloc, body.as_slice())?;
         let _ = answered(&rt, alloc, request.as_slice(), 400, text)?;
     }
     Ok(())
@@ -137,7 +164,7 @@ fn bodies_that_are_no_metrics(rt: HostRuntime) -> Result<(), Fail> {
         (NUMBER_POINT, WRONG_SHAPE),
     ];
     for (body, text) in bodies {
-        let request = posted(alloc, body)?;
+        let request = post(alloc, body)?;
         let _ = answered(&rt, alloc, request.as_slice(), 400, text)?;
     }
     Ok(())

@@ -1,10 +1,11 @@
 //! A writer that takes so many bytes of the answer and then fails.
-use crate::gate::{ACCEPTED, Outcome, POSTED, bytewise, outcome_of};
+use crate::gate::{Outcome, bytewise, outcome_of};
 use byte_ends::Step;
 use gate_workers::{End, Served};
 use http_edge::Written;
 use std::process::Abort;
 use std::test::Fail;
+use test_support::{ACCEPTED, POSTED};
 
 /// The batch ended so, after so much of the answer was written: its admission and its end are the two
 /// entries, and as many series are there.

@@ -1,9 +1,10 @@
 //! Each fault of reading a message but want of memory.
-use crate::gate::{POSTED, joined, repeated};
+use crate::gate::{joined, repeated};
 use byte_ends::{Script, Step};
 use http_edge::{HttpFault, read_message};
 use std::alloc::Global;
 use std::test::Fail;
+use test_support::POSTED;
 
 /// The fault of the bytes, and None where they are read.
 fn fault_of(alloc: Global, bytes: &[u8]) -> Option<HttpFault> {
@@ -20,7 +21,12 @@ fn of_short_input(rt: HostRuntime) -> Result<(), Fail> {
             HttpFault::BadLength,
         ),
         (
-            b"GET / HTTP/1.1\r\nContent-Length: 2\r\nTransfer-Encoding: chunked\r\n\r\n2\r\n{}\r\n0\r\n\r\n",
+            b"GET / HTTP/1.1\r\n\
+                Content-Length: 2\r\n\
+                Transfer-Encoding: chunked\r\n\r\n\
+                2\r\n\
+                {}\r\n\
+                0\r\n\r\n",
             HttpFault::BadLength,
         ),
         (

@@ -19,17 +19,12 @@ impl Uplink for Nobody {
     }
 }
 
-/// A body with a point of 5 in (10, 20] of the sum `a`, posted.
-pub const POSTED: &[u8] =
-    b"POST /v1/metrics HTTP/1.1\r\nContent-Type: application/json\r\nContent-Length: 195\r\n\r\n{\"resourceMetrics\":[{\"scopeMetrics\":[{\"metrics\":[{\"name\":\"a\",\"sum\":{\"aggregationTemporality\":1,\"isMonotonic\":true,\"dataPoints\":[{\"asInt\":\"5\",\"startTimeUnixNano\":\"10\",\"timeUnixNano\":\"20\"}]}}]}]}]}";
-
-/// All of the response to it, 91 bytes.
-pub const ACCEPTED: &[u8] =
-    b"HTTP/1.1 200 OK\r\nContent-Type: application/json\r\nContent-Length: 2\r\nConnection: close\r\n\r\n{}";
-
 /// All of the response to what is no request.
-pub const MALFORMED: &[u8] =
-    b"HTTP/1.1 400 Bad Request\r\nContent-Type: application/json\r\nContent-Length: 31\r\nConnection: close\r\n\r\n{\"message\":\"malformed request\"}";
+pub const MALFORMED: &[u8] = b"HTTP/1.1 400 Bad Request\r\n\
+        Content-Type: application/json\r\n\
+        Content-Length: 31\r\n\
+        Connection: close\r\n\r\n\
+        {\"message\":\"malformed request\"}";
 
 /// What became of a request: the answer, what was written of it, how many bytes were left unread, and
 /// the book after it.

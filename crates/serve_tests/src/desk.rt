@@ -1,40 +1,13 @@
 //! A book behind an uplink that gives one answer, and requests to it.
-ghost use Rattle.std.specs.Prelude.{◌≡◌};
-
 use back_answers::Answer;
 use byte_ends::{Script, Tape};
 use delta_book::book::Book;
-use gate_workers::{BookKeeper, End, NoPace, Served, Uplink, serve_book};
+use gate_workers::{BookKeeper, End, NoPace, Served, serve_book};
 use http_edge::Written;
 use std::alloc::Global;
 use std::process::Abort;
 use std::test::Fail;
-
-/// An uplink that gives one answer.
-#[derive(Drop)]
-pub struct Fixed {
-    answer: Answer,
-}
-
-impl Uplink for Fixed {
-    ghost sends = { λ u bytes answer w. answer ≡ u.answer };
-
-    fn send(&mut self, _bytes: &[u8]) -> Answer {
-        self.answer
-    }
-}
-
-/// A body with a point of 5 in (10, 20] of the sum `a`, posted.
-pub const POSTED: &[u8] =
-    b"POST /v1/metrics HTTP/1.1\r\nContent-Type: application/json\r\nContent-Length: 195\r\n\r\n{\"resourceMetrics\":[{\"scopeMetrics\":[{\"metrics\":[{\"name\":\"a\",\"sum\":{\"aggregationTemporality\":1,\"isMonotonic\":true,\"dataPoints\":[{\"asInt\":\"5\",\"startTimeUnixNano\":\"10\",\"timeUnixNano\":\"20\"}]}}]}]}]}";
-
-/// The same with (20, 30].
-pub const LATER: &[u8] =
-    b"POST /v1/metrics HTTP/1.1\r\nContent-Type: application/json\r\nContent-Length: 195\r\n\r\n{\"resourceMetrics\":[{\"scopeMetrics\":[{\"metrics\":[{\"name\":\"a\",\"sum\":{\"aggregationTemporality\":1,\"isMonotonic\":true,\"dataPoints\":[{\"asInt\":\"5\",\"startTimeUnixNano\":\"20\",\"timeUnixNano\":\"30\"}]}}]}]}]}";
-
-/// All of the response to a post.
-pub const ACCEPTED: &[u8] =
-    b"HTTP/1.1 200 OK\r\nContent-Type: application/json\r\nContent-Length: 2\r\nConnection: close\r\n\r\n{}";
+use test_support::Fixed;
 
 pub fn keeper(alloc: Global, answer: Answer) -> Result<BookKeeper<Fixed>, Fail> {
     let book = Book::new(alloc)?;

@@ -7,7 +7,11 @@ use std::test::Fail;
 
 /// The request that forwards a point of 5 in (10, 20] of the sum `a`.
 const FORWARDED: &[u8] =
-    b"{\"resourceMetrics\":[{\"resource\":{\"attributes\":[]},\"scopeMetrics\":[{\"metrics\":[{\"name\":\"a\",\"sum\":{\"aggregationTemporality\":1,\"dataPoints\":[{\"asInt\":\"5\",\"attributes\":[],\"startTimeUnixNano\":\"10\",\"timeUnixNano\":\"20\"}],\"isMonotonic\":true},\"unit\":\"\"}],\"scope\":{\"attributes\":[],\"name\":\"\",\"version\":\"\"}}]}]}";
+    b"{\"resourceMetrics\":[{\"resource\":{\"attributes\":[]},\"scopeMetrics\":[{\"metrics\":[\
+        {\"name\":\"a\",\"sum\":{\"aggregationTemporality\":1,\"dataPoints\":[{\"asInt\":\"5\",\
+        \"attributes\":[],\"startTimeUnixNano\":\"10\",\"timeUnixNano\":\"20\"}],\
+        \"isMonotonic\":true},\"unit\":\"\"}],\"scope\":{\"attributes\":[],\"name\":\"\",\
+        \"version\":\"\"}}]}]}";
 
 fn answer_to(alloc: Global, reply: &[u8], steps: &[Step]) -> Answer {
     let mut reader = Script::new(reply, &[]);
@@ -22,8 +26,12 @@ fn writes_the_request(rt: HostRuntime) -> Result<(), Fail> {
     let mut writer = Tape::new(alloc, &[]);
     let answer = exchange(alloc, &mut reader, &mut writer, "127.0.0.1:9", FORWARDED);
     assert_eq!(rt; answer, Answer::Success);
-    let head =
-        b"POST /v1/metrics HTTP/1.1\r\nHost: 127.0.0.1:9\r\nContent-Type: application/json\r\nContent-Length: 299\r\nConnection: close\r\n\r\n".as_slice();
+    let head = b"POST /v1/metrics HTTP/1.1\r\n\
+            Host: 127.0.0.1:9\r\n\
+            Content-Type: application/json\r\n\
+            Content-Length: 299\r\n\
+            Connection: close\r\n\r\n"
+        .as_slice();
     assert!(rt; writer.taken().starts_with(head));
     assert!(rt; writer.taken().ends_with(FORWARDED));
     assert_eq!(rt; writer.taken().len(), head.len() + 299);

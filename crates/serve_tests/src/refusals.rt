@@ -1,11 +1,12 @@
 //! Refusals, and their order.
-use crate::desk::{ACCEPTED, Fixed, ask, done, keeper, refused};
+use crate::desk::{ask, done, keeper, refused};
 use back_answers::Answer;
 use byte_ends::{Script, Tape};
 use gate_workers::{BookKeeper, End, NoPace, serve_book};
 use std::alloc::Global;
 use std::process::Abort;
 use std::test::Fail;
+use test_support::{ACCEPTED, Fixed};
 
 /// A request, with the first line and the body of its response.
 type Case<'a> = (&'a [u8], &'a [u8], &'a [u8]);
@@ -56,12 +57,19 @@ fn each_by_its_first_fault(rt: HostRuntime) -> Result<(), Fail> {
             b"{\"message\":\"wrong method\"}",
         ),
         (
-            b"POST /v1/metrics HTTP/1.1\r\nContent-Type: application/x-protobuf\r\nContent-Length: 2\r\n\r\n{}",
+            b"POST /v1/metrics HTTP/1.1\r\n\
+                Content-Type: application/x-protobuf\r\n\
+                Content-Length: 2\r\n\r\n\
+                {}",
             b"HTTP/1.1 415 Unsupported Media Type\r\n",
             b"{\"message\":\"only uncompressed application/json\"}",
         ),
         (
-            b"POST /v1/metrics HTTP/1.1\r\nContent-Type: application/json\r\nContent-Encoding: gzip\r\nContent-Length: 2\r\n\r\n{}",
+            b"POST /v1/metrics HTTP/1.1\r\n\
+                Content-Type: application/json\r\n\
+                Content-Encoding: gzip\r\n\
+                Content-Length: 2\r\n\r\n\
+                {}",
             b"HTTP/1.1 415 Unsupported Media Type\r\n",
             b"{\"message\":\"only uncompressed application/json\"}",
         ),
@@ -71,7 +79,9 @@ fn each_by_its_first_fault(rt: HostRuntime) -> Result<(), Fail> {
             b"{\"message\":\"only uncompressed application/json\"}",
         ),
         (
-            b"POST /v1/metrics HTTP/1.1\r\nContent-Type: application/json\r\nContent-Length: 4194305\r\n\r\n",
+            b"POST /v1/metrics HTTP/1.1\r\n\
+                Content-Type: application/json\r\n\
+                Content-Length: 4194305\r\n\r\n",
             b"HTTP/1.1 413 Payload Too Large\r\n",
             b"{\"message\":\"body too long\"}",
         ),
@@ -81,12 +91,21 @@ fn each_by_its_first_fault(rt: HostRuntime) -> Result<(), Fail> {
             b"{\"message\":\"malformed request\"}",
         ),
         (
-            b"POST /v1/metrics HTTP/1.1\r\nContent-Type: application/json\r\nx-sender: a b\r\nContent-Length: 2\r\n\r\n{}",
+            b"POST /v1/metrics HTTP/1.1\r\n\
+                Content-Type: application/json\r\n\
+                x-sender: a b\r\n\
+                Content-Length: 2\r\n\r\n\
+                {}",
             b"HTTP/1.1 400 Bad Request\r\n",
             b"{\"message\":\"bad sender\"}",
         ),
         (
-            b"POST /v1/metrics HTTP/1.1\r\nContent-Type: application/json\r\nx-sender: a\r\nX-Sender: a\r\nContent-Length: 2\r\n\r\n{}",
+            b"POST /v1/metrics HTTP/1.1\r\n\
+                Content-Type: application/json\r\n\
+                x-sender: a\r\n\
+                X-Sender: a\r\n\
+                Content-Length: 2\r\n\r\n\
+                {}",
             b"HTTP/1.1 400 Bad Request\r\n",
             b"{\"message\":\"bad sender\"}",
         ),
@@ -106,12 +125,18 @@ fn each_by_its_first_fault(rt: HostRuntime) -> Result<(), Fail> {
             b"{\"message\":\"not quarantined\"}",
         ),
         (
-            b"POST /v1/metrics HTTP/1.1\r\nContent-Type: application/json\r\nContent-Length: 2\r\n\r\n[1",
+            b"POST /v1/metrics HTTP/1.1\r\n\
+                Content-Type: application/json\r\n\
+                Content-Length: 2\r\n\r\n\
+                [1",
             b"HTTP/1.1 400 Bad Request\r\n",
             b"{\"message\":\"not JSON\"}",
         ),
         (
-            b"POST /v1/metrics HTTP/1.1\r\nContent-Type: application/json\r\nContent-Length: 2\r\n\r\n[]",
+            b"POST /v1/metrics HTTP/1.1\r\n\
+                Content-Type: application/json\r\n\
+                Content-Length: 2\r\n\r\n\
+                []",
             b"HTTP/1.1 400 Bad Request\r\n",
             b"{\"message\":\"wrong shape\"}",
         ),
@@ -133,12 +158,20 @@ fn path_method_sender_content_body_in_this_order(rt: HostRuntime) -> Result<(), 
             b"{\"message\":\"no such path\"}",
         ),
         (
-            b"PUT /v1/metrics HTTP/1.1\r\nContent-Type: text/plain\r\nx-sender: a b\r\nContent-Length: 2\r\n\r\n[1",
+            b"PUT /v1/metrics HTTP/1.1\r\n\
+                Content-Type: text/plain\r\n\
+                x-sender: a b\r\n\
+                Content-Length: 2\r\n\r\n\
+                [1",
             b"HTTP/1.1 405 Method Not Allowed\r\n",
             b"{\"message\":\"wrong method\"}",
         ),
         (
-            b"POST /v1/metrics HTTP/1.1\r\nContent-Type: text/plain\r\nx-sender: a b\r\nContent-Length: 2\r\n\r\n[1",
+            b"POST /v1/metrics HTTP/1.1\r\n\
+                Content-Type: text/plain\r\n\
+                x-sender: a b\r\n\
+                Content-Length: 2\r\n\r\n\
+                [1",
             b"HTTP/1.1 400 Bad Request\r\n",
             b"{\"message\":\"bad sender\"}",
         ),
@@ -164,7 +197,12 @@ fn a_wrong_method_names_the_right_one(rt: HostRuntime) -> Result<(), Fail> {
         &mut keeper,
         b"GET /v1/metrics HTTP/1.1\r\n\r\n",
         refused(405),
-        b"HTTP/1.1 405 Method Not Allowed\r\nContent-Type: application/json\r\nContent-Length: 26\r\nAllow: POST\r\nConnection: close\r\n\r\n{\"message\":\"wrong method\"}",
+        b"HTTP/1.1 405 Method Not Allowed\r\n\
+            Content-Type: application/json\r\n\
+            Content-Length: 26\r\n\
+            Allow: POST\r\n\
+            Connection: close\r\n\r\n\
+            {\"message\":\"wrong method\"}",
     )
 }
 
@@ -176,7 +214,11 @@ fn a_media_type_in_any_case_with_parameters(rt: HostRuntime) -> Result<(), Fail>
         &rt,
         alloc,
         &mut keeper,
-        b"POST /v1/metrics HTTP/1.1\r\nContent-Type: Application/JSON; charset=utf-8\r\nContent-Encoding: Identity\r\nContent-Length: 2\r\n\r\n{}",
+        b"POST /v1/metrics HTTP/1.1\r\n\
+            Content-Type: Application/JSON; charset=utf-8\r\n\
+            Content-Encoding: Identity\r\n\
+            Content-Length: 2\r\n\r\n\
+            {}",
         done(End::NoBatch),
         ACCEPTED,
     )
@@ -186,8 +228,13 @@ fn a_media_type_in_any_case_with_parameters(rt: HostRuntime) -> Result<(), Fail>
 fn a_held_sender_is_refused_until_it_is_lifted(rt: HostRuntime) -> Result<(), Fail> {
     let alloc = rt.alloc();
     let mut keeper = keeper(alloc, Answer::Success)?;
-    let posted =
-        b"POST /v1/metrics HTTP/1.1\r\nContent-Type: application/json\r\nx-sender: A\r\nContent-Length: 195\r\n\r\n{\"resourceMetrics\":[{\"scopeMetrics\":[{\"metrics\":[{\"name\":\"a\",\"sum\":{\"aggregationTemporality\":1,\"isMonotonic\":true,\"dataPoints\":[{\"asInt\":\"5\",\"startTimeUnixNano\":\"10\",\"timeUnixNano\":\"20\"}]}}]}]}]}";
+    let posted = b"POST /v1/metrics HTTP/1.1\r\n\
+            Content-Type: application/json\r\n\
+            x-sender: A\r\n\
+            Content-Length: 195\r\n\r\n\
+            {\"resourceMetrics\":[{\"scopeMetrics\":[{\"metrics\":[{\"name\":\"a\",\
+            \"sum\":{\"aggregationTemporality\":1,\"isMonotonic\":true,\"dataPoints\":[{\"asInt\":\"5\",\
+            \"startTimeUnixNano\":\"10\",\"timeUnixNano\":\"20\"}]}}]}]}]}";
     ask(
         &rt,
         alloc,

@@ -1,21 +1,32 @@
 //! Requests that are served, with their whole responses.
-use crate::desk::{ACCEPTED, LATER, POSTED, ask, done, keeper, refused};
+use crate::desk::{ask, done, keeper, refused};
 use back_answers::Answer;
 use byte_ends::{Script, Step, Tape};
 use gate_workers::{End, NoPace, Served, serve_book};
 use http_edge::Written;
 use std::test::Fail;
+use test_support::{ACCEPTED, LATER, POSTED};
 
-const CHUNKED: &[u8] =
-    b"POST /v1/metrics HTTP/1.1\r\nContent-Type: application/json\r\nTransfer-Encoding: chunked\r\n\r\n2\r\n{}\r\n0\r\n\r\n";
+const CHUNKED: &[u8] = b"POST /v1/metrics HTTP/1.1\r\n\
+        Content-Type: application/json\r\n\
+        Transfer-Encoding: chunked\r\n\r\n\
+        2\r\n\
+        {}\r\n\
+        0\r\n\r\n";
 
 #[test]
 fn a_body_without_points_asks_nothing(rt: HostRuntime) -> Result<(), Fail> {
     let alloc = rt.alloc();
     let mut keeper = keeper(alloc, Answer::Success)?;
     let bodies: [&[u8]; 2] = [
-        b"POST /v1/metrics HTTP/1.1\r\nContent-Type: application/json\r\nContent-Length: 2\r\n\r\n{}",
-        b"POST /v1/metrics HTTP/1.1\r\nContent-Type: application/json\r\nContent-Length: 22\r\n\r\n{\"resourceMetrics\":[]}",
+        b"POST /v1/metrics HTTP/1.1\r\n\
+            Content-Type: application/json\r\n\
+            Content-Length: 2\r\n\r\n\
+            {}",
+        b"POST /v1/metrics HTTP/1.1\r\n\
+            Content-Type: application/json\r\n\
+            Content-Length: 22\r\n\r\n\
+            {\"resourceMetrics\":[]}",
     ];
     for body in bodies {
         ask(&rt, alloc, &mut keeper, body, done(End::NoBatch), ACCEPTED)?;
@@ -31,9 +42,20 @@ fn foreign_points_are_told(rt: HostRuntime) -> Result<(), Fail> {
         &rt,
         alloc,
         &mut keeper,
-        b"POST /v1/metrics HTTP/1.1\r\nContent-Type: application/json\r\nContent-Length: 242\r\n\r\n{\"resourceMetrics\":[{\"scopeMetrics\":[{\"metrics\":[{\"name\":\"a\",\"sum\":{\"aggregationTemporality\":1,\"isMonotonic\":true,\"dataPoints\":[{\"asInt\":\"5\",\"startTimeUnixNano\":\"10\",\"timeUnixNano\":\"20\"}]}},{\"name\":\"g\",\"gauge\":{\"dataPoints\":[{},{},{}]}}]}]}]}",
+        b"POST /v1/metrics HTTP/1.1\r\n\
+            Content-Type: application/json\r\n\
+            Content-Length: 242\r\n\r\n\
+            {\"resourceMetrics\":[{\"scopeMetrics\":[{\"metrics\":[{\"name\":\"a\",\
+            \"sum\":{\"aggregationTemporality\":1,\"isMonotonic\":true,\"dataPoints\":[{\"asInt\":\"5\",\
+            \"startTimeUnixNano\":\"10\",\"timeUnixNano\":\"20\"}]}},{\"name\":\"g\",\
+            \"gauge\":{\"dataPoints\":[{},{},{}]}}]}]}]}",
         done(End::Confirmed),
-        b"HTTP/1.1 200 OK\r\nContent-Type: application/json\r\nContent-Length: 89\r\nConnection: close\r\n\r\n{\"partialSuccess\":{\"errorMessage\":\"points outside the profile\",\"rejectedDataPoints\":\"3\"}}",
+        b"HTTP/1.1 200 OK\r\n\
+            Content-Type: application/json\r\n\
+            Content-Length: 89\r\n\
+            Connection: close\r\n\r\n\
+            {\"partialSuccess\":{\"errorMessage\":\"points outside the profile\",\
+            \"rejectedDataPoints\":\"3\"}}",
     )
 }
 
@@ -55,7 +77,11 @@ fn a_repeat_is_refused_and_later_points_are_not(rt: HostRuntime) -> Result<(), F
         &mut keeper,
         POSTED,
         refused(400),
-        b"HTTP/1.1 400 Bad Request\r\nContent-Type: application/json\r\nContent-Length: 48\r\nConnection: close\r\n\r\n{\"message\":\"out of order: point 0, frontier 20\"}",
+        b"HTTP/1.1 400 Bad Request\r\n\
+            Content-Type: application/json\r\n\
+            Content-Length: 48\r\n\
+            Connection: close\r\n\r\n\
+            {\"message\":\"out of order: point 0, frontier 20\"}",
     )?;
     ask(
         &rt,
@@ -83,9 +109,19 @@ fn sums_over_a_limit_are_refused(rt: HostRuntime) -> Result<(), Fail> {
         &rt,
         alloc,
         &mut keeper,
-        b"POST /v1/metrics HTTP/1.1\r\nContent-Type: application/json\r\nContent-Length: 213\r\n\r\n{\"resourceMetrics\":[{\"scopeMetrics\":[{\"metrics\":[{\"name\":\"a\",\"sum\":{\"aggregationTemporality\":1,\"isMonotonic\":true,\"dataPoints\":[{\"asInt\":\"9223372036854775807\",\"startTimeUnixNano\":\"20\",\"timeUnixNano\":\"30\"}]}}]}]}]}",
+        b"POST /v1/metrics HTTP/1.1\r\n\
+            Content-Type: application/json\r\n\
+            Content-Length: 213\r\n\r\n\
+            {\"resourceMetrics\":[{\"scopeMetrics\":[{\"metrics\":[{\"name\":\"a\",\
+            \"sum\":{\"aggregationTemporality\":1,\"isMonotonic\":true,\"dataPoints\":[\
+            {\"asInt\":\"9223372036854775807\",\"startTimeUnixNano\":\"20\",\
+            \"timeUnixNano\":\"30\"}]}}]}]}]}",
         refused(503),
-        b"HTTP/1.1 503 Service Unavailable\r\nContent-Type: application/json\r\nContent-Length: 23\r\nConnection: close\r\n\r\n{\"message\":\"too large\"}",
+        b"HTTP/1.1 503 Service Unavailable\r\n\
+            Content-Type: application/json\r\n\
+            Content-Length: 23\r\n\
+            Connection: close\r\n\r\n\
+            {\"message\":\"too large\"}",
     )
 }
 
@@ -147,9 +183,17 @@ fn a_reader_that_ends_or_fails(rt: HostRuntime) -> Result<(), Fail> {
         &rt,
         alloc,
         &mut keeper,
-        b"POST /v1/metrics HTTP/1.1\r\nContent-Type: application/json\r\nTransfer-Encoding: chunked\r\n\r\n2\r\n{",
+        b"POST /v1/metrics HTTP/1.1\r\n\
+            Content-Type: application/json\r\n\
+            Transfer-Encoding: chunked\r\n\r\n\
+            2\r\n\
+            {",
         refused(400),
-        b"HTTP/1.1 400 Bad Request\r\nContent-Type: application/json\r\nContent-Length: 31\r\nConnection: close\r\n\r\n{\"message\":\"malformed request\"}",
+        b"HTTP/1.1 400 Bad Request\r\n\
+            Content-Type: application/json\r\n\
+            Content-Length: 31\r\n\
+            Connection: close\r\n\r\n\
+            {\"message\":\"malformed request\"}",
     )?;
     let steps = [Step::AtMost(7), Step::Fail];
     let mut reader = Script::new(POSTED, &steps);
@@ -170,7 +214,11 @@ fn a_flush_by_order(rt: HostRuntime) -> Result<(), Fail> {
         &mut keeper,
         b"POST /flush HTTP/1.1\r\n\r\n",
         done(End::NoBatch),
-        b"HTTP/1.1 200 OK\r\nContent-Type: application/json\r\nContent-Length: 17\r\nConnection: close\r\n\r\n{\"act\":\"nothing\"}",
+        b"HTTP/1.1 200 OK\r\n\
+            Content-Type: application/json\r\n\
+            Content-Length: 17\r\n\
+            Connection: close\r\n\r\n\
+            {\"act\":\"nothing\"}",
     )?;
     ask(
         &rt,
@@ -186,7 +234,11 @@ fn a_flush_by_order(rt: HostRuntime) -> Result<(), Fail> {
         &mut keeper,
         b"POST /flush HTTP/1.1\r\n\r\n",
         done(End::NoBatch),
-        b"HTTP/1.1 200 OK\r\nContent-Type: application/json\r\nContent-Length: 60\r\nConnection: close\r\n\r\n{\"act\":\"returned\",\"flush\":\"1\",\"points\":\"1\",\"retryAfter\":\"2\"}",
+        b"HTTP/1.1 200 OK\r\n\
+            Content-Type: application/json\r\n\
+            Content-Length: 60\r\n\
+            Connection: close\r\n\r\n\
+            {\"act\":\"returned\",\"flush\":\"1\",\"points\":\"1\",\"retryAfter\":\"2\"}",
     )?;
     ask(
         &rt,
@@ -194,6 +246,11 @@ fn a_flush_by_order(rt: HostRuntime) -> Result<(), Fail> {
         &mut keeper,
         b"GET /report?all HTTP/1.1\r\n\r\n",
         done(End::NoBatch),
-        b"HTTP/1.1 200 OK\r\nContent-Type: text/plain\r\nContent-Length: 138\r\nConnection: close\r\n\r\nseries a monotonic owner - frontier 20 accepted 1,5,0 acknowledged 0,0,0 dropped 0,0,0 in-flight 0,0,0 stored 1,5,0 quarantined 0,0,0\nend\n",
+        b"HTTP/1.1 200 OK\r\n\
+            Content-Type: text/plain\r\n\
+            Content-Length: 138\r\n\
+            Connection: close\r\n\r\n\
+            series a monotonic owner - frontier 20 accepted 1,5,0 acknowledged 0,0,0 dropped 0,0,\
+            0 in-flight 0,0,0 stored 1,5,0 quarantined 0,0,0\nend\n",
     )
 }

@@ -1,5 +1,5 @@
 //! Connections over loopback, in one thread: the client sends before the gateway accepts.
-use crate::desk::{ACCEPTED, Fixed, POSTED, done, keeper, refused};
+use crate::desk::{done, keeper, refused};
 use back_answers::Answer;
 use delta_book::book::Book;
 use gate_workers::{BookKeeper, Connection, End, NoPace, Served, Uplink};
@@ -9,6 +9,7 @@ use std::io::{Read, Write};
 use std::net::{Shutdown, TcpListener, TcpStream};
 use std::process::Abort;
 use std::test::Fail;
+use test_support::{ACCEPTED, Fixed, POSTED};
 
 /// Sends the request on a connection, has it served, and gives what the client reads.
 fn answer_to<R: Abort, U: Uplink + Drop>(
@@ -62,7 +63,12 @@ fn a_client_that_keeps_its_side_open_is_answered(rt: HostRuntime) -> Result<(), 
         b"GET /report HTTP/1.1\r\n\r\n",
         b"POST /quarantine/A HTTP/1.1\r\n\r\n",
         b"POST /lift/A HTTP/1.1\r\n\r\n",
-        b"POST /v1/metrics HTTP/1.1\r\nContent-Type: application/json\r\nTransfer-Encoding: chunked\r\n\r\n2\r\n{}\r\n0\r\n\r\n",
+        b"POST /v1/metrics HTTP/1.1\r\n\
+            Content-Type: application/json\r\n\
+            Transfer-Encoding: chunked\r\n\r\n\
+            2\r\n\
+            {}\r\n\
+            0\r\n\r\n",
     ];
     for request in routes {
         answers_before_the_end(&rt, &rt, &mut keeper, request, done)?;
@@ -90,7 +96,9 @@ fn a_body_that_is_too_long_and_still_comes_is_answered(rt: HostRuntime) -> Resul
     let mut keeper: BookKeeper<Fixed> = keeper(alloc, Answer::Success)?;
     let mut request = Vec::new(alloc);
     request.extend_from_slice(
-        b"POST /v1/metrics HTTP/1.1\r\nContent-Type: application/json\r\nContent-Length: 4194305\r\n\r\n",
+        b"POST /v1/metrics HTTP/1.1\r\n\
+            Content-Type: application/json\r\n\
+            Content-Length: 4194305\r\n\r\n",
     )?;
     request.resize(60_000, b' ')?;
     let text = answer_to(&rt, &rt, &mut keeper, request.as_slice(), refused(413))?;
