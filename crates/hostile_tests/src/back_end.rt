@@ -80,26 +80,6 @@ fn a_reader_that_fails_or_ends_after_any_byte(rt: HostRuntime) -> Result<(), Fai
     Ok(())
 }
 
-#[test]
-fn answers_of_the_table(rt: HostRuntime) -> Result<(), Fail> {
-    let cases: [(&[u8], Answer); 4] = [
-        (b"HTTP/1.1 200 OK\r\n", Answer::Unknown),
-        (b"HTTP/1.1 302 Found\r\n\r\n", Answer::Unknown),
-        (
-            b"HTTP/1.1 503 Service Unavailable\r\nRetry-After: 2\r\n\r\n",
-            Answer::Retryable { after: Some(2) },
-        ),
-        (
-            b"HTTP/1.1 503 Service Unavailable\r\nRetry-After: soon\r\n\r\n",
-            Answer::Retryable { after: None },
-        ),
-    ];
-    for (reply, answer) in cases {
-        assert_eq!(rt; answer_of(rt.alloc(), reply, &[], &[]), answer);
-    }
-    Ok(())
-}
-
 /// Posts a point and orders a flush to this back end, whose answer to the order ends by this text; the
 /// book has then so many entries.
 fn flushed<R: Abort>(rt: &R, backend: Scripted, text: &[u8]) -> Result<(), Fail> {

@@ -1,9 +1,8 @@
 //! Input that is no request, and bodies that are no metrics, each with its whole answer.
 use crate::gate::{MALFORMED, joined, outcome_of, repeated};
-use byte_ends::Step;
+use byte_ends::{Script, Step};
 use gate_workers::{End, Served};
-use http_edge::Written;
-use otlp_read::{Place, ReadFault, read_request};
+use http_edge::{HttpFault, Written, read_message};
 use std::alloc::Global;
 use std::process::Abort;
 use std::test::Fail;
@@ -170,21 +169,6 @@ fn bodies_that_are_no_metrics(rt: HostRuntime) -> Result<(), Fail> {
     Ok(())
 }
 
-#[test]
-fn places_of_wrong_containers(rt: HostRuntime) -> Result<(), Fail> {
-    let bodies = [
-        (NULL_RESOURCE, Place::ResourceMetrics),
-        (NUMBER_POINT, Place::DataPoints),
-    ];
-    for (body, place) in bodies {
-        let Err(fault) = read_request(rt.alloc(), body) else {
-            panic!(rt; "it was read");
-        };
-        assert_eq!(rt; fault, ReadFault::WrongShape(place));
-    }
-    Ok(())
-}
-
 /// After each number of bytes that is not the whole message the reader fails.
 #[test]
 fn a_reader_that_fails_within_the_message(rt: HostRuntime) -> Result<(), Fail> {
@@ -198,5 +182,16 @@ fn a_reader_that_fails_within_the_message(rt: HostRuntime) -> Result<(), Fail> {
         assert_eq!(rt; got.unread, POSTED.len() - read, "{read} bytes");
         assert_eq!(rt; got.book.journal().len(), 0, "{read} bytes");
     }
+    Ok(())
+}
+
+/// The bytes end after each number of them that is not the whole message.
+#[test]
+fn an_end_within_the_message(rt: HostRuntime) -> Result<(), Fail> {
+    for end in 1..POSTED.len() {
+        let fault = read_message(rt.alloc(), &mut Script::new(&POSTED[..end], &[])).err();
+        assert_eq!(rt; fault, Some(HttpFault::Truncated), "{end} bytes");
+    }
+    assert!(rt; read_message(rt.alloc(), &mut Script::new(POSTED, &[])).is_ok());
     Ok(())
 }

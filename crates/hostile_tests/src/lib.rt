@@ -10,6 +10,4 @@ mod bad_input;
 #[cfg(test)]
 mod ends;
 #[cfg(test)]
-mod faults;
-#[cfg(test)]
 mod gate;
