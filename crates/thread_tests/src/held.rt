@@ -1,9 +1,6 @@
 //! A worker that is held until a flag is up, and a connection of written bytes.
-ghost use Rattle.std.specs.Prelude.{◌≡◌};
-
-use back_answers::Answer;
 use byte_ends::{Script, Tape};
-use gate_workers::{Connection, Keeper, Pace, Served, Spot, Uplink, serve_with};
+use gate_workers::{Connection, Keeper, Pace, Served, Spot, serve_with};
 use otlp_read::Memo;
 use std::alloc::Global;
 use std::sync::atomic::{AtomicBool, Ordering};
@@ -90,24 +87,6 @@ impl<R: Clock> Pace for After<'_, R> {
         }
     }
 }
-
-/// An uplink that gives one answer.
-#[derive(Drop)]
-pub struct Fixed {
-    pub answer: Answer,
-}
-
-impl Uplink for Fixed {
-    ghost sends = { λ u bytes answer w. answer ≡ u.answer };
-
-    fn send(&mut self, _bytes: &[u8]) -> Answer {
-        self.answer
-    }
-}
-
-/// All of the response to a post.
-pub const ACCEPTED: &[u8] =
-    b"HTTP/1.1 200 OK\r\nContent-Type: application/json\r\nContent-Length: 2\r\nConnection: close\r\n\r\n{}";
 
 /// A connection of these bytes, whose flag is up once this is its whole response.
 #[derive(Drop)]

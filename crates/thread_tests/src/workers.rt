@@ -2,7 +2,7 @@
 ghost use Rattle.std.specs.Prelude.{◌≡◌};
 ghost use Rattle.metric_events.specs.Opening.{first_opening};
 
-use crate::held::{ACCEPTED, After, Fixed, Flags, Hold, Scripted, comes_up};
+use crate::held::{After, Flags, Hold, Scripted, comes_up};
 use crate::pair::{both_ended, two_seats};
 use back_answers::{Act, Answer};
 use crossbeam_channel::{Receiver, Sender, bounded};
@@ -21,25 +21,24 @@ use std::sync::ledger::Blank;
 use std::test::Fail;
 use std::thread::{Threads, join};
 use std::time::Clock;
-
-/// A point of 5 in (10, 20] of the sum `a`, posted.
-const POSTED: &[u8] =
-    b"POST /v1/metrics HTTP/1.1\r\nContent-Type: application/json\r\nContent-Length: 195\r\n\r\n{\"resourceMetrics\":[{\"scopeMetrics\":[{\"metrics\":[{\"name\":\"a\",\"sum\":{\"aggregationTemporality\":1,\"isMonotonic\":true,\"dataPoints\":[{\"asInt\":\"5\",\"startTimeUnixNano\":\"10\",\"timeUnixNano\":\"20\"}]}}]}]}]}";
-
-/// The same of the sum `b`.
-const OTHER: &[u8] =
-    b"POST /v1/metrics HTTP/1.1\r\nContent-Type: application/json\r\nContent-Length: 195\r\n\r\n{\"resourceMetrics\":[{\"scopeMetrics\":[{\"metrics\":[{\"name\":\"b\",\"sum\":{\"aggregationTemporality\":1,\"isMonotonic\":true,\"dataPoints\":[{\"asInt\":\"5\",\"startTimeUnixNano\":\"10\",\"timeUnixNano\":\"20\"}]}}]}]}]}";
+use test_support::{ACCEPTED, Fixed, OTHER, POSTED};
 
 /// An order of a flush.
 const FLUSH: &[u8] = b"POST /flush HTTP/1.1\r\n\r\n";
 
 /// The response where nobody makes the turn.
-const NO_FLUSHER: &[u8] =
-    b"HTTP/1.1 503 Service Unavailable\r\nContent-Type: application/json\r\nContent-Length: 24\r\nConnection: close\r\n\r\n{\"message\":\"no flusher\"}";
+const NO_FLUSHER: &[u8] = b"HTTP/1.1 503 Service Unavailable\r\n\
+        Content-Type: application/json\r\n\
+        Content-Length: 24\r\n\
+        Connection: close\r\n\r\n\
+        {\"message\":\"no flusher\"}";
 
 /// The response where the back end took the one point of flush 1.
-const SETTLED: &[u8] =
-    b"HTTP/1.1 200 OK\r\nContent-Type: application/json\r\nContent-Length: 42\r\nConnection: close\r\n\r\n{\"act\":\"settled\",\"flush\":\"1\",\"points\":\"1\"}";
+const SETTLED: &[u8] = b"HTTP/1.1 200 OK\r\n\
+        Content-Type: application/json\r\n\
+        Content-Length: 42\r\n\
+        Connection: close\r\n\r\n\
+        {\"act\":\"settled\",\"flush\":\"1\",\"points\":\"1\"}";
 
 /// The audit of the seats finds so many events, points that were admitted and points that were acknowledged.
 fn audits<L: Round, R: Abort>(
