@@ -43,7 +43,8 @@ pub fn read_request(alloc: Global, bytes: &[u8]) -> Result<Reading, ReadFault>
 
 /// Reads the body of a metrics request as `read_request` does, with a memo of the bodies before.
 ///
-/// The answer is the same whatever the memo holds, and each fault comes where it does there.
+/// The answer is the same whatever the memo holds, and each fault comes where it does there. What
+/// the memo holds afterwards is left open, after a fault too.
 pub fn read_request_with(alloc: Global, bytes: &[u8], memo: &mut Memo) -> Result<Reading, ReadFault>
     ensures { Answers bytes.now result }
 {
