@@ -5,11 +5,11 @@ pub enum Answer {
     Success,
     /// It was not taken now, and may be sent again.
     Retryable {
-        /// How many seconds the back end asks to wait before that, where it tells.
+        /// How many seconds the back end asks to wait before that, where it says so.
         after: Option<u64>,
     },
     /// It was not taken, and must not be sent again.
     Final,
-    /// The answer tells neither, or there is none.
+    /// The answer says neither, or there is none.
     Unknown,
 }

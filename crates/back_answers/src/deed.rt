@@ -3,7 +3,7 @@
 pub enum Act {
     /// Its points are acknowledged.
     Settle,
-    /// Its points go home, and a later flush takes them again.
+    /// Its points are pending again, and a later flush takes them.
     GiveBack,
     /// Its points are dropped.
     DropFlush,

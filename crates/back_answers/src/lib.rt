@@ -2,7 +2,7 @@
 //! `classify` reads the status and `Retry-After` as OTLP/HTTP does ("Failures", "Throttling").
 //! `act` says whether the flush is settled, given back or dropped. An answer that the protocol
 //! does not know, or that never came, gives the flush back: it may be sent again.
-//! Nothing here takes memory or can fail.
+//! Nothing here allocates or can fail.
 #![tactic(auto)]
 
 mod answer;

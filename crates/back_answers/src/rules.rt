@@ -16,8 +16,8 @@ const GATEWAY_TIMEOUT: u16 = 504;
 
 /// What an answer with this status means, and this value of `Retry-After`, if it has one
 /// (OTLP/HTTP, "Failures" and "Throttling"; RFC 9110, section 10.2.3). Of the errors, 429, 502, 503
-/// and 504 are retryable, and 429 and 503 alone tell how many seconds to wait. A value that is no
-/// number of seconds below 2^64 tells none: the answer is retryable all the same.
+/// and 504 are retryable, and only 429 and 503 say how many seconds to wait. A value that is no
+/// number of seconds below 2^64 says nothing: the answer is retryable all the same.
 #[tactic(auto, unfolding(crate::specs::Answers::answer_of))]
 pub fn classify(status: u16, retry_after: Option<&[u8]>) -> Answer
     ensures answer { result ≡ answer_of status (option_copied retry_after.entry) }
@@ -28,7 +28,7 @@ pub fn classify(status: u16, retry_after: Option<&[u8]>) -> Answer
     ensures retryable { ((after : Option ℕ) × (result ≡ Answer.Retryable after)) ↔ IsRetryable status }
     ensures unknown { (result ≡ Answer.Unknown) ↔ ¬ (IsSuccess status ⊎ IsError status) }
 
-    // The seconds are those that the value tells, where the status is one that may tell some.
+    // The seconds are those of the value, where the status is one that may have some.
     ensures waits { (n : ℕ) → (result ≡ Answer.Retryable (Some n)) ↔ (IsThrottling status × IsSomeAnd (option_copied retry_after.entry) (λ value. TellsDelay value n)) }
 {
     match status {

@@ -6,7 +6,7 @@ use std::simd::prelude::*;
 /// Words in a block.
 pub const LANES: usize = 8;
 
-/// The eight words at a place.
+/// The eight words at a position.
 #[inline(always)]
 pub fn load(words: &[u64], at: usize) -> u64x8
     requires { at + 8 ≤ length words.now }
@@ -16,7 +16,7 @@ pub fn load(words: &[u64], at: usize) -> u64x8
     u64x8::from_slice(&words[at..])
 }
 
-/// Writes eight words at a place.
+/// Writes eight words at a position.
 #[inline(always)]
 pub fn store(words: &mut [u64], at: usize, block: u64x8)
     requires room { at + 8 ≤ length words.old }
@@ -48,7 +48,7 @@ pub fn sums(a: u64x8, b: u64x8) -> u64x8
     a.strict_add(b)
 }
 
-/// What is left lane by lane.
+/// The differences lane by lane.
 #[inline(always)]
 pub fn rests(a: u64x8, b: u64x8) -> u64x8
     requires long { (length a ≡ 8) × (length b ≡ 8) }

@@ -10,7 +10,7 @@ pub fn clear(words: &mut [u64])
     words.fill(0);
 }
 
-/// Whether the eight words at a place are 0.
+/// Whether the eight words at a position are 0.
 #[inline(always)]
 fn is_block_zero(words: &[u64], at: usize) -> bool
     requires { at + 8 ≤ length words.now }
@@ -32,7 +32,7 @@ fn are_blocks_zero(words: &[u64], blocks: usize) -> bool
     true
 }
 
-/// Whether the words from a place on are 0.
+/// Whether the words from a position on are 0.
 fn is_tail_zero(words: &[u64], from: usize) -> bool
     ensures { IsTrue result ↔ ((k : ℕ) → from ≤ k → k < length words.now → slice_index words.now k ≡ 0) }
 {

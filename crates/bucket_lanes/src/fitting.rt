@@ -3,7 +3,7 @@ ghost use Rattle.bucket_lanes.specs.ByPlace.{Fits};
 
 use crate::blocks::{LANES, every, load, none_past, rests};
 
-/// Whether no sum of the eight words at a place is above `most`. What is left of the limit is
+/// Whether no sum of the eight words at a position is above `most`. What is left of the limit is
 /// compared, so a carry out of a lane can't hide a sum.
 #[inline(always)]
 fn fits_block(a: &[u64], b: &[u64], most: u64, at: usize) -> bool
@@ -32,7 +32,7 @@ fn fit_blocks(a: &[u64], b: &[u64], most: u64, blocks: usize) -> bool
     true
 }
 
-/// Whether no sum from a place on is above `most`.
+/// Whether no sum from a position on is above `most`.
 fn fits_tail(a: &[u64], b: &[u64], most: u64, from: usize) -> bool
     requires { length a.now ≡ length b.now }
     ensures { IsTrue result ↔ ((k : ℕ) → from ≤ k → k < length a.now → slice_index a.now k + slice_index b.now k ≤ most) }
@@ -45,7 +45,7 @@ fn fits_tail(a: &[u64], b: &[u64], most: u64, from: usize) -> bool
     true
 }
 
-/// Whether every sum by place is at most `most`, also where it would not fit a word.
+/// Whether every sum of two words is at most `most`, also where it would not fit a word.
 pub fn fits(a: &[u64], b: &[u64], most: u64) -> bool
     requires { length a.now ≡ length b.now }
     ensures { IsTrue result ↔ Fits most a.now b.now }

@@ -1,7 +1,6 @@
-//! Rows of words of 64 bits, changed and tested place by place, eight lanes at a time and the
-//! tail after the last full eight word by word. Nothing here takes memory. What each kernel
-//! does is said of every place and for every length; a slice keeps its length, so nothing else
-//! is changed.
+//! Sums and tests of rows of 64-bit words, by vector operations: eight words at a time, and the
+//! tail after the last full eight word by word. Nothing here allocates. Each contract holds for
+//! every word and every length; a slice keeps its length, so nothing else changes.
 #![tactic(auto)]
 
 mod adding;

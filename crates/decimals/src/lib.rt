@@ -1,5 +1,5 @@
-//! Whole numbers as decimal digits: what some bytes write, read once for all texts that have
-//! numbers in them (a script, a request, a header field).
+//! Reads whole numbers that are written as decimal digits. Scripts, requests, header fields and
+//! the command line all read their numbers here.
 #![tactic(auto)]
 
 ghost use Rattle.std.specs.Prelude.{◌≡◌, ◌↔◌, ◌+◌, ℕ, List, Some, true, min, option_map};
@@ -65,8 +65,8 @@ fn capped_value(digits: &[u8], most: u64) -> u128
     value
 }
 
-/// A number is told exactly where the digits are a numeral of it and it is within the limit. The
-/// law is the contract of a function that does nothing.
+/// A number is returned exactly where the digits are a numeral of it and it is within the limit.
+/// The law is the contract of a function that does nothing.
 pub fn numbers_are_told()
     ensures { (most : ℕ) (digits : List ℕ) (n : ℕ) → (spec.number_up_to most digits ≡ Some n) ↔ spec.TellsUpTo most digits n }
 {}

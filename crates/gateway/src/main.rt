@@ -1,6 +1,6 @@
 //! The gateway. `serve` serves so many connections and prints the report and the sums of its audits;
-//! `rehearse` does so with senders and a back end of its own. A faulty line, or a call for help, is told on
-//! standard error with status 2, any other fault with status 1.
+//! `rehearse` does so with senders and a back end of its own. A faulty line, or a call for help, is
+//! answered on standard error with status 2, any other fault with status 1.
 #![tactic(auto)]
 
 use gateway_options::{LineFault, Options, options};
@@ -10,13 +10,13 @@ use std::io::Write;
 use std::process::ExitCode;
 use std::{env, io};
 
-/// Tells a fault on standard error.
+/// Reports a fault on standard error.
 fn fail<R: Eprint>(rt: &R, fault: GatewayFault) -> ExitCode {
     let _ = eprintln!(rt; "gateway: {fault}");
     ExitCode::from(1)
 }
 
-/// Prints what a run has told, or its fault.
+/// Prints what a run has returned, or reports its fault.
 fn tell(rt: &HostRuntime, told: Result<Vec<u8>, GatewayFault>) -> ExitCode {
     match told {
         Err(fault) => fail(rt, fault),

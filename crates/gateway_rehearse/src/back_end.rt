@@ -18,7 +18,7 @@ const REFUSAL: &[u8] =
 const TAKEN: &[u8] =
     b"HTTP/1.1 200 OK\r\nContent-Type: application/json\r\nContent-Length: 2\r\nConnection: close\r\n\r\n{}";
 
-/// Reads a request and answers it. Whether there was one: a connection that brings none gets no answer.
+/// Reads a request and answers it. False where there was none: such a connection gets no answer.
 fn answer(alloc: Global, stream: &TcpStream, text: &[u8]) -> bool {
     if read_message(alloc, &mut FromReader::new(stream)).is_err() {
         return false;

@@ -10,7 +10,7 @@ use std::time::{Clock, Duration};
 /// The most bytes of an answer.
 const MOST_ANSWER: usize = 1 << 20;
 
-/// How long is waited until a connection is tried again, or looked for again, in milliseconds.
+/// How long to wait before a connection is tried again, or looked for again, in milliseconds.
 pub const PAUSE: u64 = 1;
 
 /// A connection to the gateway, tried until there is one; nothing once the gateway has ended. The
@@ -31,8 +31,8 @@ fn connection<R: Net<Stream = TcpStream> + Wait + Clock>(
     unreachable!()
 }
 
-/// Sends a request to the gateway, and reads what is answered to its end. What was answered is not
-/// looked at: the report tells what came of it.
+/// Sends a request to the gateway, and reads what is answered to its end. The answer itself is not
+/// looked at: the report shows what came of it.
 pub fn ask<R: Net<Stream = TcpStream> + Wait + Clock>(rt: &R, stage: &Stage, request: &[u8]) {
     let Some(stream) = connection(rt, stage) else {
         return;

@@ -19,7 +19,7 @@ fn put_between(
     out.extend_from_slice(after)
 }
 
-/// Puts the metric's name, and what is said of it up to the value of its one point.
+/// Puts the metric's name and its fields, up to the value of its one point.
 fn put_metric(out: &mut Vec<u8>, sender: u64) -> Result<(), AllocError>
     ensures { OnOk result (out.new.items ≡ out.old.items ++ spec.metric_text sender) }
 {

@@ -34,7 +34,7 @@ fn connections_of(options: &RehearseOptions) -> u64
 }
 
 /// Has each sender post from a thread of its own and another thread order flushes meanwhile, until all
-/// have ended. What no thread can be started for is done in this one: the gateway waits for it.
+/// have ended. Work for which no thread can be started is done here: the gateway waits for it.
 fn send_all<R: Net<Listener = TcpListener, Stream = TcpStream> + Threads + Wait + Clock + Sync>(
     rt: &R,
     alloc: Global,
@@ -63,7 +63,7 @@ fn send_all<R: Net<Listener = TcpListener, Stream = TcpStream> + Threads + Wait 
     })
 }
 
-/// Serves, and then lets go of the listener, so that whoever still waits there is turned away.
+/// Serves, and then closes the listener, so that whoever still waits there is turned away.
 fn serve<R: Net<Listener = TcpListener, Stream = TcpStream> + Threads + Wait + Clock + Sync>(
     rt: &R,
     alloc: Global,
@@ -110,13 +110,13 @@ fn play<R: Net<Listener = TcpListener, Stream = TcpStream> + Threads + Wait + Cl
     })
 }
 
-/// Plays senders, gateway and back end over loopback, and gives what the gateway tells at the end.
+/// Plays senders, gateway and back end over loopback, and returns what the gateway prints at its end.
 ///
 /// Each sender posts its batches one after the other while two flushes are ordered; then four more are,
 /// and the report is asked for. The back end refuses the first request that it gets and takes the
-/// others. The faults are those of serving, of which the first that is met is told: also `CannotListen`
-/// where a listener of the rehearsal's own is refused, `CannotStart` where a thread of its own is, and
-/// `NoMemory` where the memory for a request is.
+/// others. The faults are those of serving, and the first one that is met is returned. They also come
+/// from the rehearsal itself: `CannotListen` where it gets no listener, `CannotStart` where it gets no
+/// thread, and `NoMemory` where the allocation of a request fails.
 pub fn rehearse<R: Net<Listener = TcpListener, Stream = TcpStream> + Threads + Wait + Clock + Sync>(
     rt: &R,
     alloc: Global,

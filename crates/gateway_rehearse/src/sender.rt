@@ -14,8 +14,8 @@ const FLUSH: &[u8] =
 /// Asks for the report.
 const REPORT: &[u8] = b"GET /report HTTP/1.1\r\nHost: localhost\r\nConnection: close\r\n\r\n";
 
-/// Posts a sender's batches, each once the one before is answered. Where the memory for a request is
-/// refused its connection is made all the same.
+/// Posts a sender's batches, each once the one before is answered. Where the allocation of
+/// a request fails, its connection is made all the same.
 pub fn post_all<R: Net<Stream = TcpStream> + Wait + Clock>(
     rt: &R,
     alloc: Global,

@@ -20,7 +20,7 @@ impl Stage {
         }
     }
 
-    /// Says that the gateway has ended: nobody takes a connection any more.
+    /// Notes that the gateway has ended: nobody takes a connection any more.
     pub fn end(&self) {
         self.ended.store(true, Ordering::SeqCst);
     }
@@ -30,12 +30,12 @@ impl Stage {
         self.ended.load(Ordering::SeqCst)
     }
 
-    /// Says that a growth was refused.
+    /// Notes that an allocation failed.
     pub fn starve(&self) {
         self.starved.store(true, Ordering::SeqCst);
     }
 
-    /// Whether a growth was refused.
+    /// Whether an allocation failed.
     pub fn is_starved(&self) -> bool {
         self.starved.load(Ordering::SeqCst)
     }

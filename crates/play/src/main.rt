@@ -1,5 +1,5 @@
-//! The program of scripts: standard input is the script, standard output takes the replies. A
-//! fault is told on standard error, with status 1.
+//! Runs the script on standard input and writes the replies to standard output. A fault is
+//! reported on standard error, with status 1.
 #![tactic(auto)]
 
 use byte_ends::{FromReader, ToWriter};
