@@ -23,13 +23,13 @@ def content(path):
 
 
 def crate_examples():
-    """Of each crate with a README its name, the example there, and the file that is run."""
+    """Of each README of a crate that promises something its path, the examples there, and the one that is run."""
     for name in sorted(os.listdir(f"{ROOT}/crates")):
-        if os.path.isfile(f"{ROOT}/crates/{name}/README.md"):
-            found = CRATE_BLOCK.findall(content(f"crates/{name}/README.md"))
+        readme = f"crates/{name}/README.md"
+        if os.path.isfile(f"{ROOT}/{readme}") and "## What is proved" in content(readme):
             path = f"crates/examples/src/uses_{name}.rt"
             ran = content(path) if os.path.isfile(f"{ROOT}/{path}") else None
-            yield f"crates/{name}/README.md", found, [ran]
+            yield readme, CRATE_BLOCK.findall(content(readme)), [ran]
 
 
 def play_examples(program):
