@@ -7,7 +7,7 @@ fn adds_a_row(rt: HostRuntime) -> Result<(), Fail> {
     let more = [1u64, 7, 2];
     assert!(rt; fits(&row, &more, u64::MAX), "a sum over 64 bits");
     add_into(&mut row, &more);
-    assert_eq!(rt; row, [2, 12, 2]);
-    assert_eq!(rt; total(&row), 16);
+    assert!(rt; row == [2, 12, 2]);
+    assert!(rt; total(&row) == 16);
     Ok(())
 }

@@ -19,7 +19,7 @@ fn a_point_is_admitted_taken_and_settled(rt: HostRuntime) -> Result<(), Fail> {
     let flush = book.take(0, 1000)?.ok_or("nothing to take")?;
     book.settle(0, flush.number)?;
     for series in &book.totals()? {
-        assert_eq!(rt; series.acknowledged.as_slice(), [1, 5, 0].as_slice());
+        assert!(rt; series.acknowledged.as_slice() == [1, 5, 0].as_slice());
     }
     Ok(())
 }

@@ -14,9 +14,6 @@ fn serves_no_connection(rt: HostRuntime) -> Result<(), Fail> {
         round: 32_000,
     };
     let text = serve_all(&rt, rt.alloc(), &options)?;
-    assert_eq!(rt;
-        text.as_slice(),
-        b"end\nadmitted 0 acknowledged 0\n".as_slice()
-    );
+    assert!(rt; text.as_slice() == b"end\nadmitted 0 acknowledged 0\n".as_slice());
     Ok(())
 }

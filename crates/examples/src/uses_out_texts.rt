@@ -6,8 +6,8 @@ use std::test::Fail;
 fn writes_short_answers(rt: HostRuntime) -> Result<(), Fail> {
     let text = turn_text(rt.alloc(), 1, 3, Act::GiveBack, Some(2))?;
     let returned = r#"{"act":"returned","flush":"1","points":"3","retryAfter":"2"}"#;
-    assert_eq!(rt; text.as_slice(), returned.as_bytes());
+    assert!(rt; text.as_slice() == returned.as_bytes());
     let text = success_text(rt.alloc(), 0)?;
-    assert_eq!(rt; text.as_slice(), b"{}".as_slice());
+    assert!(rt; text.as_slice() == b"{}".as_slice());
     Ok(())
 }

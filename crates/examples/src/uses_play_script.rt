@@ -8,6 +8,6 @@ fn plays_a_script(rt: HostRuntime) -> Result<(), Fail> {
     let mut writer = Tape::new(rt.alloc(), &[]);
     play(rt.alloc(), &mut reader, &mut writer)?;
     let replies = b"batch 1\nflush 1 points 1\npoint req (10,20] 1,5,0\nsettled 1\n";
-    assert_eq!(rt; writer.taken(), replies.as_slice());
+    assert!(rt; writer.taken() == replies.as_slice());
     Ok(())
 }

@@ -21,6 +21,6 @@ fn a_point_goes_out_and_lands(rt: HostRuntime) -> Result<(), Fail> {
     assert!(rt; !cell.is_flying());
     cell.lift_off(1);
     cell.acknowledge();
-    assert_eq!(rt; cell.acknowledged(), [1, 5, 0].as_slice());
+    assert!(rt; cell.acknowledged() == [1, 5, 0].as_slice());
     Ok(())
 }
