@@ -7,7 +7,7 @@ use Rattle.http_edge.specs.declared.written.Written.{Written}
 use Rattle.gate_workers.specs.Conversations.{Giving}
 use Rattle.gate_workers.specs.Exchanged.{IsAnswered}
 use Rattle.gate_workers.specs.Served.{IsServed}
-use Rattle.gate_workers.specs.declared.served.Served.{Served}
+use Rattle.gate_workers.specs.declared.service.Served.{Served}
 
 -- a request that was served
 pub served_alike : {K : Type 0} (gives : Giving K) (k l : K) (i j o p n : Option (List ℕ)) (s : Served) → i ≡ j → o ≡ p → IsServed gives i k l o n s → IsServed gives j k l p n s
