@@ -287,7 +287,7 @@ faulty 'too many connections' "error: invalid value '1000001' for '--connections
     serve --backend "$nobody" --connections 1000001
 faulty 'flushes of no series' "error: invalid value '0' for '--flush-series <N>': 0 is not in 1..=1000" \
     serve --backend "$nobody" --connections 0 --flush-series 0
-faulty 'a call for help' "Usage: $(basename "$program") serve [OPTIONS] --backend <HOST:PORT> --connections <N>" serve --help
+faulty 'a call for help' 'Serves senders, forwards what is flushed, and prints the report at its end' serve --help
 
 run serve --backend "$nobody" --connections 0 --listen 127.0.0.1:0
 ended 'no connection' 0 'end

@@ -29,7 +29,7 @@ macro_rules! number {
 
 const CONNECTIONS: NumberOption<'static> = number!(
     "connections",
-    "How many connections are served before the gateway ends",
+    "How many connections are served before the gateway ends; an empty one counts",
     0 to 1000000,
     None
 );
@@ -53,7 +53,7 @@ const FLUSH_SERIES: NumberOption<'static> =
 
 const ROUND: NumberOption<'static> = number!(
     "round",
-    "Connections of a round, behind which the store begins a new one",
+    "Connections of a round, which keeps its batches in memory until it ends",
     1 to 32000,
     Some("32000")
 );
@@ -111,7 +111,9 @@ fn with_numbers<'a>(
 fn serve<'a>(alloc: Global) -> Result<Command<'a>, Error>
     ensures { IfOk result (IsCommand spec.serve) }
 {
-    let bare = Command::new(alloc, "serve");
+    let bare = Command::new(alloc, "serve").about(
+        "Serves senders, forwards what is flushed, and prints the report at its end",
+    );
     let addressed = bare.arg(backend(alloc))?.arg(listen(alloc))?;
     let numbers = [CONNECTIONS, RECEIVERS, FLUSHERS, FLUSH_SERIES, ROUND];
     with_numbers(addressed, alloc, &numbers)
@@ -121,14 +123,19 @@ fn serve<'a>(alloc: Global) -> Result<Command<'a>, Error>
 fn rehearse<'a>(alloc: Global) -> Result<Command<'a>, Error>
     ensures { IfOk result (IsCommand spec.rehearse) }
 {
-    with_numbers(Command::new(alloc, "rehearse"), alloc, &[SENDERS, BATCHES])
+    let bare = Command::new(alloc, "rehearse").about(
+        "Plays senders, a gateway and a back end in one process, and prints the report",
+    );
+    with_numbers(bare, alloc, &[SENDERS, BATCHES])
 }
 
 /// The two subcommands, one of which must be given.
 fn command<'a>(alloc: Global) -> Result<Command<'a>, Error>
     ensures { IfOk result (λ c. app_of c ≡ spec.gateway) }
 {
-    let bare = Command::new(alloc, "gateway").subcommand_required(true);
+    let bare = Command::new(alloc, "gateway")
+        .about("Adds up OTLP/HTTP+JSON delta metrics and forwards the totals to one back end")
+        .subcommand_required(true);
     Ok(
         bare.subcommand(serve(alloc)?)?
             .subcommand(rehearse(alloc)?)?,
