@@ -11,7 +11,7 @@ use Rattle.metric_events.specs.Legal.{is_over, is_too_large, is_clear, is_in_ord
 use Rattle.metric_events.specs.declared.accepted.Accepted.{Accepted}
 use Rattle.delta_book.specs.Batches.{is_point_of}
 use Rattle.delta_book.specs.Refusals.{limit_fault}
-use Rattle.delta_book.proofs.Limits.{count_accepted, count_new}
+use Rattle.delta_book.proofs.CountedSeries.{count_accepted, count_new}
 
 -- as many series
 pub same_count : (b c : ℕ) (s : List ℕ) (qs : List Accepted) (ps : List DataPoint) → series_count (qs ++ map (admitted b s) ps) ≡ series_count (qs ++ map (admitted c s) ps)

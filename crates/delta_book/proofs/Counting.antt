@@ -22,7 +22,7 @@ use Rattle.metric_events.proofs.WithinLimits.{few_series}
 use Rattle.series_cell.specs.Cells.{CellView}
 use Rattle.delta_book.specs.Batches.{is_point_of}
 use Rattle.delta_book.specs.Tables.{AreCells, AreBooked, id_of}
-use Rattle.delta_book.proofs.Limits.{listed-admitted}
+use Rattle.delta_book.proofs.CountedSeries.{listed-admitted}
 
 -- as many as the series in order
 

@@ -27,7 +27,7 @@ use Rattle.delta_book.specs.Batches.{is_point_of}
 use Rattle.delta_book.specs.Tables.{AreCells, IdAt, IsEntered, RemovesAll, id_of}
 use Rattle.delta_book.proofs.Tables.{stands_at, at_id}
 use Rattle.delta_book.proofs.Asked.{none_of}
-use Rattle.delta_book.proofs.Limits.{listed-admitted}
+use Rattle.delta_book.proofs.CountedSeries.{listed-admitted}
 use Rattle.delta_book.proofs.Batch.{Whole, moves_taken}
 
 -- the points of one batch and series are in one place

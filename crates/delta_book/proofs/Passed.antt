@@ -20,7 +20,7 @@ use Rattle.delta_book.specs.Tables.{AreCells, IdAt, id_of}
 use Rattle.delta_book.proofs.Asked.{none_of}
 use Rattle.delta_book.proofs.Counting.{count_is, counted_none}
 use Rattle.delta_book.proofs.Entered.{point_there}
-use Rattle.delta_book.proofs.Limits.{listed-admitted}
+use Rattle.delta_book.proofs.CountedSeries.{listed-admitted}
 use Rattle.delta_book.proofs.Tables.{stands_at, at_id}
 use Rattle.delta_book.proofs.Words.{not_fits_sum, small_words, le-not_lt}
 

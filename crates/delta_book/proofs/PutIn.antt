@@ -26,10 +26,10 @@ use Rattle.delta_book.specs.Tables.{AreCells, AreSome, IsTable, IdAt, id_of}
 use Rattle.delta_book.specs.Parts.{IsPutBy}
 use Rattle.delta_book.specs.Puts.{IsWide, StopsAt, fault_at, next_fault}
 use Rattle.delta_book.specs.declared.faults.AdmitFault.TheVariants.{OtherWriter, OutOfOrder}
-use Rattle.delta_book.specs.declared.stop.Stop.{Stop}
-use Rattle.delta_book.specs.declared.stop.Stop.TheVariants.{NoMemory}
-use Rattle.delta_book.specs.declared.part.Part.{Part}
-use Rattle.delta_book.specs.declared.part.Part.TheVariants.{Whole, Span}
+use Rattle.delta_book.specs.declared.put.Stop.{Stop}
+use Rattle.delta_book.specs.declared.put.Stop.TheVariants.{NoMemory}
+use Rattle.delta_book.specs.declared.cells.Part.{Part}
+use Rattle.delta_book.specs.declared.cells.Part.TheVariants.{Whole, Span}
 use Rattle.delta_book.proofs.Asked.{cell_of}
 use Rattle.delta_book.proofs.Choosing.{same_ascending}
 use Rattle.delta_book.proofs.Refused.{none_then}

@@ -24,7 +24,7 @@ use Rattle.std.proofs.lemmas.Bool.{and_parts, or_cases, or_left, or_right}
 use Rattle.series_cell.specs.Cells.{CellView}
 use Rattle.delta_book.specs.Journal.{Journal, appended, history, admits, takes, IsNumbered}
 use Rattle.delta_book.specs.declared.book.Book.TheInside.{Inside}
-use Rattle.delta_book.specs.declared.rounds.TheConstants.{LAST_ROUND}
+use Rattle.delta_book.specs.declared.opening.TheConstants.{LAST_ROUND}
 use Rattle.delta_book.specs.Stored.{IsStored, journal_in, history_in}
 use Rattle.std.specs.Prelude.{vec_capacity}
 use Rattle.metric_events.specs.Opening.{IsOpening}

@@ -12,10 +12,10 @@ use Rattle.metric_events.specs.declared.accepted.Accepted.{Accepted}
 use Rattle.series_cell.specs.Cells.{bare}
 use Rattle.delta_book.specs.Batches.{is_point_of, frontier_in}
 use Rattle.delta_book.specs.Parts.{IsPutBy, part_at, part_of, whole_to, worded}
-use Rattle.delta_book.specs.declared.part.Part.{Part}
-use Rattle.delta_book.specs.declared.part.Part.TheVariants.{Whole, Span}
+use Rattle.delta_book.specs.declared.cells.Part.{Part}
+use Rattle.delta_book.specs.declared.cells.Part.TheVariants.{Whole, Span}
 use Rattle.delta_book.proofs.Counting.{take_more}
-use Rattle.delta_book.proofs.Limits.{count_accepted, count_new}
+use Rattle.delta_book.proofs.CountedSeries.{count_accepted, count_new}
 
 pub part_before : (w i : ℕ) → i < w → part_at w i ≡ Whole
 part_before zero i h = absurd (omega (arith, h))

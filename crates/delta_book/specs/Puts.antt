@@ -12,8 +12,8 @@ use Rattle.delta_book.specs.Batches.{word_of}
 use Rattle.delta_book.specs.Refusals.{has_other_writer, batch_fault}
 use Rattle.delta_book.specs.declared.faults.AdmitFault.{AdmitFault}
 use Rattle.delta_book.specs.declared.faults.AdmitFault.TheVariants.{OtherWriter, OutOfOrder}
-use Rattle.delta_book.specs.declared.stop.Stop.{Stop}
-use Rattle.delta_book.specs.declared.stop.Stop.TheVariants.{Fault, NoMemory}
+use Rattle.delta_book.specs.declared.put.Stop.{Stop}
+use Rattle.delta_book.specs.declared.put.Stop.TheVariants.{Fault, NoMemory}
 
 -- a series goes in before cell i: after those that come before it
 abbrev pub IsGap : List CellView → ℕ → Identity → Type 0

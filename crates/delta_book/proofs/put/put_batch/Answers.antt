@@ -1,0 +1,9 @@
+use Rattle.std.proofs.Common.{arith, ap, length}
+use Rattle.metric_events.specs.Points.{points}
+use Rattle.delta_book.proofs.Counting.{few_cells}
+use Rattle.delta_book.proofs.put.put_batch.Goals as goal
+
+pub refusal-requires-clause-few : goal.refusal-requires-clause-few
+refusal-requires-clause-few c =
+    let r = c.requires.accepted in
+    omega (arith, ap length c.deref.ensures.value, few_cells c.put_within.new.cells.items (r.0, (r.1.0, c.in-Err.ensures.kept (points r.0) r.1.1)))

@@ -1,0 +1,129 @@
+//! The calls that end what is open or live, or take it back. They take no memory: the room for
+//! their entries is there since the book was made.
+ghost use Rattle.std.specs.Prelude.{◌≡◌, ◌<◌, ℕ, true, IfErr, OnOk, OnErr, None, Some};
+ghost use Rattle.series_id.specs.Identity.{Identity};
+ghost use Rattle.metric_events.specs.History.{◌▸◌};
+ghost use Rattle.metric_events.specs.Settled.{SendsBefore, is_settled_in, is_taken_before};
+ghost use Rattle.metric_events.specs.Strike.{CanBeStruck, is_reversal};
+ghost use Rattle.delta_book.specs.Flushes.{EndsFlush};
+ghost use Rattle.delta_book.specs.Journal.{history, Appends};
+ghost use Rattle.delta_book.specs.Refusals.{flush_refusal, undo_refusal, confirm_refusal};
+
+use crate::book::Book;
+use crate::cells::{is_all_home, land, remove_batch};
+use crate::faults::{NotLive, NotOpen, UndoFault};
+use crate::open::{close, find_entry, points_at, series_at};
+use metric_events::entry::Entry;
+use metric_events::event::Event;
+use metric_events::place::Place;
+
+impl Book {
+    /// Ends a live flush by this event: what it took goes to this place.
+    fn end_flush(
+        &mut self,
+        seat: u16,
+        flush: u64,
+        place: Place,
+        event: Event,
+    ) -> Result<(), NotLive>
+        requires { EndsFlush flush place event }
+        ensures ok { OnOk result (Appends self.old self.new seat event) }
+        ensures grows { OnOk result (history self.new ≡ history self.old ▸ event) }
+        ensures none { OnOk result (flush_refusal (history self.old) flush ≡ None) }
+        ensures fault { IfErr result (λ e. flush_refusal (history self.old) flush ≡ Some e) }
+        ensures err { OnErr result (self.new ≡ self.old) }
+        ensures order { OnOk result ((f g : ℕ) (x : Identity) → is_taken_before (history self.new) f g ≡ true → is_settled_in (history self.new) f ≡ true → SendsBefore (history self.new) f g x) }
+        ensures struck { is_reversal event ≡ true → OnOk result (CanBeStruck (history self.new)) }
+    {
+        let Some(at) = find_entry(&self.live, flush) else {
+            return Err(NotLive);
+        };
+        land(&mut self.cells, place, series_at(&self.entries, at));
+        self.entries.push_reserved(Entry { seat, event });
+        close(&mut self.live, flush);
+        Ok(())
+    }
+
+    /// The back end has taken all of a flush: its points are acknowledged for good. Takes no
+    /// memory.
+    pub fn settle(&mut self, seat: u16, flush: u64) -> Result<(), NotLive>
+        ensures ok { OnOk result (Appends self.old self.new seat (Event.Settle flush)) }
+        ensures grows { OnOk result (history self.new ≡ history self.old ▸ Event.Settle flush) }
+        ensures none { OnOk result (flush_refusal (history self.old) flush ≡ None) }
+        ensures fault { IfErr result (λ e. flush_refusal (history self.old) flush ≡ Some e) }
+        ensures err { OnErr result (self.new ≡ self.old) }
+        // What a settled flush sent of a series ends before what a later one sends begins.
+        ensures order { OnOk result ((f g : ℕ) (x : Identity) → is_taken_before (history self.new) f g ≡ true → is_settled_in (history self.new) f ≡ true → SendsBefore (history self.new) f g x) }
+    {
+        self.end_flush(seat, flush, Place::Acknowledged, Event::Settle { flush })
+    }
+
+    /// The back end has refused a flush for good: its points are dropped, and counted as
+    /// such. Takes no memory.
+    pub fn drop_flush(&mut self, seat: u16, flush: u64) -> Result<(), NotLive>
+        ensures ok { OnOk result (Appends self.old self.new seat (Event.Drop flush)) }
+        ensures grows { OnOk result (history self.new ≡ history self.old ▸ Event.Drop flush) }
+        ensures none { OnOk result (flush_refusal (history self.old) flush ≡ None) }
+        ensures fault { IfErr result (λ e. flush_refusal (history self.old) flush ≡ Some e) }
+        ensures err { OnErr result (self.new ≡ self.old) }
+    {
+        self.end_flush(seat, flush, Place::Dropped, Event::Drop { flush })
+    }
+
+    /// The back end has taken nothing of a flush: its points are at home again, as if the
+    /// flush had never been taken. Takes no memory.
+    pub fn give_back(&mut self, seat: u16, flush: u64) -> Result<(), NotLive>
+        ensures ok { OnOk result (Appends self.old self.new seat (Event.GiveBack flush)) }
+        ensures grows { OnOk result (history self.new ≡ history self.old ▸ Event.GiveBack flush) }
+        ensures none { OnOk result (flush_refusal (history self.old) flush ≡ None) }
+        ensures fault { IfErr result (λ e. flush_refusal (history self.old) flush ≡ Some e) }
+        ensures err { OnErr result (self.new ≡ self.old) }
+        ensures struck { OnOk result (CanBeStruck (history self.new)) }
+    {
+        self.end_flush(seat, flush, Place::Home, Event::GiveBack { flush })
+    }
+
+    /// Takes an open batch out again, as if it had never come. Refusals in this order:
+    /// `NotOpen`, `Taken`. Takes no memory.
+    pub fn undo(&mut self, seat: u16, batch: u64) -> Result<(), UndoFault>
+        ensures ok { OnOk result (Appends self.old self.new seat (Event.Undo batch)) }
+        ensures grows { OnOk result (history self.new ≡ history self.old ▸ Event.Undo batch) }
+        ensures none { OnOk result (undo_refusal (history self.old) batch ≡ None) }
+        ensures fault { IfErr result (λ e. undo_refusal (history self.old) batch ≡ Some e) }
+        ensures err { OnErr result (self.new ≡ self.old) }
+        ensures struck { OnOk result (CanBeStruck (history self.new)) }
+    {
+        let Some(at) = find_entry(&self.opened, batch) else {
+            return Err(UndoFault::NotOpen);
+        };
+        if !is_all_home(&self.cells, points_at(&self.entries, at), batch) {
+            return Err(UndoFault::Taken);
+        }
+        remove_batch(&mut self.cells, points_at(&self.entries, at), batch);
+        self.entries.push_reserved(Entry {
+            seat,
+            event: Event::Undo { batch },
+        });
+        close(&mut self.opened, batch);
+        Ok(())
+    }
+
+    /// Keeps an open batch for good. Takes no memory.
+    pub fn confirm(&mut self, seat: u16, batch: u64) -> Result<(), NotOpen>
+        ensures ok { OnOk result (Appends self.old self.new seat (Event.Confirm batch)) }
+        ensures grows { OnOk result (history self.new ≡ history self.old ▸ Event.Confirm batch) }
+        ensures none { OnOk result (confirm_refusal (history self.old) batch ≡ None) }
+        ensures fault { IfErr result (λ e. confirm_refusal (history self.old) batch ≡ Some e) }
+        ensures err { OnErr result (self.new ≡ self.old) }
+    {
+        if find_entry(&self.opened, batch).is_none() {
+            return Err(NotOpen);
+        }
+        self.entries.push_reserved(Entry {
+            seat,
+            event: Event::Confirm { batch },
+        });
+        close(&mut self.opened, batch);
+        Ok(())
+    }
+}

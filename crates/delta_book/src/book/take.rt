@@ -1,0 +1,121 @@
+//! A flush goes out.
+ghost use Rattle.std.specs.Prelude.{◌≡◌, ◌≢◌, ◌≤◌, [], List, length, nat_lt, ◌&&◌, map, IfNone, IfSome, IfOk, IfErr, OnErr, if◌then◌else◌};
+ghost use Rattle.metric_events.specs.Choice.{present};
+ghost use Rattle.metric_events.specs.declared.accepted.Accepted.{Accepted};
+ghost use Rattle.delta_book.specs.AtHome.{home_point};
+ghost use Rattle.delta_book.specs.Tables.{AreCells, AreBooked};
+ghost use Rattle.delta_book.specs.Ready.{first_ready};
+
+use crate::book::Book;
+use crate::cells::take_off;
+use crate::faults::TakeFault;
+use crate::flush::{Flush, choose, has_ready, home_sums};
+use crate::flush_point::FlushPoint;
+use crate::open::Open;
+use metric_events::entry::Entry;
+use metric_events::event::Event;
+use metric_events::limits::{MAX_LIVE, MAX_TAKEN};
+use metric_events::sender_name::SenderName;
+use metric_events::series_list::SeriesList;
+use series_cell::cell::Cell;
+use std::alloc::{AllocError, Global};
+
+/// What a flush takes: its series, and what it sends.
+#[derive(Drop)]
+struct Load {
+    series: SeriesList,
+    points: Vec<FlushPoint>,
+}
+
+fn prepare(
+    alloc: Global,
+    cells: &[Cell],
+    held: &[SenderName],
+    max: usize,
+) -> Result<Load, AllocError>
+    requires { AreBooked cells.now }
+    ensures series { IfOk result (λ l. l.series ≡ first_ready held.now max cells.now) }
+    ensures points { (qs : List Accepted) → AreCells cells.now qs → IfOk result (λ l. l.points.items ≡ present (map (home_point qs) (first_ready held.now max cells.now))) }
+{
+    let series = SeriesList::new(choose(alloc, cells, held, max)?);
+    let points = home_sums(alloc, cells, series.as_slice())?;
+    Ok(Load { series, points })
+}
+
+impl Book {
+    ghost use Rattle.delta_book.specs.Journal.{history};
+    ghost use Rattle.delta_book.specs.Flushes.{IsTaken, is_full};
+    ghost use Rattle.metric_events.specs.Choice.{pick};
+    ghost use Rattle.metric_events.specs.Running.{live_flushes};
+    ghost use Rattle.metric_events.specs.declared.limits.TheConstants.{MAX_LIVE};
+    ghost use Rattle.delta_book.specs.Refusals.{has_room};
+
+    /// There are fewer live flushes than there may be.
+    fn has_few_live(&self) -> bool
+        ensures { result ≡ nat_lt (length (live_flushes (history self.now))) MAX_LIVE }
+    {
+        self.live.len() < MAX_LIVE
+    }
+
+    /// Nothing keeps a flush from being taken.
+    fn can_take(&self) -> bool
+        ensures { result ≡ (nat_lt (length (live_flushes (history self.now))) MAX_LIVE && has_room (history self.now)) }
+    {
+        if self.has_few_live() {
+            return self.has_room();
+        }
+        false
+    }
+
+    /// Takes what may be taken.
+    fn take_ready(&mut self, seat: u16, max: usize) -> Result<Flush, TakeFault>
+        requires { pick (history self.old) max ≢ [] }
+        ensures some { IfOk result (λ flush. IsTaken self.old self.new seat max flush) }
+        ensures fault { IfErr result (λ e. e ≡ (if is_full (history self.old) then TakeFault.Full else TakeFault.NoMemory)) }
+        ensures err { OnErr result (self.new ≡ self.old) }
+    {
+        if !self.can_take() {
+            return Err(TakeFault::Full);
+        }
+        let number = self.flushes + 1;
+        let Ok(load) = prepare(self.alloc, &self.cells, &self.held, max) else {
+            return Err(TakeFault::NoMemory);
+        };
+        let Load { series, points } = load;
+        take_off(&mut self.cells, number, series.as_slice());
+        self.live.push_reserved(Open {
+            number,
+            entry: self.entries.len(),
+        });
+        self.flushes = number;
+        self.entries.push_reserved(Entry {
+            seat,
+            event: Event::Take {
+                flush: number,
+                series,
+            },
+        });
+        Ok(Flush { number, points })
+    }
+
+    /// Takes what is at home of the first `max` series that have something to send, in series
+    /// order, and answers the flush: flushes are numbered 1, 2, .. . `None`, with nothing
+    /// changed, exactly where there is nothing to send; then `Full` and `NoMemory`, in this
+    /// order, which change nothing.
+    pub fn take(&mut self, seat: u16, max: usize) -> Result<Option<Flush>, TakeFault>
+        requires low { 1 ≤ max }
+        requires high { max ≤ MAX_TAKEN }
+        ensures nothing { IfOk result (λ o. IfNone o ((pick (history self.old) max ≡ []) × (self.new ≡ self.old))) }
+        ensures some { IfOk result (λ o. IfSome o (λ flush. IsTaken self.old self.new seat max flush)) }
+        ensures fault { IfErr result (λ e. e ≡ (if is_full (history self.old) then TakeFault.Full else TakeFault.NoMemory)) }
+        ensures err { OnErr result ((pick (history self.old) max ≢ []) × (self.new ≡ self.old)) }
+    {
+        if !has_ready(&self.cells, &self.held) {
+            return Ok(None);
+        }
+        match self.take_ready(seat, max) {
+            Ok(flush) => Ok(Some(flush)),
+            Err(fault) => Err(fault),
+        }
+    }
+}

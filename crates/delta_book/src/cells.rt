@@ -1,0 +1,236 @@
+//! The cells of a book, in series order.
+ghost use Rattle.std.specs.Prelude.{◌≡◌, ◌<◌, ◌∷◌, [], ℕ, List, map, length, true, false, ◌++◌, MatchOption, MatchResult, ◌≤◌, not, if◌then◌else◌};
+ghost use Rattle.std.specs.List.{list_any, list_all};
+ghost use Rattle.metric_events.specs.Points.{landed, is_among, is_flying, is_in_flight, admitted};
+ghost use Rattle.metric_events.specs.Series.{of_series, is_ascending};
+ghost use Rattle.metric_events.specs.Standing.{stands};
+ghost use Rattle.metric_events.specs.Legal.{are_distinct, is_batch_home};
+ghost use Rattle.metric_events.specs.declared.accepted.Accepted.{Accepted};
+ghost use Rattle.series_cell.specs.Cells.{Stands, IsOfSame, AreTogether, HasHome, is_of_batch, lifted};
+ghost use Rattle.delta_book.specs.Tables.{AreCells, IsEntered, RemovesFrom, RemovesAll, IdAt, id_of, on_series};
+ghost use Rattle.delta_book.specs.Parts.{part_of, worded};
+ghost use Rattle.delta_book.specs.Puts.{IsGap};
+ghost use Rattle.delta_book.specs.Parts as parts;
+
+use metric_events::batch::Batch;
+use metric_events::place::Place;
+use metric_events::point::Point;
+use metric_events::points::Points;
+use series_cell::cell::Cell;
+use series_id::{SeriesId, SharedId};
+
+/// What of a point stands in its cell.
+#[derive(Clone, Copy)]
+pub enum Part {
+    /// The point with its words.
+    Whole,
+    /// Its span alone: the sums of its series are without its words.
+    Span,
+}
+
+/// What is put of the point at a place of a batch, of which the first points have their words.
+pub fn part_at(whole: usize, place: usize) -> Part
+    ensures { result ≡ parts.part_at whole place }
+{
+    if place < whole {
+        Part::Whole
+    } else {
+        Part::Span
+    }
+}
+
+/// Where the cell of a series is, or where it goes, by a search.
+fn search_place(cells: &[Cell], series: &SeriesId) -> Result<usize, usize>
+    ensures { MatchResult result (λ i. (i < length cells.now) × IdAt cells.now i series.now) (λ i. (i ≤ length cells.now) × (is_ascending (map id_of cells.now) ≡ true → IsGap cells.now i series.now)) }
+{
+    let mut low = 0;
+    let mut high = cells.len();
+    while low < high {
+        let middle = low + (high - low) / 2;
+        if series.is_same(cells[middle].id()) {
+            return Ok(middle);
+        }
+        if series.is_before(cells[middle].id()) {
+            high = middle;
+        } else {
+            low = middle + 1;
+        }
+    }
+    Err(low)
+}
+
+/// Where the cell of a series is, or where it goes. It is looked for first where this identity
+/// stood before; where it stands now is noted.
+pub fn find_place(cells: &[Cell], series: &SharedId) -> Result<usize, usize>
+    ensures { MatchResult result (λ i. (i < length cells.now) × IdAt cells.now i series.now) (λ i. (i ≤ length cells.now) × (is_ascending (map id_of cells.now) ≡ true → IsGap cells.now i series.now)) }
+{
+    let hint = series.place();
+    if hint < cells.len() && series.as_series().is_same(cells[hint].id()) {
+        return Ok(hint);
+    }
+    let found = search_place(cells, series.as_series());
+    series.note_place(match found {
+        Ok(place) | Err(place) => place,
+    });
+    found
+}
+
+/// Where the cell of a series stands.
+pub fn find_cell(cells: &[Cell], series: &SharedId) -> Option<usize>
+    ensures { MatchOption result (is_ascending (map id_of cells.now) ≡ true → is_among series.now (map id_of cells.now) ≡ false) (λ i. (i < length cells.now) × IdAt cells.now i series.now) }
+{
+    match find_place(cells, series) {
+        Ok(i) => Some(i),
+        Err(_) => None,
+    }
+}
+
+fn lift_one(cell: &mut Cell, flush: u64)
+    ensures stands { (qs : List Accepted) → Stands cell.old qs → list_any (stands is_flying) qs ≡ false → Stands cell.new (map (lifted flush) qs) }
+    ensures same { IsOfSame cell.old cell.new }
+{
+    if !cell.is_flying() {
+        cell.lift_off(flush);
+    }
+}
+
+fn lift_series(cells: &mut [Cell], flush: u64, series: &SharedId)
+    ensures { (qs : List Accepted) → AreCells cells.old qs → list_any (stands is_flying) (of_series series.now qs) ≡ false → AreCells cells.new (map (on_series (lifted flush) (series.now ∷ [])) qs) }
+{
+    if let Some(i) = find_cell(cells, series) {
+        lift_one(&mut cells[i], flush);
+    }
+}
+
+/// Sends what is at home of these series away with a flush.
+pub fn take_off(cells: &mut [Cell], flush: u64, series: &[SharedId])
+    ensures { (qs : List Accepted) → AreCells cells.old qs → are_distinct series.now ≡ true → list_all (λ x. not (list_any (stands is_flying) (of_series x qs))) series.now ≡ true → AreCells cells.new (map (on_series (lifted flush) series.now) qs) }
+{
+    for x in series {
+        lift_series(cells, flush, x);
+    }
+}
+
+fn land_one(cell: &mut Cell, place: Place)
+    ensures stands { (f : ℕ) (qs : List Accepted) → Stands cell.old qs → list_any (stands (is_in_flight f)) qs ≡ true → is_flying place ≡ false → Stands cell.new (map (landed f place) qs) }
+    ensures same { IsOfSame cell.old cell.new }
+{
+    match place {
+        Place::Acknowledged => cell.acknowledge(),
+        Place::Dropped => cell.discard(),
+        Place::Home => cell.set_down(),
+        Place::InFlight(_) => {}
+    }
+}
+
+fn land_series(cells: &mut [Cell], place: Place, series: &SharedId)
+    ensures { (f : ℕ) (qs : List Accepted) → AreCells cells.old qs → list_any (stands (is_in_flight f)) (of_series series.now qs) ≡ true → is_flying place ≡ false → AreCells cells.new (map (on_series (landed f place) (series.now ∷ [])) qs) }
+{
+    if let Some(i) = find_cell(cells, series) {
+        land_one(&mut cells[i], place);
+    }
+}
+
+/// Moves what is in flight of these series.
+pub fn land(cells: &mut [Cell], place: Place, series: &[SharedId])
+    ensures { (f : ℕ) (qs : List Accepted) → AreCells cells.old qs → are_distinct series.now ≡ true → list_all (λ x. list_any (stands (is_in_flight f)) (of_series x qs)) series.now ≡ true → is_flying place ≡ false → AreCells cells.new (map (on_series (landed f place) series.now) qs) }
+{
+    for x in series {
+        land_series(cells, place, x);
+    }
+}
+
+fn is_home_in(cells: &[Cell], series: &SharedId, number: u64) -> bool
+    ensures { (qs : List Accepted) → AreCells cells.now qs → list_any (is_of_batch number) (of_series series.now qs) ≡ true → AreTogether number (of_series series.now qs) → result ≡ is_batch_home number (of_series series.now qs) }
+{
+    match find_cell(cells, series) {
+        Some(i) => cells[i].can_remove(number),
+        None => true,
+    }
+}
+
+/// Each point of the batch is at home.
+pub fn is_all_home(cells: &[Cell], batch: &[Point], number: u64) -> bool
+    ensures { (qs : List Accepted) → AreCells cells.now qs → IsEntered qs number batch.now → result ≡ is_batch_home number qs }
+{
+    for p in batch {
+        if !is_home_in(cells, p.shared_series(), number) {
+            return false;
+        }
+    }
+    true
+}
+
+/// Takes what there is of a point out of its cell again.
+fn remove_part(cell: &mut Cell, point: &Point, part: Part, number: u64)
+    requires { HasHome cell.old number (part_of part point.now) }
+    ensures stands { (before after : List Accepted) → Stands cell.old (before ++ admitted number cell.old.owner (part_of part point.now) ∷ after) → Stands cell.new (before ++ after) }
+    ensures same { IsOfSame cell.old cell.new }
+{
+    match part {
+        Part::Whole => cell.remove(number, point),
+        Part::Span => cell.remove_span(number, point),
+    }
+}
+
+/// Takes what there is of a point out again, and its cell with the last one.
+fn remove_one(cells: &mut Vec<Cell>, point: &Point, part: Part, number: u64)
+    requires { RemovesFrom cells.old.items number (part_of part point.now) }
+    ensures { (s : List ℕ) (before after : List Accepted) → AreCells cells.old.items (before ++ admitted number s (part_of part point.now) ∷ after) → AreCells cells.new.items (before ++ after) }
+{
+    if let Some(i) = find_cell(cells, point.shared_series()) {
+        remove_part(&mut cells[i], point, part, number);
+        if cells[i].frontier() == 0 {
+            cells.remove(i);
+        }
+    }
+}
+
+/// Takes the points of a batch out again, of which the first ones have their words. The last
+/// one goes first: cells that it opened in series order then go from the end, and move no other.
+pub fn remove_points(cells: &mut Vec<Cell>, batch: &[Point], whole: usize, number: u64)
+    requires { RemovesAll cells.old.items number (worded whole batch.now) }
+    ensures { (s : List ℕ) (before after : List Accepted) → AreCells cells.old.items (before ++ (map (admitted number s) (worded whole batch.now) ++ after)) → AreCells cells.new.items (before ++ after) }
+{
+    for k in 0..batch.len() {
+        let i = batch.len() - 1 - k;
+        remove_one(cells, &batch[i], part_at(whole, i), number);
+    }
+}
+
+/// Takes the points of a batch out again, each with its words.
+pub fn remove_batch(cells: &mut Vec<Cell>, batch: &[Point], number: u64)
+    requires { RemovesAll cells.old.items number batch.now }
+    ensures { (s : List ℕ) (before after : List Accepted) → AreCells cells.old.items (before ++ (map (admitted number s) batch.now ++ after)) → AreCells cells.new.items (before ++ after) }
+{
+    remove_points(cells, batch, batch.len(), number);
+}
+
+/// A point of a batch shares the identity of its series' cell, where there is one.
+fn share_point(batch: &mut Points, place: usize, cells: &[Cell])
+    requires { place < length batch.old }
+    ensures { batch.new ≡ batch.old }
+{
+    if let Some(i) = find_cell(cells, batch.as_slice()[place].shared_series()) {
+        batch.adopt(place, cells[i].shared_id());
+    }
+}
+
+/// The points of a batch share the identities of their cells, so that an identity is kept once.
+/// Takes no memory. Nothing that can be seen of the batch changes.
+fn share_points(batch: &mut Points, cells: &[Cell])
+    ensures { batch.new ≡ batch.old }
+{
+    for place in 0..batch.as_slice().len() {
+        share_point(batch, place, cells);
+    }
+}
+
+/// The batch, whose points share the identities of their cells.
+pub fn share_known(body: Batch, cells: &[Cell]) -> Batch
+    ensures { result ≡ body }
+{
+    let mut body = body;
+    share_points(&mut body.points, cells);
+    body
+}
