@@ -100,6 +100,14 @@ impl<C: Clock> Connection for ClientConnection<'_, C> {
     ) -> Served {
         let mut input = &self.stream;
         let mut output = &self.stream;
-        serve_client(alloc, self.clock, &mut input, &mut output, keeper, pace, memo)
+        serve_client(
+            alloc,
+            self.clock,
+            &mut input,
+            &mut output,
+            keeper,
+            pace,
+            memo,
+        )
     }
 }

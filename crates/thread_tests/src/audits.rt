@@ -4,8 +4,7 @@ ghost use Rattle.metric_events.specs.Opening.{first_opening};
 
 use crate::bodies::{admitted, body};
 use delta_book::book::Book;
-use shared_book::audit::AuditFault;
-use shared_book::audit::check;
+use shared_book::audit::{AuditFault, check};
 use shared_book::round::Round;
 use shared_book::seat::Seat;
 use shared_book::shared::SharedBook;

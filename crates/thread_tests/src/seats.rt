@@ -4,8 +4,7 @@ ghost use Rattle.metric_events.specs.Opening.{first_opening};
 
 use crate::pair::{Then, both_ended, bring_from_both, two_seats};
 use delta_book::book::Book;
-use shared_book::audit::Audit;
-use shared_book::audit::AuditFault;
+use shared_book::audit::{Audit, AuditFault};
 use shared_book::receipt::EventKind;
 use shared_book::round::Round;
 use shared_book::seat::Seat;
