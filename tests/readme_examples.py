@@ -1,5 +1,5 @@
 #!/usr/bin/env python3
-"""What the READMEs show is what is run: each crate's example is a file of crates/examples, whose tests the gate
+"""What the READMEs show is what is run: each crate's example is a file of crates/example_tests, whose tests the gate
 runs, and the top README's script has the replies of the built program play.
 
     tests/readme_examples.py PROGRAM
@@ -27,7 +27,7 @@ def crate_examples():
     for name in sorted(os.listdir(f"{ROOT}/crates")):
         readme = f"crates/{name}/README.md"
         if os.path.isfile(f"{ROOT}/{readme}") and "## What is proved" in content(readme):
-            path = f"crates/examples/src/uses_{name}.rt"
+            path = f"crates/example_tests/src/uses_{name}.rt"
             ran = content(path) if os.path.isfile(f"{ROOT}/{path}") else None
             yield readme, CRATE_BLOCK.findall(content(readme)), [ran]
 
