@@ -1,20 +1,20 @@
--- What two series may share.
+-- What two series share: a resource, a scope, a stream.
 use Rattle.std.specs.Prelude.{◌≡◌, Bool}
 use Rattle.std.specs.Ordering.{is_eq}
 use Rattle.series_id.specs.Identity.{Identity}
 use Rattle.series_id.specs.Order.{resource_cmp, scope_cmp, stream_cmp}
 
--- one set of resource attributes
+-- the same resource attributes
 abbrev pub HasOneResource : Identity → Identity → Type 0
 HasOneResource x y = x.resource ≡ y.resource
 
--- one scope: name, version and attributes
+-- the same scope: name, version and attributes
 pub record HasOneScope (x y : Identity) : Type 0 where
   pub name : x.scope_name ≡ y.scope_name
   pub version : x.scope_version ≡ y.scope_version
   pub attrs : x.scope_attrs ≡ y.scope_attrs
 
--- one stream: the metric's name, unit and kind
+-- the same stream: the metric's name, unit and kind
 pub record HasOneStream (x y : Identity) : Type 0 where
   pub name : x.name ≡ y.name
   pub unit : x.unit ≡ y.unit

@@ -1,4 +1,4 @@
--- The identity that a series holds.
+-- The identity that contracts see.
 use Rattle.series_id.specs.declared.series.SeriesId.TheInside.{Inside}
 use Rattle.series_id.specs.Identity.{Identity}
 

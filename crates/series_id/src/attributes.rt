@@ -1,4 +1,4 @@
-//! Attributes, and sets of them.
+//! An attribute (a key and its value), and attribute sets.
 
 ghost use Rattle.std.specs.Prelude.{◌≡◌, ◌<◌, IfErr, IfOk, None, OnOk, []};
 ghost use Rattle.std.specs.Option.{unwrap_or};
@@ -16,7 +16,7 @@ use std::cmp::Ordering;
 use std::marker::Model;
 use std::sync::Arc;
 
-/// A key with its value.
+/// A key and its value.
 #[derive(Drop)]
 pub struct Attribute {
     /// The key.
@@ -29,8 +29,8 @@ pub struct Attribute {
 /// at most `MAX_ATTRIBUTES` pairs, lists of at most `MAX_VALUES` values, and texts of at most
 /// `MAX_TEXT` bytes. Contracts see it as the list of its pairs.
 ///
-/// The pairs stand behind a count of their owners, so a copy of a set takes no memory, and nor
-/// does the empty set.
+/// Copies share the pairs by counting their owners, so a copy takes no memory. Nor does the
+/// empty set.
 #[derive(Drop)]
 pub struct AttrSet {
     pairs: Option<Arc<Vec<Attribute>, Global>>,
@@ -70,7 +70,7 @@ impl Attribute {
 }
 
 impl AttrSet {
-    /// The set with no attribute. Takes no memory.
+    /// The empty set. Takes no memory.
     pub fn empty(_alloc: Global) -> AttrSet
         ensures { result ≡ [] }
     {
@@ -78,12 +78,11 @@ impl AttrSet {
         AttrSet { pairs }
     }
 
-    /// The set of the pairs, in whatever order they come.
+    /// The set of these pairs. Their order makes no difference.
     ///
-    /// Fails, in this order, with `TooMany` where there are more than `MAX_ATTRIBUTES` pairs or a
-    /// list has more than `MAX_VALUES` values, `TextTooLong` where a key or a text among the
-    /// values has more than `MAX_TEXT` bytes, `DuplicateKey` where a key stands twice, and
-    /// `NoMemory`.
+    /// Errors, in this order: `TooMany` (more than `MAX_ATTRIBUTES` pairs, or a list of more than
+    /// `MAX_VALUES` values), `TextTooLong` (a key or a text value of more than `MAX_TEXT` bytes),
+    /// `DuplicateKey` (a key occurs twice), `NoMemory`.
     pub fn from_pairs(alloc: Global, pairs: Vec<(Text, AttrValue)>) -> Result<AttrSet, AttrFault>
         ensures fault { IfErr result (λ e. e ≡ unwrap_or (attr_refusal pairs.items) AttrFault.NoMemory) }
         ensures none { OnOk result (attr_refusal pairs.items ≡ None) }
@@ -124,7 +123,7 @@ impl AttrSet {
         }
     }
 
-    /// How many sets share these pairs at the moment, this one counted.
+    /// How many sets share these pairs now, including this one.
     pub fn owners(&self) -> usize
         ensures { 0 < result }
     {
@@ -134,7 +133,7 @@ impl AttrSet {
         }
     }
 
-    /// Does nothing: its contract tells a caller that the set is within its limits.
+    /// Does nothing when it runs. Its contract says that the set is within its limits.
     pub fn keeps_limits(&self)
         ensures { IsAttrSet self.now }
     {
@@ -150,7 +149,7 @@ impl AttrSet {
     }
 }
 
-/// The set of pairs that are one. None take no memory.
+/// The set of pairs that are sorted and within the limits. The empty set takes no memory.
 fn share_pairs(alloc: Global, sorted: Vec<Attribute>) -> Result<AttrSet, AllocError>
     requires { IsAttrSet sorted.items }
     ensures { IfOk result (λ set. set ≡ sorted.items) }

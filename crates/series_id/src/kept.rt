@@ -1,9 +1,9 @@
-//! What the owners of an identity share.
+//! The value behind a `SharedId`.
 
 use crate::series::SeriesId;
 use std::sync::atomic::AtomicUsize;
 
-/// An identity, and the place where it was last found in a list.
+/// An identity, and the position at which it was last found in a list.
 #[derive(Drop)]
 pub(crate) struct Kept {
     pub(crate) series: SeriesId,

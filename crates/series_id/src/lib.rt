@@ -1,8 +1,7 @@
-//! What identifies a metric series: resource attributes, scope, metric name, unit, kind and point
-//! attributes. Two points are of one series exactly where all of these are equal, texts byte by
-//! byte and attributes in whatever order they came. Series have a total order, the order in which
-//! they are stored, taken and reported. Each part is bounded in size, and a value of these types
-//! is within its bounds.
+//! The identity of a metric series: resource attributes, scope, metric name, unit, kind and point
+//! attributes. Two points belong to one series exactly where all of these are equal: texts byte by
+//! byte, attributes in any order. Series have a total order, in which they are stored, taken and
+//! reported. Each part has a limit of size, and every value of these types is within it.
 #![tactic(auto)]
 
 mod attributes;

@@ -1,4 +1,4 @@
-//! Identities of series.
+//! The identity of a series, and the order of series.
 
 ghost use Rattle.std.specs.Prelude.{◌≡◌, ◌↔◌, IfOk, IsTrue, Some, refl};
 ghost use Rattle.series_id.specs.Checks.{checked_identity};
@@ -16,8 +16,8 @@ use std::alloc::{AllocError, Global};
 use std::cmp::Ordering;
 use std::marker::Model;
 
-/// What identifies a series. Contracts see it as an `Identity`. A copy of it takes memory; a
-/// `SharedId` keeps it once for several owners.
+/// The identity of a series. Contracts see it as an `Identity`. A copy takes memory; a `SharedId`
+/// stores it once for several owners.
 pub struct SeriesId {
     resource: AttrSet,
     scope_name: Text,
@@ -42,7 +42,7 @@ impl Model for SeriesId {
     ghost invariant = { λ s. IsIdentity (identity_of s) };
 }
 
-// Written out, since what a derive writes is proved again in each crate that lets one go.
+// Written by hand: a derived `drop` is proved again in each crate that drops one.
 impl Drop for SeriesId {
     fn drop(self) {
         let SeriesId {
@@ -59,10 +59,10 @@ impl Drop for SeriesId {
 }
 
 impl SeriesId {
-    /// The identity of these parts.
+    /// The identity with these parts. Takes no memory.
     ///
     /// Fails with `TextTooLong` exactly where the scope's name or version, the metric's name or
-    /// the unit has more than `MAX_TEXT` bytes. Takes no memory.
+    /// the unit has more than `MAX_TEXT` bytes.
     pub fn new(
         resource: AttrSet,
         scope_name: Text,
@@ -150,16 +150,16 @@ impl SeriesId {
         &self.attrs
     }
 
-    /// Does nothing: its contract tells a caller that the identity is within its limits, with its
-    /// sets and bounds in order.
+    /// Does nothing when it runs. Its contract says that the identity is within its limits, with
+    /// its sets and bounds in order.
     pub fn keeps_limits(&self)
         ensures { IsIdentity self.now }
     {
         let _ = &self.name;
     }
 
-    /// How many words a row of the series has: 3 for a sum, the number of bounds and 4 more for a
-    /// histogram.
+    /// How many words a row of the series has: 3 for a sum; for a histogram 4 more than it has
+    /// bounds.
     pub fn row_len(&self) -> usize
         ensures { result ≡ row_length self.now.kind }
     {
@@ -190,7 +190,7 @@ impl SeriesId {
         })
     }
 
-    /// Whether both are of one series: whether all fields are equal.
+    /// Whether both identify the same series: whether all fields are equal.
     #[tactic(auto, unfolding(crate::specs::Order::same_series))]
     pub fn is_same(&self, other: &SeriesId) -> bool
         ensures value { result ≡ same_series self.now other.now }
@@ -199,7 +199,7 @@ impl SeriesId {
         self.compare(other).is_eq()
     }
 
-    /// Whether the first comes before the second in the order of series.
+    /// Whether this series comes before the other in the order of series.
     #[tactic(auto, unfolding(crate::specs::Order::series_before))]
     pub fn is_before(&self, other: &SeriesId) -> bool
         ensures { result ≡ series_before self.now other.now }
@@ -207,7 +207,7 @@ impl SeriesId {
         self.compare(other).is_lt()
     }
 
-    /// Whether both series have one set of resource attributes.
+    /// Whether both series have the same resource attributes.
     pub fn shares_resource(&self, other: &SeriesId) -> bool
         ensures value { result ≡ shares_resource self.now other.now }
         ensures exact { IsTrue result ↔ HasOneResource self.now other.now }
@@ -215,7 +215,7 @@ impl SeriesId {
         self.compare_resource(other).is_eq()
     }
 
-    /// Whether both series have one scope: name, version and attributes.
+    /// Whether both series have the same scope: name, version and attributes.
     pub fn shares_scope(&self, other: &SeriesId) -> bool
         ensures value { result ≡ shares_scope self.now other.now }
         ensures exact { IsTrue result ↔ HasOneScope self.now other.now }
@@ -223,7 +223,7 @@ impl SeriesId {
         self.compare_scope(other).is_eq()
     }
 
-    /// Whether both series have one stream: the metric's name, unit and kind.
+    /// Whether both series have the same stream: the metric's name, unit and kind.
     pub fn shares_stream(&self, other: &SeriesId) -> bool
         ensures value { result ≡ shares_stream self.now other.now }
         ensures exact { IsTrue result ↔ HasOneStream self.now other.now }
@@ -231,7 +231,7 @@ impl SeriesId {
         self.compare_stream(other).is_eq()
     }
 
-    /// Which of two series comes first: the first field that differs decides.
+    /// Compares two series: the first field that differs decides.
     #[tactic(auto, unfolding(crate::specs::Order::series_cmp))]
     fn compare(&self, other: &SeriesId) -> Ordering
         ensures { result ≡ series_cmp self.now other.now }
@@ -247,14 +247,14 @@ impl SeriesId {
         self.compare_metric(other)
     }
 
-    /// Which of two series comes first by its resource.
+    /// Compares the resources.
     fn compare_resource(&self, other: &SeriesId) -> Ordering
         ensures { result ≡ resource_cmp self.now other.now }
     {
         self.resource.compare(&other.resource)
     }
 
-    /// Which of two series comes first by its scope: name, version and attributes.
+    /// Compares the scopes: name, version and attributes.
     #[tactic(auto, unfolding(crate::specs::Order::scope_cmp))]
     fn compare_scope(&self, other: &SeriesId) -> Ordering
         ensures { result ≡ scope_cmp self.now other.now }
@@ -270,7 +270,7 @@ impl SeriesId {
         self.scope_attrs.compare(&other.scope_attrs)
     }
 
-    /// Which of two series comes first by its metric: name, unit, kind and point attributes.
+    /// Compares the metrics: name, unit, kind and point attributes.
     #[tactic(auto, unfolding(crate::specs::Order::metric_cmp))]
     fn compare_metric(&self, other: &SeriesId) -> Ordering
         ensures { result ≡ metric_cmp self.now other.now }
@@ -282,7 +282,7 @@ impl SeriesId {
         self.attrs.compare(&other.attrs)
     }
 
-    /// Which of two series comes first by what the points of a metric share: name, unit and kind.
+    /// Compares the streams: the metric's name, unit and kind.
     fn compare_stream(&self, other: &SeriesId) -> Ordering
         ensures { result ≡ stream_cmp self.now other.now }
     {

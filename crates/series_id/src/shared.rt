@@ -1,4 +1,4 @@
-//! Identities that are kept once.
+//! Identities that are stored once and shared.
 
 ghost use Rattle.std.specs.Prelude.{◌≡◌, ◌↔◌, ◌<◌, IfErr, IfOk, IsTrue};
 ghost use Rattle.series_id.specs.Order.{same_series};
@@ -25,7 +25,7 @@ impl Model for SharedId {
     ghost view = { λ s. (arc_value s.kept).series };
 }
 
-// Written out, since what a derive writes is proved again in each crate that lets one go.
+// Written by hand: a derived `drop` is proved again in each crate that drops one.
 impl Drop for SharedId {
     fn drop(self) {
         let SharedId { kept: _ } = self;
@@ -33,7 +33,7 @@ impl Drop for SharedId {
 }
 
 impl SharedId {
-    /// This identity, with one owner. Where memory is refused the identity is handed back.
+    /// This identity, with one owner. If memory runs out, the error returns the identity.
     pub fn new(alloc: Global, series: SeriesId) -> Result<SharedId, AllocFailed<SeriesId>>
         ensures same { IfOk result (λ shared. shared ≡ series) }
         ensures back { IfErr result (λ refused. refused.value ≡ series) }
@@ -54,8 +54,8 @@ impl SharedId {
         &self.kept.series
     }
 
-    /// The same identity, with one owner more. Takes no memory: it fails only where the count is
-    /// full.
+    /// The same identity, with one more owner. Takes no memory: it fails only where the count of
+    /// owners is full.
     pub fn share(&self) -> Result<SharedId, AllocError>
         ensures { IfOk result (λ shared. shared ≡ self.now) }
     {
@@ -63,25 +63,25 @@ impl SharedId {
         Ok(SharedId { kept })
     }
 
-    /// How many own this identity at the moment, this one counted.
+    /// How many owners this identity has now, including this one.
     pub fn owners(&self) -> usize
         ensures { 0 < result }
     {
         Arc::strong_count(&self.kept)
     }
 
-    /// The place that was noted last, by any owner; 0 where none was. It is a place to look first,
-    /// and may be out of date: no clause says anything of it.
+    /// The position that any owner noted last, or 0. It is a hint where to look first and may be
+    /// out of date: no contract uses it.
     pub fn place(&self) -> usize {
         self.kept.place.load(Relaxed)
     }
 
-    /// Notes the place where this identity stands in a list. Takes no memory.
+    /// Notes the position of this identity in a list. Takes no memory.
     pub fn note_place(&self, place: usize) {
         self.kept.place.store(place, Relaxed);
     }
 
-    /// Whether both are of one series: whether all fields are equal.
+    /// Whether both identify the same series: whether all fields are equal.
     pub fn is_same(&self, other: &SharedId) -> bool
         ensures value { result ≡ same_series self.now other.now }
         ensures exact { IsTrue result ↔ (self.now ≡ other.now) }
