@@ -1,4 +1,4 @@
--- The words that a row holds.
+-- The words of a row.
 use Rattle.std.specs.Prelude.{ℕ, List}
 use Rattle.metric_events.specs.declared.row.Words.{Words}
 use Rattle.metric_events.specs.declared.row.Words.TheVariants.{Three, Listed}

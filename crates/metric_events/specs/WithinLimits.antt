@@ -1,4 +1,4 @@
--- What no history passes.
+-- The limits of every history.
 use Rattle.std.specs.Prelude.{◌≡◌, ◌+◌, ◌≤◌, true, length}
 use Rattle.series_id.specs.Identity.{Identity}
 use Rattle.metric_events.specs.Rows.{fits}
@@ -8,7 +8,8 @@ use Rattle.metric_events.specs.Running.{open_batches, live_flushes, held_senders
 use Rattle.metric_events.specs.Series.{series_count, sum_of}
 use Rattle.metric_events.specs.declared.limits.TheConstants.{MAX_SERIES, MAX_OPEN, MAX_LIVE, MAX_HELD, MAX_ENTRIES}
 
--- series, open batches, live flushes and held senders are few; there is room to end them all; sums are within their limits
+-- series, open batches, live flushes and quarantined senders are few; there is room to end them
+-- all; sums are within their limits
 pub record IsWithinLimits (E : History) : Type 0 where
   pub series : series_count (points E) ≤ MAX_SERIES
   pub batches : length (open_batches E) ≤ MAX_OPEN

@@ -7,9 +7,9 @@ use series_id::{SeriesId, SharedId};
 use std::alloc::{AllocError, Global};
 use std::marker::Model;
 
-/// Points of a series as one: from the first start to the last end, and the sum of their rows.
-/// The row is as long as its series wants it, within the limits, and takes nothing away from a
-/// monotonic sum. One point alone is one too, and so is none, with a row of zeros.
+/// Points of a series, merged: their covering span, and the sum of their rows. The row has the
+/// length of its series' kind, is within the limits, and subtracts nothing if the sum is
+/// monotonic. One point alone is a merged point too.
 pub struct MergedPoint {
     series: SharedId,
     span: Span,
@@ -39,7 +39,7 @@ impl Drop for MergedPoint {
 impl MergedPoint {
     ghost use Rattle.metric_events.specs.DataPoint.{IsMerged};
 
-    /// The point of these parts, which fit one another. Takes no memory.
+    /// The merged point with these parts. Takes no memory.
     pub fn new(series: SharedId, span: Span, row: Row) -> MergedPoint
         requires { IsMerged (record { series = series; span = span; row = row }) }
         ensures { result ≡ record { series = series; span = span; row = row } }
@@ -47,28 +47,28 @@ impl MergedPoint {
         MergedPoint { series, span, row }
     }
 
-    /// The series that the points are of.
+    /// The series of the points.
     pub fn series(&self) -> &SeriesId
         ensures { result.now ≡ self.now.series }
     {
         self.series.as_series()
     }
 
-    /// The same, as it is kept: shared by counting.
+    /// The same, as the shared identity.
     pub fn shared_series(&self) -> &SharedId
         ensures { result.now ≡ self.now.series }
     {
         &self.series
     }
 
-    /// From the first start to the last end.
+    /// The covering span, in nanoseconds: from the first start to the last end.
     pub fn span(&self) -> Span
         ensures { result ≡ self.now.span }
     {
         self.span
     }
 
-    /// The words of the row: as many as the series wants, within its limits.
+    /// The words of the row. There are as many as the series' kind has, each within its limit.
     pub fn row(&self) -> &[u64]
         ensures value { result.now ≡ self.now.row }
         ensures made { IsMerged self.now }
@@ -92,8 +92,8 @@ impl MergedPoint {
             && self.row.as_slice() == other.row.as_slice()
     }
 
-    /// Lets go of the own identity for a share of this one, where that is equal. Takes no memory.
-    /// Nothing that can be seen of the point changes.
+    /// Replaces the point's identity by a share of this one, if they are equal. Takes no memory.
+    /// The value of the point does not change.
     pub fn adopt(&mut self, series: &SharedId)
         ensures { self.new ≡ self.old }
     {
@@ -105,8 +105,8 @@ impl MergedPoint {
         }
     }
 
-    /// An equal one, which shares the identity. Fails only for want of memory, which is taken for
-    /// the row alone.
+    /// An equal merged point, which shares the identity. Takes memory for the row alone, and fails
+    /// only if that allocation fails.
     pub fn copy(&self, alloc: Global) -> Result<MergedPoint, AllocError>
         ensures { IfOk result (λ copy. copy ≡ self.now) }
     {

@@ -6,7 +6,7 @@ ghost use Rattle.metric_events.specs.Rows as rows;
 use crate::limits::{MAX_AMOUNT, MAX_BUCKET, MAX_POINTS, MAX_SUM};
 use series_id::Kind;
 
-/// The most that word `k` of a row of this kind may hold.
+/// The greatest value of word `k` of a row of this kind.
 pub fn word_limit(kind: &Kind, k: usize) -> u64
     ensures { result ≡ rows.word_limit kind.now k }
 {
