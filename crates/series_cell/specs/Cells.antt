@@ -1,4 +1,4 @@
--- A cell, and the points that it stands for.
+-- A cell, and the points that it represents.
 use Rattle.std.specs.Prelude.{◌≡◌, ℕ, Bool, true, ◌||◌, ◌&&◌, List, [], ◌∷◌, ◌++◌, map, filter, length, drop, take, max, nat_le, if◌then◌else◌, ◌==◌, not, ◌⊎◌}
 use Rattle.std.specs.List.{list_all}
 use Rattle.std.specs.declared.option.Option.{Option}
@@ -17,8 +17,9 @@ use Rattle.metric_events.specs.declared.opened_series.OpenedSeries.{OpenedSeries
 use Rattle.series_cell.specs.Spans.{span_of, end_of_spans, hull_of}
 use Rattle.series_cell.specs.declared.batch_span.BatchSpan.{BatchSpan}
 
--- what a cell keeps: five rows; the spans that have not landed, those before the cut being in
--- flight with flush; the greatest end of what has landed; and how many spans more there is room for
+-- the contents of a cell: five rows; the spans of points that have not landed, those before the cut
+-- being in flight with flush; the greatest end of those that have landed; and how many more spans
+-- there is room for
 pub record CellView : Type 0 where
   pub owner : List ℕ
   pub id : Identity
@@ -37,7 +38,7 @@ pub record CellView : Type 0 where
 abbrev pub is_landed : Place → Bool
 is_landed place = is_acknowledged place || is_dropped place
 
--- a point of this sender and series, with a row as long as the series wants it
+-- a point of this sender and series, with a row of the length of its kind
 pub record IsOwn (s : List ℕ) (x : Identity) (a : Accepted) : Type 0 where
   pub series : a.point.series ≡ x
   pub sender : a.sender ≡ s
@@ -51,19 +52,19 @@ AllOwn s x (a ∷ qs) = IsOwn s x a × AllOwn s x qs
 abbrev pub starts_from : ℕ → Accepted → Bool
 starts_from end a = nat_le end a.point.span.start
 
--- each ends before those after it start
+-- each ends before those after it start, or at their start
 abbrev pub InOrder : List Accepted → Type 0
 InOrder [] = Unit {0}
 InOrder (a ∷ qs) = (list_all (starts_from a.point.span.end) qs ≡ true) × InOrder qs
 
--- the greatest end, 0 where there is no point
+-- the greatest end, 0 if there is no point
 abbrev pub greatest_end : List Accepted → ℕ
 greatest_end [] = 0
 greatest_end (a ∷ qs) = max a.point.span.end (greatest_end qs)
 
--- the cell stands for these points of its series: its rows are their sums by place, its spans
--- theirs. Those that have landed came first, then those in flight, then those at home, and what
--- has not landed is in order of time.
+-- the cell represents these points of its series: its rows are their sums by state, and its spans
+-- theirs. Those that have landed come first, then those in flight, then the pending ones; those
+-- that have not landed are in order of time.
 pub record Stands (c : CellView) (qs : List Accepted) : Type 0 where
   pub gone : List Accepted
   pub away : List Accepted
@@ -77,59 +78,62 @@ pub record Stands (c : CellView) (qs : List Accepted) : Type 0 where
   pub accepted : c.accepted ≡ row_sum (row_length c.id.kind) qs
   pub stored : c.stored ≡ row_sum (row_length c.id.kind) home
   pub in_flight : c.in_flight ≡ row_sum (row_length c.id.kind) away
-  pub acknowledged : c.acknowledged ≡ row_sum (row_length c.id.kind) (filter (stands is_acknowledged) gone)
+  pub acknowledged :
+      c.acknowledged ≡ row_sum (row_length c.id.kind) (filter (stands is_acknowledged) gone)
   pub dropped : c.dropped ≡ row_sum (row_length c.id.kind) (filter (stands is_dropped) gone)
   pub spans : c.spans ≡ map span_of (away ++ home)
   pub cut : c.cut ≡ length away
   pub landed : c.landed ≡ greatest_end gone
 
--- a cell stands for some points
+-- a cell represents some points
 abbrev pub IsCell : CellView → Type 0
 IsCell c = (qs : List Accepted) × Stands c qs
 
--- the greatest end of its points, 0 where there is none
+-- the greatest end of its points, 0 if there is none
 abbrev pub end_of : CellView → ℕ
 end_of c = max c.landed (end_of_spans 0 c.spans)
 
--- from the first start to the last end of what is at home, and of what is in flight
+-- the covering span of the pending points, and of those in flight
 abbrev pub home_hull : CellView → Option Interval
 home_hull c = hull_of (drop c.cut c.spans)
 
 abbrev pub flight_hull : CellView → Option Interval
 flight_hull c = hull_of (take c.cut c.spans)
 
--- where a flush leaves a point
+-- a point after a flush has taken it
 abbrev pub lifted : ℕ → Accepted → Accepted
 lifted f a = if is_home a.place then at (InFlight f) a else a
 
--- the point without its words: of its series and span, with a row of zeros
+-- the point without its words: its series and span, with a row of zeros
 abbrev pub bare : DataPoint → DataPoint
 bare p = record { series = p.series; span = p.span; row = zeros (row_length p.series.kind) }
 
--- another cell of the same sender and series
+-- a cell of the same sender and series
 pub record IsOfSame (c d : CellView) : Type 0 where
   pub owner : d.owner ≡ c.owner
   pub id : d.id ≡ c.id
 
--- this point of the batch is at home
+-- this point of the batch is pending
 abbrev pub HasHome : CellView → ℕ → DataPoint → Type 0
-HasHome c b p = (before : List Accepted) × ((after : List Accepted) × Stands c (before ++ admitted b c.owner p ∷ after))
+HasHome c b p =
+    (before : List Accepted) × ((after : List Accepted)
+    × Stands c (before ++ admitted b c.owner p ∷ after))
 
 abbrev pub is_of_batch : ℕ → Accepted → Bool
 is_of_batch b a = a.batch == b
 
--- a point of the batch that is at home
+-- a pending point of the batch
 abbrev pub is_home_of : ℕ → Accepted → Bool
 is_home_of b a = a.batch == b && is_home a.place
 
 abbrev pub is_other_or_off : ℕ → Accepted → Bool
 is_other_or_off b a = not (a.batch == b) || not (is_home a.place)
 
--- the batch's points are all at home, or none is
+-- the batch's points are all pending, or none is
 abbrev pub AreTogether : ℕ → List Accepted → Type 0
 AreTogether b qs = (is_batch_home b qs ≡ true) ⊎ (list_all (is_other_or_off b) qs ≡ true)
 
--- what the cell hands on to the next round: who sends the series, where it ends, what is at home
+-- what the cell passes on to the next round: series, owner, frontier, and what is pending
 pub record HandsOn (c : CellView) (s : OpenedSeries) : Type 0 where
   pub series : s.series ≡ c.id
   pub owner : s.owner ≡ c.owner

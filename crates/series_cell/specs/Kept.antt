@@ -1,9 +1,9 @@
--- What a cell keeps, as its contracts see it.
+-- The contents of a cell, as contracts see it.
 use Rattle.std.specs.Prelude.{◌-◌, vec_capacity, vec_len}
 use Rattle.series_cell.specs.Cells.{CellView}
 use Rattle.series_cell.specs.declared.kept.Kept.{Kept}
 
--- rows and spans by their items; to spare is the room for spans that is left
+-- rows and spans as lists; spare is the room that is left for spans
 abbrev pub view_of : Kept → CellView
 view_of k = record {
   owner = k.owner;

@@ -1,4 +1,4 @@
--- What a cell says of the points that it stands for, in the words of their standing.
+-- What the totals of a cell say of the points that it represents.
 use Rattle.std.specs.Prelude.{◌≡◌, List, filter, length, nat_lt}
 use Rattle.std.specs.List.{list_any}
 use Rattle.series_id.specs.Identity.{row_length}
@@ -8,12 +8,13 @@ use Rattle.metric_events.specs.Standing.{stands}
 use Rattle.metric_events.specs.declared.accepted.Accepted.{Accepted}
 use Rattle.series_cell.specs.Cells.{CellView, end_of, home_hull, flight_hull}
 
--- rows, hulls and frontier are those of its points, by place
+-- the rows and covering spans are those of its points by state, and so is the frontier
 pub record Tells (c : CellView) (qs : List Accepted) : Type 0 where
   pub accepted : c.accepted ≡ row_sum (row_length c.id.kind) qs
   pub stored : c.stored ≡ row_sum (row_length c.id.kind) (filter (stands is_home) qs)
   pub in_flight : c.in_flight ≡ row_sum (row_length c.id.kind) (filter (stands is_flying) qs)
-  pub acknowledged : c.acknowledged ≡ row_sum (row_length c.id.kind) (filter (stands is_acknowledged) qs)
+  pub acknowledged :
+      c.acknowledged ≡ row_sum (row_length c.id.kind) (filter (stands is_acknowledged) qs)
   pub dropped : c.dropped ≡ row_sum (row_length c.id.kind) (filter (stands is_dropped) qs)
   pub home_span : home_hull c ≡ hull (filter (stands is_home) qs)
   pub flight_span : flight_hull c ≡ hull (filter (stands is_flying) qs)

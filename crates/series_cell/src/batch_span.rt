@@ -5,14 +5,16 @@ ghost use Rattle.series_cell.specs.Spans.{is_span_of, place_of, end_of_spans, hu
 
 use metric_events::span::Span;
 
-/// The span of a point that has not landed, and its batch.
+/// The span of a point that is pending or in flight, and its batch.
 #[derive(Clone, Copy, Drop)]
 pub struct BatchSpan {
+    /// The span, in nanoseconds.
     pub span: Span,
+    /// The number of the point's batch; 0 for what a round began with.
     pub batch: u64,
 }
 
-/// Those from a place on.
+/// The spans from an index on.
 pub fn spans_from(spans: &[BatchSpan], from: usize) -> &[BatchSpan]
     requires { from ≤ length spans.now }
     ensures { result.now ≡ drop from spans.now }
@@ -20,7 +22,7 @@ pub fn spans_from(spans: &[BatchSpan], from: usize) -> &[BatchSpan]
     &spans[from..]
 }
 
-/// Those before a place.
+/// The spans before an index.
 pub fn spans_to(spans: &[BatchSpan], to: usize) -> &[BatchSpan]
     requires { to ≤ length spans.now }
     ensures { result.now ≡ take to spans.now }
@@ -28,14 +30,14 @@ pub fn spans_to(spans: &[BatchSpan], to: usize) -> &[BatchSpan]
     &spans[..to]
 }
 
-/// Whether one is of this batch. It looks from the last back: a batch that is undone came late.
+/// Whether one of them is of this batch. It looks backwards: a batch that is undone came late.
 pub fn has_batch(spans: &[BatchSpan], batch: u64) -> bool
     ensures { result ≡ list_any (is_span_of batch) spans.now }
 {
     spans.iter().rev().any(|span| span.batch == batch)
 }
 
-/// Where the span that starts there stands, among spans each of which ends before the next starts.
+/// The index of the span with this start (in nanoseconds). Each span ends before the next starts.
 pub fn find_start(spans: &[BatchSpan], start: u64) -> usize
     ensures value { IsNonDecreasingBy (λ m. m.span.end) spans.now → result ≡ place_of start spans.now }
     ensures inside { result ≤ length spans.now }
@@ -43,7 +45,7 @@ pub fn find_start(spans: &[BatchSpan], start: u64) -> usize
     spans.partition_point(|of_batch| of_batch.span.end() <= start)
 }
 
-/// The end of the last span, or what came before all.
+/// The end of the last span in nanoseconds, or `before` if there is none.
 pub fn end_or(spans: &[BatchSpan], before: u64) -> u64
     ensures { result ≡ end_of_spans before spans.now }
 {
@@ -53,7 +55,7 @@ pub fn end_or(spans: &[BatchSpan], before: u64) -> u64
     spans[spans.len() - 1].span.end()
 }
 
-/// From the first start to the last end, of spans in order of time.
+/// The covering span of spans in order of time: from the first start to the last end.
 pub fn hull(spans: &[BatchSpan]) -> Option<Span>
     ensures { AreInOrder spans.now → result ≡ hull_of spans.now }
 {
@@ -65,7 +67,7 @@ pub fn hull(spans: &[BatchSpan]) -> Option<Span>
     Some(first.hull(&last))
 }
 
-/// Takes the first spans out. Takes no memory.
+/// Removes the first `count` spans. Takes no memory.
 pub fn drop_first(spans: &mut Vec<BatchSpan>, count: usize)
     requires { count ≤ vec_len spans.old }
     ensures items { spans.new.items ≡ drop count spans.old.items }
@@ -75,8 +77,8 @@ pub fn drop_first(spans: &mut Vec<BatchSpan>, count: usize)
     spans.truncate(spans.len() - count);
 }
 
-/// Makes spans in order of time one, from the first start to the last end and of no batch, where
-/// there is one. Takes no memory.
+/// Replaces spans in order of time by their covering span, of no batch, if there are any. Takes no
+/// memory.
 pub fn join_all(spans: &mut Vec<BatchSpan>)
     ensures items { AreInOrder spans.old.items → spans.new.items ≡ joined_spans (hull_of spans.old.items) }
     ensures room { vec_capacity spans.old - vec_len spans.old ≤ vec_capacity spans.new - vec_len spans.new }

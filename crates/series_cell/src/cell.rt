@@ -22,10 +22,10 @@ use series_id::{SeriesId, SharedId};
 use std::alloc::{AllocError, Global};
 use std::marker::Model;
 
-/// The totals of one series: what was accepted, what is at home (`stored`), in flight,
-/// acknowledged and dropped, each a row of words that changes lane by lane; and the spans of the
-/// points that are in flight or at home, those in flight first. All of it stands on the heap, so
-/// that a cell is one word, which a list of cells moves at little cost.
+/// The totals of one series: a row of what was accepted, of what is pending (`stored`), in flight,
+/// acknowledged and dropped; and the spans of the points that are in flight or pending, those in
+/// flight first. The rows change by vector operations. All of it is on the heap: a cell is one
+/// word, which a list of cells moves cheaply.
 #[derive(Drop)]
 pub struct Cell {
     kept: Box<Kept>,
@@ -44,7 +44,7 @@ impl Model for Cell {
 }
 
 impl Cell {
-    /// A cell that stands for no point. Fails only for want of memory.
+    /// A cell that represents no points. Fails only if an allocation fails.
     pub fn new(alloc: Global, owner: SenderName, id: SeriesId) -> Result<Cell, AllocError>
         ensures none { IfOk result (λ c. Stands c []) }
         ensures owner { IfOk result (λ c. c.owner ≡ owner) }
@@ -53,7 +53,7 @@ impl Cell {
         Cell::of_shared(alloc, owner, SharedId::new(alloc, id)?)
     }
 
-    /// As `new`, of an identity that is kept already, which the cell shares.
+    /// As `new`, with a shared identity.
     pub fn of_shared(alloc: Global, owner: SenderName, id: SharedId) -> Result<Cell, AllocError>
         ensures none { IfOk result (λ c. Stands c []) }
         ensures owner { IfOk result (λ c. c.owner ≡ owner) }
@@ -83,7 +83,7 @@ impl Cell {
         })
     }
 
-    /// Makes room for so many points more. Nothing else changes.
+    /// Reserves room for `n` more points. Nothing else changes.
     pub fn reserve(&mut self, n: usize) -> Result<(), AllocError>
         ensures spare { OnOk result (n ≤ self.new.spare) }
         ensures less { self.old.spare ≤ self.new.spare }
@@ -93,8 +93,8 @@ impl Cell {
         self.kept.spans.reserve(n)
     }
 
-    /// Puts a point of a batch at home. It takes memory only where there is no room to spare;
-    /// without memory nothing changes.
+    /// Adds a point of a batch, as pending. Takes memory only if no room is spare. If memory runs
+    /// out, nothing changes.
     pub fn put(&mut self, point: &Point, batch: u64) -> Result<(), AllocError>
         requires series { point.now.series ≡ self.old.id }
         requires order { end_of self.old ≤ point.now.span.start }
@@ -117,8 +117,8 @@ impl Cell {
         Ok(())
     }
 
-    /// Puts the span of a point of a batch at home, without its words: the rows stay. It takes
-    /// memory only where there is no room to spare; without memory nothing changes.
+    /// Adds the span of a point of a batch, as pending, without its words: the rows stay. Takes
+    /// memory only if no room is spare. If memory runs out, nothing changes.
     pub fn put_span(&mut self, point: &Point, batch: u64) -> Result<(), AllocError>
         requires series { point.now.series ≡ self.old.id }
         requires order { end_of self.old ≤ point.now.span.start }
@@ -137,8 +137,8 @@ impl Cell {
         Ok(())
     }
 
-    /// Whether a point of a batch is at home here. Of a batch that has a point here, and whose
-    /// points here are in one place, that says that none of them is away.
+    /// Whether a point of the batch is pending here. If the batch has points here, and all of them
+    /// are pending or none is, this says whether all of them are.
     pub fn can_remove(&self, batch: u64) -> bool
         ensures exact { (qs : List Accepted) → Stands self.now qs → result ≡ list_any (is_home_of batch) qs }
         ensures whole { (qs : List Accepted) → Stands self.now qs → list_any (is_of_batch batch) qs ≡ true → AreTogether batch qs → result ≡ is_batch_home batch qs }
@@ -147,7 +147,7 @@ impl Cell {
         has_batch(spans_from(&kept.spans, kept.cut), batch)
     }
 
-    /// Takes a point of a batch that is at home out again, as if it had never come.
+    /// Removes a pending point of a batch, as if it had never been added.
     pub fn remove(&mut self, batch: u64, point: &Point)
         requires { HasHome self.old batch point.now }
         ensures stands { (before after : List Accepted) → Stands self.old (before ++ admitted batch self.old.owner point.now ∷ after) → Stands self.new (before ++ after) }
@@ -162,7 +162,7 @@ impl Cell {
         kept.spans.remove(at);
     }
 
-    /// Takes a point of a batch, whose span alone is at home, out again: the rows stay.
+    /// Removes a pending point of a batch that was added by its span alone: the rows stay.
     pub fn remove_span(&mut self, batch: u64, point: &Point)
         requires { HasHome self.old batch (bare point.now) }
         ensures stands { (before after : List Accepted) → Stands self.old (before ++ admitted batch self.old.owner (bare point.now) ∷ after) → Stands self.new (before ++ after) }
@@ -176,7 +176,7 @@ impl Cell {
         kept.spans.remove(place);
     }
 
-    /// Sends what is at home away with a flush.
+    /// All pending points go into flight with this flush.
     pub fn lift_off(&mut self, flush: u64)
         requires { self.old.cut ≡ 0 }
         ensures stands { (qs : List Accepted) → Stands self.old qs → Stands self.new (map (lifted flush) qs) }
@@ -191,7 +191,7 @@ impl Cell {
         kept.flush = flush;
     }
 
-    /// What is in flight is at home again.
+    /// The points in flight are pending again.
     pub fn set_down(&mut self)
         ensures stands { (qs : List Accepted) → Stands self.old qs → Stands self.new (map (landed self.old.flush Home) qs) }
         ensures same { IsOfSame self.old self.new }
@@ -203,7 +203,7 @@ impl Cell {
         kept.cut = 0;
     }
 
-    /// What is in flight is acknowledged for good.
+    /// The points in flight are acknowledged.
     pub fn acknowledge(&mut self)
         ensures stands { (qs : List Accepted) → Stands self.old qs → Stands self.new (map (landed self.old.flush Acknowledged) qs) }
         ensures same { IsOfSame self.old self.new }
@@ -217,7 +217,7 @@ impl Cell {
         kept.cut = 0;
     }
 
-    /// What is in flight is dropped for good.
+    /// The points in flight are dropped.
     pub fn discard(&mut self)
         ensures stands { (qs : List Accepted) → Stands self.old qs → Stands self.new (map (landed self.old.flush Dropped) qs) }
         ensures same { IsOfSame self.old self.new }
@@ -231,10 +231,10 @@ impl Cell {
         kept.cut = 0;
     }
 
-    /// Begins the next round: what was acknowledged and dropped is past, what is at home is all
-    /// that is accepted, as one point from the first start to the last end. Who sends the series
-    /// and where it ends stays. A cell that stands for no point stays so. Asked where nothing is in
-    /// flight. Takes no memory.
+    /// Begins the next round, where nothing is in flight. What was acknowledged and dropped is
+    /// past. The pending points become one point with their covering span, which is all that is
+    /// accepted. Owner and frontier stay. A cell that represents no points still does. Takes no
+    /// memory.
     pub fn carry(&mut self)
         requires { self.old.cut ≡ 0 }
         ensures stands { (s : OpenedSeries) → HandsOn self.old s → 0 < end_of self.old → Stands self.new (opened_with s) }
@@ -251,21 +251,21 @@ impl Cell {
         join_all(&mut kept.spans);
     }
 
-    /// Whether something is in flight.
+    /// Whether points are in flight.
     pub fn is_flying(&self) -> bool
         ensures { result ≡ nat_lt 0 self.now.cut }
     {
         0 < self.kept.cut
     }
 
-    /// Whether something is at home.
+    /// Whether points are pending.
     pub fn has_stored(&self) -> bool
         ensures { result ≡ nat_lt self.now.cut (length self.now.spans) }
     {
         self.kept.cut < self.kept.spans.len()
     }
 
-    /// Who sends the series.
+    /// The owner of the series: its sender.
     pub fn owner(&self) -> &SenderName
         ensures { result.now ≡ self.now.owner }
     {
@@ -279,56 +279,56 @@ impl Cell {
         self.kept.id.as_series()
     }
 
-    /// The same, as it is kept: shared by counting.
+    /// The same, as the shared identity.
     pub fn shared_id(&self) -> &SharedId
         ensures { result.now ≡ self.now.id }
     {
         &self.kept.id
     }
 
-    /// The greatest end of its points in nanoseconds, 0 where there is none.
+    /// The greatest end of its points in nanoseconds, 0 if there is none.
     pub fn frontier(&self) -> u64
         ensures { result ≡ end_of self.now }
     {
         self.kept.landed.max(end_or(&self.kept.spans, 0))
     }
 
-    /// The sum of all its points.
+    /// The sum of the rows of all its points.
     pub fn accepted(&self) -> &[u64]
         ensures { result.now ≡ self.now.accepted }
     {
         self.kept.accepted.as_slice()
     }
 
-    /// The sum of what is at home.
+    /// The sum of the rows of the pending points.
     pub fn stored(&self) -> &[u64]
         ensures { result.now ≡ self.now.stored }
     {
         self.kept.stored.as_slice()
     }
 
-    /// The sum of what is in flight.
+    /// The sum of the rows of the points in flight.
     pub fn in_flight(&self) -> &[u64]
         ensures { result.now ≡ self.now.in_flight }
     {
         self.kept.in_flight.as_slice()
     }
 
-    /// The sum of what the back end has taken.
+    /// The sum of the rows of the points that the back end has accepted.
     pub fn acknowledged(&self) -> &[u64]
         ensures { result.now ≡ self.now.acknowledged }
     {
         self.kept.acknowledged.as_slice()
     }
 
-    /// The sum of what the back end has refused for good.
+    /// The sum of the rows of the points that the back end has refused permanently.
     pub fn dropped(&self) -> &[u64]
         ensures { result.now ≡ self.now.dropped }
     {
         self.kept.dropped.as_slice()
     }
 
-    /// From the first start to the last end of what is at home.
+    /// The covering span of the pending points.
     pub fn stored_span(&self) -> Option<Span>
         ensures { result ≡ home_hull self.now }
     {
@@ -336,7 +336,7 @@ impl Cell {
         hull(spans_from(&kept.spans, kept.cut))
     }
 
-    /// From the first start to the last end of what is in flight.
+    /// The covering span of the points in flight.
     pub fn flight_span(&self) -> Option<Span>
         ensures { result ≡ flight_hull self.now }
     {

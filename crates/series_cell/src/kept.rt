@@ -2,7 +2,7 @@ use crate::batch_span::BatchSpan;
 use metric_events::sender_name::SenderName;
 use series_id::SharedId;
 
-/// What a cell keeps.
+/// The contents of a cell.
 #[derive(Drop)]
 pub(crate) struct Kept {
     pub(crate) owner: SenderName,
@@ -15,8 +15,9 @@ pub(crate) struct Kept {
     pub(crate) spans: Vec<BatchSpan>,
     /// How many of the spans are in flight.
     pub(crate) cut: usize,
-    /// The flush that they are in flight with.
+    /// The number of the flush that they are in flight with.
     pub(crate) flush: u64,
-    /// The greatest end of what has landed, 0 where nothing has.
+    /// The greatest end of the points that are acknowledged or dropped, in nanoseconds; 0 if none
+    /// is.
     pub(crate) landed: u64,
 }

@@ -1,6 +1,6 @@
-//! The totals of one series: five rows of words, by what became of the points, and the spans of
-//! those that have not landed. A cell stands for a list of points, each with its batch and its
-//! place; each call says what it does to that list, and its readers what they say of it.
+//! The totals of one series: five rows of words, by the state of the points, and the spans of the
+//! points that are pending or in flight. A cell represents a list of points, each with its batch
+//! and its state, and does not store it. The contract of each call says what it does to that list.
 #![tactic(auto)]
 
 pub mod batch_span;

@@ -1,10 +1,10 @@
-//! Rows of words, place by place.
+//! Rows of words: a row of zeros, and the range of a word.
 ghost use Rattle.std.specs.Prelude.{◌≡◌, ℕ, ◌<◌, ◌^◌, slice_index, IfOk};
 ghost use Rattle.metric_events.specs.Rows.{zeros};
 
 use std::alloc::{AllocError, Global};
 
-/// A row of so many words, each of them 0.
+/// A row of `len` words, each 0.
 pub fn zero_row(alloc: Global, len: usize) -> Result<Vec<u64>, AllocError>
     ensures { IfOk result (λ v. v.items ≡ zeros len) }
 {
@@ -13,7 +13,7 @@ pub fn zero_row(alloc: Global, len: usize) -> Result<Vec<u64>, AllocError>
     Ok(row)
 }
 
-/// Each word is one of 64 bits. It does nothing: a caller that names it can cite its clause.
+/// Each word has 64 bits. Does nothing when it runs: a caller that names it can cite its clause.
 pub fn keeps_words(row: &[u64])
     ensures { (k : ℕ) → slice_index row.now k < 2 ^ 64 }
 {
