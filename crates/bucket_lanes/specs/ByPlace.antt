@@ -1,21 +1,23 @@
--- Rows of words, place by place.
+-- Rows of words, compared and added index by index.
 use Rattle.std.specs.Prelude.{◌≡◌, ℕ, ◌+◌, ◌<◌, ◌≤◌, List, length, slice_index}
 
--- each sum by place is at most the limit
+-- each sum of two words is at most the limit
 abbrev pub Fits : ℕ → List ℕ → List ℕ → Type 0
 Fits most xs ys = (k : ℕ) → k < length xs → slice_index xs k + slice_index ys k ≤ most
 
--- each word is at least the other's
+-- each word is at least the other row's word
 abbrev pub Covers : List ℕ → List ℕ → Type 0
 Covers xs ys = (k : ℕ) → k < length xs → slice_index ys k ≤ slice_index xs k
 
--- each word is the sum of the two
+-- each word is the sum of the other rows' words
 abbrev pub AreSums : List ℕ → List ℕ → List ℕ → Type 0
-AreSums xs ys sums = (k : ℕ) → k < length xs → slice_index sums k ≡ slice_index xs k + slice_index ys k
+AreSums xs ys sums =
+    (k : ℕ) → k < length xs → slice_index sums k ≡ slice_index xs k + slice_index ys k
 
--- each word is what is left of the first by the second
+-- each word is the difference of the other rows' words
 abbrev pub AreRests : List ℕ → List ℕ → List ℕ → Type 0
-AreRests xs ys rests = (k : ℕ) → k < length xs → slice_index rests k + slice_index ys k ≡ slice_index xs k
+AreRests xs ys rests =
+    (k : ℕ) → k < length xs → slice_index rests k + slice_index ys k ≡ slice_index xs k
 
 -- each word is 0
 abbrev pub IsClear : List ℕ → Type 0

@@ -4,7 +4,7 @@ ghost use Rattle.bucket_lanes.specs.ByPlace.{Fits, AreSums, IsClear};
 use crate::blocks::{LANES, load, store, sums};
 use crate::clearing::clear;
 
-/// Adds the eight words of `src` at a position to those of `dst`.
+/// Adds the eight words of `src` from an index on to those of `dst`.
 #[inline(always)]
 fn add_block(dst: &mut [u64], src: &[u64], at: usize)
     requires room { (at + 8 ≤ length dst.old) × (at + 8 ≤ length src.now) }
@@ -17,7 +17,7 @@ fn add_block(dst: &mut [u64], src: &[u64], at: usize)
     store(dst, at, sum);
 }
 
-/// Adds the words of the first full eights.
+/// Adds the words of the first so many blocks of eight.
 fn add_blocks(dst: &mut [u64], src: &[u64], blocks: usize)
     requires same { length dst.old ≡ length src.now }
     requires fits { Fits (2 ^ 64 - 1) dst.old src.now }
@@ -30,7 +30,7 @@ fn add_blocks(dst: &mut [u64], src: &[u64], blocks: usize)
     }
 }
 
-/// Adds the words from a position on.
+/// Adds the words from an index on.
 fn add_tail(dst: &mut [u64], src: &[u64], from: usize)
     requires same { length dst.old ≡ length src.now }
     requires fits { (k : ℕ) → from ≤ k → k < length dst.old → slice_index dst.old k + slice_index src.now k < 2 ^ 64 }
@@ -42,7 +42,7 @@ fn add_tail(dst: &mut [u64], src: &[u64], from: usize)
     }
 }
 
-/// Adds the words of `src` to those of `dst`, word by word.
+/// Adds the words of `src` to those of `dst`, word by word. Takes no memory.
 pub fn add_into(dst: &mut [u64], src: &[u64])
     requires same { length dst.old ≡ length src.now }
     requires fits { Fits (2 ^ 64 - 1) dst.old src.now }
@@ -53,7 +53,8 @@ pub fn add_into(dst: &mut [u64], src: &[u64])
     add_tail(dst, src, blocks * LANES);
 }
 
-/// Adds the words of `src` to those of `dst`, word by word, and leaves 0 in `src`.
+/// Adds the words of `src` to those of `dst`, word by word, and sets those of `src` to 0. Takes no
+/// memory.
 pub fn move_into(dst: &mut [u64], src: &mut [u64])
     requires same { length dst.old ≡ length src.old }
     requires fits { Fits (2 ^ 64 - 1) dst.old src.old }

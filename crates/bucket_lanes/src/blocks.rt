@@ -1,12 +1,12 @@
-//! One block of eight words: how it is read, changed, tested and written back.
+//! Vector operations on a block of eight words: load, store, add, subtract, compare.
 ghost use Rattle.std.specs.Prelude.{◌≡◌, ℕ, ◌+◌, ◌<◌, ◌≤◌, ◌^◌, ◌↔◌, IsTrue, length, slice_index};
 
 use std::simd::prelude::*;
 
-/// Words in a block.
+/// How many words a block has.
 pub const LANES: usize = 8;
 
-/// The eight words at a position.
+/// The eight words from an index on.
 #[inline(always)]
 pub fn load(words: &[u64], at: usize) -> u64x8
     requires { at + 8 ≤ length words.now }
@@ -16,7 +16,7 @@ pub fn load(words: &[u64], at: usize) -> u64x8
     u64x8::from_slice(&words[at..])
 }
 
-/// Writes eight words at a position.
+/// Writes eight words from an index on.
 #[inline(always)]
 pub fn store(words: &mut [u64], at: usize, block: u64x8)
     requires room { at + 8 ≤ length words.old }
@@ -28,7 +28,7 @@ pub fn store(words: &mut [u64], at: usize, block: u64x8)
     block.copy_to_slice(&mut words[at..]);
 }
 
-/// One number in every lane.
+/// The same number in every lane.
 #[inline(always)]
 pub fn every(number: u64) -> u64x8
     ensures long { length result ≡ 8 }
@@ -37,7 +37,7 @@ pub fn every(number: u64) -> u64x8
     u64x8::splat(number)
 }
 
-/// The sums lane by lane.
+/// The sums, lane by lane.
 #[inline(always)]
 pub fn sums(a: u64x8, b: u64x8) -> u64x8
     requires long { (length a ≡ 8) × (length b ≡ 8) }
@@ -48,7 +48,7 @@ pub fn sums(a: u64x8, b: u64x8) -> u64x8
     a.strict_add(b)
 }
 
-/// The differences lane by lane.
+/// The differences, lane by lane.
 #[inline(always)]
 pub fn rests(a: u64x8, b: u64x8) -> u64x8
     requires long { (length a ≡ 8) × (length b ≡ 8) }
@@ -59,7 +59,7 @@ pub fn rests(a: u64x8, b: u64x8) -> u64x8
     a.strict_sub(b)
 }
 
-/// Whether no lane of one block is above the other's.
+/// Whether no lane of the first block is greater than the same lane of the second.
 #[inline(always)]
 pub fn none_past(a: u64x8, most: u64x8) -> bool
     requires { (length a ≡ 8) × (length most ≡ 8) }

@@ -3,14 +3,14 @@ ghost use Rattle.bucket_lanes.specs.ByPlace.{IsClear};
 
 use crate::blocks::{LANES, every, load, none_past};
 
-/// Sets every word to 0.
+/// Sets every word to 0. Takes no memory.
 pub fn clear(words: &mut [u64])
     ensures { IsClear words.new }
 {
     words.fill(0);
 }
 
-/// Whether the eight words at a position are 0.
+/// Whether the eight words from an index on are 0.
 #[inline(always)]
 fn is_block_zero(words: &[u64], at: usize) -> bool
     requires { at + 8 ≤ length words.now }
@@ -19,7 +19,7 @@ fn is_block_zero(words: &[u64], at: usize) -> bool
     none_past(load(words, at), every(0))
 }
 
-/// Whether the words of the first full eights are 0.
+/// Whether the words of the first so many blocks of eight are 0.
 fn are_blocks_zero(words: &[u64], blocks: usize) -> bool
     requires { 8 * blocks ≤ length words.now }
     ensures { IsTrue result ↔ ((k : ℕ) → k < 8 * blocks → slice_index words.now k ≡ 0) }
@@ -32,7 +32,7 @@ fn are_blocks_zero(words: &[u64], blocks: usize) -> bool
     true
 }
 
-/// Whether the words from a position on are 0.
+/// Whether the words from an index on are 0.
 fn is_tail_zero(words: &[u64], from: usize) -> bool
     ensures { IsTrue result ↔ ((k : ℕ) → from ≤ k → k < length words.now → slice_index words.now k ≡ 0) }
 {
@@ -44,7 +44,7 @@ fn is_tail_zero(words: &[u64], from: usize) -> bool
     true
 }
 
-/// Whether every word is 0.
+/// Whether every word is 0. Takes no memory.
 pub fn is_zero(words: &[u64]) -> bool
     ensures { IsTrue result ↔ IsClear words.now }
 {

@@ -3,8 +3,8 @@ ghost use Rattle.bucket_lanes.specs.ByPlace.{Fits};
 
 use crate::blocks::{LANES, every, load, none_past, rests};
 
-/// Whether no sum of the eight words at a position is above `most`. What is left of the limit is
-/// compared, so a carry out of a lane can't hide a sum.
+/// Whether no sum of the eight words from an index on is greater than `most`. Each word of `a` is
+/// compared with `most` minus the word of `b`, so an overflow of a lane can't hide a sum.
 #[inline(always)]
 fn fits_block(a: &[u64], b: &[u64], most: u64, at: usize) -> bool
     requires room { (at + 8 ≤ length a.now) × (at + 8 ≤ length b.now) }
@@ -18,7 +18,7 @@ fn fits_block(a: &[u64], b: &[u64], most: u64, at: usize) -> bool
     none_past(load(a, at), rests(limit, used))
 }
 
-/// Whether no sum of the first full eights is above `most`.
+/// Whether no sum of the first so many blocks of eight is greater than `most`.
 fn fit_blocks(a: &[u64], b: &[u64], most: u64, blocks: usize) -> bool
     requires same { length a.now ≡ length b.now }
     requires room { 8 * blocks ≤ length a.now }
@@ -32,7 +32,7 @@ fn fit_blocks(a: &[u64], b: &[u64], most: u64, blocks: usize) -> bool
     true
 }
 
-/// Whether no sum from a position on is above `most`.
+/// Whether no sum from an index on is greater than `most`.
 fn fits_tail(a: &[u64], b: &[u64], most: u64, from: usize) -> bool
     requires { length a.now ≡ length b.now }
     ensures { IsTrue result ↔ ((k : ℕ) → from ≤ k → k < length a.now → slice_index a.now k + slice_index b.now k ≤ most) }
@@ -45,7 +45,8 @@ fn fits_tail(a: &[u64], b: &[u64], most: u64, from: usize) -> bool
     true
 }
 
-/// Whether every sum of two words is at most `most`, also where it would not fit a word.
+/// Whether every sum of two words is at most `most`, even if the sum does not fit 64 bits. Takes
+/// no memory.
 pub fn fits(a: &[u64], b: &[u64], most: u64) -> bool
     requires { length a.now ≡ length b.now }
     ensures { IsTrue result ↔ Fits most a.now b.now }

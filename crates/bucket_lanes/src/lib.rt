@@ -1,6 +1,6 @@
-//! Sums and tests of rows of 64-bit words, by vector operations: eight words at a time, and the
-//! tail after the last full eight word by word. Nothing here allocates. Each contract holds for
-//! every word and every length; a slice keeps its length, so nothing else changes.
+//! Sums and comparisons of rows of 64-bit words by vector operations: eight words at a time, and
+//! what is left after the last full block word by word. No call allocates. The contracts hold for
+//! every word and every length; a slice keeps its length.
 #![tactic(auto)]
 
 mod adding;

@@ -3,7 +3,7 @@ ghost use Rattle.bucket_lanes.specs.ByPlace.{Covers, AreRests};
 
 use crate::blocks::{LANES, load, rests, store};
 
-/// Subtracts the eight words of `src` at a position from those of `dst`.
+/// Subtracts the eight words of `src` from an index on from those of `dst`.
 #[inline(always)]
 fn sub_block(dst: &mut [u64], src: &[u64], at: usize)
     requires room { (at + 8 ≤ length dst.old) × (at + 8 ≤ length src.now) }
@@ -16,7 +16,7 @@ fn sub_block(dst: &mut [u64], src: &[u64], at: usize)
     store(dst, at, rest);
 }
 
-/// Subtracts the words of the first full eights.
+/// Subtracts the words of the first so many blocks of eight.
 fn sub_blocks(dst: &mut [u64], src: &[u64], blocks: usize)
     requires same { length dst.old ≡ length src.now }
     requires within { Covers dst.old src.now }
@@ -29,7 +29,7 @@ fn sub_blocks(dst: &mut [u64], src: &[u64], blocks: usize)
     }
 }
 
-/// Subtracts the words from a position on.
+/// Subtracts the words from an index on.
 fn sub_tail(dst: &mut [u64], src: &[u64], from: usize)
     requires same { length dst.old ≡ length src.now }
     requires within { (k : ℕ) → from ≤ k → k < length dst.old → slice_index src.now k ≤ slice_index dst.old k }
@@ -41,7 +41,7 @@ fn sub_tail(dst: &mut [u64], src: &[u64], from: usize)
     }
 }
 
-/// Subtracts the words of `src` from those of `dst`, word by word.
+/// Subtracts the words of `src` from those of `dst`, word by word. Takes no memory.
 pub fn sub_from(dst: &mut [u64], src: &[u64])
     requires same { length dst.old ≡ length src.now }
     requires within { Covers dst.old src.now }

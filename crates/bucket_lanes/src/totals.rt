@@ -1,6 +1,6 @@
 ghost use Rattle.std.specs.Prelude.{◌≡◌, sum};
 
-/// All words, added up. A total of words of 64 bits has no room in a lane, so it is kept apart.
+/// The sum of all words. It may not fit 64 bits, so it is a scalar loop. Takes no memory.
 pub fn total(words: &[u64]) -> u128
     ensures { result ≡ sum words.now }
 {
