@@ -1,4 +1,4 @@
--- What an end is made of.
+-- The parts of the readers and writers.
 use Rattle.std.specs.Prelude.{ℕ, List}
 use Rattle.byte_ends.specs.declared.from_reader.FromReader.{FromReader}
 use Rattle.byte_ends.specs.declared.to_writer.ToWriter.{ToWriter}
@@ -14,14 +14,14 @@ reader_of s = s.reader
 abbrev pub writer_of : {W : Type 0} → ToWriter W → W
 writer_of s = s.writer
 
--- the bytes that a script has still to give
+-- the bytes that a script has left
 abbrev pub script_bytes : Script → List ℕ
 script_bytes s = s.bytes.now
 
--- the steps that a script has still to follow
+-- the steps that a script has left
 abbrev pub script_steps : Script → List Step
 script_steps s = s.steps.now
 
--- the steps that a tape has still to follow
+-- the steps that a tape has left
 abbrev pub tape_steps : Tape → List Step
 tape_steps s = s.steps.now

@@ -4,11 +4,12 @@ ghost use Rattle.byte_ends.specs.Drained.{IsDrained};
 
 use crate::{Failed, Source};
 
-/// How many bytes are asked for at once.
+/// How many bytes one call reads at most.
 const PIECE: usize = 16_384;
 
-/// Reads and throws away at most so many bytes, to the end or to a failure. Takes no memory.
-/// A connection that is closed with unread bytes is reset, and its peer may lose what it was sent.
+/// Reads and discards at most `most` bytes, until the end or a failure. Takes no memory. A
+/// connection that is closed with unread bytes is reset, and its peer may lose what was sent to
+/// it.
 pub fn drain<S: Source>(source: &mut S, most: usize) -> Result<(), Failed>
     ensures thrown { IsDrained (S.remaining source.old) (S.remaining source.new) most (IsOk result) }
     ensures failed { S.failures source.new ≡ counted S.one_more (is_err result) (S.failures source.old) }

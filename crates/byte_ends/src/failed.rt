@@ -1,3 +1,3 @@
-/// A call of an end that failed. It moved no byte, and why it failed is not told.
+/// A read or a write that failed. It moved no byte. It does not say why it failed.
 #[derive(Clone, Copy, Debug, PartialEq, Eq)]
 pub struct Failed;

@@ -3,7 +3,8 @@ ghost use Rattle.std.specs.Prelude.{◌≡◌};
 use crate::{Failed, Source};
 use std::io::Read;
 
-/// A source over any reader of std, as a socket. What the reader says of its bytes, this source says.
+/// A source over any reader of the standard library, such as a socket. It knows its bytes if the
+/// reader does.
 #[derive(Drop)]
 pub struct FromReader<R> {
     reader: R,
@@ -14,7 +15,7 @@ pub struct FromReader<R> {
 impl<R: Read> FromReader<R> {
     ghost use Rattle.byte_ends.specs.Parts.{reader_of};
 
-    /// A source of which no call has failed.
+    /// A source over this reader, with no failed call.
     pub fn new(reader: R) -> Self
         ensures reader { reader_of result ≡ reader }
         ensures bytes { ⟦<FromReader<R> as Source>⟧.remaining result ≡ R.remaining reader }

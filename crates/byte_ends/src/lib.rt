@@ -1,9 +1,9 @@
-//! The ends of the gateway: where bytes come from and where they go.
-//! A `Source` and a `Sink` tell which bytes are left or written, where that is known, and count the calls that failed.
-//! `FromReader` and `ToWriter` make them of std's readers and writers, such as a socket.
-//! `Script` and `Tape` are ends for tests: they follow a list of steps, which cut a call short or fail it.
-//! `drain` reads what is left of a source and throws it away.
-//! Nothing here retries, also not a call that a signal broke off: who calls decides what a failure means.
+//! Readers and writers of bytes. Contracts know which bytes a `Source` has left and which bytes a
+//! `Sink` has taken, if the type does; both count the calls that failed. `FromReader` and
+//! `ToWriter` wrap readers and writers of the standard library, such as sockets. `Script` and
+//! `Tape` are for tests: they follow a list of steps, each of which cuts a call short or fails it.
+//! `drain` discards what is left of a source. Nothing here retries, not even a call that a signal
+//! interrupted: the caller decides what a failure means.
 #![tactic(auto)]
 
 mod draining;

@@ -2,8 +2,8 @@ ghost use Rattle.std.specs.Prelude.{◌≡◌, Some};
 
 use crate::{Failed, Source, Step};
 
-/// A source of these bytes for tests, whose calls follow the steps. After the last step each call
-/// gives all that there is room for.
+/// A source for tests, over these bytes. Each call follows the next step; after the last step each
+/// call fills the buffer as far as the bytes go.
 #[derive(Drop)]
 pub struct Script<'a> {
     bytes: &'a [u8],
@@ -15,7 +15,7 @@ pub struct Script<'a> {
 impl<'a> Script<'a> {
     ghost use Rattle.byte_ends.specs.Parts.{script_bytes, script_steps};
 
-    /// A source of all the bytes, of which no call has failed. Its first call follows the first step.
+    /// A source of all these bytes, with no failed call. Its first call follows the first step.
     pub fn new(bytes: &'a [u8], steps: &'a [Step]) -> Self
         ensures bytes { script_bytes result ≡ bytes.now }
         ensures steps { script_steps result ≡ steps.now }
@@ -29,7 +29,7 @@ impl<'a> Script<'a> {
         }
     }
 
-    /// The bytes that are still to come.
+    /// The bytes that are left.
     pub fn left(&self) -> &'a [u8]
         ensures { result.now ≡ script_bytes self.now }
     {
@@ -68,7 +68,7 @@ impl Source for Script<'_> {
             self.steps = later;
             match step {
                 Step::AtMost(n) => {
-                    // A read of no byte would say that the end is there.
+                    // A read of 0 bytes would report the end.
                     most = most.min((*n).max(1));
                 }
                 Step::Fail => {

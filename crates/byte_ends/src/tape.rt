@@ -3,8 +3,8 @@ ghost use Rattle.std.specs.Prelude.{◌≡◌, [], Some};
 use crate::{Failed, Sink, Step};
 use std::alloc::Global;
 
-/// A sink for tests that keeps what it takes, whose calls follow the steps. After the last step each
-/// call takes all. It also fails where there is no memory for the bytes.
+/// A sink for tests, which stores the bytes that it takes. Each call follows the next step; after
+/// the last step each call takes all bytes. A call also fails if memory for the bytes runs out.
 #[derive(Drop)]
 pub struct Tape<'a> {
     taken: Vec<u8>,
@@ -15,7 +15,7 @@ pub struct Tape<'a> {
 impl<'a> Tape<'a> {
     ghost use Rattle.byte_ends.specs.Parts.{tape_steps};
 
-    /// A sink that has taken nothing, and of which no call has failed. Its first call follows the first step.
+    /// A sink that has taken nothing, with no failed call. Its first call follows the first step.
     pub fn new(alloc: Global, steps: &'a [Step]) -> Self
         ensures bytes { ⟦<Tape<'a> as Sink>⟧.contents result ≡ Some [] }
         ensures steps { tape_steps result ≡ steps.now }
@@ -28,7 +28,7 @@ impl<'a> Tape<'a> {
         }
     }
 
-    /// The bytes that were taken, in their order.
+    /// The bytes that were taken, in order.
     pub fn taken(&self) -> &[u8]
         ensures { ⟦<Tape<'a> as Sink>⟧.contents self.now ≡ Some result.now }
     {

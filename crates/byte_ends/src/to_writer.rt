@@ -3,8 +3,8 @@ ghost use Rattle.std.specs.Prelude.{◌≡◌};
 use crate::{Failed, Sink};
 use std::io::Write;
 
-/// A sink over any writer of std, as a socket. What the writer says of its bytes, this sink says.
-/// A write that takes no byte of some is a failure. Nothing is flushed.
+/// A sink over any writer of the standard library, such as a socket. It knows its bytes if the
+/// writer does. A write that takes no byte of some is a failure. Nothing is flushed.
 #[derive(Drop)]
 pub struct ToWriter<W> {
     writer: W,
@@ -14,7 +14,7 @@ pub struct ToWriter<W> {
 impl<W: Write> ToWriter<W> {
     ghost use Rattle.byte_ends.specs.Parts.{writer_of};
 
-    /// A sink of which no call has failed.
+    /// A sink over this writer, with no failed call.
     pub fn new(writer: W) -> Self
         ensures writer { writer_of result ≡ writer }
         ensures bytes { ⟦<ToWriter<W> as Sink>⟧.contents result ≡ W.contents writer }
@@ -26,7 +26,7 @@ impl<W: Write> ToWriter<W> {
         }
     }
 
-    /// The writer, with all that was written.
+    /// The writer, with all that was written to it.
     pub fn into_inner(self) -> W
         ensures { result ≡ writer_of self }
     {
