@@ -7,8 +7,8 @@ ghost use Rattle.std.specs.Str.{all_ascii_digits};
 ghost use Rattle.std.specs.Str.Parse.{digits_value};
 ghost use Rattle.decimals.specs.Numbers as spec;
 
-/// The number that decimal digits write, where it is not above `most`. One digit is enough,
-/// zeros may lead, and there is no sign.
+/// The number that the decimal digits write, if it is at most `most`. At least one digit; leading
+/// zeros are allowed, a sign is not.
 pub fn number_up_to(digits: &[u8], most: u64) -> Option<u64>
     ensures { result ≡ spec.number_up_to most digits.now }
 {
@@ -30,8 +30,8 @@ pub fn number_up_to(digits: &[u8], most: u64) -> Option<u64>
     Some(value)
 }
 
-/// The number that decimal digits write, or one more than `most` where it is more; nothing where
-/// they are no digits.
+/// The number that the decimal digits write, or `most + 1` if it is greater than `most`. `None` if
+/// there is no digit, or anything but digits.
 pub fn capped(digits: &[u8], most: u64) -> Option<u128>
     ensures { result ≡ option_map (λ n. min n (most + 1)) (spec.number digits.now) }
 {
@@ -52,7 +52,7 @@ fn are_digits(text: &[u8]) -> bool
     true
 }
 
-/// The value of decimal digits, or one more than `most` where it is more.
+/// The value of the decimal digits, or `most + 1` if it is greater than `most`.
 fn capped_value(digits: &[u8], most: u64) -> u128
     requires { all_ascii_digits digits.now ≡ true }
     ensures { result ≡ min (digits_value 10 digits.now) (most + 1) }
@@ -65,8 +65,8 @@ fn capped_value(digits: &[u8], most: u64) -> u128
     value
 }
 
-/// A number is returned exactly where the digits are a numeral of it and it is within the limit.
-/// The law is the contract of a function that does nothing.
+/// The law of `number_up_to`: it returns a number exactly where the digits are a numeral of that
+/// number and it is within the limit. Does nothing when it runs.
 pub fn numbers_are_told()
     ensures { (most : ℕ) (digits : List ℕ) (n : ℕ) → (spec.number_up_to most digits ≡ Some n) ↔ spec.TellsUpTo most digits n }
 {}
