@@ -1,4 +1,4 @@
--- Whether what the seats were told is the journal.
+-- Whether the receipts of the seats are the journal.
 use Rattle.std.specs.Prelude.{◌≡◌, ℕ, ◌<◌, ◌==◌, ◌||◌, Bool, true, false, List, [], ◌∷◌, ◌++◌, length, slice_index, sum_by}
 use Rattle.std.specs.List.{All, Any}
 use Rattle.metric_events.specs.declared.entry.Entry.{Entry}
@@ -20,18 +20,20 @@ IsShort entries t = length t.receipts < length (receipts_of t.number 0 entries)
 abbrev pub IsBegun : List Entry → SeatView → Type 0
 IsBegun entries t = (rest : List Receipt) × (t.receipts ≡ receipts_of t.number 0 entries ++ rest)
 
--- how many of these entries name each number of a seat, and whether the receipts of each of these seats begin with theirs
-pub record IsTallied (entries : List Entry) (seats : List SeatView) (named : List ℕ) (same : Bool) : Type 0 where
+-- how many of these entries name each seat, and whether the receipts of each of these seats begin
+-- with those of its entries
+pub record IsTallied
+    (entries : List Entry) (seats : List SeatView) (named : List ℕ) (same : Bool) : Type 0 where
   pub counted : (n : ℕ) → n < MAX_SEATS → slice_index named n ≡ length (receipts_of n 0 entries)
   pub begun : same ≡ true → All (λ t. t.number < MAX_SEATS → IsBegun entries t) seats
   pub differs : same ≡ false → Any (λ t. ¬ (IsBegun entries t)) seats
 
--- the number is on one of the seats
+-- one of the seats has this number
 abbrev pub is_seated : ℕ → List SeatView → Bool
 is_seated n [] = false
 is_seated n (t ∷ ts) = (t.number == n) || is_seated n ts
 
--- each number below is on one of the seats
+-- each number below `seats` is that of one of these
 abbrev pub AllSeated : ℕ → List SeatView → Type 0
 AllSeated seats ts = (n : ℕ) → n < seats → is_seated n ts ≡ true
 

@@ -1,4 +1,4 @@
--- What a call on a shared book says of the journal, which others change too.
+-- What a call on a shared book says of the journal, which other threads change too.
 use Rattle.std.specs.Prelude.{◌≡◌, ℕ, ◌<◌, ◌≤◌, length}
 use Rattle.std.specs.List.{All}
 use Rattle.metric_events.specs.History.{History}
@@ -19,13 +19,15 @@ use Rattle.shared_book.specs.Receipts.{SeatView, with_receipt, receipt_of}
 abbrev pub IsOfSeat : ℕ → Entry → Type 0
 IsOfSeat seats e = e.seat < seats
 
--- what lies under the lock: a journal with the round's opening, each entry of one of the seats, and as many entries as the ledger's total
+-- what is under the lock: a journal with the round's opening, each entry of one of the seats, and
+-- as many entries as the ledger's total
 pub record IsLocked (seats : ℕ) (opening : Opening) (j : Journal) (total : ℕ) : Type 0 where
   pub opened : j.opening ≡ opening
   pub of_seats : All (IsOfSeat seats) j.entries
   pub counted : length j.entries ≡ total
 
--- what a seat is: its number is one of so many, which are few, it has one part of the ledger, which counts its receipts, and there is room for all of a round
+-- a seat: its number is below that of the seats, which are few; it has one part of the ledger,
+-- which counts its receipts; there is room for all receipts of a round
 pub record IsSeat (seats number parts amount receipts room : ℕ) : Type 0 where
   pub numbered : number < seats
   pub few : seats ≤ MAX_SEATS
@@ -33,38 +35,47 @@ pub record IsSeat (seats number parts amount receipts room : ℕ) : Type 0 where
   pub counted : amount ≡ receipts
   pub roomy : MAX_ENTRIES ≤ room
 
--- a journal that so many seats may have in the round with this opening: legal, its batches and flushes numbered one after another, each entry of one of the seats
+-- a journal that so many seats may have in the round with this opening: legal, its batches and
+-- flushes numbered consecutively, each entry of one of the seats
 pub record IsShared (seats : ℕ) (opening : Opening) (j : Journal) : Type 0 where
   pub opened : j.opening ≡ opening
   pub legal : IsLegal (history j)
   pub numbered : IsNumbered (history j)
   pub of_seats : All (IsOfSeat seats) j.entries
 
--- such a journal, no shorter than all that the seat was told
+-- such a journal, no shorter than the seat's receipts
 pub record IsMoment (seats : ℕ) (opening : Opening) (t : SeatView) (j : Journal) : Type 0 where
   pub shared : IsShared seats opening j
   pub long : length t.receipts ≤ length j.entries
 
--- this holds of the history of such a journal
+-- this holds for the history of such a journal
 abbrev pub AsOf : ℕ → Opening → SeatView → (History → Type 0) → Type 0
 AsOf seats opening t P = (j : Journal) × IsMoment seats opening t j × P (history j)
 
--- a journal got one entry more, of this seat and this event, and the seat the receipt of it
-pub record IsRecordedAt (seats : ℕ) (opening : Opening) (before after : Journal) (old new : SeatView) (event : Event) : Type 0 where
+-- the journal has one more entry, of this seat and this event, and the seat has its receipt
+pub record IsRecordedAt
+    (seats : ℕ) (opening : Opening) (before after : Journal) (old new : SeatView) (event : Event)
+    : Type 0 where
   pub moment : IsMoment seats opening old before
   pub entry : Appends before after old.number event
   pub shared : IsShared seats opening after
   pub told : new ≡ with_receipt old (receipt_of (length before.entries) event)
 
--- that is so of two journals
+-- the same, for some two journals
 abbrev pub IsRecorded : ℕ → Opening → SeatView → SeatView → Event → Type 0
-IsRecorded seats opening old new event = (before : Journal) × (after : Journal) × IsRecordedAt seats opening before after old new event
+IsRecorded seats opening old new event =
+    (before : Journal) × (after : Journal) × IsRecordedAt seats opening before after old new event
 
--- a flush was taken from a journal, and the seat was told of it
-pub record IsTakenAt (seats : ℕ) (opening : Opening) (before after : Journal) (old new : SeatView) (max : ℕ) (flush : Flush) : Type 0 where
+-- a flush was taken from the journal, and the seat has its receipt
+pub record IsTakenAt
+    (seats : ℕ) (opening : Opening) (before after : Journal) (old new : SeatView)
+    (max : ℕ) (flush : Flush) : Type 0 where
   pub taken : IsTaken before after old.number max flush
-  pub told : IsRecordedAt seats opening before after old new (Take flush.number (pick (history before) max))
+  pub told :
+      IsRecordedAt seats opening before after old new
+      (Take flush.number (pick (history before) max))
 
--- that is so of two journals
+-- the same, for some two journals
 abbrev pub IsTakenFor : ℕ → Opening → SeatView → SeatView → ℕ → Flush → Type 0
-IsTakenFor seats opening old new max flush = (before : Journal) × (after : Journal) × IsTakenAt seats opening before after old new max flush
+IsTakenFor seats opening old new max flush =
+    (before : Journal) × (after : Journal) × IsTakenAt seats opening before after old new max flush

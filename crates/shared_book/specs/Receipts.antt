@@ -1,4 +1,4 @@
--- What a seat was told, and what it should have been told by a journal.
+-- The receipts of a seat, and those that it should have by a journal.
 use Rattle.std.specs.Prelude.{◌≡◌, ℕ, zero, suc, ◌+◌, ◌==◌, List, [], ◌∷◌, ◌++◌, drop, Some, None, if◌then◌else◌}
 use Rattle.std.specs.declared.option.Option.{Option}
 use Rattle.metric_events.specs.declared.batch.Batch.{Batch}
@@ -9,7 +9,7 @@ use Rattle.shared_book.specs.declared.receipt.Receipt.{Receipt}
 use Rattle.shared_book.specs.declared.receipt.EventKind.{EventKind}
 use Rattle.shared_book.specs.declared.receipt.EventKind.TheVariants as kind
 
--- what contracts see of a seat: its number, and the receipts of what it was told, in order
+-- what contracts see of a seat: its number, and its receipts in order
 pub record SeatView : Type 0 where
   pub number : ℕ
   pub receipts : List Receipt
@@ -18,11 +18,11 @@ pub record SeatView : Type 0 where
 abbrev pub seat_view : ℕ → List Receipt → SeatView
 seat_view number receipts = record { number = number; receipts = receipts }
 
--- a seat that was told this too
+-- the seat with one more receipt
 abbrev pub with_receipt : SeatView → Receipt → SeatView
 with_receipt t receipt = seat_view t.number (t.receipts ++ receipt ∷ [])
 
--- which event it is
+-- the kind of an event
 abbrev pub kind_of : Event → EventKind
 kind_of (Admit b body) = kind.Admit
 kind_of (Undo b) = kind.Undo
@@ -34,7 +34,7 @@ kind_of (GiveBack f) = kind.GiveBack
 kind_of (Quarantine s) = kind.Quarantine
 kind_of (Lift s) = kind.Lift
 
--- the batch or the flush that it names, 0 where it names a sender
+-- the number of the batch or flush that it names, 0 if it names a sender
 abbrev pub number_of : Event → ℕ
 number_of (Admit b body) = b
 number_of (Undo b) = b
@@ -46,7 +46,7 @@ number_of (GiveBack f) = f
 number_of (Quarantine s) = 0
 number_of (Lift s) = 0
 
--- the batch that came in with it
+-- the batch of an Admit
 abbrev pub body_of : Event → Option Batch
 body_of (Admit b body) = Some body
 body_of (Undo b) = None
@@ -58,22 +58,27 @@ body_of (GiveBack f) = None
 body_of (Quarantine s) = None
 body_of (Lift s) = None
 
--- the receipt of an event at a place of the journal
+-- the receipt of an event at this index of the journal
 abbrev pub receipt_of : ℕ → Event → Receipt
-receipt_of index event = record { index = index; kind = kind_of event; number = number_of event; body = body_of event }
+receipt_of index event = record {
+  index = index;
+  kind = kind_of event;
+  number = number_of event;
+  body = body_of event;
+}
 
--- the receipts of those entries that name a seat, in order, where the first entry is at a place
+-- the receipts of those entries that name a seat, in order; the first entry is at this index
 abbrev pub receipts_of : ℕ → ℕ → List Entry → List Receipt
 receipts_of number index [] = []
 receipts_of number index (e ∷ es) =
     if e.seat == number then receipt_of index e.event ∷ receipts_of number (index + 1) es
     else receipts_of number (index + 1) es
 
--- the receipt stands at this place of the list
+-- the receipt is at this index of the list
 abbrev pub IsNext : List Receipt → ℕ → Receipt → Type 0
 IsNext receipts at receipt = drop at receipts ≡ receipt ∷ drop (at + 1) receipts
 
--- seats 0, 1, .. that were told nothing
+-- seats 0, 1, .. without receipts
 abbrev pub fresh_seats : ℕ → List SeatView
 fresh_seats zero = []
 fresh_seats (suc n) = fresh_seats n ++ seat_view n [] ∷ []

@@ -1,4 +1,4 @@
-//! The audit of a round: the receipts of all seats beside the journal.
+//! The audit of a round: compares the receipts of all seats with the journal.
 ghost use Rattle.std.specs.Prelude.{◌≡◌, ◌≢◌, ◌<◌, ◌≤◌, ◌^◌, length, sum_by, OnOk, IfErr};
 ghost use Rattle.std.specs.List.{All, Any};
 ghost use Rattle.metric_events.specs.Standing.{standing};
@@ -14,21 +14,21 @@ use metric_events::event::Event;
 use metric_events::limits::MAX_ENTRIES;
 use std::sync::ledger::{self, Ledger};
 
-/// What an audit of all seats has found.
+/// The counts of a round whose audit succeeded.
 #[derive(Clone, Copy, Debug, PartialEq, Eq)]
 pub struct Audit {
     /// The entries of the round's journal.
     pub events: u128,
-    /// The points of all batches that were admitted in the round, undone ones too.
+    /// The points of all batches that were admitted in the round, including those that were undone.
     pub admitted: u128,
-    /// The points that the back end has taken in the round.
+    /// The points that the back end has accepted in the round.
     pub acknowledged: u128,
 }
 
 /// Why an audit fails.
 #[derive(Clone, Copy, Debug, PartialEq, Eq)]
 pub enum AuditFault {
-    /// A number of a seat is on none of the seats.
+    /// One of the seats is missing.
     SeatOut,
     /// A seat has fewer receipts than entries name it.
     MissingReceipt,
@@ -36,10 +36,10 @@ pub enum AuditFault {
     StrayEntry,
 }
 
-/// Whether the receipts of each of these seats are exactly the entries of the book's journal
-/// that name it. `MissingReceipt` where a seat has fewer receipts than entries name it; else
-/// `StrayEntry` where a seat's receipts are not those of these entries, in order, in place, kind,
-/// number and batch. Takes no memory.
+/// Checks that the receipts of each of these seats are exactly the entries of the book's journal
+/// that name it. Errors: `MissingReceipt` if a seat has fewer receipts than entries name it; else
+/// `StrayEntry` if a seat's receipts differ from these entries, in order, index, kind, number or
+/// batch. Takes no memory.
 pub fn check<L: Ledger>(book: &Book, seats: &[Seat<L>]) -> Result<(), AuditFault>
     ensures matched { OnOk result (All (IsMatched book.now.entries) seats.now) }
     ensures missing { IfErr result (λ e. e ≡ AuditFault.MissingReceipt → Any (IsShort book.now.entries) seats.now) }
@@ -65,8 +65,8 @@ pub fn check<L: Ledger>(book: &Book, seats: &[Seat<L>]) -> Result<(), AuditFault
     Ok(())
 }
 
-/// As `check`, of the seats of a shared book, which have each number below `count`; `SeatOut`
-/// where one of these numbers is on none of them.
+/// As `check`, for the seats of a shared book, which are numbered from 0 to `count - 1`. `SeatOut`
+/// if no seat has one of these numbers.
 pub(crate) fn check_seated<L: Ledger>(
     book: &Book,
     seats: &[Seat<L>],
@@ -86,8 +86,8 @@ pub(crate) fn check_seated<L: Ledger>(
     check(book, seats)
 }
 
-/// Joins the shares of all seats: how many receipts there are, which is how many events the
-/// ledger has counted.
+/// Joins the shares of all seats, and returns how many receipts they have: as many as the ledger
+/// has counted events.
 fn join_shares<L: Ledger>(events: ledger::Book<L>, seats: Vec<Seat<L>>) -> u128
     requires small { events.total ≤ MAX_ENTRIES }
     requires some { 0 < L.parts }
@@ -136,7 +136,7 @@ fn points_admitted(entries: &[Entry]) -> u128
     total
 }
 
-/// The audit of a book that all these seats were told of.
+/// The counts of a book whose entries are exactly the receipts of these seats.
 pub(crate) fn audit_of<L: Ledger>(
     book: &Book,
     events: ledger::Book<L>,

@@ -1,9 +1,9 @@
-//! One book for many threads: it lies behind a lock, and each thread works on it from a seat of
-//! its own, which keeps a receipt of each call that was accepted. A ledger counts the events, so
-//! that no seat holds more receipts than the book has entries; at the end all receipts are
-//! compared with the journal. A shared call says what the call of the book says, of a legal
-//! journal that has the opening of the book that was handed in, and is no shorter than what the
-//! seat had been told.
+//! One book for many threads. The book is behind a lock, and each thread calls it from its own
+//! seat, which stores a receipt of each call that was accepted. A ledger counts the events, so no
+//! seat has more receipts than the book has entries. At the end of a round all receipts are
+//! compared with the journal. The contract of a shared call is that of the book's call, for some
+//! legal journal that has the opening of the book that was passed in and is no shorter than the
+//! receipts of the seat.
 #![tactic(auto)]
 
 pub mod audit;

@@ -1,4 +1,4 @@
-//! What lies under the lock.
+//! The value under the lock: the book and the ledger's count of its entries.
 ghost use Rattle.std.specs.Prelude.{◌≡◌, ◌≢◌, ◌+◌, ◌<◌, ◌≤◌, [], length, IfOk, IfErr, IfSome, IfNone, OnOk, OnErr, unwrap_or, if◌then◌else◌, None, Some};
 ghost use Rattle.metric_events.specs.Choice.{pick};
 ghost use Rattle.delta_book.specs.Journal.{history};
@@ -24,10 +24,10 @@ use std::alloc::AllocError;
 use std::marker::Model;
 use std::sync::ledger;
 
-/// The book, and beside it the ledger's count of its entries. Contracts see the book's journal.
-/// Whenever the lock is free, the journal has the opening of the round, each entry names a seat
-/// of this book, and the ledger's total is the number of entries; that the journal's history is
-/// legal is true of every book.
+/// The book, and the ledger's count of its entries. Contracts see the book's journal. Whenever the
+/// lock is free, the journal has the opening of the round, each entry names a seat of this book,
+/// and the ledger's total is the number of entries. The journal's history is legal, as that of
+/// every book is.
 #[derive(Drop)]
 pub struct Locked<L: Round> {
     pub(crate) book: Book,
@@ -46,8 +46,8 @@ impl<L: Round> Model for Locked<L> {
 }
 
 impl<L: Round> Locked<L> {
-    /// The seat's number. The ledger's book sees the seat's share, so the journal is no shorter than
-    /// what the seat was told.
+    /// The seat's number. The ledger compares its total with the seat's share, so the journal is no
+    /// shorter than the seat's receipts.
     fn seat_number(&mut self, seat: &mut Seat<L>) -> u16
         ensures number { result ≡ seat.old.number }
         ensures below { result < L.parts }
@@ -57,12 +57,12 @@ impl<L: Round> Locked<L> {
     {
         let Locked { book, events } = self;
         seat.audit(events);
-        // its history is legal
+        // From this call it is known that the history is legal.
         let _entries = book.journal();
         seat.number()
     }
 
-    /// As `Book::admit`, from the seat, which gets its receipt. The copy goes into its receipt.
+    /// As `Book::admit`, from the seat, which stores a receipt with the copy.
     pub fn admit(
         &mut self,
         seat: &mut Seat<L>,
@@ -85,7 +85,7 @@ impl<L: Round> Locked<L> {
         Ok(batch)
     }
 
-    /// As `Book::undo`, from the seat, which gets its receipt.
+    /// As `Book::undo`, from the seat, which stores a receipt.
     pub fn undo(&mut self, seat: &mut Seat<L>, batch: u64) -> Result<(), UndoFault>
         ensures recorded { OnOk result (IsRecordedAt L.parts L.opening self.old self.new seat.old seat.new (Event.Undo batch)) }
         ensures none { OnOk result (undo_refusal (history self.old) batch ≡ None) }
@@ -100,7 +100,7 @@ impl<L: Round> Locked<L> {
         Ok(())
     }
 
-    /// As `Book::confirm`, from the seat, which gets its receipt.
+    /// As `Book::confirm`, from the seat, which stores a receipt.
     pub fn confirm(&mut self, seat: &mut Seat<L>, batch: u64) -> Result<(), NotOpen>
         ensures recorded { OnOk result (IsRecordedAt L.parts L.opening self.old self.new seat.old seat.new (Event.Confirm batch)) }
         ensures none { OnOk result (confirm_refusal (history self.old) batch ≡ None) }
@@ -115,7 +115,7 @@ impl<L: Round> Locked<L> {
         Ok(())
     }
 
-    /// As `Book::take`, from the seat, which gets its receipt where something was taken.
+    /// As `Book::take`, from the seat, which stores a receipt if a flush was taken.
     pub fn take(&mut self, seat: &mut Seat<L>, max: usize) -> Result<Option<Flush>, TakeFault>
         requires low { 1 ≤ max }
         requires high { max ≤ MAX_TAKEN }
@@ -134,7 +134,7 @@ impl<L: Round> Locked<L> {
         Ok(Some(flush))
     }
 
-    /// As `Book::settle`, from the seat, which gets its receipt.
+    /// As `Book::settle`, from the seat, which stores a receipt.
     pub fn settle(&mut self, seat: &mut Seat<L>, flush: u64) -> Result<(), NotLive>
         ensures recorded { OnOk result (IsRecordedAt L.parts L.opening self.old self.new seat.old seat.new (Event.Settle flush)) }
         ensures none { OnOk result (flush_refusal (history self.old) flush ≡ None) }
@@ -149,7 +149,7 @@ impl<L: Round> Locked<L> {
         Ok(())
     }
 
-    /// As `Book::drop_flush`, from the seat, which gets its receipt.
+    /// As `Book::drop_flush`, from the seat, which stores a receipt.
     pub fn drop_flush(&mut self, seat: &mut Seat<L>, flush: u64) -> Result<(), NotLive>
         ensures recorded { OnOk result (IsRecordedAt L.parts L.opening self.old self.new seat.old seat.new (Event.Drop flush)) }
         ensures none { OnOk result (flush_refusal (history self.old) flush ≡ None) }
@@ -164,7 +164,7 @@ impl<L: Round> Locked<L> {
         Ok(())
     }
 
-    /// As `Book::give_back`, from the seat, which gets its receipt.
+    /// As `Book::give_back`, from the seat, which stores a receipt.
     pub fn give_back(&mut self, seat: &mut Seat<L>, flush: u64) -> Result<(), NotLive>
         ensures recorded { OnOk result (IsRecordedAt L.parts L.opening self.old self.new seat.old seat.new (Event.GiveBack flush)) }
         ensures none { OnOk result (flush_refusal (history self.old) flush ≡ None) }
@@ -179,7 +179,7 @@ impl<L: Round> Locked<L> {
         Ok(())
     }
 
-    /// As `Book::quarantine`, from the seat, which gets its receipt.
+    /// As `Book::quarantine`, from the seat, which stores a receipt.
     pub fn quarantine(
         &mut self,
         seat: &mut Seat<L>,
@@ -198,7 +198,7 @@ impl<L: Round> Locked<L> {
         Ok(())
     }
 
-    /// As `Book::lift`, from the seat, which gets its receipt.
+    /// As `Book::lift`, from the seat, which stores a receipt.
     pub fn lift(&mut self, seat: &mut Seat<L>, sender: &SenderName) -> Result<(), NotQuarantined>
         ensures recorded { OnOk result (IsRecordedAt L.parts L.opening self.old self.new seat.old seat.new (Event.Lift sender.now)) }
         ensures none { OnOk result (lift_refusal (history self.old) sender.now ≡ None) }
@@ -213,7 +213,7 @@ impl<L: Round> Locked<L> {
         Ok(())
     }
 
-    /// As `Book::totals`, beside the seat, which stays as it is.
+    /// As `Book::totals`. The seat does not change.
     pub fn totals(&mut self, seat: &mut Seat<L>) -> Result<Vec<SeriesTotals>, AllocError>
         ensures rows { IfOk result (λ v. v.items ≡ totals_rows (history self.old)) }
         ensures kept { self.new ≡ self.old }

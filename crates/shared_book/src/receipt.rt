@@ -1,11 +1,11 @@
-//! What a seat keeps of each call that was accepted.
+//! The receipt of a call that was accepted, which a seat stores.
 ghost use Rattle.std.specs.Prelude.{◌≡◌};
 ghost use Rattle.shared_book.specs.Receipts.{kind_of};
 
 use metric_events::batch::Batch;
 use metric_events::event::Event;
 
-/// Which of the events of a store it is.
+/// The kind of an event.
 #[derive(Clone, Copy, Debug, PartialEq, Eq)]
 pub enum EventKind {
     Admit,
@@ -38,14 +38,16 @@ impl EventKind {
     }
 }
 
-/// What a seat was told of one call that was accepted.
+/// The receipt of one call that was accepted.
 pub struct Receipt {
-    /// The place of the call's entry in the journal of the round, from 0.
+    /// The index of the call's entry in the journal of the round, from 0.
     pub index: u64,
+    /// The kind of the call's event.
     pub kind: EventKind,
-    /// The batch or the flush that the call was told or has answered; 0 where there is none.
+    /// The number of the batch or flush that the call was passed or has returned; 0 if there is
+    /// none.
     pub number: u64,
-    /// The batch that an `admit` was handed.
+    /// A copy of the batch that an `admit` was passed.
     pub body: Option<Batch>,
 }
 

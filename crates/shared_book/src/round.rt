@@ -4,9 +4,9 @@ ghost use Rattle.metric_events.specs.declared.opening.Opening.{Opening};
 use std::marker::Brand;
 use std::sync::ledger::Ledger;
 
-/// A round of a shared book: its ledger of events, and the opening that the round's journal has from
-/// first to last. Whoever begins a round picks both in the proof: a new ledger, and the opening of the
-/// book that is handed in.
+/// A round of a shared book: its ledger of events, and the opening that the round's journal has
+/// throughout. The function that begins a round chooses both in its proof: a new ledger, and the
+/// opening of the book that is passed in.
 pub trait Round: Ledger {
     ghost opening: { Opening };
 }

@@ -12,12 +12,12 @@ use std::alloc::{AllocError, Global};
 use std::marker::Model;
 use std::sync::ledger::{self, Ledger, Share};
 
-/// How many seats a shared book may have.
+/// The most seats of a shared book.
 pub const MAX_SEATS: u16 = 16;
 
-/// The place of one thread at a shared book: its number, its share of the ledger of events, and
-/// the receipts of all calls that were accepted from it in the round, in order. Contracts see
-/// the number and the receipts. There are never more receipts than entries of the book.
+/// The seat of one thread at a shared book: its number, its share of the ledger of events, and the
+/// receipts of all calls that were accepted from it in the round, in order. Contracts see the
+/// number and the receipts. There are never more receipts than entries of the book.
 #[derive(Drop)]
 pub struct Seat<L: Ledger> {
     number: u16,
@@ -38,7 +38,7 @@ impl<L: Ledger> Model for Seat<L> {
 }
 
 impl<L: Ledger> Seat<L> {
-    /// A seat that was told nothing, with room for all receipts of a round.
+    /// A seat without receipts, with room for all receipts of a round.
     pub(crate) fn new(alloc: Global, number: u16, share: Share<L>) -> Result<Seat<L>, AllocError>
         requires number { number < L.parts }
         requires few { L.parts ≤ MAX_SEATS }
@@ -54,7 +54,7 @@ impl<L: Ledger> Seat<L> {
         })
     }
 
-    /// The number of the seat, from 0, which its entries in the journal have.
+    /// The number of the seat, from 0. Its entries in the journal have this number.
     pub fn number(&self) -> u16
         ensures value { result ≡ self.now.number }
         ensures below { result < L.parts }
@@ -63,14 +63,14 @@ impl<L: Ledger> Seat<L> {
         self.number
     }
 
-    /// What the seat was told in the round, in order. Takes no memory.
+    /// The receipts of the round, in order. Takes no memory.
     pub fn receipts(&self) -> &[Receipt]
         ensures { result.now ≡ self.now.receipts }
     {
         self.receipts.as_slice()
     }
 
-    /// The seat's share, told beside the ledger's book: no more receipts than events.
+    /// Compares the seat's share with the ledger's total: there are no more receipts than events.
     pub(crate) fn audit(&mut self, events: &mut ledger::Book<L>)
         ensures seat { self.new ≡ self.old }
         ensures total { events.new.total ≡ events.old.total }
@@ -79,8 +79,8 @@ impl<L: Ledger> Seat<L> {
         events.audit(&mut self.share);
     }
 
-    /// The seat gets the receipt of the book's last entry, with what its call was told or answered, and
-    /// the ledger counts the entry.
+    /// Stores the receipt of the book's last entry, with the number or batch of its call, and
+    /// counts the entry in the ledger.
     pub(crate) fn note(
         &mut self,
         book: &Book,
@@ -111,7 +111,7 @@ impl<L: Ledger> Seat<L> {
         });
     }
 
-    /// The seat's share of the events and how many receipts it has.
+    /// The seat's share of the ledger, and how many receipts it has.
     pub(crate) fn into_share(self) -> (Share<L>, usize)
         ensures parts { result.0.parts ≡ 1 }
         ensures amount { result.0.amount ≡ length self.receipts }
@@ -127,7 +127,7 @@ impl<L: Ledger> Seat<L> {
     }
 }
 
-/// A seat for each part of the ledger.
+/// One seat for each part of the ledger.
 pub(crate) fn make_seats<L: Ledger>(
     alloc: Global,
     whole: Share<L>,
@@ -148,7 +148,7 @@ pub(crate) fn make_seats<L: Ledger>(
     Ok(list)
 }
 
-/// Whether one of the seats has the number.
+/// Whether one of the seats has this number.
 fn has_seat<L: Ledger>(seats: &[Seat<L>], number: u16) -> bool
     ensures { result ≡ is_seated number seats.now }
 {
@@ -160,7 +160,7 @@ fn has_seat<L: Ledger>(seats: &[Seat<L>], number: u16) -> bool
     false
 }
 
-/// Whether each number below is on one of the seats.
+/// Whether each number below `count` is that of one of the seats.
 pub(crate) fn all_seated<L: Ledger>(seats: &[Seat<L>], count: u16) -> bool
     ensures { IsTrue result ↔ AllSeated count seats.now }
 {

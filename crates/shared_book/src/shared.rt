@@ -29,11 +29,11 @@ use std::marker::Model;
 use std::sync::ledger::Blank;
 use std::sync::{Mutex, Wait};
 
-/// A book that threads share for a round, each from a seat of its own. Contracts see how many
-/// seats there are. Each call takes the lock, so it may wait; where it returns, it is the call
-/// of `Book` on a journal of this round: one with the opening of the book that was handed in,
-/// legal, with entries of these seats alone, and no shorter than what the seat had been told.
-/// No contract says which of these journals it is.
+/// A book that threads share for a round, each from its own seat. Contracts see how many seats
+/// there are. Each call takes the lock, so it may wait. If it returns, it is the call of `Book` on
+/// a journal of this round: it is legal, has the opening of the book that was passed in and entries
+/// of these seats alone, and is no shorter than the seat's receipts. No contract says which of
+/// these journals it is.
 #[derive(Drop)]
 pub struct SharedBook<L: Round> {
     alloc: Global,
@@ -52,10 +52,10 @@ impl<L: Round> Model for SharedBook<L> {
 }
 
 impl<L: Round> SharedBook<L> {
-    /// Shares a book whose round has no entry yet, from 1 to 16 seats, numbered from 0: the
-    /// blank is to be the ledger of `L`, cut into as many parts, and the book's opening that of
-    /// `L`, which each call and `finish` then name. All seats have room for the receipts of a
-    /// whole round. Without memory the book is given back.
+    /// Shares a book whose round has no entry yet, from 1 to `MAX_SEATS` seats, numbered from 0.
+    /// The blank is the ledger of `L`, with as many parts as seats, and the book's opening is that
+    /// of `L`, which the contracts of each call and of `finish` name. All seats have room for the
+    /// receipts of a whole round. If memory runs out, the error returns the book.
     pub fn new(
         alloc: Global,
         book: Book,
@@ -87,8 +87,8 @@ impl<L: Round> SharedBook<L> {
         }
     }
 
-    /// As `Book::admit`. The batch is copied first, for the receipt: without memory for that,
-    /// `NoMemory` comes before the other refusals. A refusal gives the batch back.
+    /// As `Book::admit`. The batch is copied first, for the receipt: if memory for the copy runs
+    /// out, `NoMemory` comes before the other refusals. A refusal returns the batch.
     pub fn admit(
         &self,
         rt: &impl Wait,
@@ -125,7 +125,7 @@ impl<L: Round> SharedBook<L> {
         self.lock.lock(rt).confirm(seat, batch)
     }
 
-    /// As `Book::take`. The receipt of a flush names its number; `None` leaves the seat as it is.
+    /// As `Book::take`. The receipt has the flush's number. After `None` the seat is unchanged.
     pub fn take(
         &self,
         rt: &impl Wait,
@@ -198,7 +198,7 @@ impl<L: Round> SharedBook<L> {
         self.lock.lock(rt).lift(seat, sender)
     }
 
-    /// As `Book::totals`. The seat stays as it is.
+    /// As `Book::totals`. The seat does not change.
     pub fn totals(
         &self,
         rt: &impl Wait,
@@ -210,11 +210,10 @@ impl<L: Round> SharedBook<L> {
         self.lock.lock(rt).totals(seat)
     }
 
-    /// Ends the sharing: the book, which has the opening of the book that was handed in, and what
-    /// an audit of all seats has found. Then each seat's receipts are exactly the entries that
-    /// name it, each once, in order. Refused where the seat of a number is not among these, and
-    /// then as `check` refuses; a refusal gives everything back. Takes no memory and waits for
-    /// nobody.
+    /// Ends the round: returns the book, with the opening of the book that was passed in, and the
+    /// audit. Each seat's receipts are exactly the entries that name it, each once, in order.
+    /// Errors: `SeatOut` if a seat is missing, then as `check`. An error returns everything. Takes
+    /// no memory and does not wait.
     pub fn finish(
         self,
         seats: Vec<Seat<L>>,

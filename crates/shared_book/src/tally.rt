@@ -1,4 +1,4 @@
-//! A walk over a journal, beside the receipts of its seats.
+//! Compares a journal with the receipts of its seats, entry by entry.
 ghost use Rattle.std.specs.Prelude.{◌≡◌, ◌↔◌, ◌+◌, ◌<◌, [], IsTrue, false, length, take};
 ghost use Rattle.std.specs.List.{All, Any};
 ghost use Rattle.shared_book.specs.Audits.{IsTallied};
@@ -11,17 +11,17 @@ use metric_events::entry::Entry;
 use metric_events::event::Event;
 use std::sync::ledger::Ledger;
 
-/// What a walk over entries has found.
+/// The result of comparing entries with receipts.
 #[derive(Drop)]
 pub struct Tally {
-    /// For each number of a seat, how many entries name it: the place of its next receipt.
+    /// For each number of a seat, how many entries name it: the index of its next receipt.
     pub named: [usize; MAX_SEATS as usize],
-    /// Whether each entry's receipt stood next at its seat.
+    /// Whether each entry's receipt was the next one at its seat.
     pub same: bool,
 }
 
 impl Tally {
-    /// Walks over a journal once, beside these seats. An entry of another seat is passed over.
+    /// Compares a journal with the receipts of these seats. An entry of another seat is skipped.
     pub fn of<L: Ledger>(journal: &[Entry], seats: &[Seat<L>]) -> Tally
         ensures { IsTallied journal.now seats.now result.named result.same }
     {
@@ -35,7 +35,7 @@ impl Tally {
         tally
     }
 
-    /// Notes the entry at a place, after those before it.
+    /// Counts the entry at this index, after those before it.
     fn note<L: Ledger>(&mut self, journal: &[Entry], place: usize, seats: &[Seat<L>])
         requires place { place < length journal.now }
         requires before { IsTallied (take place journal.now) seats.now self.old.named self.old.same }
@@ -54,7 +54,7 @@ impl Tally {
     }
 }
 
-/// The batch or the flush that an event names, 0 where it names a sender.
+/// The number of the batch or flush that an event names, 0 if it names a sender.
 fn number_in(event: &Event) -> u64
     ensures { result ≡ number_of event.now }
 {
@@ -71,7 +71,7 @@ fn number_in(event: &Event) -> u64
     }
 }
 
-/// Whether this is the batch that came in with the event.
+/// Whether this is the batch of the event.
 fn is_body_of(body: &Option<Batch>, event: &Event) -> bool
     ensures { IsTrue result ↔ (body.now ≡ body_of event.now) }
 {
@@ -83,7 +83,7 @@ fn is_body_of(body: &Option<Batch>, event: &Event) -> bool
     }
 }
 
-/// Whether a receipt is that of an event at a place.
+/// Whether this is the receipt of an event at this index of the journal.
 fn is_receipt_of(receipt: &Receipt, index: u64, event: &Event) -> bool
     ensures { IsTrue result ↔ (receipt.now ≡ receipt_of index event.now) }
 {
@@ -93,14 +93,14 @@ fn is_receipt_of(receipt: &Receipt, index: u64, event: &Event) -> bool
         && is_body_of(&receipt.body, event)
 }
 
-/// Whether the receipt at a place of these is that of an event.
+/// Whether the receipt at index `at` is that of an event.
 fn is_next(receipts: &[Receipt], at: usize, index: u64, event: &Event) -> bool
     ensures { IsTrue result ↔ IsNext receipts.now at (receipt_of index event.now) }
 {
     at < receipts.len() && is_receipt_of(&receipts[at], index, event)
 }
 
-/// Whether each seat of this number has the receipt of an event there.
+/// Whether each seat of this number has the receipt of an event at index `at`.
 fn are_next<L: Ledger>(seats: &[Seat<L>], number: u16, at: usize, index: u64, event: &Event) -> bool
     ensures all { IsTrue result → All (λ s. s.number ≡ number → IsNext s.receipts at (receipt_of index event.now)) seats.now }
     ensures any { result ≡ false → Any (λ s. (s.number ≡ number) × ¬ (IsNext s.receipts at (receipt_of index event.now))) seats.now }
