@@ -1,4 +1,4 @@
--- The command line, and what its words mean.
+-- The command line: its options, and the meaning of its words.
 use Rattle.std.specs.Prelude.{◌≡◌, ◌≤◌, ℕ, List, [], ◌∷◌, Option, Some, None, codes, pos, true, false, option_and_then}
 use Rattle.std.specs.Option.{option_map_or}
 use Rattle.clap.specs.Words.{App, Row, Rule, Text, app_of, first_of, new_app, new_rule, subcommand_of, with_rule, with_subcommand}
@@ -10,7 +10,8 @@ use Rattle.gateway_options.specs.declared.told.Options.TheVariants.{Serve, Rehea
 use Rattle.gateway_options.specs.declared.serve_options.ServeOptions.{ServeOptions}
 use Rattle.gateway_options.specs.declared.rehearse_options.RehearseOptions.{RehearseOptions}
 
--- an option whose value is a number: `--name N`, what stands in for it (where nothing does it must be given), and its range
+-- an option whose value is a number: `--name N`, its default (without one it must be given), and
+-- its range
 pub record Number : Type 0 where
   pub name : Text
   pub default : Option Text
@@ -29,11 +30,19 @@ number_rule n = record (new_rule n.name) {
 
 -- `--backend HOST:PORT`, which must be given
 abbrev pub backend : Rule
-backend = record (new_rule (codes "backend")) { long = Some (codes "backend"); value_names = 1; required = true }
+backend = record (new_rule (codes "backend")) {
+  long = Some (codes "backend");
+  value_names = 1;
+  required = true;
+}
 
 -- `--listen HOST:PORT`
 abbrev pub listen : Rule
-listen = record (new_rule (codes "listen")) { long = Some (codes "listen"); value_names = 1; defaults = codes "127.0.0.1:4318" ∷ [] }
+listen = record (new_rule (codes "listen")) {
+  long = Some (codes "listen");
+  value_names = 1;
+  defaults = codes "127.0.0.1:4318" ∷ [];
+}
 
 -- `--connections N`, which must be given
 abbrev pub connections : Number
@@ -63,7 +72,7 @@ senders = record { name = codes "senders"; default = Some (codes "2"); least = 1
 abbrev pub batches : Number
 batches = record { name = codes "batches"; default = Some (codes "3"); least = 1; most = 100 }
 
--- a command that takes these numbers too
+-- the command with these numeric options too
 abbrev pub with_numbers : App → List Number → App
 with_numbers app [] = app
 with_numbers app (n ∷ ns) = with_numbers (with_rule app (number_rule n)) ns
@@ -78,42 +87,49 @@ serve =
 abbrev pub rehearse : App
 rehearse = with_numbers (new_app (codes "rehearse")) (senders ∷ batches ∷ [])
 
--- no argument of the command is one of its subcommands too
+-- no argument of the command is passed on to its subcommands
 abbrev pub IsOwn : Command → Type 0
 IsOwn c = (out-Command c).has_globals ≡ false
 
--- the command by clap's rules, with arguments of its own alone
+-- the command by clap's rules, with no argument that is passed on to subcommands
 abbrev pub IsCommand : App → Command → Type 0
 IsCommand app c = (app_of c ≡ app) × IsOwn c
 
 -- the command before it has subcommands, one of which must be given
 abbrev pub bare : App
-bare = record (new_app (codes "gateway")) { top = record (new_app (codes "gateway")).top { subcommand_required = true } }
+bare = record (new_app (codes "gateway")) {
+  top = record (new_app (codes "gateway")).top { subcommand_required = true };
+}
 
 -- the whole command
 abbrev pub gateway : App
 gateway = with_subcommand (with_subcommand bare serve.top) rehearse.top
 
--- the option's value is digits that write v, which is in the option's range
+-- the option's value is digits that write v, and v is in the option's range
 abbrev pub IsNumber : Number → List Row → ℕ → Type 0
-IsNumber n rows v = (option_and_then (number_up_to n.most) (first_of n.name rows) ≡ Some v) × (n.least ≤ v)
+IsNumber n rows v =
+    (option_and_then (number_up_to n.most) (first_of n.name rows) ≡ Some v) × (n.least ≤ v)
 
 -- the values of the options of `serve`
 abbrev pub AreServed : List Row → ServeOptions → Type 0
 AreServed rows o =
-    (first_of (codes "backend") rows ≡ Some o.backend.now) × (first_of (codes "listen") rows ≡ Some o.listen.now)
-    × IsNumber connections rows o.connections × IsNumber receivers rows o.receivers × IsNumber flushers rows o.flushers
-    × IsNumber flush_series rows o.flush_series × IsNumber round rows o.round
+    (first_of (codes "backend") rows ≡ Some o.backend.now)
+    × (first_of (codes "listen") rows ≡ Some o.listen.now)
+    × IsNumber connections rows o.connections × IsNumber receivers rows o.receivers
+    × IsNumber flushers rows o.flushers × IsNumber flush_series rows o.flush_series
+    × IsNumber round rows o.round
 
 -- the values of the options of `rehearse`
 abbrev pub AreRehearsed : List Row → RehearseOptions → Type 0
 AreRehearsed rows o = IsNumber senders rows o.senders × IsNumber batches rows o.batches
 
--- the subcommand is the one that the options are of, with these values
+-- the subcommand is that of the options, with these values
 abbrev pub IsGiven : Option (Text × List Row) → Options → Type 0
-IsGiven given (Serve o) = (rows : List Row) × (given ≡ Some (codes "serve", rows)) × AreServed rows o
-IsGiven given (Rehearse o) = (rows : List Row) × (given ≡ Some (codes "rehearse", rows)) × AreRehearsed rows o
+IsGiven given (Serve o) =
+    (rows : List Row) × (given ≡ Some (codes "serve", rows)) × AreServed rows o
+IsGiven given (Rehearse o) =
+    (rows : List Row) × (given ≡ Some (codes "rehearse", rows)) × AreRehearsed rows o
 
--- by clap's rules the words give these options, defaults included
+-- by clap's rules the words mean these options, defaults included
 abbrev pub IsMeant : List Text → Options → Type 0
 IsMeant words o = IsGiven (subcommand_of gateway words) o

@@ -1,4 +1,4 @@
--- What an option of the code is by the rules of the command line.
+-- An option of the code, as the rules of the command line see it.
 use Rattle.std.specs.Prelude.{option_map}
 use Rattle.gateway_options.specs.CommandLine.{Number}
 use Rattle.gateway_options.specs.declared.number_option.NumberOption.{NumberOption}

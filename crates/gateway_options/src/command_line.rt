@@ -1,4 +1,4 @@
-//! The command line: its options, their ranges and their defaults.
+//! The command line: its subcommands and options, with their ranges and defaults.
 ghost use Rattle.std.specs.Prelude.{◌≡◌, IfOk, IfSome, false, map};
 ghost use Rattle.clap.specs.Words.{app_of, rule_of, found_of, rows_of, subcommand_rows_of};
 ghost use Rattle.gateway_options.specs.CommandLine as spec;
@@ -14,7 +14,8 @@ use clap::error::ErrorKind;
 use clap::{Arg, ArgMatches, Command, Error};
 use std::alloc::Global;
 
-/// An option whose value is a number in a range: by it clap and `read` refuse, and the help text names it.
+/// A numeric option with a range. `clap` and `read` both refuse by this range, and the help text
+/// names it.
 macro_rules! number {
     ($name:literal, $help:literal, $least:literal to $most:literal, $default:expr) => {
         NumberOption {
@@ -91,7 +92,7 @@ fn listen<'a>(alloc: Global) -> Arg<'a>
         .default_value("127.0.0.1:4318")
 }
 
-/// The command with an option for each of these numbers.
+/// The command with these numeric options.
 fn with_numbers<'a>(
     command: Command<'a>,
     alloc: Global,
@@ -129,7 +130,7 @@ fn rehearse<'a>(alloc: Global) -> Result<Command<'a>, Error>
     with_numbers(bare, alloc, &[SENDERS, BATCHES])
 }
 
-/// The two subcommands, one of which must be given.
+/// The whole command, with its two subcommands; one of them must be given.
 fn command<'a>(alloc: Global) -> Result<Command<'a>, Error>
     ensures { IfOk result (λ c. app_of c ≡ spec.gateway) }
 {
@@ -142,7 +143,7 @@ fn command<'a>(alloc: Global) -> Result<Command<'a>, Error>
     )
 }
 
-/// The options of `serve`, where its numbers are digits in their ranges.
+/// The options of `serve`, if each number is digits and in its range.
 fn serve_options<'a>(matches: &ArgMatches<'a>) -> Option<ServeOptions<'a>>
     ensures { IfSome result (AreServed (rows_of (found_of matches.now))) }
 {
@@ -161,7 +162,7 @@ fn serve_options<'a>(matches: &ArgMatches<'a>) -> Option<ServeOptions<'a>>
     })
 }
 
-/// The options of `rehearse`, where its numbers are digits in their ranges.
+/// The options of `rehearse`, if each number is digits and in its range.
 fn rehearse_options(matches: &ArgMatches<'_>) -> Option<RehearseOptions>
     ensures { IfSome result (AreRehearsed (rows_of (found_of matches.now))) }
 {
@@ -171,7 +172,7 @@ fn rehearse_options(matches: &ArgMatches<'_>) -> Option<RehearseOptions>
     })
 }
 
-/// The options that the matches of the line have, where its numbers are digits in their ranges.
+/// The options of the subcommand that was given, if each number is digits and in its range.
 fn options_in<'a>(matches: &ArgMatches<'a>) -> Option<Options<'a>>
     ensures { IfSome result (IsGiven (subcommand_rows_of matches.now)) }
 {
@@ -184,9 +185,10 @@ fn options_in<'a>(matches: &ArgMatches<'a>) -> Option<Options<'a>>
     }
 }
 
-/// The options that the words mean, of which the first is the program's name.
+/// Reads the options from the words of the command line; the first is the program's name.
 ///
-/// `Line` where they are faulty or ask for help, also where a number is written with a sign.
+/// Errors: `Line`, with a text for the user, if the words are faulty or ask for help, or a number
+/// has a sign; `NoMemory`.
 pub fn options<'a>(alloc: Global, words: &'a [&'a str]) -> Result<Options<'a>, LineFault>
     ensures { IfOk result (IsMeant (map (λ s. s.now) words.entry.now)) }
 {

@@ -1,4 +1,4 @@
-//! What the gateway is told when it starts: the words of its command line, read with `clap`.
+//! Reads the command line of `gateway` by `clap`.
 #![tactic(auto)]
 
 mod command_line;

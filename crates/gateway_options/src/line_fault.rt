@@ -2,12 +2,12 @@ use clap::Error;
 use clap::error::ErrorKind;
 use std::fmt;
 
-/// Why a command line gives no options.
+/// Why a command line has no options.
 #[derive(Debug, Drop)]
 pub enum LineFault {
-    /// The line is faulty, or asks for help. Its text is for the user.
+    /// The line is faulty, or asks for help. Holds the text for the user.
     Line(Error),
-    /// A growth was refused.
+    /// Out of memory.
     NoMemory,
 }
 

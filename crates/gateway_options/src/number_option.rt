@@ -7,20 +7,23 @@ use clap::{Arg, ArgMatches, value_parser};
 use decimals::number_up_to;
 use std::alloc::Global;
 
-/// An option whose value is a number: `--name N`, of digits alone.
+/// An option whose value is a number, written as digits: `--name N`.
 #[derive(Clone, Copy)]
 pub struct NumberOption<'a> {
+    /// The name, without the dashes.
     pub name: &'a str,
-    /// What it is, with unit and range, as the call for help tells it.
+    /// The help text, with unit and range.
     pub help: &'a str,
-    /// What stands in where the option is left out. Where nothing does it must be given.
+    /// The value if the option is left out. Without a default the option must be given.
     pub default: Option<&'a str>,
+    /// The least value.
     pub least: u32,
+    /// The greatest value.
     pub most: u32,
 }
 
 impl<'a> NumberOption<'a> {
-    /// The option by clap's rules.
+    /// The option as an argument of `clap`.
     pub fn argument(&self, alloc: Global) -> Arg<'a>
         ensures rule { rule_of result ≡ number_rule (described self.now) }
         ensures local { result.global ≡ false }
@@ -37,7 +40,7 @@ impl<'a> NumberOption<'a> {
         }
     }
 
-    /// The number that the option's digits write, where it is in the option's range.
+    /// The number that the option's digits write, if it is in the option's range.
     pub fn read(&self, matches: &ArgMatches<'_>) -> Option<u64>
         ensures { IfSome result (λ n. IsNumber (described self.now) (rows_of (found_of matches.now)) n × (n ≤ self.now.most)) }
     {

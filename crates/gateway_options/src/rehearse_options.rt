@@ -1,11 +1,11 @@
 ghost use Rattle.std.specs.Prelude.{◌≤◌};
 
-/// What a rehearsal plays.
+/// The options of `rehearse`.
 #[derive(Clone, Copy, Debug)]
 pub struct RehearseOptions {
-    /// How many senders post at once.
+    /// How many senders post side by side.
     pub senders: u16,
-    /// How many batches each of them posts, one after the other.
+    /// How many batches each of them posts, one after another.
     pub batches: u16,
     ghost some: { (1 ≤ senders) × (senders ≤ 4) },
     ghost posted: { (1 ≤ batches) × (batches ≤ 100) },

@@ -1,21 +1,21 @@
 ghost use Rattle.std.specs.Prelude.{◌<◌, ◌≤◌, ◌^◌, length};
 
-/// How connections are served.
+/// The options of `serve`.
 #[derive(Clone, Copy, Debug)]
 pub struct ServeOptions<'a> {
-    /// The address of the back end, as it is handed to the system.
+    /// The address of the back end, `HOST:PORT`, as it is passed to the system.
     pub backend: &'a str,
-    /// The address that is listened on, as it is handed to the system.
+    /// The address to listen on, `HOST:PORT`, as it is passed to the system.
     pub listen: &'a str,
-    /// How many connections are served.
+    /// How many connections are served before the gateway ends.
     pub connections: u64,
     /// How many threads serve connections.
     pub receivers: u16,
-    /// How many threads carry out the flushes that are ordered.
+    /// How many threads run the flushes that are ordered.
     pub flushers: u16,
-    /// How many series a flush takes at most.
+    /// The most series of one flush.
     pub flush_series: usize,
-    /// After how many connections the store begins a new round.
+    /// How many connections a round of the store has.
     pub round: u64,
     ghost short: { length backend.now < 2 ^ 32 },
     ghost received: { (1 ≤ receivers) × (receivers ≤ 8) },

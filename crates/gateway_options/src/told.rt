@@ -1,11 +1,11 @@
 use crate::rehearse_options::RehearseOptions;
 use crate::serve_options::ServeOptions;
 
-/// What the gateway is told when it starts.
+/// A subcommand with its options.
 #[derive(Clone, Copy, Debug)]
 pub enum Options<'a> {
-    /// It serves connections.
+    /// Serves connections.
     Serve(ServeOptions<'a>),
-    /// It plays senders, gateway and back end in one process.
+    /// Plays senders, a gateway and a back end in one process.
     Rehearse(RehearseOptions),
 }
