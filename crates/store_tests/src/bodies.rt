@@ -10,7 +10,7 @@ use series_id::{AttrSet, Kind, SeriesId, SharedId, Text};
 use std::alloc::Global;
 use std::test::Fail;
 
-/// A series in a scope of this name: early fields that differ make long runs short.
+/// A series in a scope of this name. Series that differ in an early field are compared quickly.
 pub fn series(alloc: Global, name: usize, kind: Kind) -> Result<SeriesId, Fail>
     ensures { IfOk result (λ x. x.kind ≡ kind) }
 {
@@ -26,7 +26,7 @@ pub fn series(alloc: Global, name: usize, kind: Kind) -> Result<SeriesId, Fail>
     )?)
 }
 
-/// A sum's point of this series, over so many nanoseconds.
+/// A point of a sum, of this series and this length in nanoseconds.
 pub fn counted(
     alloc: Global,
     name: usize,
@@ -38,8 +38,8 @@ pub fn counted(
     Ok(Point::sum(alloc, series, start, start.saturating_add(length), value)?)
 }
 
-/// A histogram's point of this series with one bound, over ten nanoseconds, with the sum 9 and
-/// the buckets 2 and 1.
+/// A point of a histogram with one bound, of this series, over ten nanoseconds: sum 9, buckets 2
+/// and 1.
 fn bucketed(alloc: Global, name: usize, start: u64) -> Result<Point, Fail> {
     let series = series(alloc, name, Kind::histogram([5].to_vec(alloc)?)?)?;
     let buckets = [2, 1].to_vec(alloc)?;
@@ -59,8 +59,7 @@ pub fn sender(alloc: Global, name: usize) -> Result<SenderName, Fail> {
     Ok(SenderName::new(alloc, text.as_bytes())?)
 }
 
-/// A batch of sender 0: for each series from one up to another a point of value 1 over a
-/// nanosecond.
+/// A batch of sender 0: a point of value 1 over a nanosecond, for each series of this range.
 pub fn ones(alloc: Global, from: usize, to: usize, start: u64) -> Result<Batch, Fail> {
     let mut points = Points::new(alloc);
     for name in from..to {
@@ -80,8 +79,7 @@ pub fn single(alloc: Global, sent_by: usize, start: u64, value: i64) -> Result<B
     Ok(Batch { sender, points })
 }
 
-/// A point of the histogram's series 2 from one time on, and one of the sum's series 1 from
-/// another.
+/// Adds a point of series 2, a histogram, and one of series 1, a sum, with these starts.
 fn push_both(
     alloc: Global,
     points: &mut Points,
@@ -93,7 +91,7 @@ fn push_both(
     Ok(())
 }
 
-/// A batch of two points of a histogram's series and two of a sum's.
+/// A batch of two points of a histogram and two of a sum.
 pub fn mixed(alloc: Global) -> Result<Batch, Fail> {
     let mut points = Points::new(alloc);
     push_both(alloc, &mut points, (10, 10), 5)?;

@@ -1,5 +1,5 @@
-//! What no clause says of the book: that each call succeeds where memory is ample, and at which
-//! count each limit lies.
+//! What no contract says of the book: that each call succeeds with ample memory, and at which count
+//! each limit refuses.
 
 ghost use Rattle.std.specs.Prelude.{◌≤◌};
 ghost use Rattle.metric_events.specs.declared.limits.TheConstants.{MAX_TAKEN};
@@ -28,7 +28,7 @@ use std::alloc::Global;
 use std::process::Abort;
 use std::test::Fail;
 
-/// Batches 1 and 2 are admitted, of which 2 is undone; a point that comes late is refused.
+/// Batches 1 and 2 are admitted, and 2 is undone; a point that is too late is refused.
 const ADMIT_AND_UNDO: &[Call] = &[
     Take(Ok(None)),
     Ones(0, 2, 1, Ok(1)),
@@ -38,7 +38,7 @@ const ADMIT_AND_UNDO: &[Call] = &[
     Undo(2, Err(UndoFault::NotOpen)),
 ];
 
-/// Three flushes, which end in three ways, and batch 1, which is confirmed after them.
+/// Three flushes, which end in three ways; then batch 1 is confirmed.
 const TAKE_AND_END: &[Call] = &[
     Take(Ok(Some(1))),
     Undo(1, Err(UndoFault::Taken)),
@@ -56,8 +56,8 @@ const TAKE_AND_END: &[Call] = &[
     Confirm(1, Err(NotOpen)),
 ];
 
-/// Sender 0 is held and lifted.
-const HOLD_AND_LIFT: &[Call] = &[
+/// Sender 0 is quarantined and released.
+const QUARANTINE_AND_LIFT: &[Call] = &[
     Quarantine(0, Ok(())),
     Quarantine(0, Err(QuarantineFault::Already)),
     Ones(0, 1, 5, Err(AdmitFault::Quarantined)),
@@ -75,7 +75,7 @@ fn expect_row(rt: &impl Abort, row: &Row, words: [u64; 3]) {
     look::words(rt, row.as_slice(), &words, "of a series");
 }
 
-/// What the totals show after all that.
+/// The totals after all that.
 fn expect_totals(rt: &impl Abort, totals: &[SeriesTotals]) {
     assert_eq!(rt; totals.len(), 2);
     expect_row(rt, &totals[0].accepted, [1, 1, 0]);
@@ -86,7 +86,7 @@ fn expect_totals(rt: &impl Abort, totals: &[SeriesTotals]) {
     expect_first_sender(rt, &totals[1].owner);
 }
 
-/// The cells say the same: the batch that was undone left none, and nothing is away or at home.
+/// The cells after all that: the batch that was undone has none, nothing is pending or in flight.
 fn expect_cells(rt: &impl Abort, cells: &[Cell]) {
     assert_eq!(rt; cells.len(), 2);
     look::words(rt, cells[0].acknowledged(), &[1, 1, 0], "acknowledged");
@@ -103,13 +103,13 @@ fn each_call_once(rt: HostRuntime) -> Result<(), Fail> {
     let mut book = Book::new(alloc)?;
     run(&rt, alloc, &mut book, ADMIT_AND_UNDO)?;
     run(&rt, alloc, &mut book, TAKE_AND_END)?;
-    run(&rt, alloc, &mut book, HOLD_AND_LIFT)?;
+    run(&rt, alloc, &mut book, QUARANTINE_AND_LIFT)?;
     expect_totals(&rt, book.totals()?.as_slice());
     expect_cells(&rt, book.cells());
     Ok(())
 }
 
-/// Runs the calls over a book of its own.
+/// Makes the calls on a new book.
 fn run_anew(rt: &impl Abort, alloc: Global, calls: &[Call]) -> Result<(), Fail> {
     run(rt, alloc, &mut Book::new(alloc)?, calls)
 }
@@ -120,14 +120,14 @@ fn expect_point(rt: &impl Abort, point: &FlushPoint, row: &[u64], start: u64, en
     look::ends(rt, point.span(), (start, end));
 }
 
-/// One point of each kind's series, each over all of its time.
+/// One point of each series, the histogram and the sum, with its covering span.
 fn expect_two(rt: &impl Abort, sent: &[FlushPoint]) {
     assert_eq!(rt; sent.len(), 2);
     expect_point(rt, &sent[0], &[2, 5, 7], 10, 30);
     expect_point(rt, &sent[1], &[2, 0, 18, 4, 2], 10, 40);
 }
 
-// A flush takes several series of both kinds, and sends one point of each.
+// A flush takes series of both kinds, and sends one point of each.
 #[test]
 fn a_flush_of_two_series(rt: HostRuntime) -> Result<(), Fail> {
     let alloc = rt.alloc();
@@ -138,7 +138,7 @@ fn a_flush_of_two_series(rt: HostRuntime) -> Result<(), Fail> {
     Ok(())
 }
 
-/// Takes up to so many series, and so many have a point in the flush.
+/// Takes at most `max` series, and expects so many points in the flush.
 fn expect_taken(rt: &impl Abort, book: &mut Book, max: usize, points: usize) -> Result<(), Fail>
     requires low { 1 ≤ max }
     requires high { max ≤ MAX_TAKEN }
@@ -197,10 +197,10 @@ fn series_have_a_limit(rt: HostRuntime) -> Result<(), Fail> {
     )
 }
 
-/// A flush of the journal's third entry is live.
+/// The journal's third entry takes a flush, which is live.
 const ONE_OWED: &[Call] = &[Ones(0, 1, 1, Ok(1)), Confirm(1, Ok(())), Take(Ok(Some(1)))];
 
-/// Sender 1 is held and lifted until the journal has its last entry but one.
+/// Quarantines and releases sender 1 until the journal has room for one more entry.
 fn fill_up(rt: &impl Abort, alloc: Global, book: &mut Book) -> Result<(), Fail> {
     for _ in 0..32766 {
         run(rt, alloc, book, &[Quarantine(1, Ok(())), Lift(1, Ok(()))])?;
@@ -208,7 +208,7 @@ fn fill_up(rt: &impl Abort, alloc: Global, book: &mut Book) -> Result<(), Fail> 
     run(rt, alloc, book, &[Entries(65535)])
 }
 
-/// The journal has room for what is owed alone, and then for nothing.
+/// The journal has room for the end of the live flush alone, and then for nothing.
 const LAST_ENTRY: &[Call] = &[
     Ones(1, 2, 1, Err(AdmitFault::Full)),
     Quarantine(1, Err(QuarantineFault::Full)),
@@ -217,7 +217,7 @@ const LAST_ENTRY: &[Call] = &[
     Take(Err(TakeFault::Full)),
 ];
 
-// With one flush owed the journal fills up to its last entry but one, and that one ends the flush.
+// While one flush is live, the last entry of the journal is reserved for its end.
 #[test]
 fn the_last_entry_is_owed(rt: HostRuntime) -> Result<(), Fail> {
     let alloc = rt.alloc();
@@ -253,7 +253,7 @@ const FIRST_ROUND: &[Call] = &[
     Entries(0),
 ];
 
-/// The series keeps its owner and its frontier, and nothing of the round.
+/// The series still has its owner and its frontier, and no points.
 fn expect_opened(rt: &impl Abort, totals: &[SeriesTotals]) {
     assert_eq!(rt; totals.len(), 1);
     expect_row(rt, &totals[0].accepted, [0, 0, 0]);
@@ -272,7 +272,7 @@ fn expect_past(rt: &impl Abort, past: &[PastTotals]) {
     expect_wide(rt, past[0].dropped.as_slice(), [0, 0, 0]);
 }
 
-/// The second round begins where the first ended; a live flush keeps it open.
+/// The second round continues where the first ended; it can't be closed while a flush is live.
 const SECOND_ROUND: &[Call] = &[
     Single(0, 10, 5, Err(AdmitFault::OutOfOrder(0, 20))),
     Single(0, 20, 7, Ok(2)),
@@ -284,7 +284,7 @@ const SECOND_ROUND: &[Call] = &[
     Close(Ok(3)),
 ];
 
-/// The sender is held until it is lifted.
+/// The sender is quarantined until it is released.
 const THIRD_ROUND: &[Call] = &[
     Take(Ok(None)),
     Lift(0, Ok(())),
@@ -292,7 +292,7 @@ const THIRD_ROUND: &[Call] = &[
     Single(0, 30, 2, Ok(3)),
 ];
 
-/// What was at home goes out with what came.
+/// The flush has what was pending and what was posted since.
 fn expect_both(rt: &impl Abort, flush: &Flush) {
     look::number(rt, flush.number, 3, "flush");
     let sent = flush.points.as_slice();
@@ -313,7 +313,7 @@ fn rounds_follow_one_another(rt: HostRuntime) -> Result<(), Fail> {
     Ok(())
 }
 
-// A series of the opening is listed without a point of the round, and no other sender may write it.
+// A series of the opening is listed without points, and no other sender may post it.
 #[test]
 fn a_series_of_the_opening_stays(rt: HostRuntime) -> Result<(), Fail> {
     let alloc = rt.alloc();
@@ -331,7 +331,7 @@ fn a_series_of_the_opening_stays(rt: HostRuntime) -> Result<(), Fail> {
     run(&rt, alloc, &mut book, &[other, Single(0, 20, 7, Ok(3))])
 }
 
-// The series of the opening count among the 10,000.
+// The series of the opening count for the limit of series.
 #[test]
 fn series_of_the_opening_have_the_limit(rt: HostRuntime) -> Result<(), Fail> {
     run_anew(
@@ -347,7 +347,7 @@ fn series_of_the_opening_have_the_limit(rt: HostRuntime) -> Result<(), Fail> {
     )
 }
 
-/// The last entry ends the round, and the next one has all the room.
+/// The round is closed with a full journal, and the next one has all the room.
 const CLOSED: &[Call] = &[
     GiveBack(1, Ok(())),
     Entries(65536),
@@ -358,7 +358,7 @@ const CLOSED: &[Call] = &[
     Ones(1, 2, 1, Ok(2)),
 ];
 
-// A journal that is filled to its last entry is closed, and the next has all its room.
+// A round with a full journal can be closed, and the next one has all the room.
 #[test]
 fn a_full_journal_is_closed(rt: HostRuntime) -> Result<(), Fail> {
     let alloc = rt.alloc();
@@ -368,7 +368,7 @@ fn a_full_journal_is_closed(rt: HostRuntime) -> Result<(), Fail> {
     run(&rt, alloc, &mut book, CLOSED)
 }
 
-/// The book takes a batch under this number, and then so many own the series' identity.
+/// Admits a batch, expects this number, and so many owners of the series' identity.
 fn expect_owners(
     rt: &impl Abort,
     book: &mut Book,
@@ -381,8 +381,8 @@ fn expect_owners(
     look::count(rt, shared.owners(), owners, "owners");
 }
 
-// What is kept of a batch shares the identity of its cell: the point of its entry; and so does a
-// flush: its entry, and the point that it sends.
+// The points of a batch's entry share the identity of the cell, and so do the entry of a flush and
+// the point that it sends.
 #[test]
 fn known_series_are_kept_once(rt: HostRuntime) -> Result<(), Fail> {
     let alloc = rt.alloc();
@@ -400,8 +400,8 @@ fn known_series_are_kept_once(rt: HostRuntime) -> Result<(), Fail> {
     Ok(())
 }
 
-// A cell shares the identity of its first point, also where the points have two owners and adopt
-// nothing.
+// A cell shares the identity of its first point, even if the points have two owners and can't adopt
+// an identity.
 #[test]
 fn a_cell_shares_the_identity_of_its_first_point(rt: HostRuntime) -> Result<(), Fail> {
     let alloc = rt.alloc();
@@ -421,7 +421,7 @@ fn a_cell_shares_the_identity_of_its_first_point(rt: HostRuntime) -> Result<(), 
     Ok(())
 }
 
-// An identity is found wherever it was noted: at another series' cell, or past the last one.
+// A series is found even if its noted position is that of another cell, or past the last one.
 #[test]
 fn a_noted_place_may_be_wrong(rt: HostRuntime) -> Result<(), Fail> {
     let alloc = rt.alloc();

@@ -1,4 +1,4 @@
-//! Calls of a book and what they answer, so that a test is a table of them.
+//! Calls of a book with their results, so that a test is a table.
 
 use crate::bodies::{ones, sender, single};
 use delta_book::book::Book;
@@ -10,17 +10,17 @@ use std::alloc::Global;
 use std::process::Abort;
 use std::test::Fail;
 
-/// A call by seat 7, and its answer. Senders and series are named by numbers, and times are in
+/// A call by seat 7, and its result. Senders and series are named by numbers, and times are in
 /// nanoseconds.
 #[derive(Clone, Copy)]
 pub enum Call {
-    /// Sender 0 brings a point of each series from a number up to another, from this time on.
+    /// Sender 0 posts a point of each series of this range, from this time on.
     Ones(usize, usize, u64, Result<u64, AdmitFault>),
-    /// This sender brings a point of series 1, from this time on, with this value.
+    /// This sender posts a point of series 1, from this time on, with this value.
     Single(usize, u64, i64, Result<u64, AdmitFault>),
     Undo(u64, Result<(), UndoFault>),
     Confirm(u64, Result<(), NotOpen>),
-    /// One series, and the number of the flush that takes it.
+    /// A flush takes one series: its number.
     Take(Result<Option<u64>, TakeFault>),
     Settle(u64, Result<(), NotLive>),
     DropFlush(u64, Result<(), NotLive>),
@@ -34,7 +34,7 @@ pub enum Call {
     Entries(usize),
 }
 
-/// What becomes of a batch of some points.
+/// Admits a batch with points: its number, or the fault.
 pub fn admitted(rt: &impl Abort, book: &mut Book, body: Batch) -> Result<u64, AdmitFault> {
     assert!(rt; !body.points.as_slice().is_empty());
     match book.admit(7, body) {
@@ -43,7 +43,7 @@ pub fn admitted(rt: &impl Abort, book: &mut Book, body: Batch) -> Result<u64, Ad
     }
 }
 
-/// The number of the flush that takes one series.
+/// Takes one series: the number of the flush.
 fn taken(book: &mut Book) -> Result<Option<u64>, TakeFault> {
     match book.take(7, 1)? {
         Some(flush) => Ok(Some(flush.number)),
@@ -51,7 +51,7 @@ fn taken(book: &mut Book) -> Result<Option<u64>, TakeFault> {
     }
 }
 
-/// Whether the book answers as it is to.
+/// Whether the call has the result that is wanted.
 fn is_answered(rt: &impl Abort, alloc: Global, book: &mut Book, call: Call) -> Result<bool, Fail> {
     Ok(match call {
         Call::Ones(from, to, start, want) => {
@@ -75,7 +75,7 @@ fn is_answered(rt: &impl Abort, alloc: Global, book: &mut Book, call: Call) -> R
     })
 }
 
-/// Makes the calls in turn, each of which is answered as it is to be.
+/// Makes the calls in turn, and compares their results.
 pub fn run(rt: &impl Abort, alloc: Global, book: &mut Book, calls: &[Call]) -> Result<(), Fail> {
     for (at, call) in calls.iter().enumerate() {
         assert!(rt; is_answered(rt, alloc, book, *call)?, "at call {at}");

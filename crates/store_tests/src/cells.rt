@@ -1,5 +1,5 @@
-//! What no clause says of a cell: that its calls run, with ample memory, over a worked series of
-//! calls; rows longer than a block, with each tail; and room that is made beforehand.
+//! What no contract says of a cell: that its calls succeed with ample memory, over a worked list of
+//! calls, over rows longer than a block with each remainder, and with room that was reserved.
 ghost use Rattle.std.specs.Prelude.{◌≡◌, ◌++◌, ◌∷◌, [], List, IfOk};
 ghost use Rattle.metric_events.specs.PointFaults.{IsHistogram};
 ghost use Rattle.metric_events.specs.Points.{admitted};
@@ -34,13 +34,13 @@ fn series(alloc: Global, kind: Kind) -> Result<SeriesId, Fail>
     )?)
 }
 
-/// A sum's point.
+/// A point of a sum.
 fn counted(alloc: Global, start: u64, end: u64, value: i64) -> Result<Point, Fail> {
     let series = series(alloc, Kind::Sum { monotonic: false })?;
     Ok(Point::sum(alloc, series, start, end, value)?)
 }
 
-/// Whole bounds from 0 up to a number, which is left out.
+/// The bounds from 0 to `count`, excluded.
 fn bounds_below(alloc: Global, count: u32) -> Result<Vec<i64>, Fail> {
     let mut bounds = Vec::new(alloc);
     for bound in 0..count {
@@ -49,14 +49,14 @@ fn bounds_below(alloc: Global, count: u32) -> Result<Vec<i64>, Fail> {
     Ok(bounds)
 }
 
-/// A histogram's kind of so many bounds.
+/// The kind of a histogram with so many bounds.
 fn buckets_between(alloc: Global, bounds: u32) -> Result<Kind, Fail>
     ensures { IfOk result IsHistogram }
 {
     Ok(Kind::histogram(bounds_below(alloc, bounds)?)?)
 }
 
-/// A histogram's point of a series with so many bounds: 3 in the first bucket and 1 in the last.
+/// A point of a histogram with so many bounds: 3 in the first bucket and 1 in the last.
 fn spread(alloc: Global, bounds: u32, start: u64) -> Result<Point, Fail> {
     let series = series(alloc, buckets_between(alloc, bounds)?)?;
     let mut buckets = vec![in alloc; 3u64]?;
@@ -76,7 +76,7 @@ fn empty_cell(alloc: Global, id: SeriesId) -> Result<Cell, Fail>
     Ok(Cell::new(alloc, owner, id)?)
 }
 
-/// Puts a point that is of the cell's series, after its frontier and within a word.
+/// Puts a point of the cell's series, after its frontier, whose sums fit a word.
 fn put(rt: &impl Abort, cell: &mut Cell, point: &Point, batch: u64)
     ensures stands { (qs : List Accepted) → Stands cell.old qs → Stands cell.new (qs ++ admitted batch cell.old.owner point.now ∷ []) }
     ensures same { IsOfSame cell.old cell.new }
@@ -93,7 +93,7 @@ fn put(rt: &impl Abort, cell: &mut Cell, point: &Point, batch: u64)
     assert!(rt; put.is_ok(), "memory");
 }
 
-/// The five rows are these: accepted, stored, in flight, acknowledged, dropped.
+/// Compares the five rows: accepted, stored, in flight, acknowledged, dropped.
 fn expect_rows(rt: &impl Abort, cell: &Cell, rows: [[u64; 3]; 5]) {
     look::words(rt, cell.accepted(), &rows[0], "accepted");
     look::words(rt, cell.stored(), &rows[1], "stored");
@@ -102,12 +102,12 @@ fn expect_rows(rt: &impl Abort, cell: &Cell, rows: [[u64; 3]; 5]) {
     look::words(rt, cell.dropped(), &rows[4], "dropped");
 }
 
-/// A span is from this start to that end, or there is none.
+/// Compares a span, if there is one.
 fn expect_span(rt: &impl Abort, span: Option<Span>, want: Option<(u64, u64)>) {
     assert_eq!(rt; span.map(|s| (s.start(), s.end())), want);
 }
 
-/// A flush takes the first point, a second comes, the flush is given back, the first is undone.
+/// A flush takes the first point, a second is put, the flush is given back, the first is removed.
 fn give_back_and_undo(rt: &impl Abort, cell: &mut Cell, first: &Point, second: &Point)
     requires { Stands cell.old [] }
 {
@@ -154,12 +154,12 @@ fn a_flush_comes_back_and_a_batch_is_undone(rt: HostRuntime) -> Result<(), Fail>
     Ok(())
 }
 
-/// Puts a point as `put` does, of which nothing more is to be known.
+/// As `put`, without its contract.
 fn bring(rt: &impl Abort, cell: &mut Cell, point: &Point, batch: u64) {
     put(rt, cell, point, batch);
 }
 
-/// Puts the span of a point that is of the cell's series and after its frontier.
+/// Puts the span of a point of the cell's series, after its frontier.
 fn bring_span(rt: &impl Abort, cell: &mut Cell, point: &Point, batch: u64) {
     assert!(rt; cell.id().is_same(point.series()), "another series");
     assert!(rt; cell.frontier() <= point.span().start(), "out of order");
@@ -167,19 +167,19 @@ fn bring_span(rt: &impl Abort, cell: &mut Cell, point: &Point, batch: u64) {
     assert!(rt; put.is_ok(), "memory");
 }
 
-/// Takes all that is at home, where nothing is in flight.
+/// Takes all pending points, where nothing is in flight.
 fn lift(rt: &impl Abort, cell: &mut Cell, flush: u64) {
     assert!(rt; !cell.is_flying());
     cell.lift_off(flush);
 }
 
-/// Begins the next round with what is at home.
+/// Begins the next round with the pending points.
 fn carry(rt: &impl Abort, cell: &mut Cell) {
     assert!(rt; !cell.is_flying() && cell.frontier() > 0);
     cell.carry();
 }
 
-/// What is in flight lands for good, once with the back end and once dropped.
+/// The points in flight are acknowledged once, and dropped once.
 fn land_twice(rt: &impl Abort, cell: &mut Cell, points: [&Point; 4]) {
     bring(rt, cell, points[0], 1);
     lift(rt, cell, 1);
@@ -197,7 +197,7 @@ fn land_twice(rt: &impl Abort, cell: &mut Cell, points: [&Point; 4]) {
     look::number(rt, cell.frontier(), 60, "frontier");
 }
 
-/// The next round begins with what is at home, and the one after it with nothing.
+/// The next round begins with the pending points, and the one after it with nothing.
 fn carry_twice(rt: &impl Abort, cell: &mut Cell) {
     carry(rt, cell);
     expect_rows(
@@ -228,7 +228,7 @@ fn a_round_begins_with_what_is_at_home(rt: HostRuntime) -> Result<(), Fail> {
     Ok(())
 }
 
-/// Room that is made beforehand is used, and no row is changed by it.
+/// Room that was reserved is used, and reserving changes no row.
 #[test]
 fn room_is_made_beforehand(rt: HostRuntime) -> Result<(), Fail> {
     let alloc = rt.alloc();
@@ -245,7 +245,7 @@ fn room_is_made_beforehand(rt: HostRuntime) -> Result<(), Fail> {
     Ok(())
 }
 
-/// A point that comes by its span alone: the rows stay, and the span is at home.
+/// A point that is put by its span alone: the rows stay, and the span is pending.
 #[test]
 fn a_span_comes_without_its_words(rt: HostRuntime) -> Result<(), Fail> {
     let alloc = rt.alloc();
@@ -264,7 +264,7 @@ fn a_span_comes_without_its_words(rt: HostRuntime) -> Result<(), Fail> {
     Ok(())
 }
 
-/// The first word, the third and fourth and the last of a row, and all of them added up.
+/// Compares the first, third, fourth and last word of a row, and the sum of all words.
 fn expect_ends(rt: &impl Abort, row: &[u64], points: u64) {
     assert!(rt; row.len() > 4);
     let ends = [row[0], row[2], row[3], row[row.len() - 1]].map(u128::from);
@@ -273,7 +273,7 @@ fn expect_ends(rt: &impl Abort, row: &[u64], points: u64) {
     assert_eq!(rt; total(row), 14 * points, "{} words", row.len());
 }
 
-/// A flush takes two points and is dropped: each row that they are in, and none that they left.
+/// A flush takes two points and is dropped. The points are in one row at a time.
 fn move_rows(rt: &impl Abort, cell: &mut Cell, first: &Point, second: &Point) {
     bring(rt, cell, first, 1);
     bring(rt, cell, second, 1);
@@ -287,7 +287,7 @@ fn move_rows(rt: &impl Abort, cell: &mut Cell, first: &Point, second: &Point) {
     expect_ends(rt, cell.accepted(), 2);
 }
 
-/// Rows of 8, 12 and 259 words, so with each tail after the full eights.
+/// Rows of 8, 12 and 259 words: with no remainder after the blocks, and with two others.
 #[test]
 fn rows_of_each_length_move(rt: HostRuntime) -> Result<(), Fail> {
     let alloc = rt.alloc();

@@ -21,7 +21,7 @@ fn text(rt: &impl Abort, alloc: Global, text: &str) -> Text {
     Text::new(String::from_str(alloc, text).expect(rt, "memory"))
 }
 
-/// A series of this kind, named `x`, and nothing else.
+/// A series of this kind with the name `x`, and nothing else.
 fn series(rt: &impl Abort, alloc: Global, kind: Kind) -> SeriesId
     ensures { result.kind ≡ kind }
 {
@@ -45,7 +45,7 @@ fn series(rt: &impl Abort, alloc: Global, kind: Kind) -> SeriesId
     .expect(rt, "short texts")
 }
 
-/// A point of a sum that may fall.
+/// A point of a non-monotonic sum.
 fn sum(rt: &impl Abort, alloc: Global, start: u64, end: u64, value: i64) -> Point {
     let series = series(rt, alloc, Kind::Sum { monotonic: false });
     Point::sum(alloc, series, start, end, value).expect(rt, "a point")
@@ -58,7 +58,7 @@ fn expect_row(rt: &impl Abort, point: &Point, row: &[u64]) {
     look::text(rt, point.series().name().as_str(), "x");
 }
 
-/// A sum's point with this value is refused like this, or not at all.
+/// Expects this fault of a sum's point with this value, or none.
 fn expect_fault(
     rt: &impl Abort,
     alloc: Global,
@@ -74,7 +74,7 @@ fn expect_fault(
     assert_eq!(rt; fault, want, "at {start} {value}");
 }
 
-/// A histogram's kind of these bounds.
+/// The kind of a histogram with these bounds.
 fn buckets_between(rt: &impl Abort, alloc: Global, bounds: &[i64]) -> Kind
     ensures { IsHistogram result }
 {
@@ -82,7 +82,7 @@ fn buckets_between(rt: &impl Abort, alloc: Global, bounds: &[i64]) -> Kind
     Kind::histogram(bounds).expect(rt, "bounds")
 }
 
-/// A histogram's point of these bounds, count, sum and buckets.
+/// A point of a histogram with these bounds, count, sum and buckets.
 fn histogram(
     rt: &impl Abort,
     alloc: Global,
@@ -98,7 +98,7 @@ fn histogram(
     Point::histogram(alloc, series, start, 20, count, sum, buckets)
 }
 
-/// The row of a histogram's point of these bounds, sum, buckets and count is this.
+/// Compares the row of a histogram's point with these bounds, sum, buckets and count.
 fn expect_buckets(
     rt: &impl Abort,
     alloc: Global,
@@ -112,13 +112,13 @@ fn expect_buckets(
     look::words(rt, point.row(), row, "of a histogram");
 }
 
-/// The bytes are refused as a sender's name like this, or not at all.
+/// Expects this fault of a sender's name, or none.
 fn expect_name(rt: &impl Abort, alloc: Global, bytes: &[u8], want: Option<NameFault>) {
     let fault = SenderName::new(alloc, bytes).err();
     assert_eq!(rt; fault, want);
 }
 
-/// The point has the fields of the other, which is as one that adds up.
+/// Compares a point with a merged point.
 fn expect_same(rt: &impl Abort, mine: &Point, its: &MergedPoint) {
     let (span, other) = (mine.span(), its.span());
     let sames = [
@@ -131,7 +131,7 @@ fn expect_same(rt: &impl Abort, mine: &Point, its: &MergedPoint) {
     assert_eq!(rt; sames, [true; 5]);
 }
 
-/// The parts of a point make one that adds up, of the same series, span and row.
+/// The parts of a point make a merged point of the same series, span and row.
 fn expect_remade(rt: &impl Abort, alloc: Global, point: &Point, row: &[u64]) {
     let merged = point.as_merged();
     let series = merged.shared_series().share().expect(rt, "a count");
@@ -308,7 +308,7 @@ fn faults_of_histograms(rt: HostRuntime) {
     }
 }
 
-/// A batch of the sender `shop`: a sum's point of each value, one after another.
+/// A batch of the sender `shop`: a sum's point for each value, one after another.
 fn shop_batch(rt: &impl Abort, alloc: Global, values: &[i64]) -> Batch {
     let mut points = Points::new(alloc);
     for (value, start) in values.iter().zip([10u64, 20]) {
@@ -319,7 +319,7 @@ fn shop_batch(rt: &impl Abort, alloc: Global, values: &[i64]) -> Batch {
     Batch { sender, points }
 }
 
-/// The second batch of two points has all that the first has.
+/// Compares a batch of two points with its copy.
 fn expect_copy(rt: &impl Abort, batch: &Batch, copy: &Batch) {
     look::holds(rt, copy.sender.is_same(&batch.sender), "the same sender");
     look::count(rt, copy.points.as_slice().len(), 2, "points");
@@ -380,7 +380,7 @@ fn points_of_parts(rt: HostRuntime) {
     expect_remade(&rt, alloc, &buckets, &[1, 0, 9, 2, 1]);
 }
 
-/// An identity of a sum, which can be shared.
+/// A shared identity of a sum.
 fn shared_series(rt: &impl Abort, alloc: Global, monotonic: bool) -> SharedId
     ensures { result.kind ≡ Kind.Sum monotonic }
 {
@@ -390,7 +390,7 @@ fn shared_series(rt: &impl Abort, alloc: Global, monotonic: bool) -> SharedId
     shared
 }
 
-/// So many own the identity that is adopted, and the other one is owned once.
+/// The identity that is adopted has so many owners, and the other one has one.
 fn expect_owners(rt: &impl Abort, shared: &SharedId, other: &SharedId, owners: usize) {
     look::count(rt, shared.owners(), owners, "owners");
     look::count(rt, other.owners(), 1, "owners of the other");
@@ -436,7 +436,7 @@ fn points_of_one_identity_share_it(rt: HostRuntime) {
     look::count(&rt, shared.owners(), 3, "owners");
 }
 
-// An identity is one word; a span is two, and a row in place is four.
+// An identity is one word, a span two, and a row in place four.
 #[test]
 fn points_are_small(rt: HostRuntime) {
     look::count(&rt, size_of::<SharedId>(), 8, "bytes of an identity");

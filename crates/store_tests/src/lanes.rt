@@ -1,5 +1,5 @@
-//! What no clause says of the kernels: that they run, over rows of every length up to 259 words,
-//! so with no full eight, with full eights alone and with each tail, and see a carry out of a word.
+//! What no contract says of the vector operations: that they run over rows of every length up to
+//! 259 words (no full block, full blocks alone, each remainder), and detect an overflow of a word.
 ghost use Rattle.std.specs.Prelude.{◌≡◌, length};
 
 use bucket_lanes::{add_into, clear, fits, is_zero, move_into, sub_from, total};
@@ -22,7 +22,7 @@ fn expect_words(rt: &impl Abort, words: &[u64], first: u64, step: u64) {
     }
 }
 
-/// Sums, what is left of them, and moved words, of these two rows.
+/// Adds, subtracts and moves these two rows.
 fn expect_sums(rt: &impl Abort, a: &mut [u64], b: &mut [u64])
     requires { length a.old ≡ length b.old }
 {
@@ -40,14 +40,14 @@ fn expect_sums(rt: &impl Abort, a: &mut [u64], b: &mut [u64])
     expect_words(rt, b, 0, 0);
 }
 
-/// Whether the sums of two rows are at most this.
+/// Compares `fits` of two rows with what is wanted.
 fn expect_fits(rt: &impl Abort, a: &[u64], b: &[u64], most: u64, want: bool)
     requires { length a.now ≡ length b.now }
 {
     assert_eq!(rt; fits(a, b, most), want, "{} words", a.len());
 }
 
-/// Whether all words are 0, and what they add up to.
+/// Compares the sum of all words, and whether all are 0.
 fn expect_total(rt: &impl Abort, words: &[u64], want: u64) {
     let seen = (is_zero(words), total(words));
     assert_eq!(rt;
@@ -58,7 +58,7 @@ fn expect_total(rt: &impl Abort, words: &[u64], want: u64) {
     );
 }
 
-/// One word alone, at a place, is seen by each test; and no word once all are 0.
+/// Each comparison detects a single word at this index, and nothing once all words are 0.
 fn expect_seen(rt: &impl Abort, words: &mut [u64], zeros: &[u64], at: usize)
     requires { length words.old ≡ length zeros.now }
 {
@@ -72,7 +72,7 @@ fn expect_seen(rt: &impl Abort, words: &mut [u64], zeros: &[u64], at: usize)
     expect_fits(rt, zeros, words, MOST - 1, false);
 }
 
-/// The sum of 2^64 - 1 and 1 at a place is over any limit, though its word would be 0.
+/// The sum of 2^64 - 1 and 1 at this index is over every limit, though its word would be 0.
 fn expect_carry(rt: &impl Abort, words: &mut [u64], ones: &[u64], at: usize)
     requires { length words.old ≡ length ones.now }
 {
@@ -93,7 +93,7 @@ fn kernels_run_over_each_tail(rt: HostRuntime) {
     }
 }
 
-/// The first word, the last of the first eight, the one after it and the last of all.
+/// The first word, the last of the first block, the one after it and the last of all.
 #[test]
 fn each_place_counts(rt: HostRuntime) {
     for len in 9usize..260 {

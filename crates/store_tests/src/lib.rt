@@ -1,6 +1,6 @@
-//! Tests of the store: rows of words, series, points and events, cells, and the book. They run
-//! what no clause says: worked values, each call once with ample memory, and the counts at which
-//! the limits lie.
+//! Tests of the store: rows of words, series, points and events, cells, and the book. They test
+//! what no contract says: worked values, that each call succeeds with ample memory, and the counts
+//! at which each limit refuses.
 #![tactic(auto)]
 
 #[cfg(test)]

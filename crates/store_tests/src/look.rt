@@ -1,4 +1,4 @@
-//! What tests look at: each of these ends a test that sees something else.
+//! Assertions: each ends the test if a value is not the wanted one.
 
 use metric_events::span::Span;
 use std::process::Abort;
@@ -7,12 +7,12 @@ pub fn holds(rt: &impl Abort, fact: bool, what: &str) {
     assert!(rt; fact, "{what}");
 }
 
-/// So many of something.
+/// A count.
 pub fn count(rt: &impl Abort, got: usize, want: usize, what: &str) {
     assert_eq!(rt; got, want, "{what}");
 }
 
-/// A number that a book gave, or a time.
+/// A number of a batch or flush, or a time in nanoseconds.
 pub fn number(rt: &impl Abort, got: u64, want: u64, what: &str) {
     assert_eq!(rt; got, want, "{what}");
 }
@@ -26,7 +26,7 @@ pub fn text(rt: &impl Abort, text: &str, want: &str) {
     assert_eq!(rt; text, want);
 }
 
-/// The ends of a span.
+/// The start and the end of a span.
 pub fn ends(rt: &impl Abort, span: Span, want: (u64, u64)) {
     assert_eq!(rt; (span.start(), span.end()), want);
 }

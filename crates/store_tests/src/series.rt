@@ -12,7 +12,7 @@ fn text(rt: &impl Abort, alloc: Global, text: &str) -> Text {
     Text::new(String::from_str(alloc, text).expect(rt, "memory"))
 }
 
-/// A text of so many bytes.
+/// A text of this many bytes.
 fn long_text(rt: &impl Abort, alloc: Global, bytes: usize) -> Text {
     let mut text = String::new(alloc);
     for _ in 0..bytes {
@@ -21,7 +21,7 @@ fn long_text(rt: &impl Abort, alloc: Global, bytes: usize) -> Text {
     Text::new(text)
 }
 
-/// A list of so many empty values.
+/// A list of this many empty values.
 fn empties(rt: &impl Abort, alloc: Global, count: usize) -> AttrValue {
     let mut values = Vec::new(alloc);
     for _ in 0..count {
@@ -32,7 +32,7 @@ fn empties(rt: &impl Abort, alloc: Global, count: usize) -> AttrValue {
     AttrValue::Many(Scalars::new(values))
 }
 
-/// Puts a pair of a key and a text behind the others.
+/// Appends a pair of a key and a text.
 fn push(
     rt: &impl Abort,
     alloc: Global,
@@ -46,7 +46,7 @@ fn push(
     }
 }
 
-/// So many pairs with different keys.
+/// This many pairs with different keys.
 fn pairs(rt: &impl Abort, alloc: Global, count: u32) -> Vec<(Text, AttrValue)> {
     let mut pairs = Vec::new(alloc);
     for number in 0..count {
@@ -92,7 +92,7 @@ fn set_of(rt: &impl Abort, alloc: Global, texts: &[(&str, &str)]) -> AttrSet {
     AttrSet::from_pairs(alloc, listed(rt, alloc, texts)).expect(rt, "a set")
 }
 
-/// A series with these texts and a kind.
+/// A series with these texts and this kind.
 fn series(rt: &impl Abort, alloc: Global, resource: &str, name: &str, kind: Kind) -> SeriesId {
     let id = SeriesId::new(
         set_of(rt, alloc, &[("host", resource)]),
@@ -107,7 +107,7 @@ fn series(rt: &impl Abort, alloc: Global, resource: &str, name: &str, kind: Kind
     id.expect(rt, "a series")
 }
 
-/// A series with these attributes and a kind, and nothing else.
+/// A series with these attributes and this kind, and nothing else.
 fn plain_series(rt: &impl Abort, alloc: Global, attributes: AttrSet, kind: Kind) -> SeriesId {
     let id = SeriesId::new(
         AttrSet::empty(alloc),
@@ -146,7 +146,7 @@ fn of_kind(rt: &impl Abort, alloc: Global, kind: Kind) -> SeriesId {
     plain_series(rt, alloc, AttrSet::empty(alloc), kind)
 }
 
-/// What becomes of names and a unit of these lengths.
+/// The fault of names and a unit of these lengths.
 fn texts_fault(rt: &impl Abort, alloc: Global, lengths: [usize; 4]) -> Option<IdFault> {
     let [scope_name, scope_version, name, unit] = lengths;
     let id = SeriesId::new(
@@ -240,7 +240,7 @@ fn keys_stand_once(rt: HostRuntime) {
     check_fault(&rt, fault, Some(AttrFault::DuplicateKey));
 }
 
-/// A series with these attributes has two of them, of which the first has the key `a`.
+/// A series with these two attributes, in whatever order; the first of the set has the key `a`.
 fn ordered(rt: &impl Abort, alloc: Global, texts: &[(&str, &str)]) -> SeriesId {
     let set = set_of(rt, alloc, texts);
     assert_eq!(rt; set.pairs().len(), 2);
@@ -256,7 +256,7 @@ fn attribute_order_means_nothing(rt: HostRuntime) {
     look::holds(&rt, one.is_same(&other), "the same series");
 }
 
-/// Looks at the order of series that are to ascend.
+/// Expects that the series ascend.
 fn check_ascending(rt: &impl Abort, ascending: &[SeriesId]) {
     for i in 0..ascending.len() {
         for j in 0..ascending.len() {
@@ -312,7 +312,7 @@ fn kinds_are_ordered(rt: HostRuntime) {
     check_ascending(&rt, &ascending);
 }
 
-/// Looks at the order of two series, the first of which is to come first.
+/// Expects that the first series comes before the second.
 fn check_order(rt: &impl Abort, first: &SeriesId, second: &SeriesId) {
     let order = (
         first.cmp(second),
@@ -339,7 +339,7 @@ fn names_come_before_kinds(rt: HostRuntime) {
     check_order(&rt, &first, &second);
 }
 
-/// Looks at the texts of `series`.
+/// Compares the texts of `series`.
 fn check_texts(rt: &impl Abort, id: &SeriesId) {
     look::text(rt, id.scope_name().as_str(), "lib");
     assert_eq!(rt; id.scope_version().as_bytes(), b"2.1".as_slice());
@@ -347,7 +347,7 @@ fn check_texts(rt: &impl Abort, id: &SeriesId) {
     look::text(rt, id.unit().as_str(), "By");
 }
 
-/// Looks at the sets of `series`.
+/// Compares the attribute sets of `series`.
 fn check_sets(rt: &impl Abort, id: &SeriesId) {
     let sets = [id.resource(), id.scope_attrs(), id.attrs()];
     assert_eq!(rt; sets.map(|set| set.pairs().len()), [1, 0, 1]);
@@ -400,7 +400,7 @@ fn texts_of_series_are_short(rt: HostRuntime) {
     }
 }
 
-/// Takes only what threads may share and pass on.
+/// Compiles only for types that threads may share and send.
 fn check_threads<T: Send + Sync>(_: &T) {}
 
 #[test]
@@ -412,13 +412,13 @@ fn threads_may_share_series(rt: HostRuntime) {
     check_threads(&SharedId::new(alloc, id).ok());
 }
 
-/// Looks at how many own an identity, and the pairs of its resource.
+/// Compares the owners of an identity, and those of the pairs of its resource.
 fn check_owners(rt: &impl Abort, shared: &SharedId, owners: usize, pairs: usize) {
     let resource = shared.as_series().resource();
     assert_eq!(rt; (shared.owners(), resource.owners()), (owners, pairs));
 }
 
-/// Looks at how many own the one pair of a set.
+/// Compares the owners of a set of one pair.
 fn check_set(rt: &impl Abort, set: &AttrSet, owners: usize) {
     assert_eq!(rt; (set.owners(), set.pairs().len()), (owners, 1));
 }
@@ -472,7 +472,7 @@ fn owners_share_a_noted_place(rt: HostRuntime) {
     look::count(&rt, other.place(), 7, "the noted place");
 }
 
-/// Looks at whether two series share a resource, a scope and a stream.
+/// Compares whether two series share a resource, a scope and a stream.
 fn check_shares(rt: &impl Abort, first: &SeriesId, second: &SeriesId, shares: [bool; 3]) {
     let shared = [
         first.shares_resource(second),
