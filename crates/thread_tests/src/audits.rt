@@ -1,4 +1,4 @@
-//! Seats beside books that are not the ones they worked on.
+//! Audits of seats against books that they have not called.
 ghost use Rattle.std.specs.Prelude.{◌≡◌};
 ghost use Rattle.metric_events.specs.Opening.{first_opening};
 
@@ -24,20 +24,20 @@ fn book_of(rt: &impl Abort, alloc: Global, seat: u16, value: i64) -> Result<Book
     Ok(book)
 }
 
-/// The seat and the value of a book's one entry, or a book without an entry, and what the check
-/// finds of it.
+/// The seat and the value of a book's one entry, or a book without an entry; and the result of the
+/// check.
 type Case = (Option<(u16, i64)>, Result<(), AuditFault>);
 
-/// A seat that was told nothing, beside an entry of its own and beside one of another.
+/// A seat without receipts, with no entry, an entry of another seat and one of its own.
 const FRESH: &[Case] = &[
     (None, Ok(())),
     (Some((1, 5)), Ok(())),
     (Some((0, 5)), Err(AuditFault::MissingReceipt)),
 ];
 
-/// A seat that was told of one batch, beside no entry, the same, another batch, and another
-/// seat's.
-const TOLD: &[Case] = &[
+/// A seat with the receipt of one batch, with no entry, the same batch, another batch, and a batch
+/// of another seat.
+const WITH_RECEIPT: &[Case] = &[
     (None, Err(AuditFault::StrayEntry)),
     (Some((0, 5)), Ok(())),
     (Some((0, 6)), Err(AuditFault::StrayEntry)),
@@ -75,7 +75,7 @@ fn one_seat<L: Round, R: Wait + Abort>(rt: &R, alloc: Global, blank: Blank) -> R
     let body = body(alloc, "A", "req", (10, 20), 5)?;
     assert_eq!(rt; admitted(rt, &shared, &mut seat, body), Ok(1));
     seats.push(seat)?;
-    expect_checks(rt, alloc, seats.as_slice(), TOLD)
+    expect_checks(rt, alloc, seats.as_slice(), WITH_RECEIPT)
 }
 
 #[test]

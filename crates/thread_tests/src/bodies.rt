@@ -1,4 +1,4 @@
-//! Batches of one point, and the calls and rows that tests compare.
+//! Batches of one point, calls that admit and take, and rows to compare.
 ghost use Rattle.std.specs.Prelude.{◌≡◌, false, IfOk};
 
 use delta_book::faults::{AdmitFault, TakeFault};
@@ -17,7 +17,7 @@ use std::process::Abort;
 use std::sync::Wait;
 use std::test::Fail;
 
-// The non-monotonic sum of this name.
+/// The non-monotonic sum of this name.
 fn series(alloc: Global, name: &str) -> Result<SeriesId, Fail>
     ensures { IfOk result (λ x. x.kind ≡ Kind.Sum false) }
 {
@@ -37,7 +37,7 @@ pub fn sender(alloc: Global, name: &str) -> Result<SenderName, Fail> {
     Ok(SenderName::new(alloc, name.as_bytes())?)
 }
 
-// One point of a sum.
+/// A batch with one point of a sum.
 pub fn body(
     alloc: Global,
     owner: &str,
@@ -54,7 +54,7 @@ pub fn body(
     })
 }
 
-// Four batches of one point each, of a sender of this name, in a series of its own.
+/// Four batches of one point each, of a sender with this name and the series with this name.
 pub fn four_bodies(alloc: Global, name: &str) -> Result<Vec<Batch>, Fail> {
     let mut bodies = Vec::new(alloc);
     for (start, end) in [(10, 20), (20, 30), (30, 40), (40, 50)] {
@@ -63,7 +63,7 @@ pub fn four_bodies(alloc: Global, name: &str) -> Result<Vec<Batch>, Fail> {
     Ok(bodies)
 }
 
-// What becomes of a batch with a point.
+/// Admits a batch of one point: its number, or the fault.
 pub fn admitted<L: Round, R: Wait + Abort>(
     rt: &R,
     shared: &SharedBook<L>,
@@ -77,7 +77,7 @@ pub fn admitted<L: Round, R: Wait + Abort>(
     }
 }
 
-// A flush that was taken: its number, and of its one point the end and the row.
+/// A flush that was taken: its number, and the end and the row of its one point.
 #[derive(Clone, Copy, Debug, PartialEq, Eq)]
 pub struct Sent {
     pub number: u64,
@@ -85,7 +85,7 @@ pub struct Sent {
     pub row: [u64; 3],
 }
 
-// What up to ten series bring, where a flush has one point of a sum.
+/// Takes up to ten series; the flush has one point of a sum.
 pub fn taken<L: Round, R: Wait + Abort>(
     rt: &R,
     shared: &SharedBook<L>,
@@ -109,7 +109,7 @@ fn expect_row(rt: &impl Abort, row: &Row, words: &[u64; 3]) {
     assert!(rt; row.as_slice() == words.as_slice());
 }
 
-// The rows of one series: accepted, acknowledged, dropped, in flight, stored and quarantined.
+/// Compares the rows of a series: accepted, acknowledged, dropped, in flight, stored, quarantined.
 pub fn expect_rows(rt: &impl Abort, totals: &SeriesTotals, frontier: u64, rows: &[[u64; 3]; 6]) {
     assert_eq!(rt; totals.frontier, frontier);
     expect_row(rt, &totals.accepted, &rows[0]);

@@ -1,4 +1,4 @@
-//! Calls from a seat and what they answer, so that a test is a table of them.
+//! Calls from a seat with their results, so that a test is a table.
 
 use crate::bodies::{Sent, admitted, body, expect_rows, sender, taken};
 use delta_book::faults::{
@@ -12,12 +12,12 @@ use std::process::Abort;
 use std::sync::Wait;
 use std::test::Fail;
 
-/// A call, and its answer. Points are of the one series `req`, and times are in nanoseconds.
+/// A call and its result. All points are of the series `req`, and times are in nanoseconds.
 #[derive(Clone, Copy)]
 pub enum Call {
-    /// The sender `A` brings a point of ten nanoseconds, from this time on, with this value.
+    /// The sender `A` posts a point of ten nanoseconds, from this time on, with this value.
     Admit(u64, i64, Result<u64, AdmitFault>),
-    /// Another sender brings such a point.
+    /// Another sender posts such a point.
     AdmitOf(&'static str, u64, i64, Result<u64, AdmitFault>),
     Undo(u64, Result<(), UndoFault>),
     Confirm(u64, Result<(), NotOpen>),
@@ -25,7 +25,7 @@ pub enum Call {
     Settle(u64, Result<(), NotLive>),
     DropFlush(u64, Result<(), NotLive>),
     GiveBack(u64, Result<(), NotLive>),
-    /// The sender `A` is held.
+    /// The sender `A` is quarantined.
     Quarantine(Result<(), QuarantineFault>),
     Lift(&'static str, Result<(), NotQuarantined>),
     /// How many series there are.
@@ -35,7 +35,7 @@ pub enum Call {
     Rows(u64, [[u64; 3]; 6]),
 }
 
-/// The one series of the totals has these rows.
+/// Compares the rows of the one series of the totals.
 fn expect_one<L: Round, R: Wait + Abort>(
     rt: &R,
     shared: &SharedBook<L>,
@@ -49,7 +49,7 @@ fn expect_one<L: Round, R: Wait + Abort>(
     Ok(())
 }
 
-/// What becomes of a point of this sender, of ten nanoseconds from a time on and with a value.
+/// Admits a point of this sender, of ten nanoseconds from a time on and with a value.
 fn brought<L: Round, R: Wait + Abort>(
     rt: &R,
     alloc: Global,
@@ -63,7 +63,7 @@ fn brought<L: Round, R: Wait + Abort>(
     Ok(admitted(rt, shared, seat, body))
 }
 
-/// Whether the book answers as it is to.
+/// Whether the call has the result that is wanted.
 fn is_answered<L: Round, R: Wait + Abort>(
     rt: &R,
     alloc: Global,
@@ -94,7 +94,7 @@ fn is_answered<L: Round, R: Wait + Abort>(
     })
 }
 
-/// Makes the calls in turn, each of which is answered as it is to be.
+/// Makes the calls in turn, and compares their results.
 pub fn run<L: Round, R: Wait + Abort>(
     rt: &R,
     alloc: Global,

@@ -1,4 +1,4 @@
-//! A worker that is held until a flag is up, and a connection of written bytes.
+//! A worker that pauses until a flag is set, and a connection of given bytes.
 use byte_ends::{Script, Tape};
 use gate_workers::{Connection, Keeper, Pace, Served, Spot, serve_with};
 use otlp_read::Memo;
@@ -7,10 +7,10 @@ use std::sync::atomic::{AtomicBool, Ordering};
 use std::thread;
 use std::time::{Clock, Duration};
 
-/// How often a worker that is held looks at its flag, a millisecond apart, before it goes on all the same.
+/// How often a paused worker looks at its flag, a millisecond apart, before it continues anyway.
 const MOST_LOOKS: u32 = 10_000;
 
-/// Whether the flag comes up in time.
+/// Waits for the flag, and returns whether it was set in time.
 pub fn comes_up<R: Clock>(rt: &R, flag: &AtomicBool) -> bool {
     for _ in 0..MOST_LOOKS {
         if flag.load(Ordering::SeqCst) {
@@ -21,14 +21,14 @@ pub fn comes_up<R: Clock>(rt: &R, flag: &AtomicBool) -> bool {
     false
 }
 
-/// What a worker that is held and the others tell each other.
+/// The flags by which a paused worker and the others wait for each other.
 #[derive(Drop)]
 pub struct Flags {
-    /// A worker is held.
+    /// A worker is paused.
     pub held: AtomicBool,
-    /// It may go on.
+    /// It may continue.
     pub free: AtomicBool,
-    /// A flag did not come up in time.
+    /// A flag was not set in time.
     pub late: AtomicBool,
 }
 
@@ -42,7 +42,7 @@ impl Flags {
     }
 }
 
-/// Holds the first worker that comes to the spot until it may go on.
+/// Pauses the first worker that reaches the spot until it may continue.
 #[derive(Drop)]
 pub struct Hold<'a, R: Clock> {
     rt: &'a R,
@@ -67,7 +67,7 @@ impl<R: Clock> Pace for Hold<'_, R> {
     }
 }
 
-/// Lets a worker ask its store once another one is held.
+/// Makes a worker wait, before it calls its store, until another one is paused.
 #[derive(Drop)]
 pub struct After<'a, R: Clock> {
     rt: &'a R,
@@ -88,7 +88,7 @@ impl<R: Clock> Pace for After<'_, R> {
     }
 }
 
-/// A connection of these bytes, whose flag is up once this is its whole response.
+/// A connection of these bytes, which sets its flag once it has been sent exactly this response.
 #[derive(Drop)]
 pub struct Scripted<'a> {
     bytes: &'a [u8],

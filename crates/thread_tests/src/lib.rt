@@ -1,7 +1,8 @@
-//! Tests of a book that threads share: seats in threads of their own, the calls of a seat with
-//! worked values, audits, and rounds; and of workers over one, which overlap. They run what no clause
-//! says: that calls succeed where memory is ample, that each goes to its own call of the book, that
-//! audits pass, that no lock is held while a flush is sent, and that orders come back.
+//! Tests of a book that threads share: seats in their own threads, the calls of a seat with worked
+//! values, audits and rounds; and of workers over a shared book, which overlap. They test what no
+//! contract says: that calls succeed with ample memory, that each calls its own function of the
+//! book, that audits pass, that the lock is free while a flush is sent, and that orders are
+//! answered.
 #![tactic(auto)]
 
 #[cfg(test)]

@@ -1,4 +1,4 @@
-//! A book that two seats share, what they bring, and its end.
+//! A book that two seats share: its start, batches from both seats, and its end.
 ghost use Rattle.std.specs.Prelude.{◌≡◌};
 ghost use Rattle.metric_events.specs.Opening.{first_opening};
 
@@ -16,7 +16,7 @@ use std::sync::ledger::Blank;
 use std::test::Fail;
 use std::thread::{Threads, join};
 
-/// Two seats of a book of their own.
+/// A new book with two seats.
 pub fn two_seats<L: Round>(
     alloc: Global,
     blank: Blank,
@@ -35,7 +35,7 @@ pub fn two_seats<L: Round>(
     Ok((shared, first, second))
 }
 
-/// The book and its audit with all seats.
+/// Ends the round with these seats: the book and its audit.
 pub fn ended<L: Round>(shared: SharedBook<L>, seats: Vec<Seat<L>>) -> Result<(Book, Audit), Fail> {
     match shared.finish(seats) {
         Ok(ended) => Ok(ended),
@@ -43,7 +43,7 @@ pub fn ended<L: Round>(shared: SharedBook<L>, seats: Vec<Seat<L>>) -> Result<(Bo
     }
 }
 
-/// The book and its audit with both seats.
+/// Ends the round with both seats: the book and its audit.
 pub fn both_ended<L: Round>(
     alloc: Global,
     shared: SharedBook<L>,
@@ -55,7 +55,7 @@ pub fn both_ended<L: Round>(
     ended(shared, list)
 }
 
-/// What becomes of a batch once it is admitted.
+/// What is done with a batch once it is admitted.
 #[derive(Clone, Copy)]
 pub enum Then {
     Leave,
@@ -78,7 +78,7 @@ fn bring<L: Round, R: Wait + Abort>(
     }
 }
 
-/// The seat, once all batches are admitted from it.
+/// Admits all batches from a seat, and returns the seat.
 fn bring_all<L: Round, R: Wait + Abort>(
     rt: &R,
     shared: &SharedBook<L>,
@@ -93,7 +93,7 @@ fn bring_all<L: Round, R: Wait + Abort>(
     seat
 }
 
-/// Both seats, once four batches are admitted from each, in a thread of its own.
+/// Admits four batches from each seat, each in its own thread, and returns the seats.
 pub fn bring_from_both<L: Round + Send + Sync, R: Threads + Wait + Abort + Sync>(
     rt: &R,
     alloc: Global,

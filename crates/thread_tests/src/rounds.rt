@@ -1,4 +1,4 @@
-//! A round is shared by two threads, and the next one goes on with its book.
+//! A round that two threads share, and a next round with the same book.
 ghost use Rattle.std.specs.Prelude.{◌≡◌, []};
 ghost use Rattle.metric_events.specs.Opening.{first_opening};
 
@@ -38,7 +38,7 @@ fn first_round<L: Round + Send + Sync, R: Threads + Wait + Abort + Sync>(
     Ok(book)
 }
 
-/// All that was left goes out, and is settled.
+/// Takes and settles all pending points.
 fn take_and_settle<L: Round, R: Wait + Abort>(
     rt: &R,
     shared: &SharedBook<L>,
@@ -50,7 +50,7 @@ fn take_and_settle<L: Round, R: Wait + Abort>(
     Ok(())
 }
 
-/// One seat takes and settles all that the round before has left.
+/// One seat takes and settles all that the first round has left pending.
 fn second_round<L: Round, R: Wait + Abort>(
     rt: &R,
     alloc: Global,

@@ -1,6 +1,6 @@
-//! The calls of one seat, with worked values: the first path, a held sender, an undo after a
-//! take, flushes that a back end refuses, batches that the book refuses, and a later round that
-//! begins with a hold.
+//! The calls of one seat, with worked values: the first path, a quarantined sender, an undo after
+//! a take, flushes that a back end refuses, batches that the book refuses, and a later round that
+//! begins with a quarantine.
 ghost use Rattle.std.specs.Prelude.{◌≡◌, []};
 
 use crate::bodies::Sent;
@@ -26,7 +26,7 @@ use std::test::Fail;
 
 const NOTHING: [u64; 3] = [0, 0, 0];
 
-/// Makes the calls of a round from the one seat of a book, whose audit finds this at the end.
+/// Makes the calls of a round from the one seat of a book, and compares the audit at its end.
 fn one_seat<L: Round, R: Wait + Abort>(
     rt: &R,
     alloc: Global,
@@ -84,9 +84,9 @@ fn the_first_path(rt: HostRuntime) -> Result<(), Fail> {
     Ok(())
 }
 
-/// Two batches of a sender, of which the first is in flight. The sender is held while its flush
-/// comes back. Another sender is not held, so it can't be lifted; this one can, once.
-const HELD_SENDER: &[Call] = &[
+/// Two batches of a sender; the first is in flight. The sender is quarantined while its flush is
+/// given back. Another sender is not, so it can't be released; this one can, once.
+const QUARANTINED_SENDER: &[Call] = &[
     Admit(10, 5, Ok(1)),
     Take(Some(FIRST)),
     Admit(20, 7, Ok(2)),
@@ -122,12 +122,12 @@ fn a_held_sender(rt: HostRuntime) -> Result<(), Fail> {
     };
     let alloc = rt.alloc();
     let new = Book::new(alloc)?;
-    one_seat::<Brand, _>(&rt, alloc, new, Blank::new(1), HELD_SENDER, wanted)?;
+    one_seat::<Brand, _>(&rt, alloc, new, Blank::new(1), QUARANTINED_SENDER, wanted)?;
     Ok(())
 }
 
-/// A batch can be undone only once its flush has come back. The same points come again, and are
-/// kept.
+/// A batch can be undone only once its flush has been given back. The same points are posted again,
+/// and confirmed.
 const UNDO_AFTER_TAKE: &[Call] = &[
     Admit(10, 5, Ok(1)),
     Take(Some(FIRST)),
@@ -154,8 +154,8 @@ fn an_undo_after_a_take(rt: HostRuntime) -> Result<(), Fail> {
     Ok(())
 }
 
-/// Flush 1 comes back, and flush 2 is dropped. Flush 3 has only what came after that, and comes
-/// back too.
+/// Flush 1 is given back, and flush 2 is dropped. Flush 3 has only what was posted after that, and
+/// is given back too.
 const REFUSED_FLUSHES: &[Call] = &[
     Admit(10, 5, Ok(1)),
     Take(Some(FIRST)),
@@ -193,7 +193,7 @@ fn flushes_that_are_refused(rt: HostRuntime) -> Result<(), Fail> {
     Ok(())
 }
 
-/// What the book refuses, each as that refusal and not as want of memory, leaves all as it was.
+/// What the book refuses leaves everything as it was. Each refusal is its own, not out of memory.
 const REFUSED_BATCHES: &[Call] = &[
     Admit(10, 5, Ok(1)),
     Admit(15, 1, Err(AdmitFault::OutOfOrder(0, 20))),
@@ -219,12 +219,12 @@ fn batches_that_are_refused(rt: HostRuntime) -> Result<(), Fail> {
     Ok(())
 }
 
-/// A round that leaves a point behind.
+/// A round that leaves a point pending.
 const LEFT_BEHIND: &[Call] = &[Admit(10, 5, Ok(1)), Confirm(1, Ok(()))];
 
-/// The next round begins with a hold, which keeps back what was left. Batches and flushes are
-/// numbered on.
-const HELD_AT_FIRST: &[Call] = &[
+/// The next round begins with a quarantine of what was pending. The numbers of batches and flushes
+/// continue.
+const QUARANTINED_AT_FIRST: &[Call] = &[
     Quarantine(Ok(())),
     Admit(20, 7, Err(AdmitFault::Quarantined)),
     Take(None),
@@ -257,7 +257,14 @@ fn a_later_round_begins_with_a_hold(rt: HostRuntime) -> Result<(), Fail> {
         admitted: 1,
         acknowledged: 1,
     };
-    let book = one_seat::<Brand, _>(&rt, alloc, book, Blank::new(1), HELD_AT_FIRST, wanted)?;
+    let book = one_seat::<Brand, _>(
+        &rt,
+        alloc,
+        book,
+        Blank::new(1),
+        QUARANTINED_AT_FIRST,
+        wanted,
+    )?;
     assert_eq!(rt; book.round(), 2);
     Ok(())
 }

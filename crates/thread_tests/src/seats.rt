@@ -17,7 +17,7 @@ use std::sync::ledger::{Blank, Ledger};
 use std::test::Fail;
 use std::thread::Threads;
 
-/// The seat was told of admissions alone, each with its batch.
+/// The seat has receipts of admissions alone, each with its batch.
 fn expect_admissions<L: Ledger>(rt: &impl Abort, seat: &Seat<L>) {
     for receipt in seat.receipts() {
         assert!(rt; receipt.kind == EventKind::Admit);
@@ -25,7 +25,7 @@ fn expect_admissions<L: Ledger>(rt: &impl Abort, seat: &Seat<L>) {
     }
 }
 
-/// Without one seat there is no end; with both there is.
+/// The round can't be ended without one of the seats; with both it is.
 fn ends_with_both<L: Round>(
     rt: &impl Abort,
     alloc: Global,

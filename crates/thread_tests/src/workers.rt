@@ -1,4 +1,4 @@
-//! Workers over one shared book: that they overlap, and what an order comes to.
+//! Workers over one shared book: that they overlap, and how an order ends.
 ghost use Rattle.std.specs.Prelude.{◌≡◌};
 ghost use Rattle.metric_events.specs.Opening.{first_opening};
 
@@ -23,24 +23,24 @@ use std::thread::{Threads, join};
 use std::time::Clock;
 use test_support::{ACCEPTED, Fixed, OTHER, POSTED};
 
-/// An order of a flush.
+/// An order to flush.
 const FLUSH: &[u8] = b"POST /flush HTTP/1.1\r\n\r\n";
 
-/// The response where nobody makes the turn.
+/// The response if no flusher takes the order.
 const NO_FLUSHER: &[u8] = b"HTTP/1.1 503 Service Unavailable\r\n\
         Content-Type: application/json\r\n\
         Content-Length: 24\r\n\
         Connection: close\r\n\r\n\
         {\"message\":\"no flusher\"}";
 
-/// The response where the back end took the one point of flush 1.
+/// The response if the back end accepted the one point of flush 1.
 const SETTLED: &[u8] = b"HTTP/1.1 200 OK\r\n\
         Content-Type: application/json\r\n\
         Content-Length: 42\r\n\
         Connection: close\r\n\r\n\
         {\"act\":\"settled\",\"flush\":\"1\",\"points\":\"1\"}";
 
-/// The audit of the seats finds so many events, points that were admitted and points that were acknowledged.
+/// Ends the round, and compares the audit: events, admitted points, acknowledged points.
 fn audits<L: Round, R: Abort>(
     rt: &R,
     alloc: Global,
@@ -68,7 +68,7 @@ fn receive<L: Round, R: Wait, P: Pace>(
     keeper.into_seat()
 }
 
-/// Makes the turns that are ordered, over an uplink that takes all.
+/// Runs the flushes that are ordered, over an uplink that accepts all.
 fn flush<L: Round, R: Wait, P: Pace>(
     rt: &R,
     alloc: Global,
@@ -85,7 +85,7 @@ fn flush<L: Round, R: Wait, P: Pace>(
     keeper.into_seat()
 }
 
-/// Serves the connections from a seat once another worker is held.
+/// Serves the connections from a seat once another worker is paused.
 fn receive_after<L: Round, R: Wait + Clock>(
     rt: &R,
     alloc: Global,
@@ -98,7 +98,7 @@ fn receive_after<L: Round, R: Wait + Clock>(
     receive(rt, alloc, shared, seat, None, connections, &mut pace)
 }
 
-/// Serves the connections from a seat, and is held where it has read the first body of all.
+/// Serves the connections from a seat, and pauses after the first body that any worker reads.
 fn receive_held<L: Round, R: Wait + Clock>(
     rt: &R,
     alloc: Global,
@@ -111,7 +111,7 @@ fn receive_held<L: Round, R: Wait + Clock>(
     receive(rt, alloc, shared, seat, None, connections, &mut pace)
 }
 
-/// Makes the turns that are ordered, and is held before it sends the first.
+/// Runs the flushes that are ordered, and pauses before it sends the first.
 fn flush_held<L: Round, R: Wait + Clock>(
     rt: &R,
     alloc: Global,
@@ -124,7 +124,7 @@ fn flush_held<L: Round, R: Wait + Clock>(
     flush(rt, alloc, shared, seat, orders, &mut pace)
 }
 
-/// A channel with this one connection, which closes behind it.
+/// A channel that has this one connection and is then closed.
 fn one_connection<'a, R: Wait>(
     rt: &R,
     alloc: Global,
@@ -135,7 +135,7 @@ fn one_connection<'a, R: Wait>(
     Ok(connections)
 }
 
-/// A channel with one order, which closes behind it, and the end that its turn comes on.
+/// A channel that has one order and is then closed, and the receiver of the order's turn.
 fn one_order<R: Wait>(rt: &R, alloc: Global) -> Result<(Receiver<Order>, Receiver<Turn>), Fail> {
     let (to, orders) = bounded(alloc, CHANNEL_PLACES)?;
     let (reply, turn) = bounded(alloc, 1)?;
@@ -143,7 +143,7 @@ fn one_order<R: Wait>(rt: &R, alloc: Global) -> Result<(Receiver<Order>, Receive
     Ok((orders, turn))
 }
 
-/// The seat, once a receiver has served one connection of these bytes from it, with this response.
+/// Serves one connection of these bytes from a seat, expects this response, and returns the seat.
 fn answered<L: Round, R: Wait + Abort>(
     rt: &R,
     alloc: Global,
@@ -160,7 +160,7 @@ fn answered<L: Round, R: Wait + Abort>(
     Ok(seat)
 }
 
-/// A batch is served once flush 1 is held before it is sent, and the flush is settled.
+/// Serves a batch while flush 1 is paused before it is sent; then the flush is settled.
 fn serve_and_flush<L: Round + Send + Sync, R: Threads + Wait + Clock + Abort + Sync>(
     rt: &R,
     alloc: Global,
@@ -182,7 +182,7 @@ fn serve_and_flush<L: Round + Send + Sync, R: Threads + Wait + Clock + Abort + S
     Ok(seats)
 }
 
-/// Flush 1 is held before it is sent until batch 2 has been answered.
+/// Flush 1 is paused before it is sent, until batch 2 has been answered.
 fn a_batch_while_a_flush_is_sent<L: Round + Send + Sync, R: Threads + Wait + Clock + Abort + Sync>(
     rt: &R,
     alloc: Global,
@@ -199,7 +199,7 @@ fn a_batch_while_a_flush_is_sent<L: Round + Send + Sync, R: Threads + Wait + Clo
     audits(rt, alloc, shared, seats, (6, 2, 1))
 }
 
-/// The turn of flush 1 of one point, which was taken.
+/// The turn of flush 1, whose one point the back end accepted.
 fn settled() -> Turn {
     Turn::Done {
         flush: 1,
@@ -209,7 +209,7 @@ fn settled() -> Turn {
     }
 }
 
-/// Sends a connection, and once a worker is held another one.
+/// Sends a connection, and another one once a worker is paused.
 fn feed<'a, R: Wait + Clock>(
     rt: &R,
     to: Sender<Scripted<'a>>,
@@ -220,7 +220,7 @@ fn feed<'a, R: Wait + Clock>(
     to.send(rt, first).is_ok() && comes_up(rt, held) && to.send(rt, second).is_ok()
 }
 
-/// Two connections, of which the first is held in its body until the second has been answered.
+/// Two connections. The first is paused after its body until the second has been answered.
 fn serve_two<L: Round + Send + Sync, R: Threads + Wait + Clock + Abort + Sync>(
     rt: &R,
     alloc: Global,
@@ -250,7 +250,7 @@ fn serve_two<L: Round + Send + Sync, R: Threads + Wait + Clock + Abort + Sync>(
     Ok((first, second))
 }
 
-/// Connection 1 is held in its body until connection 2 has been answered.
+/// Connection 1 is paused after its body until connection 2 has been answered.
 fn a_connection_while_another_is_held<
     L: Round + Send + Sync,
     R: Threads + Wait + Clock + Abort + Sync,
@@ -265,7 +265,7 @@ fn a_connection_while_another_is_held<
     audits(rt, alloc, shared, seats, (4, 2, 0))
 }
 
-/// The seat, once a receiver with no flusher and one whose flusher has gone have answered.
+/// Orders flushes without a flusher and from one that has ended, and returns the seat.
 fn order_from_nobody<L: Round, R: Wait + Abort>(
     rt: &R,
     alloc: Global,
@@ -278,7 +278,7 @@ fn order_from_nobody<L: Round, R: Wait + Abort>(
     answered(rt, alloc, shared, seat, Some(to), FLUSH, NO_FLUSHER)
 }
 
-/// The seat, once an order that was dropped without a turn has been answered.
+/// Orders a flush whose order is dropped without a turn, and returns the seat.
 fn order_and_drop<L: Round + Send + Sync, R: Threads + Wait + Abort + Sync>(
     rt: &R,
     alloc: Global,
@@ -297,7 +297,7 @@ fn order_and_drop<L: Round + Send + Sync, R: Threads + Wait + Abort + Sync>(
     Ok(seat)
 }
 
-/// Orders that nobody takes, and one that is dropped without a turn.
+/// Orders that no flusher takes, and one that is dropped without a turn.
 fn orders_of_nobody<L: Round + Send + Sync, R: Threads + Wait + Abort + Sync>(
     rt: &R,
     alloc: Global,
@@ -314,8 +314,7 @@ fn orders_of_nobody<L: Round + Send + Sync, R: Threads + Wait + Abort + Sync>(
     audits(rt, alloc, shared, (first, second), (0, 0, 0))
 }
 
-/// An order over the channel is answered by the turn that the flusher makes, which ends once the
-/// receiver has ended.
+/// The flusher's turn answers an order of the channel. The flusher ends once the receiver has.
 fn order_and_flush<L: Round + Send + Sync, R: Threads + Wait + Abort + Sync>(
     rt: &R,
     alloc: Global,
@@ -335,7 +334,7 @@ fn order_and_flush<L: Round + Send + Sync, R: Threads + Wait + Abort + Sync>(
     Ok(seats)
 }
 
-/// The point of a batch is sent by an order, and settled.
+/// An order sends the point of a batch, and settles it.
 fn an_order_is_made<L: Round + Send + Sync, R: Threads + Wait + Abort + Sync>(
     rt: &R,
     alloc: Global,
