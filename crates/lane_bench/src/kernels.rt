@@ -1,10 +1,10 @@
-//! The kernels by their names.
+//! The vector operations by name.
 ghost use Rattle.std.specs.Prelude.{◌≡◌, length};
 ghost use Rattle.bucket_lanes.specs.ByPlace.{IsClear};
 
 use bucket_lanes::{add_into, clear, fits, is_zero, move_into, sub_from, total};
 
-/// A kernel of `bucket_lanes`, or the copy of a row.
+/// A vector operation of `bucket_lanes`, or the copy of a row.
 #[derive(Clone, Copy)]
 pub enum Kernel {
     Copy,
@@ -18,7 +18,7 @@ pub enum Kernel {
 }
 
 impl Kernel {
-    /// The kernel of this name.
+    /// The operation with this name.
     pub fn of_name(name: &str) -> Option<Kernel> {
         match name {
             "copy" => Some(Kernel::Copy),
@@ -34,7 +34,7 @@ impl Kernel {
     }
 }
 
-/// Runs a kernel once over rows of 0, and says whether it answered as such rows call for.
+/// Runs an operation once on rows of 0, and returns whether its result is right for such rows.
 fn step(kernel: Kernel, dst: &mut [u64], src: &mut [u64]) -> bool
     requires same { length dst.old ≡ length src.old }
     requires dst { IsClear dst.old }
@@ -69,8 +69,8 @@ fn step(kernel: Kernel, dst: &mut [u64], src: &mut [u64]) -> bool
     }
 }
 
-/// Runs a kernel so many times over two rows of 0 that change places, and counts the answers that
-/// such rows call for.
+/// Runs an operation `times` times on two rows of 0, each time both ways round, and counts the
+/// right results.
 pub fn run(kernel: Kernel, dst: &mut [u64], src: &mut [u64], times: u64) -> u64
     requires same { length dst.old ≡ length src.old }
     requires dst { IsClear dst.old }

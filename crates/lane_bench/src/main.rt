@@ -1,5 +1,5 @@
-//! Runs one kernel of rows, or a plain loop in its place, so many times: KERNEL WORDS TIMES. The rows
-//! are 0 and stay so, and what is printed says that they did. `bench/lanes.py` times the runs.
+//! Runs one vector operation, or a plain loop in its place, many times: KERNEL WORDS TIMES. The
+//! rows are 0 and stay 0. It prints how many results were right. `bench/lanes.py` times the runs.
 #![tactic(auto)]
 
 mod kernels;
@@ -22,7 +22,8 @@ fn row(alloc: Global, words: usize) -> Result<Vec<u64>, AllocError> {
     Ok(row)
 }
 
-/// Runs what has this name, and counts the answers that rows of 0 call for. No such name: none.
+/// Runs the operation or the loop with this name, and counts the right results; none if there is no
+/// such name.
 fn run(name: &str, dst: &mut [u64], src: &mut [u64], times: u64) -> Option<u64>
     requires { length dst.old ≡ length src.old }
 {
@@ -37,7 +38,8 @@ fn run(name: &str, dst: &mut [u64], src: &mut [u64], times: u64) -> Option<u64>
     }
 }
 
-/// What a run with these words says, where they name one. The first word is the program.
+/// Runs what the words of the command line ask for, and returns the count of right results; none if
+/// they are faulty. The first word is the program.
 fn answer(alloc: Global, words: &[String]) -> Result<Option<u64>, AllocError> {
     if words.len() != 4 {
         return Ok(None);

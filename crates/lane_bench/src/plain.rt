@@ -1,7 +1,7 @@
-//! The plain loops, word by word, that the kernels are measured against.
+//! Plain loops, word by word, to compare the vector operations with.
 ghost use Rattle.std.specs.Prelude.{◌≡◌, length};
 
-/// A loop in a kernel's place.
+/// A loop in place of a vector operation.
 #[derive(Clone, Copy)]
 pub enum Loop {
     Fits,
@@ -13,7 +13,7 @@ pub enum Loop {
 }
 
 impl Loop {
-    /// The loop of this name.
+    /// The loop with this name.
     pub fn of_name(name: &str) -> Option<Loop> {
         match name {
             "plain_fits" => Some(Loop::Fits),
@@ -27,7 +27,7 @@ impl Loop {
     }
 }
 
-/// Whether each sum by place is at most `most`.
+/// Whether each sum of two words is at most `most`.
 fn fits(a: &[u64], b: &[u64], most: u64) -> bool
     requires { length a.now ≡ length b.now }
 {
@@ -48,7 +48,7 @@ fn add_into(dst: &mut [u64], src: &[u64])
     }
 }
 
-/// Takes the words of `src` away from those of `dst`, modulo 2^64.
+/// Subtracts the words of `src` from those of `dst`, modulo 2^64.
 fn sub_from(dst: &mut [u64], src: &[u64])
     requires { length dst.old ≡ length src.now }
 {
@@ -57,7 +57,7 @@ fn sub_from(dst: &mut [u64], src: &[u64])
     }
 }
 
-/// Adds the words of `src` to those of `dst`, modulo 2^64, and leaves 0 in `src`.
+/// Adds the words of `src` to those of `dst`, modulo 2^64, and sets those of `src` to 0.
 fn move_into(dst: &mut [u64], src: &mut [u64])
     requires { length dst.old ≡ length src.old }
 {
@@ -84,7 +84,7 @@ fn clear(words: &mut [u64]) {
     }
 }
 
-/// Runs a loop once, and says whether it answered as rows of 0 call for.
+/// Runs a loop once on rows of 0, and returns whether its result is right for such rows.
 fn step(plain: Loop, dst: &mut [u64], src: &mut [u64]) -> bool
     requires { length dst.old ≡ length src.old }
 {
@@ -110,8 +110,8 @@ fn step(plain: Loop, dst: &mut [u64], src: &mut [u64]) -> bool
     }
 }
 
-/// Runs a loop so many times over two rows of 0 that change places, and counts the answers that
-/// such rows call for.
+/// Runs a loop `times` times on two rows of 0, each time both ways round, and counts the right
+/// results.
 pub fn run(plain: Loop, dst: &mut [u64], src: &mut [u64], times: u64) -> u64
     requires { length dst.old ≡ length src.old }
 {
