@@ -1,5 +1,5 @@
-//! Runs the script on standard input and writes the replies to standard output. A fault is
-//! reported on standard error, with status 1.
+//! Runs the script on standard input and writes the replies to standard output. It reports a fault
+//! on standard error, with status 1.
 #![tactic(auto)]
 
 use byte_ends::{FromReader, ToWriter};
