@@ -27,7 +27,7 @@ pub fn series(alloc: Global, name: usize, kind: Kind) -> Result<SeriesId, Fail>
 }
 
 /// A point of a sum, of this series and this length in nanoseconds.
-pub fn counted(
+pub fn sum_point(
     alloc: Global,
     name: usize,
     start: u64,
@@ -40,7 +40,7 @@ pub fn counted(
 
 /// A point of a histogram with one bound, of this series, over ten nanoseconds: sum 9, buckets 2
 /// and 1.
-fn bucketed(alloc: Global, name: usize, start: u64) -> Result<Point, Fail> {
+fn histogram_point(alloc: Global, name: usize, start: u64) -> Result<Point, Fail> {
     let series = series(alloc, name, Kind::histogram([5].to_vec(alloc)?)?)?;
     let buckets = [2, 1].to_vec(alloc)?;
     Ok(Point::histogram(
@@ -63,7 +63,7 @@ pub fn sender(alloc: Global, name: usize) -> Result<SenderName, Fail> {
 pub fn ones(alloc: Global, from: usize, to: usize, start: u64) -> Result<Batch, Fail> {
     let mut points = Points::new(alloc);
     for name in from..to {
-        points.push(counted(alloc, name, start, 1, 1)?)?;
+        points.push(sum_point(alloc, name, start, 1, 1)?)?;
     }
     Ok(Batch {
         sender: sender(alloc, 0)?,
@@ -72,9 +72,9 @@ pub fn ones(alloc: Global, from: usize, to: usize, start: u64) -> Result<Batch, 
 }
 
 /// A batch of one point of series 1 over ten nanoseconds.
-pub fn single(alloc: Global, sent_by: usize, start: u64, value: i64) -> Result<Batch, Fail> {
+pub fn one_point(alloc: Global, sent_by: usize, start: u64, value: i64) -> Result<Batch, Fail> {
     let mut points = Points::new(alloc);
-    points.push(counted(alloc, 1, start, 10, value)?)?;
+    points.push(sum_point(alloc, 1, start, 10, value)?)?;
     let sender = sender(alloc, sent_by)?;
     Ok(Batch { sender, points })
 }
@@ -86,13 +86,13 @@ fn push_both(
     starts: (u64, u64),
     value: i64,
 ) -> Result<(), Fail> {
-    points.push(bucketed(alloc, 2, starts.0)?)?;
-    points.push(counted(alloc, 1, starts.1, 10, value)?)?;
+    points.push(histogram_point(alloc, 2, starts.0)?)?;
+    points.push(sum_point(alloc, 1, starts.1, 10, value)?)?;
     Ok(())
 }
 
 /// A batch of two points of a histogram and two of a sum.
-pub fn mixed(alloc: Global) -> Result<Batch, Fail> {
+pub fn both_kinds(alloc: Global) -> Result<Batch, Fail> {
     let mut points = Points::new(alloc);
     push_both(alloc, &mut points, (10, 10), 5)?;
     push_both(alloc, &mut points, (30, 20), -7)?;

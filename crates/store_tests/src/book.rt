@@ -4,12 +4,12 @@
 ghost use Rattle.std.specs.Prelude.{◌≤◌};
 ghost use Rattle.metric_events.specs.declared.limits.TheConstants.{MAX_TAKEN};
 
-use crate::bodies::{batch_of, mixed, series};
+use crate::bodies::{batch_of, both_kinds, series};
 use crate::call::Call::{
     Acknowledged, Close, Confirm, DropFlush, Entries, GiveBack, Lift, Ones, Quarantine, Round,
     Settle, Single, Take, Undo,
 };
-use crate::call::{Call, admitted, run};
+use crate::call::{Call, admit, run};
 use crate::look;
 use delta_book::book::Book;
 use delta_book::faults::{
@@ -20,6 +20,7 @@ use delta_book::flush_point::FlushPoint;
 use delta_book::past_totals::PastTotals;
 use delta_book::totals::SeriesTotals;
 use metric_events::batch::Batch;
+use metric_events::limits::{MAX_ENTRIES, MAX_HELD, MAX_LIVE, MAX_OPEN, MAX_SERIES, MAX_TAKEN};
 use metric_events::row::Row;
 use metric_events::sender_name::SenderName;
 use series_cell::cell::Cell;
@@ -132,8 +133,10 @@ fn expect_two(rt: &impl Abort, sent: &[FlushPoint]) {
 fn a_flush_of_two_series(rt: HostRuntime) -> Result<(), Fail> {
     let alloc = rt.alloc();
     let mut book = Book::new(alloc)?;
-    assert_eq!(rt; admitted(&rt, &mut book, mixed(alloc)?), Ok(1));
-    let flush = book.take(7, 1000)?.ok_or("nothing was taken")?;
+    assert_eq!(rt; admit(&rt, &mut book, both_kinds(alloc)?), Ok(1));
+    let flush = book
+        .take(7, MAX_TAKEN as usize)?
+        .ok_or("nothing was taken")?;
     expect_two(&rt, flush.points.as_slice());
     Ok(())
 }
@@ -148,24 +151,25 @@ fn expect_taken(rt: &impl Abort, book: &mut Book, max: usize, points: usize) -> 
     Ok(())
 }
 
-// A flush takes as many series as one may: of 1,001 that are ready 1,000, and then the last one.
+// One series more than a flush may take: it takes the most, and the next flush the last one.
 #[test]
-fn a_flush_of_a_thousand_series(rt: HostRuntime) -> Result<(), Fail> {
+fn a_flush_of_the_most_series(rt: HostRuntime) -> Result<(), Fail> {
     let alloc = rt.alloc();
     let mut book = Book::new(alloc)?;
-    run(&rt, alloc, &mut book, &[Ones(0, 1001, 1, Ok(1))])?;
-    expect_taken(&rt, &mut book, 1000, 1000)?;
-    expect_taken(&rt, &mut book, 1000, 1)
+    let most = MAX_TAKEN as usize;
+    run(&rt, alloc, &mut book, &[Ones(0, most + 1, 1, Ok(1))])?;
+    expect_taken(&rt, &mut book, most, most)?;
+    expect_taken(&rt, &mut book, most, 1)
 }
 
-// 64 flushes are live, and the 65th is refused; where no series is left, there is nothing to take.
+// With the most live flushes one more is refused; without a series left, there is nothing to take.
 #[test]
 fn live_flushes_have_a_limit(rt: HostRuntime) -> Result<(), Fail> {
     let alloc = rt.alloc();
-    for (count, last) in [(65, Err(TakeFault::Full)), (64, Ok(None))] {
+    for (count, last) in [(MAX_LIVE + 1, Err(TakeFault::Full)), (MAX_LIVE, Ok(None))] {
         let mut book = Book::new(alloc)?;
         run(&rt, alloc, &mut book, &[Ones(0, count, 1, Ok(1))])?;
-        for number in 1..65 {
+        for number in 1..MAX_LIVE as u64 + 1 {
             run(&rt, alloc, &mut book, &[Take(Ok(Some(number)))])?;
         }
         run(&rt, alloc, &mut book, &[Take(last)])?;
@@ -173,12 +177,12 @@ fn live_flushes_have_a_limit(rt: HostRuntime) -> Result<(), Fail> {
     Ok(())
 }
 
-// 1,024 batches are open, and the next is refused.
+// With the most open batches one more is refused.
 #[test]
 fn open_batches_have_a_limit(rt: HostRuntime) -> Result<(), Fail> {
     let alloc = rt.alloc();
     let mut book = Book::new(alloc)?;
-    for number in 1..1025 {
+    for number in 1..MAX_OPEN as u64 + 1 {
         run(&rt, alloc, &mut book, &[Ones(0, 1, number, Ok(number))])?;
     }
     let more = Ones(0, 1, 5000, Err(AdmitFault::Full));
@@ -191,7 +195,7 @@ fn series_have_a_limit(rt: HostRuntime) -> Result<(), Fail> {
         &rt,
         rt.alloc(),
         &[
-            Ones(0, 10001, 1, Err(AdmitFault::TooManySeries)),
+            Ones(0, MAX_SERIES + 1, 1, Err(AdmitFault::TooManySeries)),
             Ones(0, 1, 1, Ok(1)),
         ],
     )
@@ -202,10 +206,10 @@ const ONE_OWED: &[Call] = &[Ones(0, 1, 1, Ok(1)), Confirm(1, Ok(())), Take(Ok(So
 
 /// Quarantines and releases sender 1 until the journal has room for one more entry.
 fn fill_up(rt: &impl Abort, alloc: Global, book: &mut Book) -> Result<(), Fail> {
-    for _ in 0..32766 {
+    for _ in 0..(MAX_ENTRIES - 4) / 2 {
         run(rt, alloc, book, &[Quarantine(1, Ok(())), Lift(1, Ok(()))])?;
     }
-    run(rt, alloc, book, &[Entries(65535)])
+    run(rt, alloc, book, &[Entries(MAX_ENTRIES - 1)])
 }
 
 /// The journal has room for the end of the live flush alone, and then for nothing.
@@ -213,7 +217,7 @@ const LAST_ENTRY: &[Call] = &[
     Ones(1, 2, 1, Err(AdmitFault::Full)),
     Quarantine(1, Err(QuarantineFault::Full)),
     GiveBack(1, Ok(())),
-    Entries(65536),
+    Entries(MAX_ENTRIES),
     Take(Err(TakeFault::Full)),
 ];
 
@@ -228,13 +232,13 @@ fn the_last_entry_is_owed(rt: HostRuntime) -> Result<(), Fail> {
 }
 
 #[test]
-fn held_senders_have_a_limit(rt: HostRuntime) -> Result<(), Fail> {
+fn quarantined_senders_have_a_limit(rt: HostRuntime) -> Result<(), Fail> {
     let alloc = rt.alloc();
     let mut book = Book::new(alloc)?;
-    for name in 0..1000 {
+    for name in 0..MAX_HELD {
         run(&rt, alloc, &mut book, &[Quarantine(name, Ok(()))])?;
     }
-    let more = Quarantine(1000, Err(QuarantineFault::Full));
+    let more = Quarantine(MAX_HELD, Err(QuarantineFault::Full));
     run(&rt, alloc, &mut book, &[more])
 }
 
@@ -338,10 +342,15 @@ fn series_of_the_opening_have_the_limit(rt: HostRuntime) -> Result<(), Fail> {
         &rt,
         rt.alloc(),
         &[
-            Ones(0, 10000, 1, Ok(1)),
+            Ones(0, MAX_SERIES, 1, Ok(1)),
             Confirm(1, Ok(())),
             Close(Ok(2)),
-            Ones(10000, 10001, 1, Err(AdmitFault::TooManySeries)),
+            Ones(
+                MAX_SERIES,
+                MAX_SERIES + 1,
+                1,
+                Err(AdmitFault::TooManySeries),
+            ),
             Ones(0, 1, 2, Ok(2)),
         ],
     )
@@ -350,7 +359,7 @@ fn series_of_the_opening_have_the_limit(rt: HostRuntime) -> Result<(), Fail> {
 /// The round is closed with a full journal, and the next one has all the room.
 const CLOSED: &[Call] = &[
     GiveBack(1, Ok(())),
-    Entries(65536),
+    Entries(MAX_ENTRIES),
     Close(Ok(2)),
     Entries(0),
     Take(Ok(Some(2))),
@@ -377,7 +386,7 @@ fn expect_owners(
     shared: &SharedId,
     owners: usize,
 ) {
-    assert_eq!(rt; admitted(rt, book, body), Ok(number));
+    assert_eq!(rt; admit(rt, book, body), Ok(number));
     look::count(rt, shared.owners(), owners, "owners");
 }
 
@@ -409,7 +418,7 @@ fn a_cell_shares_the_identity_of_its_first_point(rt: HostRuntime) -> Result<(), 
     let series = series(alloc, 1, Kind::Sum { monotonic: false })?;
     let body = batch_of(alloc, SharedId::new(alloc, series)?, 1)?;
     let kept = body.copy(alloc)?;
-    assert_eq!(rt; admitted(&rt, &mut book, body), Ok(1));
+    assert_eq!(rt; admit(&rt, &mut book, body), Ok(1));
     let cell = book.cells().first().ok_or("no cell")?;
     let point = kept.points.as_slice().first().ok_or("no point")?;
     look::count(&rt, cell.shared_id().owners(), 2, "owners");
@@ -423,7 +432,7 @@ fn a_cell_shares_the_identity_of_its_first_point(rt: HostRuntime) -> Result<(), 
 
 // A series is found even if its noted position is that of another cell, or past the last one.
 #[test]
-fn a_noted_place_may_be_wrong(rt: HostRuntime) -> Result<(), Fail> {
+fn a_noted_position_may_be_wrong(rt: HostRuntime) -> Result<(), Fail> {
     let alloc = rt.alloc();
     let mut book = Book::new(alloc)?;
     run(&rt, alloc, &mut book, &[Ones(0, 3, 1, Ok(1))])?;
@@ -432,7 +441,7 @@ fn a_noted_place_may_be_wrong(rt: HostRuntime) -> Result<(), Fail> {
     for (number, place) in [(2, 0), (3, 1), (4, 2), (5, usize::MAX)] {
         shared.note_place(place);
         let body = batch_of(alloc, shared.share()?, number)?;
-        assert_eq!(rt; admitted(&rt, &mut book, body), Ok(number));
+        assert_eq!(rt; admit(&rt, &mut book, body), Ok(number));
         look::count(&rt, shared.place(), 2, "the place");
     }
     let cell = book.cells().last().ok_or("no cell")?;

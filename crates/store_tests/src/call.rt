@@ -1,6 +1,6 @@
 //! Calls of a book with their results, so that a test is a table.
 
-use crate::bodies::{ones, sender, single};
+use crate::bodies::{one_point, ones, sender};
 use delta_book::book::Book;
 use delta_book::faults::{
     AdmitFault, NotLive, NotOpen, NotQuarantined, QuarantineFault, RoundFault, TakeFault, UndoFault,
@@ -35,7 +35,7 @@ pub enum Call {
 }
 
 /// Admits a batch with points: its number, or the fault.
-pub fn admitted(rt: &impl Abort, book: &mut Book, body: Batch) -> Result<u64, AdmitFault> {
+pub fn admit(rt: &impl Abort, book: &mut Book, body: Batch) -> Result<u64, AdmitFault> {
     assert!(rt; !body.points.as_slice().is_empty());
     match book.admit(7, body) {
         Ok(number) => Ok(number),
@@ -44,7 +44,7 @@ pub fn admitted(rt: &impl Abort, book: &mut Book, body: Batch) -> Result<u64, Ad
 }
 
 /// Takes one series: the number of the flush.
-fn taken(book: &mut Book) -> Result<Option<u64>, TakeFault> {
+fn take_one(book: &mut Book) -> Result<Option<u64>, TakeFault> {
     match book.take(7, 1)? {
         Some(flush) => Ok(Some(flush.number)),
         None => Ok(None),
@@ -52,17 +52,17 @@ fn taken(book: &mut Book) -> Result<Option<u64>, TakeFault> {
 }
 
 /// Whether the call has the result that is wanted.
-fn is_answered(rt: &impl Abort, alloc: Global, book: &mut Book, call: Call) -> Result<bool, Fail> {
+fn has_result(rt: &impl Abort, alloc: Global, book: &mut Book, call: Call) -> Result<bool, Fail> {
     Ok(match call {
         Call::Ones(from, to, start, want) => {
-            admitted(rt, book, ones(alloc, from, to, start)?) == want
+            admit(rt, book, ones(alloc, from, to, start)?) == want
         }
         Call::Single(sent_by, start, value, want) => {
-            admitted(rt, book, single(alloc, sent_by, start, value)?) == want
+            admit(rt, book, one_point(alloc, sent_by, start, value)?) == want
         }
         Call::Undo(batch, want) => book.undo(7, batch) == want,
         Call::Confirm(batch, want) => book.confirm(7, batch) == want,
-        Call::Take(want) => taken(book) == want,
+        Call::Take(want) => take_one(book) == want,
         Call::Settle(flush, want) => book.settle(7, flush) == want,
         Call::DropFlush(flush, want) => book.drop_flush(7, flush) == want,
         Call::GiveBack(flush, want) => book.give_back(7, flush) == want,
@@ -78,7 +78,7 @@ fn is_answered(rt: &impl Abort, alloc: Global, book: &mut Book, call: Call) -> R
 /// Makes the calls in turn, and compares their results.
 pub fn run(rt: &impl Abort, alloc: Global, book: &mut Book, calls: &[Call]) -> Result<(), Fail> {
     for (at, call) in calls.iter().enumerate() {
-        assert!(rt; is_answered(rt, alloc, book, *call)?, "at call {at}");
+        assert!(rt; has_result(rt, alloc, book, *call)?, "at call {at}");
     }
     Ok(())
 }

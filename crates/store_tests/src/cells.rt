@@ -35,7 +35,7 @@ fn series(alloc: Global, kind: Kind) -> Result<SeriesId, Fail>
 }
 
 /// A point of a sum.
-fn counted(alloc: Global, start: u64, end: u64, value: i64) -> Result<Point, Fail> {
+fn sum_point(alloc: Global, start: u64, end: u64, value: i64) -> Result<Point, Fail> {
     let series = series(alloc, Kind::Sum { monotonic: false })?;
     Ok(Point::sum(alloc, series, start, end, value)?)
 }
@@ -145,8 +145,8 @@ fn give_back_and_undo(rt: &impl Abort, cell: &mut Cell, first: &Point, second: &
 fn a_flush_comes_back_and_a_batch_is_undone(rt: HostRuntime) -> Result<(), Fail> {
     let alloc = rt.alloc();
     telling();
-    let first = counted(alloc, 10, 20, 5)?;
-    let second = counted(alloc, 20, 30, 7)?;
+    let first = sum_point(alloc, 10, 20, 5)?;
+    let second = sum_point(alloc, 20, 30, 7)?;
     let mut cell = empty_cell(alloc, series(alloc, Kind::Sum { monotonic: false })?)?;
     assert_eq!(&rt; cell.owner().as_bytes(), b"A".as_slice());
     assert_eq!(&rt; cell.frontier(), 0);
@@ -211,17 +211,17 @@ fn carry_twice(rt: &impl Abort, cell: &mut Cell) {
     cell.acknowledge();
     carry(rt, cell);
     expect_rows(rt, cell, [[0, 0, 0]; 5]);
-    look::holds(rt, !cell.has_stored(), "nothing is at home");
+    look::holds(rt, !cell.has_stored(), "nothing is pending");
     look::number(rt, cell.frontier(), 60, "frontier");
 }
 
 #[test]
-fn a_round_begins_with_what_is_at_home(rt: HostRuntime) -> Result<(), Fail> {
+fn a_round_begins_with_what_is_pending(rt: HostRuntime) -> Result<(), Fail> {
     let alloc = rt.alloc();
-    let a = counted(alloc, 10, 20, 5)?;
-    let b = counted(alloc, 20, 30, 3)?;
-    let c = counted(alloc, 30, 40, 12)?;
-    let d = counted(alloc, 50, 60, -1)?;
+    let a = sum_point(alloc, 10, 20, 5)?;
+    let b = sum_point(alloc, 20, 30, 3)?;
+    let c = sum_point(alloc, 30, 40, 12)?;
+    let d = sum_point(alloc, 50, 60, -1)?;
     let mut cell = empty_cell(alloc, series(alloc, Kind::Sum { monotonic: false })?)?;
     land_twice(&rt, &mut cell, [&a, &b, &c, &d]);
     carry_twice(&rt, &mut cell);
@@ -230,9 +230,9 @@ fn a_round_begins_with_what_is_at_home(rt: HostRuntime) -> Result<(), Fail> {
 
 /// Room that was reserved is used, and reserving changes no row.
 #[test]
-fn room_is_made_beforehand(rt: HostRuntime) -> Result<(), Fail> {
+fn room_is_reserved(rt: HostRuntime) -> Result<(), Fail> {
     let alloc = rt.alloc();
-    let point = counted(alloc, 10, 20, 5)?;
+    let point = sum_point(alloc, 10, 20, 5)?;
     let mut cell = empty_cell(alloc, series(alloc, Kind::Sum { monotonic: false })?)?;
     bring(&rt, &mut cell, &point, 1);
     cell.reserve(100)?;
@@ -249,8 +249,8 @@ fn room_is_made_beforehand(rt: HostRuntime) -> Result<(), Fail> {
 #[test]
 fn a_span_comes_without_its_words(rt: HostRuntime) -> Result<(), Fail> {
     let alloc = rt.alloc();
-    let whole = counted(alloc, 10, 20, 5)?;
-    let spanned = counted(alloc, 20, 30, 7)?;
+    let whole = sum_point(alloc, 10, 20, 5)?;
+    let spanned = sum_point(alloc, 20, 30, 7)?;
     let mut cell = empty_cell(alloc, series(alloc, Kind::Sum { monotonic: false })?)?;
     bring(&rt, &mut cell, &whole, 1);
     bring_span(&rt, &mut cell, &spanned, 2);
@@ -279,7 +279,7 @@ fn move_rows(rt: &impl Abort, cell: &mut Cell, first: &Point, second: &Point) {
     bring(rt, cell, second, 1);
     expect_ends(rt, cell.stored(), 2);
     lift(rt, cell, 1);
-    look::holds(rt, is_zero(cell.stored()), "nothing is at home");
+    look::holds(rt, is_zero(cell.stored()), "nothing is pending");
     expect_ends(rt, cell.in_flight(), 2);
     cell.discard();
     look::holds(rt, is_zero(cell.in_flight()), "nothing is in flight");

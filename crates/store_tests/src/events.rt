@@ -149,7 +149,7 @@ fn expect_order(rt: &impl Abort, early: Span, later: Span) {
 }
 
 #[test]
-fn spans_and_hulls(rt: HostRuntime) -> Result<(), Fail> {
+fn spans_that_cover_two(rt: HostRuntime) -> Result<(), Fail> {
     let last = u64::MAX;
     for (start, end, is_span) in [
         (0, 20, false),

@@ -85,7 +85,7 @@ fn expect_carry(rt: &impl Abort, words: &mut [u64], ones: &[u64], at: usize)
 }
 
 #[test]
-fn kernels_run_over_each_tail(rt: HostRuntime) {
+fn rows_of_each_length(rt: HostRuntime) {
     for len in 0usize..260 {
         let mut a = [0u64; 259];
         let mut b = [0u64; 259];

@@ -79,7 +79,7 @@ fn histogram(rt: &impl Abort, alloc: Global, bounds: &[i64]) -> Kind {
 }
 
 /// Pairs of these keys and texts.
-fn listed(rt: &impl Abort, alloc: Global, texts: &[(&str, &str)]) -> Vec<(Text, AttrValue)> {
+fn pairs_of(rt: &impl Abort, alloc: Global, texts: &[(&str, &str)]) -> Vec<(Text, AttrValue)> {
     let mut pairs = Vec::new(alloc);
     for (key, value) in texts {
         push(rt, alloc, &mut pairs, key, value);
@@ -89,7 +89,7 @@ fn listed(rt: &impl Abort, alloc: Global, texts: &[(&str, &str)]) -> Vec<(Text, 
 
 /// The set of these keys and texts.
 fn set_of(rt: &impl Abort, alloc: Global, texts: &[(&str, &str)]) -> AttrSet {
-    AttrSet::from_pairs(alloc, listed(rt, alloc, texts)).expect(rt, "a set")
+    AttrSet::from_pairs(alloc, pairs_of(rt, alloc, texts)).expect(rt, "a set")
 }
 
 /// A series with these texts and this kind.
@@ -123,7 +123,7 @@ fn plain_series(rt: &impl Abort, alloc: Global, attributes: AttrSet, kind: Kind)
 }
 
 /// A series with one attribute of this value.
-fn valued(rt: &impl Abort, alloc: Global, value: AttrValue) -> SeriesId {
+fn with_value(rt: &impl Abort, alloc: Global, value: AttrValue) -> SeriesId {
     let mut pairs = Vec::new(alloc);
     if pairs.push((text(rt, alloc, "key"), value)).is_err() {
         assert!(rt; false, "memory");
@@ -133,8 +133,8 @@ fn valued(rt: &impl Abort, alloc: Global, value: AttrValue) -> SeriesId {
 }
 
 /// A series with one attribute that is this text.
-fn texted(rt: &impl Abort, alloc: Global, value: &str) -> SeriesId {
-    valued(
+fn with_text(rt: &impl Abort, alloc: Global, value: &str) -> SeriesId {
+    with_value(
         rt,
         alloc,
         AttrValue::One(Scalar::Text(text(rt, alloc, value))),
@@ -233,15 +233,15 @@ fn texts_of_attributes_are_short(rt: HostRuntime) {
 }
 
 #[test]
-fn keys_stand_once(rt: HostRuntime) {
+fn keys_occur_once(rt: HostRuntime) {
     let alloc = rt.alloc();
-    let pairs = listed(&rt, alloc, &[("a", "x"), ("b", "x"), ("a", "y")]);
+    let pairs = pairs_of(&rt, alloc, &[("a", "x"), ("b", "x"), ("a", "y")]);
     let fault = AttrSet::from_pairs(alloc, pairs).err();
     check_fault(&rt, fault, Some(AttrFault::DuplicateKey));
 }
 
 /// A series with these two attributes, in whatever order; the first of the set has the key `a`.
-fn ordered(rt: &impl Abort, alloc: Global, texts: &[(&str, &str)]) -> SeriesId {
+fn with_two(rt: &impl Abort, alloc: Global, texts: &[(&str, &str)]) -> SeriesId {
     let set = set_of(rt, alloc, texts);
     assert_eq!(rt; set.pairs().len(), 2);
     look::text(rt, set.pairs()[0].key.as_str(), "a");
@@ -251,8 +251,8 @@ fn ordered(rt: &impl Abort, alloc: Global, texts: &[(&str, &str)]) -> SeriesId {
 #[test]
 fn attribute_order_means_nothing(rt: HostRuntime) {
     let alloc = rt.alloc();
-    let one = ordered(&rt, alloc, &[("b", "1"), ("a", "x")]);
-    let other = ordered(&rt, alloc, &[("a", "x"), ("b", "1")]);
+    let one = with_two(&rt, alloc, &[("b", "1"), ("a", "x")]);
+    let other = with_two(&rt, alloc, &[("a", "x"), ("b", "1")]);
     look::holds(&rt, one.is_same(&other), "the same series");
 }
 
@@ -273,13 +273,13 @@ fn check_ascending(rt: &impl Abort, ascending: &[SeriesId]) {
 fn sorts_of_values_are_ordered(rt: HostRuntime) {
     let alloc = rt.alloc();
     let ascending = [
-        valued(&rt, alloc, AttrValue::One(Scalar::Empty)),
-        valued(&rt, alloc, AttrValue::One(Scalar::Truth(false))),
-        valued(&rt, alloc, AttrValue::One(Scalar::Truth(true))),
-        valued(&rt, alloc, AttrValue::One(Scalar::Int(-7))),
-        valued(&rt, alloc, AttrValue::One(Scalar::Int(3))),
-        texted(&rt, alloc, ""),
-        valued(&rt, alloc, empties(&rt, alloc, 0)),
+        with_value(&rt, alloc, AttrValue::One(Scalar::Empty)),
+        with_value(&rt, alloc, AttrValue::One(Scalar::Truth(false))),
+        with_value(&rt, alloc, AttrValue::One(Scalar::Truth(true))),
+        with_value(&rt, alloc, AttrValue::One(Scalar::Int(-7))),
+        with_value(&rt, alloc, AttrValue::One(Scalar::Int(3))),
+        with_text(&rt, alloc, ""),
+        with_value(&rt, alloc, empties(&rt, alloc, 0)),
     ];
     check_ascending(&rt, &ascending);
 }
@@ -288,11 +288,11 @@ fn sorts_of_values_are_ordered(rt: HostRuntime) {
 fn prefixes_come_first(rt: HostRuntime) {
     let alloc = rt.alloc();
     let ascending = [
-        texted(&rt, alloc, "x"),
-        texted(&rt, alloc, "xy"),
-        texted(&rt, alloc, "y"),
-        valued(&rt, alloc, empties(&rt, alloc, 1)),
-        valued(&rt, alloc, empties(&rt, alloc, 2)),
+        with_text(&rt, alloc, "x"),
+        with_text(&rt, alloc, "xy"),
+        with_text(&rt, alloc, "y"),
+        with_value(&rt, alloc, empties(&rt, alloc, 1)),
+        with_value(&rt, alloc, empties(&rt, alloc, 2)),
     ];
     check_ascending(&rt, &ascending);
 }
@@ -488,7 +488,7 @@ fn series_share_their_parts(rt: HostRuntime) {
     let first = series(&rt, alloc, "h1", "requests", Kind::Sum { monotonic: true });
     let other_host = series(&rt, alloc, "h2", "requests", Kind::Sum { monotonic: true });
     let other_kind = series(&rt, alloc, "h1", "requests", Kind::Sum { monotonic: false });
-    let nothing = texted(&rt, alloc, "h1");
+    let nothing = with_text(&rt, alloc, "h1");
     check_shares(&rt, &first, &first, [true, true, true]);
     check_shares(&rt, &first, &other_host, [false, true, true]);
     check_shares(&rt, &first, &other_kind, [true, true, false]);
