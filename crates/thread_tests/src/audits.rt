@@ -2,7 +2,7 @@
 ghost use Rattle.std.specs.Prelude.{◌≡◌};
 ghost use Rattle.metric_events.specs.Opening.{first_opening};
 
-use crate::bodies::{admitted, body};
+use crate::bodies::{admit, body};
 use delta_book::book::Book;
 use shared_book::audit::{AuditFault, check};
 use shared_book::round::Round;
@@ -73,7 +73,7 @@ fn one_seat<L: Round, R: Wait + Abort>(rt: &R, alloc: Global, blank: Blank) -> R
     let mut seats = seats;
     let mut seat = seats.pop().ok_or("no seat")?;
     let body = body(alloc, "A", "req", (10, 20), 5)?;
-    assert_eq!(rt; admitted(rt, &shared, &mut seat, body), Ok(1));
+    assert_eq!(rt; admit(rt, &shared, &mut seat, body), Ok(1));
     seats.push(seat)?;
     expect_checks(rt, alloc, seats.as_slice(), WITH_RECEIPT)
 }

@@ -64,7 +64,7 @@ pub fn four_bodies(alloc: Global, name: &str) -> Result<Vec<Batch>, Fail> {
 }
 
 /// Admits a batch of one point: its number, or the fault.
-pub fn admitted<L: Round, R: Wait + Abort>(
+pub fn admit<L: Round, R: Wait + Abort>(
     rt: &R,
     shared: &SharedBook<L>,
     seat: &mut Seat<L>,
@@ -86,7 +86,7 @@ pub struct Sent {
 }
 
 /// Takes up to ten series; the flush has one point of a sum.
-pub fn taken<L: Round, R: Wait + Abort>(
+pub fn take<L: Round, R: Wait + Abort>(
     rt: &R,
     shared: &SharedBook<L>,
     seat: &mut Seat<L>,

@@ -1,6 +1,6 @@
 //! Calls from a seat with their results, so that a test is a table.
 
-use crate::bodies::{Sent, admitted, body, expect_rows, sender, taken};
+use crate::bodies::{Sent, admit, body, expect_rows, sender, take};
 use delta_book::faults::{
     AdmitFault, NotLive, NotOpen, NotQuarantined, QuarantineFault, UndoFault,
 };
@@ -50,7 +50,7 @@ fn expect_one<L: Round, R: Wait + Abort>(
 }
 
 /// Admits a point of this sender, of ten nanoseconds from a time on and with a value.
-fn brought<L: Round, R: Wait + Abort>(
+fn bring<L: Round, R: Wait + Abort>(
     rt: &R,
     alloc: Global,
     shared: &SharedBook<L>,
@@ -60,11 +60,11 @@ fn brought<L: Round, R: Wait + Abort>(
 ) -> Result<Result<u64, AdmitFault>, Fail> {
     let span = (start, start.saturating_add(10));
     let body = body(alloc, owner, "req", span, value)?;
-    Ok(admitted(rt, shared, seat, body))
+    Ok(admit(rt, shared, seat, body))
 }
 
 /// Whether the call has the result that is wanted.
-fn is_answered<L: Round, R: Wait + Abort>(
+fn has_result<L: Round, R: Wait + Abort>(
     rt: &R,
     alloc: Global,
     shared: &SharedBook<L>,
@@ -73,14 +73,14 @@ fn is_answered<L: Round, R: Wait + Abort>(
 ) -> Result<bool, Fail> {
     Ok(match call {
         Call::Admit(start, value, want) => {
-            brought(rt, alloc, shared, seat, "A", (start, value))? == want
+            bring(rt, alloc, shared, seat, "A", (start, value))? == want
         }
         Call::AdmitOf(owner, start, value, want) => {
-            brought(rt, alloc, shared, seat, owner, (start, value))? == want
+            bring(rt, alloc, shared, seat, owner, (start, value))? == want
         }
         Call::Undo(batch, want) => shared.undo(rt, seat, batch) == want,
         Call::Confirm(batch, want) => shared.confirm(rt, seat, batch) == want,
-        Call::Take(want) => taken(rt, shared, seat) == Ok(want),
+        Call::Take(want) => take(rt, shared, seat) == Ok(want),
         Call::Settle(flush, want) => shared.settle(rt, seat, flush) == want,
         Call::DropFlush(flush, want) => shared.drop_flush(rt, seat, flush) == want,
         Call::GiveBack(flush, want) => shared.give_back(rt, seat, flush) == want,
@@ -103,10 +103,7 @@ pub fn run<L: Round, R: Wait + Abort>(
     calls: &[Call],
 ) -> Result<(), Fail> {
     for (at, call) in calls.iter().enumerate() {
-        assert!(rt;
-            is_answered(rt, alloc, shared, seat, *call)?,
-            "at call {at}"
-        );
+        assert!(rt; has_result(rt, alloc, shared, seat, *call)?, "at call {at}");
     }
     Ok(())
 }

@@ -12,9 +12,9 @@ mod bodies;
 #[cfg(test)]
 mod call;
 #[cfg(test)]
-mod held;
-#[cfg(test)]
 mod pair;
+#[cfg(test)]
+mod pause;
 #[cfg(test)]
 mod rounds;
 #[cfg(test)]

@@ -2,7 +2,7 @@
 ghost use Rattle.std.specs.Prelude.{◌≡◌};
 ghost use Rattle.metric_events.specs.Opening.{first_opening};
 
-use crate::bodies::{admitted, four_bodies};
+use crate::bodies::{admit, four_bodies};
 use delta_book::book::Book;
 use metric_events::batch::Batch;
 use shared_book::audit::Audit;
@@ -36,7 +36,7 @@ pub fn two_seats<L: Round>(
 }
 
 /// Ends the round with these seats: the book and its audit.
-pub fn ended<L: Round>(shared: SharedBook<L>, seats: Vec<Seat<L>>) -> Result<(Book, Audit), Fail> {
+pub fn finish<L: Round>(shared: SharedBook<L>, seats: Vec<Seat<L>>) -> Result<(Book, Audit), Fail> {
     match shared.finish(seats) {
         Ok(ended) => Ok(ended),
         Err(_) => Err(Fail::from("the audit failed")),
@@ -44,7 +44,7 @@ pub fn ended<L: Round>(shared: SharedBook<L>, seats: Vec<Seat<L>>) -> Result<(Bo
 }
 
 /// Ends the round with both seats: the book and its audit.
-pub fn both_ended<L: Round>(
+pub fn finish_both<L: Round>(
     alloc: Global,
     shared: SharedBook<L>,
     seats: (Seat<L>, Seat<L>),
@@ -52,7 +52,7 @@ pub fn both_ended<L: Round>(
     let mut list = Vec::new(alloc);
     list.push(seats.0)?;
     list.push(seats.1)?;
-    ended(shared, list)
+    finish(shared, list)
 }
 
 /// What is done with a batch once it is admitted.
@@ -69,7 +69,7 @@ fn bring<L: Round, R: Wait + Abort>(
     body: Batch,
     then: Then,
 ) {
-    match (admitted(rt, shared, seat, body), then) {
+    match (admit(rt, shared, seat, body), then) {
         (Ok(number), Then::Confirm) => {
             assert_eq!(rt; shared.confirm(rt, seat, number), Ok(()));
         }

@@ -11,7 +11,7 @@ use std::time::{Clock, Duration};
 const MOST_LOOKS: u32 = 10_000;
 
 /// Waits for the flag, and returns whether it was set in time.
-pub fn comes_up<R: Clock>(rt: &R, flag: &AtomicBool) -> bool {
+pub fn is_set_in_time<R: Clock>(rt: &R, flag: &AtomicBool) -> bool {
     for _ in 0..MOST_LOOKS {
         if flag.load(Ordering::SeqCst) {
             return true;
@@ -25,7 +25,7 @@ pub fn comes_up<R: Clock>(rt: &R, flag: &AtomicBool) -> bool {
 #[derive(Drop)]
 pub struct Flags {
     /// A worker is paused.
-    pub held: AtomicBool,
+    pub paused: AtomicBool,
     /// It may continue.
     pub free: AtomicBool,
     /// A flag was not set in time.
@@ -35,7 +35,7 @@ pub struct Flags {
 impl Flags {
     pub fn new() -> Flags {
         Flags {
-            held: AtomicBool::new(false),
+            paused: AtomicBool::new(false),
             free: AtomicBool::new(false),
             late: AtomicBool::new(false),
         }
@@ -44,24 +44,24 @@ impl Flags {
 
 /// Pauses the first worker that reaches the spot until it may continue.
 #[derive(Drop)]
-pub struct Hold<'a, R: Clock> {
+pub struct PauseAt<'a, R: Clock> {
     rt: &'a R,
     spot: Spot,
     flags: &'a Flags,
 }
 
-impl<'a, R: Clock> Hold<'a, R> {
+impl<'a, R: Clock> PauseAt<'a, R> {
     pub fn new(rt: &'a R, spot: Spot, flags: &'a Flags) -> Self {
-        Hold { rt, spot, flags }
+        PauseAt { rt, spot, flags }
     }
 }
 
-impl<R: Clock> Pace for Hold<'_, R> {
+impl<R: Clock> Pace for PauseAt<'_, R> {
     fn at(&mut self, spot: Spot) {
-        if spot != self.spot || self.flags.held.swap(true, Ordering::SeqCst) {
+        if spot != self.spot || self.flags.paused.swap(true, Ordering::SeqCst) {
             return;
         }
-        if !comes_up(self.rt, &self.flags.free) {
+        if !is_set_in_time(self.rt, &self.flags.free) {
             self.flags.late.store(true, Ordering::SeqCst);
         }
     }
@@ -82,7 +82,7 @@ impl<'a, R: Clock> After<'a, R> {
 
 impl<R: Clock> Pace for After<'_, R> {
     fn at(&mut self, spot: Spot) {
-        if spot == Spot::BodyRead && !comes_up(self.rt, &self.flags.held) {
+        if spot == Spot::BodyRead && !is_set_in_time(self.rt, &self.flags.paused) {
             self.flags.late.store(true, Ordering::SeqCst);
         }
     }

@@ -2,7 +2,7 @@
 ghost use Rattle.std.specs.Prelude.{◌≡◌, []};
 ghost use Rattle.metric_events.specs.Opening.{first_opening};
 
-use crate::pair::{Then, both_ended, bring_from_both, ended, two_seats};
+use crate::pair::{Then, bring_from_both, finish, finish_both, two_seats};
 use delta_book::book::Book;
 use shared_book::audit::Audit;
 use shared_book::round::Round;
@@ -28,7 +28,7 @@ fn first_round<L: Round + Send + Sync, R: Threads + Wait + Abort + Sync>(
 {
     let (shared, zero, one) = two_seats::<L>(alloc, blank)?;
     let seats = bring_from_both(rt, alloc, &shared, (zero, one), Then::Confirm)?;
-    let (book, audit) = both_ended(alloc, shared, seats)?;
+    let (book, audit) = finish_both(alloc, shared, seats)?;
     let wanted = Audit {
         events: 16,
         admitted: 8,
@@ -70,7 +70,7 @@ fn second_round<L: Round, R: Wait + Abort>(
     let mut seat = seats.pop().ok_or("no seat")?;
     take_and_settle(rt, &shared, &mut seat)?;
     seats.push(seat)?;
-    let (book, audit) = ended(shared, seats)?;
+    let (book, audit) = finish(shared, seats)?;
     assert_eq!(rt;
         audit,
         Audit {

@@ -9,7 +9,7 @@ use crate::call::Call::{
     Undo,
 };
 use crate::call::{Call, run};
-use crate::pair::ended;
+use crate::pair::finish;
 use delta_book::book::Book;
 use delta_book::faults::{
     AdmitFault, NotLive, NotOpen, NotQuarantined, QuarantineFault, UndoFault,
@@ -48,7 +48,7 @@ fn one_seat<L: Round, R: Wait + Abort>(
     let mut seat = seats.pop().ok_or("no seat")?;
     run(rt, alloc, &shared, &mut seat, calls)?;
     seats.push(seat)?;
-    let (book, audit) = ended(shared, seats)?;
+    let (book, audit) = finish(shared, seats)?;
     assert_eq!(rt; audit, wanted);
     Ok(book)
 }
@@ -114,7 +114,7 @@ const QUARANTINED_SENDER: &[Call] = &[
 ];
 
 #[test]
-fn a_held_sender(rt: HostRuntime) -> Result<(), Fail> {
+fn a_quarantined_sender(rt: HostRuntime) -> Result<(), Fail> {
     let wanted = Audit {
         events: 6,
         admitted: 2,
@@ -239,7 +239,7 @@ const QUARANTINED_AT_FIRST: &[Call] = &[
 ];
 
 #[test]
-fn a_later_round_begins_with_a_hold(rt: HostRuntime) -> Result<(), Fail> {
+fn a_later_round_begins_with_a_quarantine(rt: HostRuntime) -> Result<(), Fail> {
     let alloc = rt.alloc();
     let new = Book::new(alloc)?;
     let wanted = Audit {

@@ -2,7 +2,7 @@
 ghost use Rattle.std.specs.Prelude.{◌≡◌};
 ghost use Rattle.metric_events.specs.Opening.{first_opening};
 
-use crate::pair::{Then, both_ended, bring_from_both, two_seats};
+use crate::pair::{Then, bring_from_both, finish_both, two_seats};
 use delta_book::book::Book;
 use shared_book::audit::{Audit, AuditFault};
 use shared_book::receipt::EventKind;
@@ -38,7 +38,7 @@ fn ends_with_both<L: Round>(
     let (fault, shared, mut seats) = shared.finish(seats).err().ok_or("ended without a seat")?;
     assert_eq!(rt; (fault, seats.len()), (AuditFault::SeatOut, 1));
     let one = seats.pop().ok_or("no seat")?;
-    both_ended(alloc, shared, (one, zero))
+    finish_both(alloc, shared, (one, zero))
 }
 
 fn four_admissions<L: Round + Send + Sync, R: Threads + Wait + Abort + Sync>(

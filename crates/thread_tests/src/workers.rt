@@ -2,8 +2,8 @@
 ghost use Rattle.std.specs.Prelude.{◌≡◌};
 ghost use Rattle.metric_events.specs.Opening.{first_opening};
 
-use crate::held::{After, Flags, Hold, Scripted, comes_up};
-use crate::pair::{both_ended, two_seats};
+use crate::pair::{finish_both, two_seats};
+use crate::pause::{After, Flags, PauseAt, Scripted, is_set_in_time};
 use back_answers::{Act, Answer};
 use crossbeam_channel::{Receiver, Sender, bounded};
 use gate_workers::{
@@ -41,14 +41,14 @@ const SETTLED: &[u8] = b"HTTP/1.1 200 OK\r\n\
         {\"act\":\"settled\",\"flush\":\"1\",\"points\":\"1\"}";
 
 /// Ends the round, and compares the audit: events, admitted points, acknowledged points.
-fn audits<L: Round, R: Abort>(
+fn expect_audit<L: Round, R: Abort>(
     rt: &R,
     alloc: Global,
     shared: SharedBook<L>,
     seats: (Seat<L>, Seat<L>),
     wanted: (u128, u128, u128),
 ) -> Result<(), Fail> {
-    let (_, audit) = both_ended(alloc, shared, seats)?;
+    let (_, audit) = finish_both(alloc, shared, seats)?;
     assert_eq!(rt; (audit.events, audit.admitted, audit.acknowledged), wanted);
     Ok(())
 }
@@ -99,7 +99,7 @@ fn receive_after<L: Round, R: Wait + Clock>(
 }
 
 /// Serves the connections from a seat, and pauses after the first body that any worker reads.
-fn receive_held<L: Round, R: Wait + Clock>(
+fn receive_and_pause<L: Round, R: Wait + Clock>(
     rt: &R,
     alloc: Global,
     shared: &SharedBook<L>,
@@ -107,12 +107,12 @@ fn receive_held<L: Round, R: Wait + Clock>(
     connections: Receiver<Scripted<'_>>,
     flags: &Flags,
 ) -> Seat<L> {
-    let mut pace = Hold::new(rt, Spot::BodyRead, flags);
+    let mut pace = PauseAt::new(rt, Spot::BodyRead, flags);
     receive(rt, alloc, shared, seat, None, connections, &mut pace)
 }
 
 /// Runs the flushes that are ordered, and pauses before it sends the first.
-fn flush_held<L: Round, R: Wait + Clock>(
+fn flush_and_pause<L: Round, R: Wait + Clock>(
     rt: &R,
     alloc: Global,
     shared: &SharedBook<L>,
@@ -120,7 +120,7 @@ fn flush_held<L: Round, R: Wait + Clock>(
     orders: Receiver<Order>,
     flags: &Flags,
 ) -> Seat<L> {
-    let mut pace = Hold::new(rt, Spot::BeforeSend, flags);
+    let mut pace = PauseAt::new(rt, Spot::BeforeSend, flags);
     flush(rt, alloc, shared, seat, orders, &mut pace)
 }
 
@@ -144,7 +144,7 @@ fn one_order<R: Wait>(rt: &R, alloc: Global) -> Result<(Receiver<Order>, Receive
 }
 
 /// Serves one connection of these bytes from a seat, expects this response, and returns the seat.
-fn answered<L: Round, R: Wait + Abort>(
+fn serve_one<L: Round, R: Wait + Abort>(
     rt: &R,
     alloc: Global,
     shared: &SharedBook<L>,
@@ -153,10 +153,10 @@ fn answered<L: Round, R: Wait + Abort>(
     bytes: &[u8],
     response: &[u8],
 ) -> Result<Seat<L>, Fail> {
-    let told = AtomicBool::new(false);
-    let connection = one_connection(rt, alloc, Scripted::new(bytes, response, &told))?;
+    let is_answered = AtomicBool::new(false);
+    let connection = one_connection(rt, alloc, Scripted::new(bytes, response, &is_answered))?;
     let seat = receive(rt, alloc, shared, seat, orders, connection, &mut NoPace);
-    assert!(rt; told.load(Ordering::SeqCst));
+    assert!(rt; is_answered.load(Ordering::SeqCst));
     Ok(seat)
 }
 
@@ -174,11 +174,11 @@ fn serve_and_flush<L: Round + Send + Sync, R: Threads + Wait + Clock + Abort + S
     let seats = join(
         rt,
         || receive_after(rt, alloc, shared, first, later, flags),
-        || flush_held(rt, alloc, shared, second, orders, flags),
+        || flush_and_pause(rt, alloc, shared, second, orders, flags),
     );
     assert!(rt; !flags.late.load(Ordering::SeqCst));
     assert!(rt; flags.free.load(Ordering::SeqCst));
-    assert_eq!(rt; turn.recv(rt).ok(), Some(settled()));
+    assert_eq!(rt; turn.recv(rt).ok(), Some(settled_turn()));
     Ok(seats)
 }
 
@@ -194,13 +194,13 @@ fn a_batch_while_a_flush_is_sent<L: Round + Send + Sync, R: Threads + Wait + Clo
     requires opening { L.opening ≡ first_opening }
 {
     let (shared, first, second) = two_seats::<L>(alloc, blank)?;
-    let first = answered(rt, alloc, &shared, first, None, POSTED, ACCEPTED)?;
+    let first = serve_one(rt, alloc, &shared, first, None, POSTED, ACCEPTED)?;
     let seats = serve_and_flush(rt, alloc, &shared, (first, second), &Flags::new())?;
-    audits(rt, alloc, shared, seats, (6, 2, 1))
+    expect_audit(rt, alloc, shared, seats, (6, 2, 1))
 }
 
 /// The turn of flush 1, whose one point the back end accepted.
-fn settled() -> Turn {
+fn settled_turn() -> Turn {
     Turn::Done {
         flush: 1,
         points: 1,
@@ -214,10 +214,10 @@ fn feed<'a, R: Wait + Clock>(
     rt: &R,
     to: Sender<Scripted<'a>>,
     first: Scripted<'a>,
-    held: &AtomicBool,
+    paused: &AtomicBool,
     second: Scripted<'a>,
 ) -> bool {
-    to.send(rt, first).is_ok() && comes_up(rt, held) && to.send(rt, second).is_ok()
+    to.send(rt, first).is_ok() && is_set_in_time(rt, paused) && to.send(rt, second).is_ok()
 }
 
 /// Two connections. The first is paused after its body until the second has been answered.
@@ -236,12 +236,12 @@ fn serve_two<L: Round + Send + Sync, R: Threads + Wait + Clock + Abort + Sync>(
     let other = Scripted::new(OTHER, ACCEPTED, &flags.free);
     let (first, (second, fed)) = join(
         rt,
-        || receive_held(rt, alloc, shared, first, connections, flags),
+        || receive_and_pause(rt, alloc, shared, first, connections, flags),
         || {
             join(
                 rt,
-                || receive_held(rt, alloc, shared, second, others, flags),
-                || feed(rt, to, posted, &flags.held, other),
+                || receive_and_pause(rt, alloc, shared, second, others, flags),
+                || feed(rt, to, posted, &flags.paused, other),
             )
         },
     );
@@ -251,7 +251,7 @@ fn serve_two<L: Round + Send + Sync, R: Threads + Wait + Clock + Abort + Sync>(
 }
 
 /// Connection 1 is paused after its body until connection 2 has been answered.
-fn a_connection_while_another_is_held<
+fn a_connection_while_another_is_paused<
     L: Round + Send + Sync,
     R: Threads + Wait + Clock + Abort + Sync,
 >(rt: &R, alloc: Global, blank: Blank) -> Result<(), Fail>
@@ -262,7 +262,7 @@ fn a_connection_while_another_is_held<
 {
     let (shared, first, second) = two_seats::<L>(alloc, blank)?;
     let seats = serve_two(rt, alloc, &shared, (first, second), &Flags::new())?;
-    audits(rt, alloc, shared, seats, (4, 2, 0))
+    expect_audit(rt, alloc, shared, seats, (4, 2, 0))
 }
 
 /// Orders flushes without a flusher and from one that has ended, and returns the seat.
@@ -272,10 +272,10 @@ fn order_from_nobody<L: Round, R: Wait + Abort>(
     shared: &SharedBook<L>,
     seat: Seat<L>,
 ) -> Result<Seat<L>, Fail> {
-    let seat = answered(rt, alloc, shared, seat, None, FLUSH, NO_FLUSHER)?;
+    let seat = serve_one(rt, alloc, shared, seat, None, FLUSH, NO_FLUSHER)?;
     let (to, orders) = bounded(alloc, CHANNEL_PLACES)?;
     drop(orders);
-    answered(rt, alloc, shared, seat, Some(to), FLUSH, NO_FLUSHER)
+    serve_one(rt, alloc, shared, seat, Some(to), FLUSH, NO_FLUSHER)
 }
 
 /// Orders a flush whose order is dropped without a turn, and returns the seat.
@@ -285,15 +285,15 @@ fn order_and_drop<L: Round + Send + Sync, R: Threads + Wait + Abort + Sync>(
     shared: &SharedBook<L>,
     seat: Seat<L>,
 ) -> Result<Seat<L>, Fail> {
-    let told = AtomicBool::new(false);
+    let is_answered = AtomicBool::new(false);
     let (to, orders) = bounded::<Order, _>(alloc, CHANNEL_PLACES)?;
-    let flush = one_connection(rt, alloc, Scripted::new(FLUSH, NO_FLUSHER, &told))?;
+    let flush = one_connection(rt, alloc, Scripted::new(FLUSH, NO_FLUSHER, &is_answered))?;
     let (seat, taken) = join(
         rt,
         || receive(rt, alloc, shared, seat, Some(to), flush, &mut NoPace),
         || orders.recv(rt).is_ok(),
     );
-    assert!(rt; taken && told.load(Ordering::SeqCst));
+    assert!(rt; taken && is_answered.load(Ordering::SeqCst));
     Ok(seat)
 }
 
@@ -311,7 +311,7 @@ fn orders_of_nobody<L: Round + Send + Sync, R: Threads + Wait + Abort + Sync>(
     let (shared, first, second) = two_seats::<L>(alloc, blank)?;
     let first = order_from_nobody(rt, alloc, &shared, first)?;
     let first = order_and_drop(rt, alloc, &shared, first)?;
-    audits(rt, alloc, shared, (first, second), (0, 0, 0))
+    expect_audit(rt, alloc, shared, (first, second), (0, 0, 0))
 }
 
 /// The flusher's turn answers an order of the channel. The flusher ends once the receiver has.
@@ -322,15 +322,15 @@ fn order_and_flush<L: Round + Send + Sync, R: Threads + Wait + Abort + Sync>(
     seats: (Seat<L>, Seat<L>),
 ) -> Result<(Seat<L>, Seat<L>), Fail> {
     let (first, second) = seats;
-    let told = AtomicBool::new(false);
-    let order = one_connection(rt, alloc, Scripted::new(FLUSH, SETTLED, &told))?;
+    let is_answered = AtomicBool::new(false);
+    let order = one_connection(rt, alloc, Scripted::new(FLUSH, SETTLED, &is_answered))?;
     let (to, orders) = bounded(alloc, CHANNEL_PLACES)?;
     let seats = join(
         rt,
         || receive(rt, alloc, shared, first, Some(to), order, &mut NoPace),
         || flush(rt, alloc, shared, second, orders, &mut NoPace),
     );
-    assert!(rt; told.load(Ordering::SeqCst));
+    assert!(rt; is_answered.load(Ordering::SeqCst));
     Ok(seats)
 }
 
@@ -346,19 +346,19 @@ fn an_order_is_made<L: Round + Send + Sync, R: Threads + Wait + Abort + Sync>(
     requires opening { L.opening ≡ first_opening }
 {
     let (shared, first, second) = two_seats::<L>(alloc, blank)?;
-    let first = answered(rt, alloc, &shared, first, None, POSTED, ACCEPTED)?;
+    let first = serve_one(rt, alloc, &shared, first, None, POSTED, ACCEPTED)?;
     let seats = order_and_flush(rt, alloc, &shared, (first, second))?;
-    audits(rt, alloc, shared, seats, (4, 1, 1))
+    expect_audit(rt, alloc, shared, seats, (4, 1, 1))
 }
 
 #[test]
-fn a_flush_that_is_sent_holds_up_no_batch(rt: HostRuntime) -> Result<(), Fail> {
+fn a_flush_that_is_sent_delays_no_batch(rt: HostRuntime) -> Result<(), Fail> {
     a_batch_while_a_flush_is_sent::<Brand, _>(&rt, rt.alloc(), Blank::new(2))
 }
 
 #[test]
-fn a_connection_that_is_held_holds_up_no_other(rt: HostRuntime) -> Result<(), Fail> {
-    a_connection_while_another_is_held::<Brand, _>(&rt, rt.alloc(), Blank::new(2))
+fn a_connection_that_is_paused_delays_no_other(rt: HostRuntime) -> Result<(), Fail> {
+    a_connection_while_another_is_paused::<Brand, _>(&rt, rt.alloc(), Blank::new(2))
 }
 
 #[test]
