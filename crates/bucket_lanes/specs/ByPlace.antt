@@ -15,9 +15,9 @@ AreSums xs ys sums =
     (k : ℕ) → k < length xs → slice_index sums k ≡ slice_index xs k + slice_index ys k
 
 -- each word is the difference of the other rows' words
-abbrev pub AreRests : List ℕ → List ℕ → List ℕ → Type 0
-AreRests xs ys rests =
-    (k : ℕ) → k < length xs → slice_index rests k + slice_index ys k ≡ slice_index xs k
+abbrev pub AreDifferences : List ℕ → List ℕ → List ℕ → Type 0
+AreDifferences xs ys differences =
+    (k : ℕ) → k < length xs → slice_index differences k + slice_index ys k ≡ slice_index xs k
 
 -- each word is 0
 abbrev pub IsClear : List ℕ → Type 0

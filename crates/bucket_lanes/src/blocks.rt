@@ -50,7 +50,7 @@ pub fn sums(a: u64x8, b: u64x8) -> u64x8
 
 /// The differences, lane by lane.
 #[inline(always)]
-pub fn rests(a: u64x8, b: u64x8) -> u64x8
+pub fn differences(a: u64x8, b: u64x8) -> u64x8
     requires long { (length a ≡ 8) × (length b ≡ 8) }
     requires within { (k : ℕ) → k < 8 → slice_index b k ≤ slice_index a k }
     ensures long { length result ≡ 8 }
@@ -61,7 +61,7 @@ pub fn rests(a: u64x8, b: u64x8) -> u64x8
 
 /// Whether no lane of the first block is greater than the same lane of the second.
 #[inline(always)]
-pub fn none_past(a: u64x8, most: u64x8) -> bool
+pub fn none_above(a: u64x8, most: u64x8) -> bool
     requires { (length a ≡ 8) × (length most ≡ 8) }
     ensures { IsTrue result ↔ ((k : ℕ) → k < 8 → slice_index a k ≤ slice_index most k) }
 {

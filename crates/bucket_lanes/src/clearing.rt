@@ -1,7 +1,7 @@
 ghost use Rattle.std.specs.Prelude.{◌≡◌, ℕ, ◌+◌, ◌*◌, ◌<◌, ◌≤◌, ◌↔◌, IsTrue, length, slice_index};
 ghost use Rattle.bucket_lanes.specs.ByPlace.{IsClear};
 
-use crate::blocks::{LANES, every, load, none_past};
+use crate::blocks::{LANES, every, load, none_above};
 
 /// Sets every word to 0. Takes no memory.
 pub fn clear(words: &mut [u64])
@@ -16,7 +16,7 @@ fn is_block_zero(words: &[u64], at: usize) -> bool
     requires { at + 8 ≤ length words.now }
     ensures { IsTrue result ↔ ((k : ℕ) → k < 8 → slice_index words.now (at + k) ≡ 0) }
 {
-    none_past(load(words, at), every(0))
+    none_above(load(words, at), every(0))
 }
 
 /// Whether the words of the first so many blocks of eight are 0.

@@ -1,7 +1,7 @@
 ghost use Rattle.std.specs.Prelude.{◌≡◌, ℕ, ◌+◌, ◌*◌, ◌<◌, ◌≤◌, ◌↔◌, IsTrue, length, slice_index};
 ghost use Rattle.bucket_lanes.specs.ByPlace.{Fits};
 
-use crate::blocks::{LANES, every, load, none_past, rests};
+use crate::blocks::{LANES, differences, every, load, none_above};
 
 /// Whether no sum of the eight words from an index on is greater than `most`. Each word of `a` is
 /// compared with `most` minus the word of `b`, so an overflow of a lane can't hide a sum.
@@ -12,10 +12,10 @@ fn fits_block(a: &[u64], b: &[u64], most: u64, at: usize) -> bool
 {
     let limit = every(most);
     let used = load(b, at);
-    if !none_past(used, limit) {
+    if !none_above(used, limit) {
         return false;
     }
-    none_past(load(a, at), rests(limit, used))
+    none_above(load(a, at), differences(limit, used))
 }
 
 /// Whether no sum of the first so many blocks of eight is greater than `most`.

@@ -1,7 +1,7 @@
 ghost use Rattle.std.specs.Prelude.{◌≡◌, ℕ, ◌+◌, ◌-◌, ◌*◌, ◌<◌, ◌≤◌, length, slice_index};
-ghost use Rattle.bucket_lanes.specs.ByPlace.{Covers, AreRests};
+ghost use Rattle.bucket_lanes.specs.ByPlace.{Covers, AreDifferences};
 
-use crate::blocks::{LANES, load, rests, store};
+use crate::blocks::{LANES, differences, load, store};
 
 /// Subtracts the eight words of `src` from an index on from those of `dst`.
 #[inline(always)]
@@ -12,7 +12,7 @@ fn sub_block(dst: &mut [u64], src: &[u64], at: usize)
     ensures before { (k : ℕ) → k < at → slice_index dst.new k ≡ slice_index dst.old k }
     ensures after { (k : ℕ) → at + 8 ≤ k → slice_index dst.new k ≡ slice_index dst.old k }
 {
-    let rest = rests(load(dst, at), load(src, at));
+    let rest = differences(load(dst, at), load(src, at));
     store(dst, at, rest);
 }
 
@@ -21,7 +21,7 @@ fn sub_blocks(dst: &mut [u64], src: &[u64], blocks: usize)
     requires same { length dst.old ≡ length src.now }
     requires within { Covers dst.old src.now }
     requires room { 8 * blocks ≤ length dst.old }
-    ensures rests { (k : ℕ) → k < 8 * blocks → slice_index dst.new k + slice_index src.now k ≡ slice_index dst.old k }
+    ensures differences { (k : ℕ) → k < 8 * blocks → slice_index dst.new k + slice_index src.now k ≡ slice_index dst.old k }
     ensures rest { (k : ℕ) → 8 * blocks ≤ k → slice_index dst.new k ≡ slice_index dst.old k }
 {
     for block in 0..blocks {
@@ -33,7 +33,7 @@ fn sub_blocks(dst: &mut [u64], src: &[u64], blocks: usize)
 fn sub_tail(dst: &mut [u64], src: &[u64], from: usize)
     requires same { length dst.old ≡ length src.now }
     requires within { (k : ℕ) → from ≤ k → k < length dst.old → slice_index src.now k ≤ slice_index dst.old k }
-    ensures rests { (k : ℕ) → from ≤ k → k < length dst.old → slice_index dst.new k + slice_index src.now k ≡ slice_index dst.old k }
+    ensures differences { (k : ℕ) → from ≤ k → k < length dst.old → slice_index dst.new k + slice_index src.now k ≡ slice_index dst.old k }
     ensures rest { (k : ℕ) → k < from → slice_index dst.new k ≡ slice_index dst.old k }
 {
     for k in from..dst.len() {
@@ -45,7 +45,7 @@ fn sub_tail(dst: &mut [u64], src: &[u64], from: usize)
 pub fn sub_from(dst: &mut [u64], src: &[u64])
     requires same { length dst.old ≡ length src.now }
     requires within { Covers dst.old src.now }
-    ensures { AreRests dst.old src.now dst.new }
+    ensures { AreDifferences dst.old src.now dst.new }
 {
     let blocks = dst.len() / LANES;
     sub_blocks(dst, src, blocks);

@@ -1,7 +1,7 @@
 use Rattle.std.proofs.Common.{ℕ, ◌-◌, arith, ◌∙◌}
 use Rattle.std.proofs.lemmas.Simd.{length-zip2}
 use Rattle.bucket_lanes.proofs.Lanes.{Each2-by_index}
-use Rattle.bucket_lanes.proofs.blocks.rests.Goals as goal
+use Rattle.bucket_lanes.proofs.blocks.differences.Goals as goal
 
 pub overflow_sub-result : goal.overflow_sub-result
 overflow_sub-result c =

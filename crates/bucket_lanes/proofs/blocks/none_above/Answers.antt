@@ -3,7 +3,7 @@ use Rattle.std.proofs.lemmas.Bool.{ltb-false, le-ltb, eqb-true, eq-eqb}
 use Rattle.std.proofs.lemmas.Simd.{tops_compared, mask_l-mod, length-zip2, get_or-zip2}
 use lib.Lanes.{zip2, mask_l, top}
 use Rattle.bucket_lanes.proofs.Lanes.{mask_zero, zero_mask}
-use Rattle.bucket_lanes.proofs.blocks.none_past.Goals as goal
+use Rattle.bucket_lanes.proofs.blocks.none_above.Goals as goal
 
 pub returns : goal.returns
 returns c =
