@@ -92,13 +92,8 @@ impl AttrSet {
             return Err(fault);
         }
         keep_width(pairs.as_slice());
-        match sort_by_key(alloc, pairs) {
-            Ok(sorted) => match share_pairs(alloc, sorted) {
-                Ok(set) => Ok(set),
-                Err(_) => Err(AttrFault::NoMemory),
-            },
-            Err(_) => Err(AttrFault::NoMemory),
-        }
+        let sorted = sort_by_key(alloc, pairs)?;
+        Ok(share_pairs(alloc, sorted)?)
     }
 
     /// The pairs, ascending by key.
