@@ -5,8 +5,9 @@ use Rattle.clap.specs.Words.{App, Row, Rule, Text, app_of, first_of, new_app, ne
 use Rattle.clap.specs.declared.builder.command.Command.{Command, out-Command}
 use Rattle.clap.specs.declared.builder.value_parser.ValueParser.TheVariants as vp
 use Rattle.decimals.specs.Numbers.{number_up_to}
-use Rattle.gateway_options.specs.declared.told.Options.{Options}
-use Rattle.gateway_options.specs.declared.told.Options.TheVariants.{Serve, Rehearse}
+use Rattle.gateway_options.specs.declared.command_line.TheConstants.{MAX_CONNECTIONS, MAX_RECEIVERS, MAX_FLUSHERS, MAX_FLUSH_SERIES, MAX_ROUND, MAX_SENDERS, MAX_BATCHES}
+use Rattle.gateway_options.specs.declared.subcommand.Options.{Options}
+use Rattle.gateway_options.specs.declared.subcommand.Options.TheVariants.{Serve, Rehearse}
 use Rattle.gateway_options.specs.declared.serve_options.ServeOptions.{ServeOptions}
 use Rattle.gateway_options.specs.declared.rehearse_options.RehearseOptions.{RehearseOptions}
 
@@ -46,31 +47,36 @@ listen = record (new_rule (codes "listen")) {
 
 -- `--connections N`, which must be given
 abbrev pub connections : Number
-connections = record { name = codes "connections"; default = None; least = 0; most = 1000000 }
+connections = record { name = codes "connections"; default = None; least = 0; most = MAX_CONNECTIONS }
 
 -- `--receivers N`
 abbrev pub receivers : Number
-receivers = record { name = codes "receivers"; default = Some (codes "2"); least = 1; most = 8 }
+receivers = record { name = codes "receivers"; default = Some (codes "2"); least = 1; most = MAX_RECEIVERS }
 
 -- `--flushers N`
 abbrev pub flushers : Number
-flushers = record { name = codes "flushers"; default = Some (codes "1"); least = 1; most = 4 }
+flushers = record { name = codes "flushers"; default = Some (codes "1"); least = 1; most = MAX_FLUSHERS }
 
 -- `--flush-series N`
 abbrev pub flush_series : Number
-flush_series = record { name = codes "flush-series"; default = Some (codes "1000"); least = 1; most = 1000 }
+flush_series = record {
+  name = codes "flush-series";
+  default = Some (codes "1000");
+  least = 1;
+  most = MAX_FLUSH_SERIES;
+}
 
 -- `--round N`
 abbrev pub round : Number
-round = record { name = codes "round"; default = Some (codes "32000"); least = 1; most = 32000 }
+round = record { name = codes "round"; default = Some (codes "32000"); least = 1; most = MAX_ROUND }
 
 -- `--senders N`
 abbrev pub senders : Number
-senders = record { name = codes "senders"; default = Some (codes "2"); least = 1; most = 4 }
+senders = record { name = codes "senders"; default = Some (codes "2"); least = 1; most = MAX_SENDERS }
 
 -- `--batches N`
 abbrev pub batches : Number
-batches = record { name = codes "batches"; default = Some (codes "3"); least = 1; most = 100 }
+batches = record { name = codes "batches"; default = Some (codes "3"); least = 1; most = MAX_BATCHES }
 
 -- the command with these numeric options too
 abbrev pub with_numbers : App → List Number → App

@@ -9,7 +9,7 @@ use crate::line_fault::LineFault;
 use crate::number_option::NumberOption;
 use crate::rehearse_options::RehearseOptions;
 use crate::serve_options::ServeOptions;
-use crate::told::Options;
+use crate::subcommand::Options;
 use clap::error::ErrorKind;
 use clap::{Arg, ArgMatches, Command, Error};
 use std::alloc::Global;
@@ -37,7 +37,8 @@ const CONNECTIONS: NumberOption<'static> = number!(
 
 const RECEIVERS: NumberOption<'static> = number!(
     "receivers",
-    "Threads that serve connections. An order to flush keeps its receiver until its turn is made: as many as orders at once, and two more",
+    "Threads that serve connections. An order to flush keeps one until the back end has \
+     answered: take as many as orders at once, and two more",
     1 to 8,
     Some("2")
 );
@@ -64,6 +65,27 @@ const SENDERS: NumberOption<'static> =
 
 const BATCHES: NumberOption<'static> =
     number!("batches", "Batches of each sender", 1 to 100, Some("3"));
+
+/// The most connections that are served.
+pub const MAX_CONNECTIONS: u32 = CONNECTIONS.most;
+
+/// The most receivers.
+pub const MAX_RECEIVERS: u32 = RECEIVERS.most;
+
+/// The most flushers.
+pub const MAX_FLUSHERS: u32 = FLUSHERS.most;
+
+/// The most series of one flush.
+pub const MAX_FLUSH_SERIES: u32 = FLUSH_SERIES.most;
+
+/// The most connections of a round.
+pub const MAX_ROUND: u32 = ROUND.most;
+
+/// The most senders of a rehearsal.
+pub const MAX_SENDERS: u32 = SENDERS.most;
+
+/// The most batches of each sender of a rehearsal.
+pub const MAX_BATCHES: u32 = BATCHES.most;
 
 /// The most bytes of the back end's address.
 const LONGEST_BACKEND: usize = 4_294_967_295;

@@ -6,10 +6,13 @@ mod line_fault;
 mod number_option;
 mod rehearse_options;
 mod serve_options;
-mod told;
+mod subcommand;
 
-pub use command_line::options;
+pub use command_line::{
+    MAX_BATCHES, MAX_CONNECTIONS, MAX_FLUSH_SERIES, MAX_FLUSHERS, MAX_RECEIVERS, MAX_ROUND,
+    MAX_SENDERS, options,
+};
 pub use line_fault::LineFault;
 pub use rehearse_options::RehearseOptions;
 pub use serve_options::ServeOptions;
-pub use told::Options;
+pub use subcommand::Options;

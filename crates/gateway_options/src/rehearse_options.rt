@@ -1,4 +1,5 @@
 ghost use Rattle.std.specs.Prelude.{◌≤◌};
+ghost use Rattle.gateway_options.specs.declared.command_line.TheConstants.{MAX_SENDERS, MAX_BATCHES};
 
 /// The options of `rehearse`.
 #[derive(Clone, Copy, Debug)]
@@ -7,6 +8,6 @@ pub struct RehearseOptions {
     pub senders: u16,
     /// How many batches each of them posts, one after another.
     pub batches: u16,
-    ghost some: { (1 ≤ senders) × (senders ≤ 4) },
-    ghost posted: { (1 ≤ batches) × (batches ≤ 100) },
+    ghost some: { (1 ≤ senders) × (senders ≤ MAX_SENDERS) },
+    ghost posted: { (1 ≤ batches) × (batches ≤ MAX_BATCHES) },
 }

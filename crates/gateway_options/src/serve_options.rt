@@ -1,4 +1,5 @@
 ghost use Rattle.std.specs.Prelude.{◌<◌, ◌≤◌, ◌^◌, length};
+ghost use Rattle.gateway_options.specs.declared.command_line.TheConstants.{MAX_RECEIVERS, MAX_FLUSHERS, MAX_FLUSH_SERIES, MAX_ROUND};
 
 /// The options of `serve`.
 #[derive(Clone, Copy, Debug)]
@@ -18,8 +19,8 @@ pub struct ServeOptions<'a> {
     /// How many connections a round of the store has.
     pub round: u64,
     ghost short: { length backend.now < 2 ^ 32 },
-    ghost received: { (1 ≤ receivers) × (receivers ≤ 8) },
-    ghost flushed: { (1 ≤ flushers) × (flushers ≤ 4) },
-    ghost few: { (1 ≤ flush_series) × (flush_series ≤ 1000) },
-    ghost rounded: { (1 ≤ round) × (round ≤ 32000) },
+    ghost received: { (1 ≤ receivers) × (receivers ≤ MAX_RECEIVERS) },
+    ghost flushed: { (1 ≤ flushers) × (flushers ≤ MAX_FLUSHERS) },
+    ghost few: { (1 ≤ flush_series) × (flush_series ≤ MAX_FLUSH_SERIES) },
+    ghost rounded: { (1 ≤ round) × (round ≤ MAX_ROUND) },
 }
