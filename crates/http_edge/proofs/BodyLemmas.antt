@@ -11,11 +11,11 @@ use Rattle.http_edge.specs.declared.fault.HttpFault.TheVariants.{Closed, BadHead
 use Rattle.http_edge.specs.declared.phase.Phase.{Phase}
 use Rattle.http_edge.specs.declared.phase.Phase.TheVariants.{Counted, Line, Content, Return, LineFeed, Trailer, Whole}
 use Rattle.http_edge.specs.Chunks.{room, HasTrailer, AreChunks, HasChunks}
-use Rattle.http_edge.specs.Body.{Stand, Becomes, IsOpen, Reaches, Refuses}
+use Rattle.http_edge.specs.Body.{BodyState, Becomes, IsOpen, Reaches, Refuses}
 use Rattle.http_edge.proofs.ListLemmas.{front_of, rest_of, behind_same, text_taken}
 use Rattle.http_edge.proofs.ChunkLemmas.{IsLine, HasContent, zero_forward, zero_not_over, zero_backward, fits_forward, fits_backward, over}
 
-abbrev pub at : Phase → List ℕ → List ℕ → Stand
+abbrev pub at : Phase → List ℕ → List ℕ → BodyState
 at phase content part = record { phase = phase; content = content; part = part }
 
 -- ---- a body of a known length
@@ -34,8 +34,8 @@ counted_backward n b c p u more (Some body) is short h =
     (u ++ h.0, h.1, omega (arith, length-append u h.0, h.2, short), ap (λ s. u ++ s) h.3 ∙ sym (append_assoc u h.0 h.1), h.4 ∙ ap (λ s. s ++ h.0) is ∙ append_assoc b u h.0)
 
 pub counted_more : (n : ℕ) (b c p u : List ℕ) → IsOpen (at (Counted n) b p) → c ≡ b ++ u → length u < n → Reaches (at (Counted n) b p) (at (Counted (n - length u)) c p) u
-counted_more n b c p u open_ is short = record {
-  opened = (omega (arith, short), omega (arith, ap length is, length-append b u, short, open_.1), open_.2);
+counted_more n b c p u is_open is short = record {
+  opened = (omega (arith, short), omega (arith, ap length is, length-append b u, short, is_open.1), is_open.2);
   steps = record { forward = λ more body h. counted_forward n b c p u more body is short h; backward = λ more body h. counted_backward n b c p u more body is short h };
   kept = λ e. refl;
   less = λ e. omega (arith, short);
@@ -50,8 +50,8 @@ last_backward n b c p u more None is len h = h
 last_backward n b c p u more (Some body) is len h = (u, more, len, refl, h ∙ is)
 
 pub counted_last : (n : ℕ) (b c p u : List ℕ) → IsOpen (at (Counted n) b p) → c ≡ b ++ u → length u ≡ n → Reaches (at (Counted n) b p) (at Whole c p) u
-counted_last n b c p u open_ is len = record {
-  opened = (omega (arith, ap length is, length-append b u, len, open_.1), open_.2);
+counted_last n b c p u is_open is len = record {
+  opened = (omega (arith, ap length is, length-append b u, len, is_open.1), is_open.2);
   steps = record { forward = λ more body h. last_forward n b c p u more body is len h; backward = λ more body h. last_backward n b c p u more body is len h };
   kept = λ e. absurd cc;
   less = λ e. absurd cc;
@@ -76,11 +76,11 @@ content_backward n b c u more body is short h =
     (u ++ h.0, h.1, omega (arith, length-append u h.0, h.2, short), ap (λ s. u ++ s) h.3 ∙ sym (append_assoc u h.0 (13 ∷ 10 ∷ h.1)), subst P grown h.4)
 
 pub content_more : (n : ℕ) (b c p u : List ℕ) → IsOpen (at (Content n) b p) → c ≡ b ++ u → length u < n → Reaches (at (Content n) b p) (at (Content (n - length u)) c p) u
-content_more n b c p u open_ is short = record {
-  opened = (omega (arith, short), omega (arith, ap length is, length-append b u, short, open_.1), open_.2);
+content_more n b c p u is_open is short = record {
+  opened = (omega (arith, short), omega (arith, ap length is, length-append b u, short, is_open.1), is_open.2);
   steps = record { forward = λ more body h. content_forward n b c u more body is short h; backward = λ more body h. content_backward n b c u more body is short h };
   kept = λ e. refl;
-  less = λ e. omega (arith, short, ap length is, length-append b u, open_.1);
+  less = λ e. omega (arith, short, ap length is, length-append b u, is_open.1);
 }
 
 end_forward : (n : ℕ) (b c p u more : List ℕ) (body : Option (List ℕ)) → c ≡ b ++ u → length u ≡ n → HasContent n b (u ++ more) body → Becomes (at Return c p) more body
@@ -96,11 +96,11 @@ end_backward n b c p u more body is len h =
     (u, h.0, len, ap (λ s. u ++ s) h.1, subst P is h.2)
 
 pub content_end : (n : ℕ) (b c p u : List ℕ) → IsOpen (at (Content n) b p) → c ≡ b ++ u → length u ≡ n → Reaches (at (Content n) b p) (at Return c p) u
-content_end n b c p u open_ is len = record {
-  opened = (omega (arith, ap length is, length-append b u, len, open_.1), open_.2);
+content_end n b c p u is_open is len = record {
+  opened = (omega (arith, ap length is, length-append b u, len, is_open.1), is_open.2);
   steps = record { forward = λ more body h. end_forward n b c p u more body is len h; backward = λ more body h. end_backward n b c p u more body is len h };
   kept = λ e. refl;
-  less = λ e. omega (arith, len, ap length is, length-append b u, open_.1);
+  less = λ e. omega (arith, len, ap length is, length-append b u, is_open.1);
 }
 
 -- ---- the line end of a chunk
@@ -110,8 +110,8 @@ unfolding print_chunk_line
 no_line_yet l rest h = omega (arith, h.0.digits.0, ap length h.1, simp length-append at (ap length h.1))
 
 pub fed : (b p : List ℕ) → IsOpen (at LineFeed b p) → Reaches (at LineFeed b p) (at Line b []) (10 ∷ [])
-fed b p open_ = record {
-  opened = (omega arith, open_.0, no_line_yet);
+fed b p is_open = record {
+  opened = (omega arith, is_open.0, no_line_yet);
   steps = record {
     forward = λ more body h. let e : more ≡ h.0 = cc (h.1) in let P : List ℕ → Type 0 = λ s. HasChunks b s body in subst P (sym e) h.2;
     backward = λ more body h. (more, refl, h);
@@ -122,7 +122,7 @@ fed b p open_ = record {
 
 -- ---- a size line
 
--- the line that was found, and how much of the piece is of it
+-- the line that was found, and where it ends in the piece
 pub record AtLine (part piece : List ℕ) (had n len size : ℕ) (l : ChunkLine) : Type 0 where
   pub some : had < len
   pub within : len - had ≤ n
@@ -131,11 +131,11 @@ pub record AtLine (part piece : List ℕ) (had n len size : ℕ) (l : ChunkLine)
   pub size_is : size ≡ chunk_size l
 
 pub at_line : (b part piece buf : List ℕ) (had n len size : ℕ) (l : ChunkLine) → IsOpen (at Line b part) → had ≡ length part → n ≤ length piece → n ≤ 1024 - had → buf ≡ part ++ take n piece → IsChunkLineAt buf len size l → AtLine part piece had n len size l
-at_line b part piece buf had n len size l open_ had_is within fits is found =
+at_line b part piece buf had n len size l is_open had_is within fits is found =
     let P : List ℕ → Type 0 = λ s. IsChunkLineAt s len size l in
     let there = subst P is found in
     let text = print_chunk_line l in
-    let t = text_taken part piece text (drop len (part ++ take n piece)) had n len had_is there.len_is within there.reads.1 (λ after e. open_.2 l after (there.reads.0, e)) in
+    let t = text_taken part piece text (drop len (part ++ take n piece)) had n len had_is there.len_is within there.reads.1 (λ after e. is_open.2 l after (there.reads.0, e)) in
     record {
       some = t.some;
       within = t.within;
@@ -164,16 +164,16 @@ no_section_yet : HasNoSection []
 no_section_yet fields last rest h = omega (arith, ap length h.1, length-append (print_section fields last) rest, nothing_is_printed fields last)
 
 pub line_zero : (b part v : List ℕ) (l : ChunkLine) → IsOpen (at Line b part) → part ++ v ≡ print_chunk_line l → IsLine l → chunk_size l ≡ 0 → Reaches (at Line b part) (at Trailer b []) v
-line_zero b part v l open_ e is zero = record {
-  opened = (omega arith, open_.1, no_section_yet);
+line_zero b part v l is_open e is zero = record {
+  opened = (omega arith, is_open.1, no_section_yet);
   steps = record { forward = λ more body h. zero_becomes b part v more l body e is zero h; backward = λ more body h. zero_comes b part v more l body e is zero h };
   kept = λ _. refl;
   less = λ _. omega (arith, ap length e, length-append part v, is.short);
 }
 
 pub line_fits : (b part v : List ℕ) (l : ChunkLine) (n : ℕ) → IsOpen (at Line b part) → part ++ v ≡ print_chunk_line l → IsLine l → n ≡ chunk_size l → 0 < n → n ≤ room b → Reaches (at Line b part) (at (Content n) b []) v
-line_fits b part v l n open_ e is size some fits = record {
-  opened = (some, omega (arith, fits, open_.1), refl);
+line_fits b part v l n is_open e is size some fits = record {
+  opened = (some, omega (arith, fits, is_open.1), refl);
   steps = record {
     forward = λ more body h.
         let P : ℕ → Type 0 = λ k. HasContent k b more body in
@@ -224,13 +224,13 @@ trailer_long b part u w none long =
 -- a section that ends in the piece is a trailer section, whatever follows
 pub trailer_whole : (b part u w : List ℕ) (spans : List HeaderSpan) (len count : ℕ) (fields : List Field) (last : LineEnd) → IsOpen (at Trailer b part) → length (part ++ u) ≤ 16384 → length spans ≡ 64
     → IsSectionAt (part ++ u) 0 spans len count fields last → IsSectionWithin (part ++ u) spans len count → Reaches (at Trailer b part) (at Whole b []) (u ++ w)
-trailer_whole b part u w spans len count fields last open_ short room_ at_ within =
+trailer_whole b part u w spans len count fields last is_open short room_ at_ within =
     let few : length fields ≤ 64 = omega (arith, ap length at_.fields_are, length-map (take count spans) (header_bytes (part ++ u)), length-map fields name_and_value, length-take count spans) in
     let there : (more : List ℕ) → HasTrailer (part ++ ((u ++ w) ++ more)) = λ more.
     let same : (part ++ u) ++ (w ++ more) ≡ part ++ ((u ++ w) ++ more) = append_assoc part u (w ++ more) ∙ ap (λ s. part ++ s) (sym (append_assoc u w more)) in
     subst HasTrailer same (fields, last, drop len (part ++ u) ++ (w ++ more), record { reads = ReadsSection-append (part ++ u) fields last (drop len (part ++ u)) (w ++ more) at_.reads; few = few; short = omega (arith, at_.len_is, within.len_fits, short) }) in
     record {
-      opened = (open_.1, refl);
+      opened = (is_open.1, refl);
       steps = record { forward = λ more body h. whole_forward b part ((u ++ w) ++ more) more body h; backward = λ more body h. whole_backward b part ((u ++ w) ++ more) more body (there more) h };
       kept = λ e. absurd cc;
       less = λ e. absurd cc;
@@ -238,7 +238,7 @@ trailer_whole b part u w spans len count fields last open_ short room_ at_ withi
 
 -- ---- one step after another
 
-pub stays : (s : Stand) → IsOpen s → Reaches s s []
+pub stays : (s : BodyState) → IsOpen s → Reaches s s []
 stays s opened = record {
   opened = opened;
   steps = record { forward = λ more body h. h; backward = λ more body h. h };
@@ -246,7 +246,7 @@ stays s opened = record {
   less = λ e. omega arith;
 }
 
-pub goes_on : (old mid new : Stand) (u v : List ℕ) → Reaches old mid u → Reaches mid new v → Reaches old new (u ++ v)
+pub goes_on : (old mid new : BodyState) (u v : List ℕ) → Reaches old mid u → Reaches mid new v → Reaches old new (u ++ v)
 goes_on old mid new u v first second =
     let same : (more : List ℕ) → u ++ (v ++ more) ≡ (u ++ v) ++ more = λ more. sym (append_assoc u v more) in record {
       opened = second.opened;
@@ -258,7 +258,7 @@ goes_on old mid new u v first second =
       less = λ e. omega (arith, second.less e, first.less (second.kept e), length-append u v);
     }
 
-pub refused_later : (old mid : Stand) (u v : List ℕ) (e : HttpFault) → Reaches old mid u → Refuses e mid v → Refuses e old (u ++ v)
+pub refused_later : (old mid : BodyState) (u v : List ℕ) (e : HttpFault) → Reaches old mid u → Refuses e mid v → Refuses e old (u ++ v)
 refused_later old mid u v BadChunk first h = λ more body is. h more body (first.steps.forward (v ++ more) body (subst (λ (s : List ℕ). Becomes old s body) (append_assoc u v more) is))
 refused_later old mid u v BodyTooLong first h = λ more. subst (λ (s : List ℕ). Becomes old s None) (sym (append_assoc u v more)) (first.steps.backward (v ++ more) None (h more))
 refused_later old mid u v NoMemory first h = h

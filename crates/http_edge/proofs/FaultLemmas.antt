@@ -15,7 +15,8 @@ use Rattle.http_edge.specs.Message.{Message, IsHeadAt}
 use Rattle.http_edge.specs.Reading.{framing_in, HasBody, Reads, BeginsWith, NotYet}
 use Rattle.http_edge.specs.Framed.{Frames}
 use Rattle.http_edge.specs.Head.{FindsHead, LooksForHead}
-use Rattle.http_edge.specs.Answer.{Explains, IsLasting, Fails}
+use Rattle.http_edge.specs.Form.{IsLasting}
+use Rattle.http_edge.specs.Answer.{Explains, Fails}
 
 pub IsHeadAt-append : (buf more : List ℕ) (k : RequestHead) (after : List ℕ) → IsHeadAt buf k after → IsHeadAt (buf ++ more) k (after ++ more)
 IsHeadAt-append buf more k after is = record { reads = ReadsRequest-append buf k after more is.reads; few = is.few; short = is.short }

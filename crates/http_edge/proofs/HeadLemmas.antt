@@ -9,7 +9,7 @@ use Rattle.http_edge.proofs.ListLemmas.{front_of}
 pub long_or_front : (p buf : List ℕ) → 16384 ≤ length buf → ¬ (length p ≤ length buf) → 16384 < length p
 long_or_front p buf long not = omega (arith, not)
 
--- no head of the limit's length or less stands in as many bytes
+-- where as many bytes as a head may have have no head, a head is longer
 pub has_long_head : (buf : List ℕ) → HasNoRequest buf → 16384 ≤ length buf → HasLongHead buf
 has_long_head buf none long = (
   long,

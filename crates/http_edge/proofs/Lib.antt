@@ -6,6 +6,7 @@ pub mod MethodLemmas
 pub mod ChunkLemmas
 pub mod BodyLemmas
 pub mod FaultLemmas
+pub mod FormLemmas
 pub mod MachineLemmas
 pub mod Unique
 pub mod FinishLemmas
@@ -13,6 +14,6 @@ pub mod AnswerLemmas
 pub mod SourceLemmas
 pub mod ReadLemmas
 pub mod WriteLemmas
-pub mod JoinLemmas
+pub mod WriteBufferLemmas
 pub mod TextLemmas
 pub mod ReplyLemmas

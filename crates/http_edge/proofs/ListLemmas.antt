@@ -1,7 +1,5 @@
 -- Fronts of lists that are equal.
 use Rattle.std.proofs.Common.{◌≡◌, ℕ, ◌-◌, ◌<◌, ◌≤◌, arith, List, ◌++◌, length, drop, take, refl, sym, ap, ◌∙◌, append_assoc}
-use Rattle.std.specs.Prelude.{Result, Ok, Err, is_ok, is_err, false, if◌then◌else◌}
-use Rattle.std.specs.declared.alloc.AllocError.{AllocError}
 use Rattle.std.proofs.lemmas.List.{take-append-le, take_at, drop_at, take-append-drop, append_cancel_left, take-take, length-take-le, length-append, length-drop}
 
 -- a front that is no longer than the list
@@ -10,7 +8,7 @@ front_of a more p after e short =
     let same : take (length p) a ≡ p = sym (take-append-le (length p) a more short) ∙ ap (take (length p)) e ∙ take_at p after (length p) refl in
     sym (take-append-drop (length p) a) ∙ ap (λ x. x ++ drop (length p) a) same
 
--- the rest of a list whose front is known, and that of what stands behind
+-- the rest of a list whose front is known
 pub rest_of : (p after a more : List ℕ) → p ++ after ≡ a ++ more → length p ≤ length a → after ≡ drop (length p) a ++ more
 rest_of p after a more e short =
     append_cancel_left p after (drop (length p) a ++ more) (e ∙ ap (λ x. x ++ more) (front_of a more p after (sym e) short) ∙ append_assoc p (drop (length p) a) more)
@@ -19,11 +17,6 @@ rest_of p after a more e short =
 pub behind_same : (a b x y : List ℕ) → length a ≡ length b → a ++ x ≡ b ++ y → (a ≡ b) × (x ≡ y)
 behind_same a b x y len e =
     (sym (take_at a x (length b) len) ∙ ap (take (length b)) e ∙ take_at b y (length b) refl, sym (drop_at a x (length b) len) ∙ ap (drop (length b)) e ∙ drop_at b y (length b) refl)
-
--- what a growth that was not refused made of a list
-pub grown : (r : Result (Unit {0}) AllocError) (now old more : List ℕ) → false ≡ is_err r → now ≡ (if is_ok r then old ++ more else old) → now ≡ old ++ more
-grown (Ok x) now old more fine is = is
-grown (Err e) now old more fine is = absurd cc
 
 not_within : (p q : List ℕ) → ¬ (length p ≤ length q) → length q < length p
 not_within p q h = omega (arith, h)

@@ -19,8 +19,8 @@ use Rattle.http_edge.specs.Framed.{Frames}
 use Rattle.http_edge.specs.Chunks.{HasTrailer, HasChunks}
 use Rattle.http_edge.specs.Head.{FindsHead}
 use Rattle.http_edge.specs.Reading.{HasBody, framing_in, message_of, Reads, BeginsWith, NotYet}
-use Rattle.http_edge.specs.Body.{Stand, Becomes, IsOpen, is_whole, Reaches, Refuses}
-use Rattle.http_edge.specs.Answer.{Fails, Tells}
+use Rattle.http_edge.specs.Body.{BodyState, Becomes, IsOpen, is_whole, Reaches, Refuses}
+use Rattle.http_edge.specs.Answer.{Fails, Reports}
 use Rattle.http_edge.specs.Holds.{Progress, in_head, in_body, failed, start, IsBehind, Holds, IsSound, IsFramed, Starts, EndsHead, Advances, Stops, fault_in, is_done}
 use Rattle.http_edge.proofs.ListLemmas.{text_taken, EndsIn}
 use Rattle.http_edge.proofs.ChunkLemmas.{no_chunks}
@@ -80,7 +80,7 @@ take_len n piece = length-take n piece
 
 -- ---- at the end of a head
 
-unread : (head bytes : List ℕ) (k : RequestHead) (w : Framing) (body : Stand) → bytes ≡ head → length head ≤ 16384 → IsHeadAt head k [] → framing_in k ≡ Some w → Starts w body → IsBehind head body bytes k []
+unread : (head bytes : List ℕ) (k : RequestHead) (w : Framing) (body : BodyState) → bytes ≡ head → length head ≤ 16384 → IsHeadAt head k [] → framing_in k ≡ Some w → Starts w body → IsBehind head body bytes k []
 unread head bytes k w body is short at framed starts =
     let Q : Option Framing → List ℕ → Option (List ℕ) → Type 0 = HasBody in
     record {
@@ -94,7 +94,7 @@ unread head bytes k w body is short at framed starts =
 
 -- ---- behind a head
 
-pub reads_behind : (head bytes fed more : List ℕ) (body : Stand) (k j : RequestHead) (o : Option (List ℕ)) → IsBehind head body bytes k fed → Reads (bytes ++ more) j o → HasBody (framing_in k) (fed ++ more) o
+pub reads_behind : (head bytes fed more : List ℕ) (body : BodyState) (k j : RequestHead) (o : Option (List ℕ)) → IsBehind head body bytes k fed → Reads (bytes ++ more) j o → HasBody (framing_in k) (fed ++ more) o
 reads_behind head bytes fed more body k j o is reads =
     let e : bytes ++ more ≡ head ++ (fed ++ more) = ap (λ s. s ++ more) is.bytes_are ∙ append_assoc head fed more in
     let P : List ℕ → Type 0 = λ s. ReadsRequest s j reads.0 in
@@ -103,16 +103,16 @@ reads_behind head bytes fed more body k j o is reads =
     let R : List ℕ → Type 0 = λ s. HasBody (framing_in k) s o in
     subst R (sym same.1) (subst Q (sym same.0) reads.1.has)
 
-pub reads_ahead : (head bytes fed more : List ℕ) (body : Stand) (k : RequestHead) (o : Option (List ℕ)) → IsBehind head body bytes k fed → HasBody (framing_in k) (fed ++ more) o → Reads (bytes ++ more) k o
+pub reads_ahead : (head bytes fed more : List ℕ) (body : BodyState) (k : RequestHead) (o : Option (List ℕ)) → IsBehind head body bytes k fed → HasBody (framing_in k) (fed ++ more) o → Reads (bytes ++ more) k o
 reads_ahead head bytes fed more body k o is has =
     let e : head ++ (fed ++ more) ≡ bytes ++ more = sym (ap (λ s. s ++ more) is.bytes_are ∙ append_assoc head fed more) in
     let P : List ℕ → Type 0 = λ s. IsHeadAt s k (fed ++ more) in
     (fed ++ more, record { at = subst P e (IsHeadAt-append head (fed ++ more) k [] is.at); has = has })
 
-pub head_behind : (head bytes fed : List ℕ) (body : Stand) (k : RequestHead) → IsBehind head body bytes k fed → IsHeadAt bytes k fed
+pub head_behind : (head bytes fed : List ℕ) (body : BodyState) (k : RequestHead) → IsBehind head body bytes k fed → IsHeadAt bytes k fed
 head_behind head bytes fed body k is = let P : List ℕ → Type 0 = λ s. IsHeadAt s k fed in subst P (sym is.bytes_are) (IsHeadAt-append head fed k [] is.at)
 
-pub stops_body : (e : HttpFault) (head : List ℕ) (old : Stand) (piece : List ℕ) → Refuses e old piece → Stops (in_body head old) piece e
+pub stops_body : (e : HttpFault) (head : List ℕ) (old : BodyState) (piece : List ℕ) → Refuses e old piece → Stops (in_body head old) piece e
 stops_body BadChunk head old piece refuses bytes h =
     let k = h.0 in
     let fed = h.1 in
@@ -143,7 +143,7 @@ stops_body BadLength head old piece refuses bytes h = absurd refuses
 stops_body Truncated head old piece refuses bytes h = absurd refuses
 stops_body Io head old piece refuses bytes h = absurd refuses
 
-pub goes_on_behind : (head : List ℕ) (old new : Stand) (piece : List ℕ) → length head ≤ 16384 → Reaches old new piece → Advances (in_body head old) (in_body head new) piece (is_whole new.phase)
+pub goes_on_behind : (head : List ℕ) (old new : BodyState) (piece : List ℕ) → length head ≤ 16384 → Reaches old new piece → Advances (in_body head old) (in_body head new) piece (is_whole new.phase)
 goes_on_behind head old new piece short reaches = record {
   sound = (short, reaches.opened);
   fine = refl;
@@ -163,7 +163,7 @@ goes_on_behind head old new piece short reaches = record {
   less = reaches.less;
 }
 
--- ---- what the bytes so far tell
+-- ---- what a feed returns of the bytes so far
 
 no_bytes : (k : RequestHead) → 0 < length (print_request k)
 unfolding print_request
@@ -185,49 +185,49 @@ whole_is LineFeed e = absurd cc
 whole_is Trailer e = absurd cc
 
 nowhere : (p : Phase) (content part : List ℕ) → IsOpen (at p content part) → is_whole p ≡ false → (o : Option (List ℕ)) → ¬ (Becomes (at p content part) [] o)
-nowhere Whole content part opened open_ o h = absurd cc
-nowhere (Counted n) content part opened open_ None h = h
-nowhere (Counted n) content part opened open_ (Some body) h = omega (arith, opened.0, h.2, ap length h.3, length-append h.0 h.1)
-nowhere Line content part opened open_ o h = let P : List ℕ → Type 0 = λ s. HasChunks content s o in no_chunks content part opened.2 o (subst P (append-nil part) h)
-nowhere (Content n) content part opened open_ o h = omega (arith, ap length h.3, length-append h.0 (13 ∷ 10 ∷ h.1))
-nowhere Return content part opened open_ o h = let e : [] ≡ 13 ∷ 10 ∷ h.0 = h.1 in cc
-nowhere LineFeed content part opened open_ o h = let e : [] ≡ 10 ∷ h.0 = h.1 in cc
-nowhere Trailer content part opened open_ None h = h
-nowhere Trailer content part opened open_ (Some body) h = let t = subst HasTrailer (append-nil part) h.0 in opened.2 t.0 t.1 t.2 t.3.reads
+nowhere Whole content part opened is_open o h = absurd cc
+nowhere (Counted n) content part opened is_open None h = h
+nowhere (Counted n) content part opened is_open (Some body) h = omega (arith, opened.0, h.2, ap length h.3, length-append h.0 h.1)
+nowhere Line content part opened is_open o h = let P : List ℕ → Type 0 = λ s. HasChunks content s o in no_chunks content part opened.2 o (subst P (append-nil part) h)
+nowhere (Content n) content part opened is_open o h = omega (arith, ap length h.3, length-append h.0 (13 ∷ 10 ∷ h.1))
+nowhere Return content part opened is_open o h = let e : [] ≡ 13 ∷ 10 ∷ h.0 = h.1 in cc
+nowhere LineFeed content part opened is_open o h = let e : [] ≡ 10 ∷ h.0 = h.1 in cc
+nowhere Trailer content part opened is_open None h = h
+nowhere Trailer content part opened is_open (Some body) h = let t = subst HasTrailer (append-nil part) h.0 in opened.2 t.0 t.1 t.2 t.3.reads
 
-ends_nowhere : (s : Stand) → IsOpen s → is_whole s.phase ≡ false → (o : Option (List ℕ)) → ¬ (Becomes s [] o)
-ends_nowhere s opened open_ o h = nowhere s.phase s.content s.part opened open_ o h
+ends_nowhere : (s : BodyState) → IsOpen s → is_whole s.phase ≡ false → (o : Option (List ℕ)) → ¬ (Becomes s [] o)
+ends_nowhere s opened is_open o h = nowhere s.phase s.content s.part opened is_open o h
 
-pub not_yet_in_body : (head bytes fed : List ℕ) (body : Stand) (k : RequestHead) → IsOpen body → is_whole body.phase ≡ false → IsBehind head body bytes k fed → NotYet bytes
-not_yet_in_body head bytes fed body k opened open_ is j o reads =
+pub not_yet_in_body : (head bytes fed : List ℕ) (body : BodyState) (k : RequestHead) → IsOpen body → is_whole body.phase ≡ false → IsBehind head body bytes k fed → NotYet bytes
+not_yet_in_body head bytes fed body k opened is_open is j o reads =
     let P : List ℕ → Type 0 = λ s. Reads s j o in
-    ends_nowhere body opened open_ o (is.forward [] o (reads_behind head bytes fed [] body k j o is (subst P (sym (append-nil bytes)) reads)))
+    ends_nowhere body opened is_open o (is.forward [] o (reads_behind head bytes fed [] body k j o is (subst P (sym (append-nil bytes)) reads)))
 
 pub whole_in_body : (head bytes fed content part : List ℕ) (k : RequestHead) → IsBehind head (at Whole content part) bytes k fed → BeginsWith bytes (message_of k content)
 whole_in_body head bytes fed content part k is =
     let P : List ℕ → Type 0 = λ s. Reads s k (Some content) in
     (k, content, subst P (append-nil bytes) (reads_ahead head bytes fed [] (at Whole content part) k (Some content) is (is.backward [] (Some content) refl)), refl)
 
-told_in_body : (head bytes fed : List ℕ) (body : Stand) (k : RequestHead) (done : Bool) → done ≡ is_whole body.phase → IsOpen body → IsBehind head body bytes k fed → Tells bytes (Ok done)
-told_in_body head bytes fed body k true e opened is =
+reports_in_body : (head bytes fed : List ℕ) (body : BodyState) (k : RequestHead) (done : Bool) → done ≡ is_whole body.phase → IsOpen body → IsBehind head body bytes k fed → Reports bytes (Ok done)
+reports_in_body head bytes fed body k true e opened is =
     let whole : body.phase ≡ Whole = whole_is body.phase (sym e) in
     let P : Phase → Type 0 = λ p. IsBehind head (at p body.content body.part) bytes k fed in
     (message_of k body.content, whole_in_body head bytes fed body.content body.part k (subst P whole is))
-told_in_body head bytes fed body k false e opened is = not_yet_in_body head bytes fed body k opened (sym e) is
+reports_in_body head bytes fed body k false e opened is = not_yet_in_body head bytes fed body k opened (sym e) is
 
-pub told : (p : Progress) (bytes : List ℕ) → IsSound p → fault_in p ≡ None → Holds p bytes → Tells bytes (Ok (is_done p))
-told (in_head head) bytes sound fine h = not_yet_in_head head bytes sound.1 h
-told (in_body head body) bytes sound fine h = told_in_body head bytes h.1 body h.0 (is_whole body.phase) refl sound.1 h.2
-told (failed e) bytes sound fine h = absurd cc
+pub reports_at : (p : Progress) (bytes : List ℕ) → IsSound p → fault_in p ≡ None → Holds p bytes → Reports bytes (Ok (is_done p))
+reports_at (in_head head) bytes sound fine h = not_yet_in_head head bytes sound.1 h
+reports_at (in_body head body) bytes sound fine h = reports_in_body head bytes h.1 body h.0 (is_whole body.phase) refl sound.1 h.2
+reports_at (failed e) bytes sound fine h = absurd cc
 
 -- ---- from a head on
 
--- the piece is the rest of the head, and what stands behind it
+-- the piece is the rest of the head, and what is behind it
 split : (part text piece bytes : List ℕ) (n : ℕ) → part ++ take n piece ≡ text → bytes ≡ part → text ++ drop n piece ≡ bytes ++ piece
 split part text piece bytes n front is =
     ap (λ s. s ++ drop n piece) (sym front) ∙ append_assoc part (take n piece) (drop n piece) ∙ ap (λ s. part ++ s) (take-append-drop n piece) ∙ ap (λ s. s ++ piece) (sym is)
 
-pub into_body : (part text piece : List ℕ) (n : ℕ) (w : Framing) (first new : Stand) → EndsHead part text piece n w → Starts w first → Reaches first new (drop n piece)
+pub into_body : (part text piece : List ℕ) (n : ℕ) (w : Framing) (first new : BodyState) → EndsHead part text piece n w → Starts w first → Reaches first new (drop n piece)
     → Advances (in_head part) (in_body text new) piece (is_whole new.phase)
 into_body part text piece n w first new ends starts reaches =
     let goes = goes_on_behind text first new (drop n piece) ends.short reaches in
@@ -240,46 +240,46 @@ into_body part text piece n w first new ends starts reaches =
       less = λ e. omega (arith, reaches.less e, starts.less, ap length ends.front, length-append part (take n piece), take_len n piece, length-drop n piece, ends.within, ends.short);
     }
 
-pub stops_behind : (e : HttpFault) (part text piece : List ℕ) (n : ℕ) (w : Framing) (first : Stand) → EndsHead part text piece n w → Starts w first → Refuses e first (drop n piece) → Stops (in_head part) piece e
+pub stops_behind : (e : HttpFault) (part text piece : List ℕ) (n : ℕ) (w : Framing) (first : BodyState) → EndsHead part text piece n w → Starts w first → Refuses e first (drop n piece) → Stops (in_head part) piece e
 stops_behind e part text piece n w first ends starts refuses bytes h =
     let P : List ℕ → Type 0 = λ s. Fails e s in
     subst P (split part text piece bytes n ends.front h) (stops_body e text first (drop n piece) refuses text (ends.head, [], unread text text ends.head w first refl ends.short ends.at ends.framed starts))
 
--- ---- at first, and at an answer
+-- ---- before the first byte, and at an answer
 
 pub start_is_sound : IsSound start
 start_is_sound = (omega arith, λ k rest r. omega (arith, ap length r.1, length-append (print_request k) rest, no_bytes k))
 
-pub tells_of : (r : Result Bool HttpFault) (old new : Progress) (piece bytes : List ℕ) → IfOk r (Advances old new piece) → IfErr r (Stops old piece) → Holds old bytes → Tells (bytes ++ piece) r
-tells_of (Err e) old new piece bytes ok err h = err bytes h
-tells_of (Ok done) old new piece bytes ok err h =
-    let P : Bool → Type 0 = λ b. Tells (bytes ++ piece) (Ok b) in subst P (sym ok.done_is) (told new (bytes ++ piece) ok.sound ok.fine (ok.holds bytes h))
+pub reports_of : (r : Result Bool HttpFault) (old new : Progress) (piece bytes : List ℕ) → IfOk r (Advances old new piece) → IfErr r (Stops old piece) → Holds old bytes → Reports (bytes ++ piece) r
+reports_of (Err e) old new piece bytes ok err h = err bytes h
+reports_of (Ok done) old new piece bytes ok err h =
+    let P : Bool → Type 0 = λ b. Reports (bytes ++ piece) (Ok b) in subst P (sym ok.done_is) (reports_at new (bytes ++ piece) ok.sound ok.fine (ok.holds bytes h))
 
 -- ---- a decoder by the bytes that it was fed
 
 -- a message that was fed is whole
 pub whole_there : (p : Progress) (bytes : List ℕ) (m : Message) → IsSound p → fault_in p ≡ None → Holds p bytes → BeginsWith bytes m → is_done p ≡ true
-whole_there p bytes m sound fine h b = by_answer (is_done p) refl (told p bytes sound fine h)
+whole_there p bytes m sound fine h b = by_answer (is_done p) refl (reports_at p bytes sound fine h)
   where
-    by_answer : (done : Bool) → is_done p ≡ done → Tells bytes (Ok done) → is_done p ≡ true
+    by_answer : (done : Bool) → is_done p ≡ done → Reports bytes (Ok done) → is_done p ≡ true
     by_answer true is t = is
     by_answer false is t = absurd (t b.0 (Some b.1) b.2)
 
 -- ---- a body by what its feeding answered
 
-advanced_at : (head : List ℕ) (old new : Stand) (piece : List ℕ) (done : Bool) → length head ≤ 16384 → Reaches old new piece → done ≡ is_whole new.phase → Advances (in_body head old) (in_body head new) piece done
+advanced_at : (head : List ℕ) (old new : BodyState) (piece : List ℕ) (done : Bool) → length head ≤ 16384 → Reaches old new piece → done ≡ is_whole new.phase → Advances (in_body head old) (in_body head new) piece done
 advanced_at head old new piece done short reaches is = let P : Bool → Type 0 = λ b. Advances (in_body head old) (in_body head new) piece b in subst P (sym is) (goes_on_behind head old new piece short reaches)
 
-pub advanced : (r : Result Bool HttpFault) (head : List ℕ) (old new : Stand) (piece : List ℕ) → length head ≤ 16384 → IfOk r (λ done. Reaches old new piece × (done ≡ is_whole new.phase)) → IfOk r (Advances (in_body head old) (in_body head new) piece)
+pub advanced : (r : Result Bool HttpFault) (head : List ℕ) (old new : BodyState) (piece : List ℕ) → length head ≤ 16384 → IfOk r (λ done. Reaches old new piece × (done ≡ is_whole new.phase)) → IfOk r (Advances (in_body head old) (in_body head new) piece)
 advanced (Ok done) head old new piece short ok = advanced_at head old new piece done short ok.0 ok.1
 advanced (Err e) head old new piece short ok = tt
 
-pub stopped : (r : Result Bool HttpFault) (head : List ℕ) (old : Stand) (piece : List ℕ) → IfErr r (λ e. Refuses e old piece) → IfErr r (Stops (in_body head old) piece)
+pub stopped : (r : Result Bool HttpFault) (head : List ℕ) (old : BodyState) (piece : List ℕ) → IfErr r (λ e. Refuses e old piece) → IfErr r (Stops (in_body head old) piece)
 stopped (Ok done) head old piece refuses = tt
 stopped (Err e) head old piece refuses = stops_body e head old piece refuses
 
-pub begun : (part text piece : List ℕ) (n : ℕ) (w : Framing) (first new : Stand) (done : Bool) → EndsHead part text piece n w → Starts w first → Reaches first new (drop n piece) → done ≡ is_whole new.phase → Advances (in_head part) (in_body text new) piece done
+pub begun : (part text piece : List ℕ) (n : ℕ) (w : Framing) (first new : BodyState) (done : Bool) → EndsHead part text piece n w → Starts w first → Reaches first new (drop n piece) → done ≡ is_whole new.phase → Advances (in_head part) (in_body text new) piece done
 begun part text piece n w first new done ends starts reaches is = let P : Bool → Type 0 = λ b. Advances (in_head part) (in_body text new) piece b in subst P (sym is) (into_body part text piece n w first new ends starts reaches)
 
-pub some_fed : (head : List ℕ) (body : Stand) → ¬ (Holds (in_body head body) [])
+pub some_fed : (head : List ℕ) (body : BodyState) → ¬ (Holds (in_body head body) [])
 some_fed head body h = some_bytes [] h.1 h.0 (head_behind head [] h.1 body h.0 h.2) refl

@@ -1,9 +1,10 @@
--- What is answered of the bytes of a message.
+-- What is answered about the bytes of a request.
 use Rattle.std.specs.Prelude.{◌≡◌, ◌≢◌, ◌⊎◌, ℕ, List, [], Bool, true, false, None, Result, Ok, Err, ⊤}
 use Rattle.httparse.specs.Grammar.{RequestHead, NeverHasRequest}
 use Rattle.http_edge.specs.declared.fault.HttpFault.{HttpFault}
 use Rattle.http_edge.specs.declared.fault.HttpFault.TheVariants.{Closed, BadHead, TooManyHeaders, HeadTooLong, BadLength, BodyTooLong, BadChunk, Truncated, Io, NoMemory}
 use Rattle.http_edge.specs.declared.request.Request.{Request}
+use Rattle.http_edge.specs.Form.{Form, IsAnswer, IsLasting}
 use Rattle.http_edge.specs.Message.{Message, IsHeadAt}
 use Rattle.http_edge.specs.Head.{HasTooManyFields, HasLongHead}
 use Rattle.http_edge.specs.Reading.{framing_in, BeginsWith, IsTooLong, NotYet, Never}
@@ -30,33 +31,25 @@ Explains Truncated bytes = (bytes ≢ []) × NotYet bytes
 Explains Io bytes = ⊥
 Explains NoMemory bytes = ⊤
 
--- of bytes that end here
+-- a request as a form of message
+abbrev pub request_form : Form Message Request
+request_form = record { begins = BeginsWith; seen = message_in; not_yet = NotYet; explains = Explains }
+
+-- an answer about bytes that end here
 abbrev pub Answers : List ℕ → Result Request HttpFault → Type 0
-Answers bytes (Ok r) = BeginsWith bytes (message_in r)
-Answers bytes (Err e) = Explains e bytes
+Answers bytes r = IsAnswer request_form bytes r
 
--- a fault that more bytes do not mend
-abbrev pub IsLasting : HttpFault → Type 0
-IsLasting Closed = ⊥
-IsLasting Truncated = ⊥
-IsLasting Io = ⊥
-IsLasting e = ⊤
-
+-- the fault lasts, and this is what it says
 abbrev pub Fails : HttpFault → List ℕ → Type 0
 Fails e bytes = IsLasting e × Explains e bytes
 
--- of bytes that others may follow: true where a message stands at their front
-abbrev pub Tells : List ℕ → Result Bool HttpFault → Type 0
-Tells bytes (Ok true) = (m : Message) × BeginsWith bytes m
-Tells bytes (Ok false) = NotYet bytes
-Tells bytes (Err e) = Fails e bytes
-
--- where a message stands at the front, it is answered, unless memory ran out
-abbrev pub Gives : Message → Result Request HttpFault → Type 0
-Gives m (Ok r) = message_in r ≡ m
-Gives m (Err e) = e ≡ NoMemory
+-- what a feed returns of bytes that more may follow: true where they begin with a message
+abbrev pub Reports : List ℕ → Result Bool HttpFault → Type 0
+Reports bytes (Ok true) = (m : Message) × BeginsWith bytes m
+Reports bytes (Ok false) = NotYet bytes
+Reports bytes (Err e) = Fails e bytes
 
 -- where the size is the first thing that is wrong, BodyTooLong is answered, unless memory ran out
-abbrev pub TellsTooLong : Result Request HttpFault → Type 0
-TellsTooLong (Ok r) = ⊥
-TellsTooLong (Err e) = (e ≡ BodyTooLong) ⊎ (e ≡ NoMemory)
+abbrev pub ReportsTooLong : Result Request HttpFault → Type 0
+ReportsTooLong (Ok r) = ⊥
+ReportsTooLong (Err e) = (e ≡ BodyTooLong) ⊎ (e ≡ NoMemory)

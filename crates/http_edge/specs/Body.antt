@@ -1,4 +1,4 @@
--- What a body that is being read may still become.
+-- What a body that is being read can still become.
 use Rattle.std.specs.Prelude.{◌≡◌, ℕ, ◌+◌, ◌-◌, ◌*◌, ◌<◌, ◌≤◌, Bool, true, false, List, [], ◌∷◌, ◌++◌, length, take, Option, Some, None, Result, Ok, Err, ⊤}
 use Rattle.httparse.specs.Grammar.{HasNoChunkLine, HasNoSection}
 use Rattle.http_edge.specs.declared.fault.HttpFault.{HttpFault}
@@ -9,14 +9,14 @@ use Rattle.http_edge.specs.declared.body.Body.{Body}
 use Rattle.http_edge.specs.declared.limits.TheConstants.{MAX_BODY, MAX_LINE, MAX_TRAILER}
 use Rattle.http_edge.specs.Chunks.{room, HasTrailer, HasChunks}
 
--- where the reading of a body stands: the phase, the content so far, and the part of a line or a trailer section so far
-pub record Stand : Type 0 where
+-- how far a body was read: the phase, the content so far, and the part so far of a size line or of the trailer section
+pub record BodyState : Type 0 where
   pub phase : Phase
   pub content : List ℕ
   pub part : List ℕ
 
-abbrev pub stand_of : Body → Stand
-stand_of b = record { phase = b.phase; content = b.content.items; part = b.part.items }
+abbrev pub body_state : Body → BodyState
+body_state b = record { phase = b.phase; content = b.content.items; part = b.part.items }
 
 -- with more behind it, the content so far becomes that body, or None where a size is the first thing that is wrong
 abbrev pub Grows : Phase → List ℕ → List ℕ → List ℕ → Option (List ℕ) → Type 0
@@ -31,7 +31,7 @@ Grows Trailer content part more None = ⊥
 Grows Whole content part more (Some body) = body ≡ content
 Grows Whole content part more None = ⊥
 
-abbrev pub Becomes : Stand → List ℕ → Option (List ℕ) → Type 0
+abbrev pub Becomes : BodyState → List ℕ → Option (List ℕ) → Type 0
 Becomes s more body = Grows s.phase s.content s.part more body
 
 -- what is kept in each phase
@@ -44,7 +44,7 @@ Fits LineFeed content part = (length content ≤ MAX_BODY) × (part ≡ [])
 Fits Trailer content part = (length part < MAX_TRAILER) × (length content ≤ MAX_BODY) × HasNoSection part
 Fits Whole content part = (length content ≤ MAX_BODY) × (part ≡ [])
 
-abbrev pub IsOpen : Stand → Type 0
+abbrev pub IsOpen : BodyState → Type 0
 IsOpen s = Fits s.phase s.content s.part
 
 abbrev pub is_whole : Phase → Bool
@@ -70,29 +70,29 @@ most_at LineFeed content part = 1 + most_of_chunks (room content)
 most_at Trailer content part = MAX_TRAILER - length part
 most_at Whole content part = 0
 
-abbrev pub most_left : Stand → ℕ
+abbrev pub most_left : BodyState → ℕ
 most_left s = most_at s.phase s.content s.part
 
--- from new, any bytes come to what these and then they come to from old
-pub record Steps (old new : Stand) (bytes : List ℕ) : Type 0 where
+-- any bytes become from new what they become behind these from old
+pub record Steps (old new : BodyState) (bytes : List ℕ) : Type 0 where
   pub forward : (more : List ℕ) (body : Option (List ℕ)) → Becomes old (bytes ++ more) body → Becomes new more body
   pub backward : (more : List ℕ) (body : Option (List ℕ)) → Becomes new more body → Becomes old (bytes ++ more) body
 
--- new is open, is where the bytes lead from old, and has so many bytes less to come
-pub record Reaches (old new : Stand) (bytes : List ℕ) : Type 0 where
+-- the bytes lead from old to new, which is open and has so many bytes less to come
+pub record Reaches (old new : BodyState) (bytes : List ℕ) : Type 0 where
   pub opened : IsOpen new
   pub steps : Steps old new bytes
   pub kept : is_whole new.phase ≡ false → is_whole old.phase ≡ false
   pub less : is_whole new.phase ≡ false → most_left new + length bytes ≤ most_left old
 
--- why the bytes lead nowhere from there: no body, whatever follows; or a size over the room, whatever follows
-abbrev pub Refuses : HttpFault → Stand → List ℕ → Type 0
+-- why the bytes lead nowhere: there is no body, whatever follows; or a size over the room, whatever follows
+abbrev pub Refuses : HttpFault → BodyState → List ℕ → Type 0
 Refuses BadChunk old bytes = (more : List ℕ) (body : Option (List ℕ)) → ¬ (Becomes old (bytes ++ more) body)
 Refuses BodyTooLong old bytes = (more : List ℕ) → Becomes old (bytes ++ more) None
 Refuses NoMemory old bytes = ⊤
 Refuses e old bytes = ⊥
 
--- n bytes of the piece were taken, at least one, and lead there; or the piece leads nowhere
-abbrev pub IsStep : Stand → Stand → List ℕ → Result ℕ HttpFault → Type 0
+-- n bytes of the piece were taken, at least one, and lead from old to new; or the piece leads nowhere
+abbrev pub IsStep : BodyState → BodyState → List ℕ → Result ℕ HttpFault → Type 0
 IsStep old new piece (Ok n) = (0 < n) × (n ≤ length piece) × Reaches old new (take n piece)
 IsStep old new piece (Err e) = Refuses e old piece

@@ -16,6 +16,6 @@ abbrev pub HasValues : List ℕ → List Header → Option (List ℕ × List Hea
 HasValues name hs None = values_of name hs ≡ []
 HasValues name hs (Some found) = values_of name hs ≡ found.0 ∷ values_of name found.1
 
--- a value and fields without where they lie in memory
+-- a value and fields as plain values
 abbrev pub seen_in : Option (Bor (List ℕ) × Bor (List kept.Header)) → Option (List ℕ × List Header)
 seen_in found = option_map (λ f. (f.0.now, headers_in f.1.now)) found

@@ -15,19 +15,19 @@ unfoldable pub values_of : List ℕ → List Header → List (List ℕ)
 values_of name hs = map (λ h. h.1) (filter (is_named name) hs)
 
 -- a body of as many bytes as the text says
-abbrev pub sized_by : List ℕ → Option Framing
-sized_by v = option_map (λ n. Sized n) (number v)
+abbrev pub framing_by_length : List ℕ → Option Framing
+framing_by_length v = option_map (λ n. Sized n) (number v)
 
 -- the one coding that is known, and only in HTTP/1.1
-abbrev pub coded_by : ℕ → List ℕ → Option Framing
-coded_by minor v = if str_eq_ignore_ascii_case v (codes "chunked") && (minor == 1) then Some Chunked else None
+abbrev pub framing_by_coding : ℕ → List ℕ → Option Framing
+framing_by_coding minor v = if str_eq_ignore_ascii_case v (codes "chunked") && (minor == 1) then Some Chunked else None
 
 -- one coding and no length, or one length and no coding, or neither
 abbrev pub framing_of : ℕ → List (List ℕ) → List (List ℕ) → Option Framing
 framing_of minor [] [] = Some (Sized 0)
-framing_of minor [] (v ∷ []) = sized_by v
+framing_of minor [] (v ∷ []) = framing_by_length v
 framing_of minor [] (v ∷ w ∷ vs) = None
-framing_of minor (c ∷ []) [] = coded_by minor c
+framing_of minor (c ∷ []) [] = framing_by_coding minor c
 framing_of minor (c ∷ []) (v ∷ vs) = None
 framing_of minor (c ∷ d ∷ cs) vs = None
 

@@ -5,13 +5,13 @@ pub mod Reading
 pub mod Framed
 pub mod Body
 pub mod Head
+pub mod Form
 pub mod Answer
 pub mod Holds
 pub mod Request
 pub mod Find
-pub mod Finish
 pub mod Delivery
 pub mod Sent
-pub mod Joined
+pub mod WriteBuffer
 pub mod Texts
 pub mod Reply

@@ -7,7 +7,7 @@ use Rattle.http_edge.specs.declared.limits.TheConstants.{MAX_FIELDS, MAX_HEAD}
 abbrev pub Header : Type 0
 Header = List ℕ × List ℕ
 
--- a request without where it lies in memory
+-- a request as a plain value
 pub record Message : Type 0 where
   pub method : List ℕ
   pub target : List ℕ
@@ -20,6 +20,6 @@ pub record IsHeadAt (buf : List ℕ) (head : RequestHead) (after : List ℕ) : T
   pub few : length head.fields ≤ MAX_FIELDS
   pub short : length (print_request head) ≤ MAX_HEAD
 
--- whatever bytes follow, no head within the limits stands at the front
+-- whatever bytes follow, they do not begin with a head within the limits
 abbrev pub NeverHead : List ℕ → Type 0
 NeverHead buf = (more : List ℕ) (head : RequestHead) (after : List ℕ) → ¬ (IsHeadAt (buf ++ more) head after)

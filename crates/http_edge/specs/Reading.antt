@@ -14,7 +14,7 @@ abbrev pub HasSized : ℕ → List ℕ → Option (List ℕ) → Type 0
 HasSized n after (Some body) = (n ≤ MAX_BODY) × (length body ≡ n) × ((rest : List ℕ) × (after ≡ body ++ rest))
 HasSized n after None = MAX_BODY < n
 
--- the body that stands behind a head, or None where its size is the first thing that is wrong
+-- the body behind a head, or None where its size is the first thing that is wrong
 abbrev pub HasBody : Option Framing → List ℕ → Option (List ℕ) → Type 0
 HasBody None after body = ⊥
 HasBody (Some (Sized n)) after body = HasSized n after body
@@ -44,10 +44,10 @@ BeginsWith buf m = (head : RequestHead) × (body : List ℕ) × Reads buf head (
 abbrev pub IsTooLong : List ℕ → Type 0
 IsTooLong buf = (head : RequestHead) × Reads buf head None
 
--- neither, as yet
+-- the bytes begin with neither
 abbrev pub NotYet : List ℕ → Type 0
 NotYet buf = (head : RequestHead) (body : Option (List ℕ)) → ¬ (Reads buf head body)
 
--- neither, whatever bytes follow
+-- they begin with neither, whatever bytes follow
 abbrev pub Never : List ℕ → Type 0
 Never buf = (more : List ℕ) → NotYet (buf ++ more)

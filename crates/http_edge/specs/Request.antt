@@ -1,4 +1,4 @@
--- A request without where it lies in memory.
+-- A request as a plain value.
 use Rattle.std.specs.Prelude.{ℕ, List, map, take}
 use Rattle.httparse.specs.declared.spans.HeaderSpan.{HeaderSpan}
 use Rattle.httparse.specs.declared.spans.RequestSpans.{RequestSpans}
@@ -17,5 +17,5 @@ abbrev pub message_in : Request → Message
 message_in r = record { method = r.method; target = r.target.items; headers = headers_in r.headers.items; body = r.body.items }
 
 -- the message of that body whose head the spans cover
-abbrev pub shown : List ℕ → List HeaderSpan → RequestSpans → List ℕ → Message
-shown buf spans r body = record { method = span_bytes buf r.method; target = span_bytes buf r.path; headers = map (header_bytes buf) (take r.headers spans); body = body }
+abbrev pub message_at : List ℕ → List HeaderSpan → RequestSpans → List ℕ → Message
+message_at buf spans r body = record { method = span_bytes buf r.method; target = span_bytes buf r.path; headers = map (header_bytes buf) (take r.headers spans); body = body }

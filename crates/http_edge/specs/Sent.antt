@@ -10,23 +10,23 @@ Sent old new text All = Appends old new text
 Sent old new text None_ = Keeps old new
 Sent old new text (Part n) = Appends old new (take n text) × (0 < n) × (n < length text)
 
--- the failed calls at first and at last: none at All, and else one, so that nothing was tried again
+-- the count of failed calls before and after: none failed at All, and else one, so nothing was tried again
 abbrev pub Failed : (ℕ → ℕ) → ℕ → ℕ → Written → Type 0
 Failed one_more old new All = new ≡ old
 Failed one_more old new None_ = new ≡ one_more old
 Failed one_more old new (Part n) = new ≡ one_more old
 
--- what is told where so many bytes were taken, and not all
+-- what is returned where so many bytes were taken, and not all
 abbrev pub cut_after : ℕ → Written
 cut_after zero = None_
 cut_after (suc n) = Part (suc n)
 
--- the sink took so many of the bytes, not all, behind those that were sent, and that is told
-pub record IsCut (old new : Option (List ℕ)) (sent : ℕ) (bytes : List ℕ) (told : Written) : Type 0 where
+-- the sink took some of the bytes, not all, behind those that were sent, and that is the answer
+pub record IsCut (old new : Option (List ℕ)) (sent : ℕ) (bytes : List ℕ) (answer : Written) : Type 0 where
   pub many : ℕ
   pub fewer : many < length bytes
   pub taken : Appends old new (take many bytes)
-  pub told_is : told ≡ cut_after (sent + many)
+  pub answer_is : answer ≡ cut_after (sent + many)
 
 -- the sink took all of the bytes, or was cut
 abbrev pub Ends : Option (List ℕ) → Option (List ℕ) → ℕ → List ℕ → Written → Type 0

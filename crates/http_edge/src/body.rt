@@ -1,6 +1,6 @@
-//! A body as it comes (RFC 9112, sections 6 and 7).
+//! A body that is being read (RFC 9112, sections 6 and 7).
 ghost use Rattle.std.specs.Prelude.{◌≡◌, ◌<◌, ◌≤◌, length, IfErr, OnOk};
-ghost use Rattle.http_edge.specs.Body.{stand_of, is_whole, IsOpen, Reaches, Refuses, IsStep};
+ghost use Rattle.http_edge.specs.Body.{body_state, is_whole, IsOpen, Reaches, Refuses, IsStep};
 
 use crate::fault::HttpFault;
 use crate::limits::{MAX_BODY, MAX_FIELDS, MAX_LINE, MAX_TRAILER};
@@ -8,7 +8,8 @@ use crate::phase::Phase;
 use httparse::spans::{EMPTY_HEADER_SPAN, parse_headers};
 use httparse::{Status, parse_chunk_size};
 
-/// A body that is being read: the content so far, and the part so far of a size line or of a trailer section.
+/// A body that is being read: the content so far, and the part so far of a size line or of a
+/// trailer section.
 #[derive(Drop)]
 pub struct Body {
     pub content: Vec<u8>,
@@ -16,7 +17,8 @@ pub struct Body {
     pub phase: Phase,
 }
 
-/// How many of the bytes to look at for a line: those up to its line feed, and no more than there is room for.
+/// How many of the bytes to look at for a line: those up to its line feed, and no more than there
+/// is room for.
 fn line_len(bytes: &[u8], room: usize) -> usize
     requires some { 0 < length bytes.now }
     requires room { 0 < room }
@@ -32,17 +34,16 @@ fn line_len(bytes: &[u8], room: usize) -> usize
 }
 
 impl Body {
-    /// Takes some bytes of a body that has `left` bytes to come.
+    /// Takes some bytes of a body of a known length (RFC 9112, section 6.2), `left` of which are to
+    /// come.
     fn take_counted(&mut self, left: usize, piece: &[u8]) -> Result<usize, HttpFault>
         requires phase { self.old.phase ≡ Phase.Counted left }
-        requires open_ { IsOpen (stand_of self.old) }
+        requires is_open { IsOpen (body_state self.old) }
         requires some { 0 < length piece.now }
-        ensures { IsStep (stand_of self.old) (stand_of self.new) piece.now result }
+        ensures { IsStep (body_state self.old) (body_state self.new) piece.now result }
     {
         let n = left.min(piece.len());
-        if self.content.extend_from_slice(&piece[..n]).is_err() {
-            return Err(HttpFault::NoMemory);
-        }
+        self.content.extend_from_slice(&piece[..n])?;
         if n == left {
             self.phase = Phase::Whole;
             return Ok(n);
@@ -51,17 +52,15 @@ impl Body {
         Ok(n)
     }
 
-    /// Takes some bytes of a chunk that has `left` bytes to come.
+    /// Takes some bytes of a chunk (RFC 9112, section 7.1), `left` of which are to come.
     fn take_content(&mut self, left: usize, piece: &[u8]) -> Result<usize, HttpFault>
         requires phase { self.old.phase ≡ Phase.Content left }
-        requires open_ { IsOpen (stand_of self.old) }
+        requires is_open { IsOpen (body_state self.old) }
         requires some { 0 < length piece.now }
-        ensures { IsStep (stand_of self.old) (stand_of self.new) piece.now result }
+        ensures { IsStep (body_state self.old) (body_state self.new) piece.now result }
     {
         let n = left.min(piece.len());
-        if self.content.extend_from_slice(&piece[..n]).is_err() {
-            return Err(HttpFault::NoMemory);
-        }
+        self.content.extend_from_slice(&piece[..n])?;
         if n == left {
             self.phase = Phase::Return;
             return Ok(n);
@@ -73,9 +72,9 @@ impl Body {
     /// Takes the carriage return behind a chunk.
     fn take_return(&mut self, piece: &[u8]) -> Result<usize, HttpFault>
         requires phase { self.old.phase ≡ Phase.Return }
-        requires open_ { IsOpen (stand_of self.old) }
+        requires is_open { IsOpen (body_state self.old) }
         requires some { 0 < length piece.now }
-        ensures { IsStep (stand_of self.old) (stand_of self.new) piece.now result }
+        ensures { IsStep (body_state self.old) (body_state self.new) piece.now result }
     {
         if piece[0] != b'\r' {
             return Err(HttpFault::BadChunk);
@@ -87,9 +86,9 @@ impl Body {
     /// Takes the line feed behind a chunk.
     fn take_line_feed(&mut self, piece: &[u8]) -> Result<usize, HttpFault>
         requires phase { self.old.phase ≡ Phase.LineFeed }
-        requires open_ { IsOpen (stand_of self.old) }
+        requires is_open { IsOpen (body_state self.old) }
         requires some { 0 < length piece.now }
-        ensures { IsStep (stand_of self.old) (stand_of self.new) piece.now result }
+        ensures { IsStep (body_state self.old) (body_state self.new) piece.now result }
     {
         if piece[0] != b'\n' {
             return Err(HttpFault::BadChunk);
@@ -99,18 +98,16 @@ impl Body {
         Ok(1)
     }
 
-    /// Takes a size line, or some bytes of one.
+    /// Takes a size line, or some bytes of one (RFC 9112, section 7.1).
     fn take_line(&mut self, piece: &[u8]) -> Result<usize, HttpFault>
         requires phase { self.old.phase ≡ Phase.Line }
-        requires open_ { IsOpen (stand_of self.old) }
+        requires is_open { IsOpen (body_state self.old) }
         requires some { 0 < length piece.now }
-        ensures { IsStep (stand_of self.old) (stand_of self.new) piece.now result }
+        ensures { IsStep (body_state self.old) (body_state self.new) piece.now result }
     {
         let had = self.part.len();
         let n = line_len(piece, MAX_LINE - had);
-        if self.part.extend_from_slice(&piece[..n]).is_err() {
-            return Err(HttpFault::NoMemory);
-        }
+        self.part.extend_from_slice(&piece[..n])?;
         match parse_chunk_size(&self.part) {
             Ok(Status::Complete((len, size))) => {
                 let taken = len - had;
@@ -135,17 +132,16 @@ impl Body {
         }
     }
 
-    /// Takes the trailer section, which is thrown away, or some bytes of it.
+    /// Takes the trailer section, which is thrown away, or some bytes of it (RFC 9112, section
+    /// 7.1.2).
     fn take_trailer(&mut self, piece: &[u8]) -> Result<usize, HttpFault>
         requires phase { self.old.phase ≡ Phase.Trailer }
-        requires open_ { IsOpen (stand_of self.old) }
+        requires is_open { IsOpen (body_state self.old) }
         requires some { 0 < length piece.now }
-        ensures { IsStep (stand_of self.old) (stand_of self.new) piece.now result }
+        ensures { IsStep (body_state self.old) (body_state self.new) piece.now result }
     {
         let n = piece.len().min(MAX_TRAILER - self.part.len());
-        if self.part.extend_from_slice(&piece[..n]).is_err() {
-            return Err(HttpFault::NoMemory);
-        }
+        self.part.extend_from_slice(&piece[..n])?;
         let mut spans = [EMPTY_HEADER_SPAN; MAX_FIELDS];
         match parse_headers(&self.part, &mut spans) {
             Ok(Status::Complete(_)) => {
@@ -163,11 +159,11 @@ impl Body {
         }
     }
 
-    /// Takes some bytes of what comes next.
+    /// Takes some bytes of whatever the phase asks for.
     fn step(&mut self, piece: &[u8]) -> Result<usize, HttpFault>
-        requires open_ { IsOpen (stand_of self.old) }
+        requires is_open { IsOpen (body_state self.old) }
         requires some { 0 < length piece.now }
-        ensures { IsStep (stand_of self.old) (stand_of self.new) piece.now result }
+        ensures { IsStep (body_state self.old) (body_state self.new) piece.now result }
     {
         match self.phase {
             Phase::Counted(left) => self.take_counted(left, piece),
@@ -180,11 +176,12 @@ impl Body {
         }
     }
 
-    /// Takes a piece. What stands behind the body is thrown away.
+    /// Takes a piece. Bytes behind the body are thrown away.
     pub fn feed(&mut self, piece: &[u8]) -> Result<(), HttpFault>
-        requires { IsOpen (stand_of self.old) }
-        ensures reaches { OnOk result (Reaches (stand_of self.old) (stand_of self.new) piece.now) }
-        ensures fault { IfErr result (λ e. Refuses e (stand_of self.old) piece.now) }
+        requires { IsOpen (body_state self.old) }
+        ensures reaches { OnOk result
+            (Reaches (body_state self.old) (body_state self.new) piece.now) }
+        ensures fault { IfErr result (λ e. Refuses e (body_state self.old) piece.now) }
     {
         let mut at = 0;
         'steps: while at < piece.len() {
@@ -193,6 +190,7 @@ impl Body {
         Ok(())
     }
 
+    /// The body is whole.
     pub fn is_whole(&self) -> bool
         ensures { result ≡ is_whole self.now.phase }
     {

@@ -1,8 +1,8 @@
-//! Messages of HTTP/1.x at the gateway's edge, byte for byte and however the bytes are cut.
-//! `read_message` reads the request that a source's bytes begin with; it feeds a `Decoder`, which takes pieces.
-//! `read_response` reads what the head of a response says, and leaves its body alone.
-//! `write_response` and `write_post` write a response and a request, and tell how much of it went.
-//! A request stands whole in memory, within the limits; nothing here opens, waits or tries again.
+//! Messages of HTTP/1.0 and 1.1, byte for byte and however the bytes are cut.
+//! `read_message` reads the request that a source's bytes begin with, through a `Decoder`.
+//! `read_response` reads the status and the first `Retry-After` of a response, and not its body.
+//! `write_response` and `write_post` write a response and a request, and return how much went out.
+//! A request is whole in memory, within the limits; nothing here opens, waits or tries again.
 #![tactic(auto)]
 
 mod body;
@@ -11,7 +11,6 @@ mod fault;
 mod framing;
 mod head;
 mod header;
-mod joined;
 mod laws;
 mod limits;
 mod machine;
@@ -21,6 +20,7 @@ mod reply;
 mod request;
 mod response;
 mod write;
+mod write_buffer;
 mod written;
 
 pub use decoder::Decoder;

@@ -1,13 +1,16 @@
 //! The machine that reads a message from pieces of its bytes.
-ghost use Rattle.std.specs.Prelude.{◌≡◌, ◌≢◌, ◌+◌, ◌≤◌, ◌<◌, ◌++◌, List, ℕ, Some, None, [], length, true, Ok, Err, IfOk, IfErr};
+ghost use Rattle.std.specs.Prelude.{◌≡◌, ◌≢◌, ◌+◌, ◌≤◌, ◌<◌, ◌++◌, List, ℕ, Some, None, Ok, Err};
+ghost use Rattle.std.specs.Prelude.{[], length, true, IfOk, IfErr};
 ghost use Rattle.std.specs.Result.{result_err};
-ghost use Rattle.http_edge.specs.Answer.{Fails, Answers};
+ghost use Rattle.http_edge.specs.Form.{Gives};
+ghost use Rattle.http_edge.specs.Answer.{Fails, Answers, request_form};
 ghost use Rattle.httparse.specs.Grammar.{RequestHead, HasNoRequest};
 ghost use Rattle.http_edge.specs.Message.{IsHeadAt};
-ghost use Rattle.http_edge.specs.Reading.{NotYet};
-ghost use Rattle.http_edge.specs.Body.{stand_of, is_whole, IsOpen, Reaches, Refuses};
-ghost use Rattle.http_edge.specs.Finish.{IsRequestOf};
-ghost use Rattle.http_edge.specs.Holds.{progress_of, start, fault_in, content_in, kept, is_done, IsSound, Holds, TakesHead, Advances, Stops, IsFramed, Starts};
+ghost use Rattle.http_edge.specs.Reading.{NotYet, message_of};
+ghost use Rattle.http_edge.specs.Body.{body_state, is_whole, IsOpen, Reaches, Refuses};
+ghost use Rattle.http_edge.specs.Holds.{progress_of, start, fault_in, content_in};
+ghost use Rattle.http_edge.specs.Holds.{kept_len, IsSound, Holds, TakesHead, IsFed};
+ghost use Rattle.http_edge.specs.Holds.{IsFramed, Starts};
 
 use crate::body::Body;
 use crate::fault::HttpFault;
@@ -20,30 +23,29 @@ use httparse::spans::EMPTY_HEADER_SPAN;
 use std::alloc::Global;
 use std::mem;
 
-/// How far the reading of a message has come.
+/// How far a message was read.
 #[derive(Drop)]
 pub enum Machine {
     /// The bytes of the head so far, or none.
     InHead(Vec<u8>),
     /// The head, and its body so far.
     InBody(Vec<u8>, Body),
-    /// It failed, and stays so.
+    /// It failed, and each later call returns the fault again.
     Failed(HttpFault),
 }
 
 impl Machine {
+    /// Before the first byte.
     pub fn new(alloc: Global) -> Self
         ensures { progress_of result ≡ start }
     {
         Machine::InHead(Vec::new(alloc))
     }
 
+    /// Takes the next piece, and does not yet keep the fault that it returns.
     fn advance(&mut self, alloc: Global, piece: &[u8]) -> Result<bool, HttpFault>
         requires { IsSound (progress_of self.old) }
-        ensures ok { IfOk result (Advances (progress_of self.old) (progress_of self.new) piece.now) }
-        ensures fault { IfErr result (Stops (progress_of self.old) piece.now) }
-        ensures again { (e : HttpFault) → fault_in (progress_of self.old) ≡ Some e → result ≡ Err e }
-        ensures whole { is_done (progress_of self.old) ≡ true → (result ≡ Ok true) × (progress_of self.new ≡ progress_of self.old) }
+        ensures { IsFed (progress_of self.old) (progress_of self.new) piece.now result }
     {
         match self {
             Machine::InHead(head) => {
@@ -61,14 +63,12 @@ impl Machine {
         }
     }
 
+    /// Takes the next piece, and returns whether the message is whole.
     pub fn feed(&mut self, alloc: Global, piece: &[u8]) -> Result<bool, HttpFault>
         requires { IsSound (progress_of self.old) }
+        ensures fed { IsFed (progress_of self.old) (progress_of self.new) piece.now result }
         ensures sound { IsSound (progress_of self.new) }
-        ensures ok { IfOk result (Advances (progress_of self.old) (progress_of self.new) piece.now) }
-        ensures fault { IfErr result (Stops (progress_of self.old) piece.now) }
-        ensures told { fault_in (progress_of self.new) ≡ result_err result }
-        ensures again { (e : HttpFault) → fault_in (progress_of self.old) ≡ Some e → result ≡ Err e }
-        ensures whole { is_done (progress_of self.old) ≡ true → (result ≡ Ok true) × (progress_of self.new ≡ progress_of self.old) }
+        ensures fault_is { fault_in (progress_of self.new) ≡ result_err result }
     {
         match self.advance(alloc, piece) {
             Ok(done) => Ok(done),
@@ -84,8 +84,11 @@ impl Machine {
         requires { IsSound (progress_of self) }
         ensures answers { (bytes : List ℕ) → Holds (progress_of self) bytes → Answers bytes result }
         ensures again { (e : HttpFault) → fault_in (progress_of self) ≡ Some e → result ≡ Err e }
-        ensures closed { Holds (progress_of self) [] → fault_in (progress_of self) ≡ None → result ≡ Err HttpFault.Closed }
-        ensures cut { (bytes : List ℕ) → Holds (progress_of self) bytes → fault_in (progress_of self) ≡ None → bytes ≢ [] → NotYet bytes → result ≡ Err HttpFault.Truncated }
+        ensures closed { Holds (progress_of self) [] → fault_in (progress_of self) ≡ None
+            → result ≡ Err HttpFault.Closed }
+        ensures cut { (bytes : List ℕ) →
+            Holds (progress_of self) bytes → fault_in (progress_of self) ≡ None
+            → bytes ≢ [] → NotYet bytes → result ≡ Err HttpFault.Truncated }
     {
         match self {
             Machine::Failed(fault) => Err(fault),
@@ -104,10 +107,12 @@ impl Machine {
         }
     }
 
+    /// How many bytes are kept.
     pub fn held(&self) -> usize
         requires { IsSound (progress_of self.now) }
-        ensures all { result ≡ kept (progress_of self.now) }
-        ensures small { result ≤ length (content_in (progress_of self.now)) + (MAX_HEAD + MAX_TRAILER) }
+        ensures all { result ≡ kept_len (progress_of self.now) }
+        ensures small { result
+            ≤ length (content_in (progress_of self.now)) + (MAX_HEAD + MAX_TRAILER) }
     {
         match self {
             Machine::InHead(head) => head.len(),
@@ -117,8 +122,8 @@ impl Machine {
     }
 }
 
-/// Takes some bytes of the head. Where it ends in the piece, it tells how many of them are of the head,
-/// and how the head frames its body.
+/// Takes some bytes of the head. Where it ends in the piece, returns how many of them are of the
+/// head, and how the head frames its body.
 fn take_head(head: &mut Vec<u8>, piece: &[u8]) -> Result<Option<(usize, Framing)>, HttpFault>
     requires short { length head.old.items < MAX_HEAD }
     requires none { HasNoRequest head.old.items }
@@ -127,9 +132,7 @@ fn take_head(head: &mut Vec<u8>, piece: &[u8]) -> Result<Option<(usize, Framing)
 {
     let had = head.len();
     let n = piece.len().min(MAX_HEAD - had);
-    if head.extend_from_slice(&piece[..n]).is_err() {
-        return Err(HttpFault::NoMemory);
-    }
+    head.extend_from_slice(&piece[..n])?;
     let mut spans = [EMPTY_HEADER_SPAN; MAX_FIELDS];
     let Some(found) = look_for_head(head, &mut spans)? else {
         return Ok(None);
@@ -142,7 +145,7 @@ fn take_head(head: &mut Vec<u8>, piece: &[u8]) -> Result<Option<(usize, Framing)
 /// A body of that framing, of which nothing was read.
 fn empty_body(alloc: Global, framing: Framing) -> Body
     requires { IsFramed framing }
-    ensures { Starts framing (stand_of result) }
+    ensures { Starts framing (body_state result) }
 {
     Body {
         content: Vec::new(alloc),
@@ -151,7 +154,7 @@ fn empty_body(alloc: Global, framing: Framing) -> Body
     }
 }
 
-/// What comes first of a body.
+/// The first phase of a body of that framing.
 fn first_phase(framing: Framing) -> Phase
     requires { IsFramed framing }
     ensures { Starts framing (record { phase = result; content = []; part = [] }) }
@@ -167,12 +170,15 @@ fn first_phase(framing: Framing) -> Phase
     }
 }
 
-/// Takes bytes that stand behind the head. Behind a message that is whole nothing is looked at.
+/// Takes bytes behind the head. Bytes behind a whole message are not looked at.
 fn take_body(body: &mut Body, piece: &[u8]) -> Result<bool, HttpFault>
-    requires { IsOpen (stand_of body.old) }
-    ensures ok { IfOk result (λ done. Reaches (stand_of body.old) (stand_of body.new) piece.now × (done ≡ is_whole body.new.phase)) }
-    ensures fault { IfErr result (λ e. Refuses e (stand_of body.old) piece.now) }
-    ensures whole { is_whole body.old.phase ≡ true → (result ≡ Ok true) × (stand_of body.new ≡ stand_of body.old) }
+    requires { IsOpen (body_state body.old) }
+    ensures ok { IfOk result (λ done.
+        Reaches (body_state body.old) (body_state body.new) piece.now
+        × (done ≡ is_whole body.new.phase)) }
+    ensures fault { IfErr result (λ e. Refuses e (body_state body.old) piece.now) }
+    ensures whole { is_whole body.old.phase ≡ true →
+        (result ≡ Ok true) × (body_state body.new ≡ body_state body.old) }
 {
     if body.is_whole() {
         return Ok(true);
@@ -184,14 +190,12 @@ fn take_body(body: &mut Body, piece: &[u8]) -> Result<bool, HttpFault>
 /// The request of a head that was read before, and of that body.
 fn whole_request(alloc: Global, head: &[u8], content: Vec<u8>) -> Result<Request, HttpFault>
     requires { length head.now ≤ MAX_HEAD }
-    ensures { (k : RequestHead) → IsHeadAt head.now k [] → IsRequestOf k content.items result }
+    ensures { (k : RequestHead) →
+        IsHeadAt head.now k [] → Gives request_form (message_of k content.items) result }
 {
     let mut spans = [EMPTY_HEADER_SPAN; MAX_FIELDS];
     match look_for_head(head, &mut spans) {
-        Ok(Some(found)) => match request_of(alloc, head, &spans, found, content) {
-            Ok(request) => Ok(request),
-            Err(_) => Err(HttpFault::NoMemory),
-        },
+        Ok(Some(found)) => Ok(request_of(alloc, head, &spans, found, content)?),
         Ok(None) => Err(HttpFault::BadHead),
         Err(fault) => Err(fault),
     }

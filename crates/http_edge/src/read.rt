@@ -1,9 +1,10 @@
-//! Reads a message from its source.
+//! Reads a request from a source.
 ghost use Rattle.std.specs.Prelude.{◌≡◌, ◌≢◌, ◌⊎◌, [], Err, IfSome};
 ghost use Rattle.std.specs.Io.KnownBytes.{IsAtEnd};
 ghost use Rattle.http_edge.specs.Reading.{NotYet};
 ghost use Rattle.http_edge.specs.Answer.{Answers};
-ghost use Rattle.http_edge.specs.Delivery.{Says, StopsReading, IsClosed};
+ghost use Rattle.http_edge.specs.Form.{IsClosed};
+ghost use Rattle.http_edge.specs.Delivery.{Says, StopsReading};
 
 use crate::decoder::Decoder;
 use crate::fault::HttpFault;
@@ -14,11 +15,15 @@ use std::alloc::Global;
 
 /// Feeds a decoder the pieces that the source gives, until the message is whole or the source ends.
 fn read_pieces<S: Source>(alloc: Global, source: &mut S) -> Result<Request, HttpFault>
-    ensures answer { IfSome (S.remaining source.old) (λ bytes. (result ≡ Err HttpFault.Io) ⊎ Answers bytes result) }
+    ensures answer { IfSome (S.remaining source.old) (λ bytes.
+        (result ≡ Err HttpFault.Io) ⊎ Answers bytes result) }
     ensures closed { IfSome (S.remaining source.old) (λ bytes. bytes ≡ [] → IsClosed result) }
-    ensures stops { StopsReading NotYet (S.remaining source.old) (S.remaining source.new) (S.given source.new) }
-    ensures truncated { IfSome (S.remaining source.old) (λ _. result ≡ Err HttpFault.Truncated → IsAtEnd (S.remaining source.new)) }
-    ensures io { result ≡ Err HttpFault.Io → S.failures source.new ≡ S.one_more (S.failures source.old) }
+    ensures stops { StopsReading NotYet
+        (S.remaining source.old) (S.remaining source.new) (S.given source.new) }
+    ensures truncated { IfSome (S.remaining source.old) (λ _.
+        result ≡ Err HttpFault.Truncated → IsAtEnd (S.remaining source.new)) }
+    ensures io { result ≡ Err HttpFault.Io →
+        S.failures source.new ≡ S.one_more (S.failures source.old) }
     ensures well { result ≢ Err HttpFault.Io → S.failures source.new ≡ S.failures source.old }
 {
     let mut decoder = Decoder::new(alloc);
@@ -36,24 +41,28 @@ fn read_pieces<S: Source>(alloc: Global, source: &mut S) -> Result<Request, Http
     }
 }
 
-/// Reads the request that the source's bytes begin with. Of the bytes of a source that is known each
-/// answer says one thing:
+/// Reads the request that the source's bytes begin with (RFC 9112). Where the bytes of the source
+/// are known, each answer says one thing of them:
 ///
-/// - a request, that they begin with it;
-/// - Closed, that there is none, and NoMemory, that there is one, but memory for the message was refused;
-/// - BodyTooLong, that the head is whole and the size of the body is the first thing that is wrong;
-/// - Io, that a call failed, and of the bytes nothing;
-/// - each other fault, that there is a byte, that they begin with no message, and why.
+/// - a request: they begin with it;
+/// - Closed: there is none;
+/// - NoMemory: there is one (that an allocation failed is not said, but comes at no other time);
+/// - BodyTooLong: the head is whole, and the size of the body is the first thing that is wrong;
+/// - Io: nothing, because a call failed;
+/// - each other fault: there is a byte, they begin with no message, and why.
 ///
-/// Truncated comes at the end of the source alone; a source that never ends is cut off by the limits.
-/// Exactly one call failed at Io, and none at any other answer. The source is not read again once a
-/// message is there, or a size that is too long: what was read before the last call begins with neither.
+/// Truncated comes only at the end of the source, and the limits end a source that never ends.
+/// Exactly one call failed at Io, and none at any other answer. The source is not read again once
+/// there is a message, or a size that is too long: what was read before the last call has neither.
 /// Bytes behind the message that came with its last ones are thrown away.
 pub fn read_message<S: Source>(alloc: Global, source: &mut S) -> Result<Request, HttpFault>
     ensures says { IfSome (S.remaining source.old) (λ bytes. Says bytes result) }
-    ensures stops { StopsReading NotYet (S.remaining source.old) (S.remaining source.new) (S.given source.new) }
-    ensures truncated { IfSome (S.remaining source.old) (λ _. result ≡ Err HttpFault.Truncated → IsAtEnd (S.remaining source.new)) }
-    ensures io { result ≡ Err HttpFault.Io → S.failures source.new ≡ S.one_more (S.failures source.old) }
+    ensures stops { StopsReading NotYet
+        (S.remaining source.old) (S.remaining source.new) (S.given source.new) }
+    ensures truncated { IfSome (S.remaining source.old) (λ _.
+        result ≡ Err HttpFault.Truncated → IsAtEnd (S.remaining source.new)) }
+    ensures io { result ≡ Err HttpFault.Io →
+        S.failures source.new ≡ S.one_more (S.failures source.old) }
     ensures well { result ≢ Err HttpFault.Io → S.failures source.new ≡ S.failures source.old }
 {
     read_pieces(alloc, source)

@@ -1,10 +1,10 @@
-//! A request, and how it is copied from its bytes.
+//! A request, and its copy from the bytes of a head.
 ghost use Rattle.std.specs.Prelude.{◌≡◌, length, map, All, IfOk};
 ghost use Rattle.http_header.specs.Token.{IsToken};
 ghost use Rattle.httparse.specs.Spans.{span_bytes, header_bytes, IsHeaderWithin, IsRequestWithin};
 ghost use Rattle.http_edge.specs.Framing.{is_named};
 ghost use Rattle.http_edge.specs.Find.{first_in, seen_in, HasValues};
-ghost use Rattle.http_edge.specs.Request.{header_in, headers_in, message_in, shown};
+ghost use Rattle.http_edge.specs.Request.{header_in, headers_in, message_in, message_at};
 
 use crate::header::Header;
 use http::Method;
@@ -12,8 +12,8 @@ use http::method::MethodError;
 use httparse::spans::{HeaderSpan, RequestSpans};
 use std::alloc::{AllocError, Global};
 
-/// A request, as it came: its method is as it was written, and so are the names of its fields; the
-/// values are without the blanks around them, and the body is without the chunks that it came in.
+/// A request: its method, its target and the names of its fields as they were written, the values
+/// without the blanks around them, and the body without the chunks that it came in.
 #[derive(Debug, Drop)]
 pub struct Request {
     pub method: Method,
@@ -23,8 +23,8 @@ pub struct Request {
 }
 
 impl Request {
-    /// The value of the first field of that name, and the fields after it. Names are compared without
-    /// regard to ASCII case (RFC 9110, section 5.1).
+    /// The value of the first field of that name, and the fields after it. Names are compared
+    /// without regard to ASCII case (RFC 9110, section 5.1).
     pub fn find(&self, name: &[u8]) -> Option<(&[u8], &[Header])>
         ensures first { seen_in result ≡ first_in name.now (message_in self.now).headers }
         ensures values { HasValues name.now (message_in self.now).headers (seen_in result) }
@@ -33,13 +33,14 @@ impl Request {
     }
 }
 
+/// The field has that name.
 fn is_named(header: &Header, name: &[u8]) -> bool
     ensures { result ≡ is_named name.now (header_in header.now) }
 {
     header.name.eq_ignore_ascii_case(name)
 }
 
-/// The same of any fields, as of those that a `find` left.
+/// The same of any fields, as of those behind the one that a `find` found.
 pub fn find_in<'a>(headers: &'a [Header], name: &[u8]) -> Option<(&'a [u8], &'a [Header])>
     ensures first { seen_in result ≡ first_in name.now (headers_in headers.now) }
     ensures values { HasValues name.now (headers_in headers.now) (seen_in result) }
@@ -76,7 +77,7 @@ fn copy_headers(
     Ok(copies)
 }
 
-/// The method of that name. Every token is one.
+/// The method of that name. Every token is one (RFC 9110, section 9.1).
 fn method_of(alloc: Global, token: &[u8]) -> Result<Method, AllocError>
     requires { IsToken token.now }
     ensures { IfOk result (λ method. method ≡ token.now) }
@@ -88,7 +89,7 @@ fn method_of(alloc: Global, token: &[u8]) -> Result<Method, AllocError>
     }
 }
 
-/// The request of these bytes of a head, and of that body.
+/// The request of a head and a body.
 pub fn request_of(
     alloc: Global,
     head: &[u8],
@@ -98,7 +99,7 @@ pub fn request_of(
 ) -> Result<Request, AllocError>
     requires within { IsRequestWithin head.now spans.now found }
     requires method { IsToken (span_bytes head.now found.method) }
-    ensures { IfOk result (λ r. message_in r ≡ shown head.now spans.now found body.items) }
+    ensures { IfOk result (λ r. message_in r ≡ message_at head.now spans.now found body.items) }
 {
     let method = method_of(alloc, found.method.of(head))?;
     let target = Vec::from_slice(alloc, found.path.of(head))?;

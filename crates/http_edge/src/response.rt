@@ -1,10 +1,12 @@
 //! Reads the head of a response (RFC 9112, section 4).
-ghost use Rattle.std.specs.Prelude.{◌≡◌, ◌≢◌, ◌≤◌, ◌⊎◌, [], length, map, All, Err, IfOk, IfSome, option_map};
+ghost use Rattle.std.specs.Prelude.{◌≡◌, ◌≢◌, ◌≤◌, ◌⊎◌, [], length, map, All, Err};
+ghost use Rattle.std.specs.Prelude.{IfOk, IfSome, option_map};
 ghost use Rattle.std.specs.Io.KnownBytes.{IsAtEnd};
 ghost use Rattle.httparse.specs.Spans.{header_bytes, IsHeaderWithin};
 ghost use Rattle.http_edge.specs.Framing.{values_of};
 ghost use Rattle.http_edge.specs.Delivery.{StopsReading};
-ghost use Rattle.http_edge.specs.Reply.{first, NoReply, AnswersReply, LooksForReply, SaysReply, IsClosedReply};
+ghost use Rattle.http_edge.specs.Form.{IsAnswer, IsClosed};
+ghost use Rattle.http_edge.specs.Reply.{first_of, NoReply, reply_form, LooksForReply, SaysReply};
 
 use crate::fault::HttpFault;
 use crate::framing::is_named;
@@ -18,7 +20,8 @@ use std::alloc::{AllocError, Global};
 /// The value of the first field of that name.
 fn first_value<'b>(buf: &'b [u8], headers: &[HeaderSpan], name: &[u8]) -> Option<&'b [u8]>
     requires { All (IsHeaderWithin (length buf.now)) headers.now }
-    ensures { option_map (λ v. v.now) result ≡ first (values_of name.now (map (header_bytes buf.now) headers.now)) }
+    ensures { option_map (λ v. v.now) result
+        ≡ first_of (values_of name.now (map (header_bytes buf.now) headers.now)) }
 {
     for header in headers {
         if is_named(buf, *header, name) {
@@ -29,7 +32,8 @@ fn first_value<'b>(buf: &'b [u8], headers: &[HeaderSpan], name: &[u8]) -> Option
 }
 
 fn copy_value(alloc: Global, value: Option<&[u8]>) -> Result<Option<Vec<u8>>, AllocError>
-    ensures { IfOk result (λ o. option_map (λ v. v.items) o ≡ option_map (λ v. v.now) value.entry) }
+    ensures { IfOk result (λ o.
+        option_map (λ v. v.items) o ≡ option_map (λ v. v.now) value.entry) }
 {
     match value {
         Some(bytes) => Ok(Some(Vec::from_slice(alloc, bytes)?)),
@@ -46,9 +50,7 @@ fn look_for_reply(alloc: Global, buf: &[u8]) -> Result<Option<Reply>, HttpFault>
     match parse_response(buf, &mut spans) {
         Ok(Status::Complete(head)) => {
             let value = first_value(buf, &spans[..head.headers], b"retry-after");
-            let Ok(retry_after) = copy_value(alloc, value) else {
-                return Err(HttpFault::NoMemory);
-            };
+            let retry_after = copy_value(alloc, value)?;
             Ok(Some(Reply {
                 status: head.code,
                 retry_after,
@@ -67,11 +69,15 @@ fn look_for_reply(alloc: Global, buf: &[u8]) -> Result<Option<Reply>, HttpFault>
 
 /// Keeps what the source gives until a head is whole or the source ends.
 fn read_head<S: Source>(alloc: Global, source: &mut S) -> Result<Reply, HttpFault>
-    ensures answer { IfSome (S.remaining source.old) (λ bytes. (result ≡ Err HttpFault.Io) ⊎ AnswersReply bytes result) }
-    ensures closed { IfSome (S.remaining source.old) (λ bytes. bytes ≡ [] → IsClosedReply result) }
-    ensures stops { StopsReading NoReply (S.remaining source.old) (S.remaining source.new) (S.given source.new) }
-    ensures truncated { IfSome (S.remaining source.old) (λ _. result ≡ Err HttpFault.Truncated → IsAtEnd (S.remaining source.new)) }
-    ensures io { result ≡ Err HttpFault.Io → S.failures source.new ≡ S.one_more (S.failures source.old) }
+    ensures answer { IfSome (S.remaining source.old) (λ bytes.
+        (result ≡ Err HttpFault.Io) ⊎ IsAnswer reply_form bytes result) }
+    ensures closed { IfSome (S.remaining source.old) (λ bytes. bytes ≡ [] → IsClosed result) }
+    ensures stops { StopsReading NoReply
+        (S.remaining source.old) (S.remaining source.new) (S.given source.new) }
+    ensures truncated { IfSome (S.remaining source.old) (λ _.
+        result ≡ Err HttpFault.Truncated → IsAtEnd (S.remaining source.new)) }
+    ensures io { result ≡ Err HttpFault.Io →
+        S.failures source.new ≡ S.one_more (S.failures source.old) }
     ensures well { result ≢ Err HttpFault.Io → S.failures source.new ≡ S.failures source.old }
 {
     let mut kept = Vec::new(alloc);
@@ -87,33 +93,35 @@ fn read_head<S: Source>(alloc: Global, source: &mut S) -> Result<Reply, HttpFaul
             return Err(HttpFault::Truncated);
         }
         let taken = n.min(MAX_HEAD - kept.len());
-        if kept.extend_from_slice(&piece[..taken]).is_err() {
-            return Err(HttpFault::NoMemory);
-        }
+        kept.extend_from_slice(&piece[..taken])?;
         if let Some(reply) = look_for_reply(alloc, &kept)? {
             return Ok(reply);
         }
     }
 }
 
-/// Reads the head of the response that the source's bytes begin with; its body is not read. Of the bytes
-/// of a source that is known each answer says one thing:
+/// Reads the head of the response that the source's bytes begin with (RFC 9112, section 4), and not
+/// its body. Where the bytes of the source are known, each answer says one thing of them:
 ///
-/// - a reply, that they begin with a head that says it;
-/// - Closed, that there is none, and NoMemory, that there is one, but memory for the head was refused;
-/// - Io, that a call failed, and of the bytes nothing;
-/// - BadHead, TooManyHeaders, HeadTooLong and Truncated, that there is a byte, that they begin with no
-///   head, and why. No other fault comes.
+/// - a reply: they begin with a head that says it;
+/// - Closed: there is none;
+/// - NoMemory: there is one (that an allocation failed is not said, but comes at no other time);
+/// - Io: nothing, because a call failed;
+/// - BadHead, TooManyHeaders, HeadTooLong, Truncated: there is a byte, they begin with no head, and
+///   why. No other fault comes.
 ///
-/// Truncated comes at the end of the source alone; a source that never ends is cut off by the limits.
-/// Exactly one call failed at Io, and none at any other answer. The source is not read again once a head
-/// is there: what was read before the last call begins with none. Bytes behind the head that came with
-/// its last ones are thrown away.
+/// Truncated comes only at the end of the source, and the limits end a source that never ends.
+/// Exactly one call failed at Io, and none at any other answer. The source is not read again once
+/// there is a head: what was read before the last call has none. Bytes behind the head that came
+/// with its last ones are thrown away.
 pub fn read_response<S: Source>(alloc: Global, source: &mut S) -> Result<Reply, HttpFault>
     ensures says { IfSome (S.remaining source.old) (λ bytes. SaysReply bytes result) }
-    ensures stops { StopsReading NoReply (S.remaining source.old) (S.remaining source.new) (S.given source.new) }
-    ensures truncated { IfSome (S.remaining source.old) (λ _. result ≡ Err HttpFault.Truncated → IsAtEnd (S.remaining source.new)) }
-    ensures io { result ≡ Err HttpFault.Io → S.failures source.new ≡ S.one_more (S.failures source.old) }
+    ensures stops { StopsReading NoReply
+        (S.remaining source.old) (S.remaining source.new) (S.given source.new) }
+    ensures truncated { IfSome (S.remaining source.old) (λ _.
+        result ≡ Err HttpFault.Truncated → IsAtEnd (S.remaining source.new)) }
+    ensures io { result ≡ Err HttpFault.Io →
+        S.failures source.new ≡ S.one_more (S.failures source.old) }
     ensures well { result ≢ Err HttpFault.Io → S.failures source.new ≡ S.failures source.old }
 {
     read_head(alloc, source)

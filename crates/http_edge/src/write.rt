@@ -3,30 +3,33 @@ ghost use Rattle.std.specs.Prelude.{◌≡◌, ◌<◌, ◌+◌, ◌^◌, length
 ghost use Rattle.std.specs.List.{flat_map};
 ghost use Rattle.http.specs.StatusCode.{reason_phrase};
 ghost use Rattle.http_edge.specs.Sent.{Sent, Failed};
-ghost use Rattle.http_edge.specs.Texts.{plain_response, allowing_response, response_text, post_text};
+ghost use Rattle.http_edge.specs.Texts.{plain_response, allowing_response};
+ghost use Rattle.http_edge.specs.Texts.{response_text, post_text};
 
-use crate::joined::Joined;
+use crate::write_buffer::WriteBuffer;
 use crate::written::Written;
 use byte_ends::Sink;
 use http::StatusCode;
 use itoa::Buffer;
 
-/// Writes the parts, one behind the other: short ones in one call, as far as they can be joined.
+/// Writes the parts, one behind the other: short ones in one call, as many as the buffer has room
+/// for.
 fn write_parts<K: Sink>(sink: &mut K, parts: &[&[u8]]) -> Written
     requires { length (flat_map (λ p. p.now) parts.now) < 2 ^ 64 }
-    ensures text { Sent (K.contents sink.old) (K.contents sink.new) (flat_map (λ p. p.now) parts.now) result }
+    ensures text { Sent (K.contents sink.old) (K.contents sink.new)
+        (flat_map (λ p. p.now) parts.now) result }
     ensures failed { Failed K.one_more (K.failures sink.old) (K.failures sink.new) result }
 {
-    let mut joined = Joined::new();
+    let mut buffer = WriteBuffer::new();
     for part in parts {
-        if let Err(cut) = joined.put(sink, part) {
+        if let Err(cut) = buffer.put(sink, part) {
             return cut;
         }
     }
-    joined.end(sink)
+    buffer.end(sink)
 }
 
-/// The phrase that `http` gives to a status, which is empty where it gives none.
+/// The reason phrase of a status (RFC 9112, section 4), which is empty where `http` has none.
 fn phrase_of(status: StatusCode) -> &'static str
     ensures value { result.now ≡ unwrap_or (reason_phrase status) [] }
     ensures short { length result.now < 64 }
@@ -34,7 +37,7 @@ fn phrase_of(status: StatusCode) -> &'static str
     status.canonical_reason().unwrap_or("")
 }
 
-/// Writes a response of these parts.
+/// Writes a response from its parts.
 fn write_head<'a, K: Sink>(
     writer: &mut K,
     status: &'a [u8],
@@ -43,7 +46,8 @@ fn write_head<'a, K: Sink>(
     size: &'a [u8],
     body: &'a [u8],
 ) -> Written
-    requires head { length status.now + length phrase.now + length content_type.now + length size.now < 2 ^ 40 }
+    requires head { length status.now + length phrase.now + length content_type.now
+        + length size.now < 2 ^ 40 }
     requires body { length body.now < 2 ^ 63 }
     ensures text { Sent (K.contents writer.old) (K.contents writer.new)
         (plain_response status.now phrase.now content_type.now size.now body.now) result }
@@ -66,7 +70,7 @@ fn write_head<'a, K: Sink>(
     )
 }
 
-/// The same with the methods that are allowed.
+/// The same with the methods that are allowed (RFC 9110, section 10.2.1).
 fn write_allowing<'a, K: Sink>(
     writer: &mut K,
     status: &'a [u8],
@@ -76,10 +80,12 @@ fn write_allowing<'a, K: Sink>(
     methods: &'a [u8],
     body: &'a [u8],
 ) -> Written
-    requires head { length status.now + length phrase.now + length content_type.now + length size.now + length methods.now < 2 ^ 40 }
+    requires head { length status.now + length phrase.now + length content_type.now
+        + length size.now + length methods.now < 2 ^ 40 }
     requires body { length body.now < 2 ^ 63 }
     ensures text { Sent (K.contents writer.old) (K.contents writer.new)
-        (allowing_response status.now phrase.now content_type.now size.now methods.now body.now) result }
+        (allowing_response status.now phrase.now content_type.now size.now methods.now body.now)
+        result }
     ensures failed { Failed K.one_more (K.failures writer.old) (K.failures writer.new) result }
 {
     write_parts(
@@ -101,9 +107,9 @@ fn write_allowing<'a, K: Sink>(
     )
 }
 
-/// Writes a response of that status with `http`'s phrase for it, and with that body: its media type, its
-/// length, where there is one the methods that are allowed, and that the connection is closed. It takes
-/// no memory.
+/// Writes a response of that status, with `http`'s phrase for it, and of that body: its media
+/// type, its length, the methods that are allowed where there are some, and that the connection
+/// is closed (RFC 9112, sections 4, 6.2 and 9.6). It allocates nothing.
 pub fn write_response<K: Sink>(
     writer: &mut K,
     status: StatusCode,
@@ -115,7 +121,8 @@ pub fn write_response<K: Sink>(
     requires allow { IfSome allow (λ m. length m.now < 2 ^ 32) }
     requires body { length body.now < 2 ^ 63 }
     ensures text { Sent (K.contents writer.old) (K.contents writer.new)
-        (response_text status content_type.now (option_map (λ m. m.now) allow.entry) body.now) result }
+        (response_text status content_type.now (option_map (λ m. m.now) allow.entry) body.now)
+        result }
     ensures failed { Failed K.one_more (K.failures writer.old) (K.failures writer.new) result }
 {
     let mut digits = Buffer::new();
@@ -136,12 +143,13 @@ pub fn write_response<K: Sink>(
     }
 }
 
-/// Writes a request that posts JSON metrics to that host, and says that the connection is closed. It
-/// takes no memory.
+/// Writes a request that posts JSON metrics to that host, and says that the connection is closed
+/// (RFC 9112, sections 3, 6.2 and 9.6). It allocates nothing.
 pub fn write_post<K: Sink>(writer: &mut K, host: &str, body: &[u8]) -> Written
     requires host { length host.now < 2 ^ 32 }
     requires body { length body.now < 2 ^ 63 }
-    ensures text { Sent (K.contents writer.old) (K.contents writer.new) (post_text host.now body.now) result }
+    ensures text { Sent (K.contents writer.old) (K.contents writer.new)
+        (post_text host.now body.now) result }
     ensures failed { Failed K.one_more (K.failures writer.old) (K.failures writer.new) result }
 {
     let mut digits = Buffer::new();

@@ -3,8 +3,8 @@
 pub enum Written {
     /// All of its bytes.
     All,
-    /// None of them, since the first call failed.
+    /// None of them, because the first call failed.
     None_,
-    /// So many of its first bytes, some but not all, since a later call failed.
+    /// This many of its first bytes, some but not all, because a later call failed.
     Part(usize),
 }

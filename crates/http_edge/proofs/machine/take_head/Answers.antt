@@ -6,7 +6,6 @@ use Rattle.http_edge.specs.Framing.{framing_by}
 use Rattle.http_edge.specs.Framed.{Frames}
 use Rattle.http_edge.specs.Head.{LooksForHead}
 use Rattle.http_edge.specs.Answer.{Fails}
-use Rattle.http_edge.proofs.ListLemmas.{grown}
 use Rattle.http_edge.proofs.FaultLemmas.{looks_fails, frames_fails, head_found, fails_more}
 use Rattle.http_edge.proofs.MachineLemmas.{head_ends, head_whole, framing_found, framed_ok}
 use Rattle.http_edge.proofs.machine.take_head.Goals as goal
@@ -16,10 +15,10 @@ returns-in_err-found-clause-fault c =
     let piece = c.args.piece.now in
     let u = take c.min-n.result piece in
     let buf = c.extend_from_slice.new.self.items in
-    let is : buf ≡ c.args.head.now.items ++ u = grown c.extend_from_slice.result buf c.args.head.now.items u (sym c.if-is_err.false ∙ c.is_err.ensures.value) c.extend_from_slice.ensures.items in
+    let is : buf ≡ c.args.head.now.items ++ u = c.in_ok-extend_from_slice.ensures.items in
     let whole : buf ++ drop c.min-n.result piece ≡ c.args.head.now.items ++ piece =
     ap (λ s. s ++ drop c.min-n.result piece) is ∙ append_assoc c.args.head.now.items u (drop c.min-n.result piece) ∙ ap (λ s. c.args.head.now.items ++ s) (take-append-drop c.min-n.result piece) in
-    let p = err_from_is_err_and c.from_residual.result c.from_residual.ensures.1 in
+    let p = err_from_is_err_and c.from_residual-in_err-found.result c.from_residual-in_err-found.ensures.1 in
     let e = c.in_err-found.field-0.0 in
     let P : List ℕ → Type 0 = λ s. LooksForHead s c.look_for_head.new.spans (Err e) in
     let looks = subst P c.deref.ensures.value c.in_err-found.ensures in
@@ -30,7 +29,7 @@ returns-in_err-framing-clause-fault c =
     let piece = c.args.piece.now in
     let u = take c.min-n.result piece in
     let buf = c.extend_from_slice.new.self.items in
-    let is : buf ≡ c.args.head.now.items ++ u = grown c.extend_from_slice.result buf c.args.head.now.items u (sym c.if-is_err.false ∙ c.is_err.ensures.value) c.extend_from_slice.ensures.items in
+    let is : buf ≡ c.args.head.now.items ++ u = c.in_ok-extend_from_slice.ensures.items in
     let whole : buf ++ drop c.min-n.result piece ≡ c.args.head.now.items ++ piece =
     ap (λ s. s ++ drop c.min-n.result piece) is ∙ append_assoc c.args.head.now.items u (drop c.min-n.result piece) ∙ ap (λ s. c.args.head.now.items ++ s) (take-append-drop c.min-n.result piece) in
     let spans = c.look_for_head.new.spans in
@@ -49,7 +48,7 @@ overflow_sub-result c =
     let piece = c.args.piece.now in
     let u = take c.min-n.result piece in
     let buf = c.extend_from_slice.new.self.items in
-    let is : buf ≡ c.args.head.now.items ++ u = grown c.extend_from_slice.result buf c.args.head.now.items u (sym c.if-is_err.false ∙ c.is_err.ensures.value) c.extend_from_slice.ensures.items in
+    let is : buf ≡ c.args.head.now.items ++ u = c.in_ok-extend_from_slice.ensures.items in
     let spans = c.look_for_head.new.spans in
     let found = rw (c.in-Some.is, c.deref.ensures.value) at c.in_ok-found.ensures in
     let had_is : c.len-had.result ≡ length c.args.head.now.items = omega (arith, c.args.head.now.ok.0, c.len-had.ensures) in
@@ -61,7 +60,7 @@ returns-clause-ok c =
     let piece = c.args.piece.now in
     let u = take c.min-n.result piece in
     let buf = c.extend_from_slice.new.self.items in
-    let is : buf ≡ c.args.head.now.items ++ u = grown c.extend_from_slice.result buf c.args.head.now.items u (sym c.if-is_err.false ∙ c.is_err.ensures.value) c.extend_from_slice.ensures.items in
+    let is : buf ≡ c.args.head.now.items ++ u = c.in_ok-extend_from_slice.ensures.items in
     let spans = c.look_for_head.new.spans in
     let found = rw (c.in-Some.is, c.deref.ensures.value) at c.in_ok-found.ensures in
     let had_is : c.len-had.result ≡ length c.args.head.now.items = omega (arith, c.args.head.now.ok.0, c.len-had.ensures) in

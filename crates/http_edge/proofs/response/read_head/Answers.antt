@@ -1,8 +1,8 @@
 use Rattle.std.proofs.Common.{◌≡◌, ◌<◌, ◌≤◌, ◌++◌, ℕ, List, length, take, drop, ap, arith, subst, sym, refl, ◌∙◌}
 use Rattle.std.proofs.lemmas.List.{length-take-le, take-append-drop, take-take}
 use Rattle.std.proofs.lemmas.Result.{err_from_is_err_and}
-use Rattle.http_edge.specs.Reply.{NoReply, LastsFor, ExplainsReply}
-use Rattle.http_edge.proofs.ListLemmas.{grown}
+use Rattle.http_edge.specs.Form.{IsLasting}
+use Rattle.http_edge.specs.Reply.{NoReply, ExplainsReply}
 use Rattle.http_edge.proofs.SourceLemmas.{at_end, not_empty, stops}
 use Rattle.http_edge.proofs.ReplyLemmas.{begins, grows, refused, said, no_reply}
 use Rattle.http_edge.proofs.response.read_head.Goals as goal
@@ -21,14 +21,14 @@ returns-in_err-reply-clause-answer g c =
     let piece = take c.in-Ok.n c.read.new.buf in
     let n = c.min-taken.result in
     let front = take n c.read.new.buf in
-    let is : new ≡ kept ++ front = grown c.extend_from_slice.result new kept front (sym c.if-is_err.false ∙ c.is_err.ensures.value) c.extend_from_slice.ensures.items in
+    let is : new ≡ kept ++ front = c.in_ok-extend_from_slice.ensures.items in
     let le : n ≤ c.in-Ok.n = omega arith in
     let cut : piece ≡ front ++ drop n piece = sym (take-append-drop n piece) ∙ ap (λ s. s ++ drop n piece) (take-take n c.in-Ok.n c.read.new.buf le) in
     let some : 0 < length front = omega (arith, length-take-le n c.read.new.buf (omega (arith, le, c.in-Ok.ensures.bound)), c.if-n-eq0.false, so.short, c.pieces.kept.ok.0) in
     let all = grows r0 r1 r2 kept piece front (drop n piece) new so c.in-Ok.ensures.bytes.0 cut some is in
-    let p = err_from_is_err_and c.from_residual.result c.from_residual.ensures.1 in
+    let p = err_from_is_err_and c.from_residual-in_err-reply.result c.from_residual-in_err-reply.ensures.1 in
     let e = c.in_err-reply.field-0.0 in
-    let P : List ℕ → Type 0 = λ s. LastsFor e × ExplainsReply e s in
+    let P : List ℕ → Type 0 = λ s. IsLasting e × ExplainsReply e s in
     let looks = subst P c.deref.ensures.value c.in_err-reply.ensures in
     rw (p.1, p.2) (refused r0 new e all looks.0 looks.1)
 
@@ -43,7 +43,7 @@ returns-in-Some-clause-answer g c =
     let piece = take c.in-Ok.n c.read.new.buf in
     let n = c.min-taken.result in
     let front = take n c.read.new.buf in
-    let is : new ≡ kept ++ front = grown c.extend_from_slice.result new kept front (sym c.if-is_err.false ∙ c.is_err.ensures.value) c.extend_from_slice.ensures.items in
+    let is : new ≡ kept ++ front = c.in_ok-extend_from_slice.ensures.items in
     let le : n ≤ c.in-Ok.n = omega arith in
     let cut : piece ≡ front ++ drop n piece = sym (take-append-drop n piece) ∙ ap (λ s. s ++ drop n piece) (take-take n c.in-Ok.n c.read.new.buf le) in
     let some : 0 < length front = omega (arith, length-take-le n c.read.new.buf (omega (arith, le, c.in-Ok.ensures.bound)), c.if-n-eq0.false, so.short, c.pieces.kept.ok.0) in
@@ -56,8 +56,8 @@ returns-then-n-eq0-clause-stops g c =
     stops NoReply (g.S.Source.remaining c.args.source.now) (g.S.Source.remaining c.pieces.source) (g.S.Source.remaining c.read.new.self) (g.S.Source.given c.read.new.self) c.in-Ok.n c.pieces.kept.items c.read.new.buf c.pieces.invariant.so_far.known c.in-Ok.ensures.bytes.0
     c.in-Ok.ensures.bound c.in-Ok.ensures.given (no_reply (g.S.Source.remaining c.args.source.now) (g.S.Source.remaining c.pieces.source) c.pieces.kept.items c.pieces.invariant.so_far)
 
-pub returns-then-is_err-clause-stops : goal.returns-then-is_err-clause-stops
-returns-then-is_err-clause-stops g c =
+pub returns-in_err-extend_from_slice-clause-stops : goal.returns-in_err-extend_from_slice-clause-stops
+returns-in_err-extend_from_slice-clause-stops g c =
     stops NoReply (g.S.Source.remaining c.args.source.now) (g.S.Source.remaining c.pieces.source) (g.S.Source.remaining c.read.new.self) (g.S.Source.given c.read.new.self) c.in-Ok.n c.pieces.kept.items c.read.new.buf c.pieces.invariant.so_far.known c.in-Ok.ensures.bytes.0
     c.in-Ok.ensures.bound c.in-Ok.ensures.given (no_reply (g.S.Source.remaining c.args.source.now) (g.S.Source.remaining c.pieces.source) c.pieces.kept.items c.pieces.invariant.so_far)
 
@@ -71,8 +71,8 @@ returns-in-Some-clause-stops g c =
     stops NoReply (g.S.Source.remaining c.args.source.now) (g.S.Source.remaining c.pieces.source) (g.S.Source.remaining c.read.new.self) (g.S.Source.given c.read.new.self) c.in-Ok.n c.pieces.kept.items c.read.new.buf c.pieces.invariant.so_far.known c.in-Ok.ensures.bytes.0
     c.in-Ok.ensures.bound c.in-Ok.ensures.given (no_reply (g.S.Source.remaining c.args.source.now) (g.S.Source.remaining c.pieces.source) c.pieces.kept.items c.pieces.invariant.so_far)
 
-pub returns-then-is_err-clause-closed : goal.returns-then-is_err-clause-closed
-returns-then-is_err-clause-closed g c =
+pub returns-in_err-extend_from_slice-clause-closed : goal.returns-in_err-extend_from_slice-clause-closed
+returns-in_err-extend_from_slice-clause-closed g c =
     not_empty (g.S.Source.remaining c.args.source.now) (g.S.Source.remaining c.pieces.source) (g.S.Source.remaining c.read.new.self) c.pieces.kept.items (take c.in-Ok.n c.read.new.buf) _ c.pieces.invariant.so_far.known c.in-Ok.ensures.bytes.0
     (omega (arith, length-take-le c.in-Ok.n c.read.new.buf c.in-Ok.ensures.bound, c.if-n-eq0.false))
 

@@ -1,10 +1,10 @@
 use Rattle.std.proofs.Common.{◌≡◌, ◌-◌, length}
-use Rattle.http_edge.proofs.ReplyLemmas.{Kept}
+use Rattle.http_edge.proofs.ReplyLemmas.{HeadSoFar}
 use Rattle.http_edge.proofs.response.read_head.Given as goal
 
 abbrev pub invariant-pieces : goal.invariant-pieces
 invariant-pieces g l = record {
-  so_far : Kept (g.S.Source.remaining l.fn.source) (g.S.Source.remaining l.source) l.kept.items;
+  so_far : HeadSoFar (g.S.Source.remaining l.fn.source) (g.S.Source.remaining l.source) l.kept.items;
   well : g.S.Source.failures l.source ≡ g.S.Source.failures l.fn.source;
 }
 

@@ -6,7 +6,6 @@ use Rattle.http_edge.specs.declared.fault.HttpFault.TheVariants.{BadChunk, BodyT
 use Rattle.http_edge.specs.declared.phase.Phase.TheVariants.{Line}
 use Rattle.http_edge.proofs.BodyLemmas.{at, at_line, line_zero, line_fits, line_over, line_refused}
 use Rattle.http_edge.proofs.ChunkLemmas.{never_line, never_long_line}
-use Rattle.http_edge.proofs.ListLemmas.{grown}
 use Rattle.http_edge.proofs.body.Body.take_line.Goals as goal
 
 pub overflow_sub-taken : goal.overflow_sub-taken
@@ -14,8 +13,8 @@ overflow_sub-taken c =
     let b = c.args.self.now in
     let piece = c.args.piece.now in
     let u = take c.line_len-n.result piece in
-    let is = grown c.extend_from_slice.result c.extend_from_slice.new.self.items b.part.items u (sym c.if-is_err.false ∙ c.is_err.ensures.value) c.extend_from_slice.ensures.items in
-    let opened : IsOpen (at Line b.content.items b.part.items) = rw c.requires.phase at c.requires.open_ in
+    let is = c.in_ok-extend_from_slice.ensures.items in
+    let opened : IsOpen (at Line b.content.items b.part.items) = rw c.requires.phase at c.requires.is_open in
     let found = rw (c.in-Ok-Complete.field-0-is, c.deref.ensures.value) at c.in-Ok-Complete.ensures.complete in
     let t = at_line b.content.items b.part.items piece c.extend_from_slice.new.self.items c.len-had.result c.line_len-n.result c.in-Ok-Complete.len c.in-Ok-Complete.size found.0 opened (omega (arith, b.part.ok.0, c.len-had.ensures)) c.line_len-n.ensures.within c.line_len-n.ensures.fits is found.1 in
     omega (arith, t.some)
@@ -25,8 +24,8 @@ returns-then-size-eq0 c =
     let b = c.args.self.now in
     let piece = c.args.piece.now in
     let u = take c.line_len-n.result piece in
-    let is = grown c.extend_from_slice.result c.extend_from_slice.new.self.items b.part.items u (sym c.if-is_err.false ∙ c.is_err.ensures.value) c.extend_from_slice.ensures.items in
-    let opened : IsOpen (at Line b.content.items b.part.items) = rw c.requires.phase at c.requires.open_ in
+    let is = c.in_ok-extend_from_slice.ensures.items in
+    let opened : IsOpen (at Line b.content.items b.part.items) = rw c.requires.phase at c.requires.is_open in
     let found = rw (c.in-Ok-Complete.field-0-is, c.deref.ensures.value) at c.in-Ok-Complete.ensures.complete in
     let t = at_line b.content.items b.part.items piece c.extend_from_slice.new.self.items c.len-had.result c.line_len-n.result c.in-Ok-Complete.len c.in-Ok-Complete.size found.0 opened (omega (arith, b.part.ok.0, c.len-had.ensures)) c.line_len-n.ensures.within c.line_len-n.ensures.fits is found.1 in
     let v = take (c.in-Ok-Complete.len - c.len-had.result) piece in
@@ -37,8 +36,8 @@ returns-else-size-len c =
     let b = c.args.self.now in
     let piece = c.args.piece.now in
     let u = take c.line_len-n.result piece in
-    let is = grown c.extend_from_slice.result c.extend_from_slice.new.self.items b.part.items u (sym c.if-is_err.false ∙ c.is_err.ensures.value) c.extend_from_slice.ensures.items in
-    let opened : IsOpen (at Line b.content.items b.part.items) = rw c.requires.phase at c.requires.open_ in
+    let is = c.in_ok-extend_from_slice.ensures.items in
+    let opened : IsOpen (at Line b.content.items b.part.items) = rw c.requires.phase at c.requires.is_open in
     let found = rw (c.in-Ok-Complete.field-0-is, c.deref.ensures.value) at c.in-Ok-Complete.ensures.complete in
     let t = at_line b.content.items b.part.items piece c.extend_from_slice.new.self.items c.len-had.result c.line_len-n.result c.in-Ok-Complete.len c.in-Ok-Complete.size found.0 opened (omega (arith, b.part.ok.0, c.len-had.ensures)) c.line_len-n.ensures.within c.line_len-n.ensures.fits is found.1 in
     let v = take (c.in-Ok-Complete.len - c.len-had.result) piece in
@@ -49,8 +48,8 @@ returns-then-size-len c =
     let b = c.args.self.now in
     let piece = c.args.piece.now in
     let u = take c.line_len-n.result piece in
-    let is = grown c.extend_from_slice.result c.extend_from_slice.new.self.items b.part.items u (sym c.if-is_err.false ∙ c.is_err.ensures.value) c.extend_from_slice.ensures.items in
-    let opened : IsOpen (at Line b.content.items b.part.items) = rw c.requires.phase at c.requires.open_ in
+    let is = c.in_ok-extend_from_slice.ensures.items in
+    let opened : IsOpen (at Line b.content.items b.part.items) = rw c.requires.phase at c.requires.is_open in
     let found = rw (c.in-Ok-Complete.field-0-is, c.deref.ensures.value) at c.in-Ok-Complete.ensures.complete in
     let t = at_line b.content.items b.part.items piece c.extend_from_slice.new.self.items c.len-had.result c.line_len-n.result c.in-Ok-Complete.len c.in-Ok-Complete.size found.0 opened (omega (arith, b.part.ok.0, c.len-had.ensures)) c.line_len-n.ensures.within c.line_len-n.ensures.fits is found.1 in
     let v = take (c.in-Ok-Complete.len - c.len-had.result) piece in
@@ -64,7 +63,7 @@ returns-then-len-ge-MAX_LINE c =
     let b = c.args.self.now in
     let piece = c.args.piece.now in
     let u = take c.line_len-n.result piece in
-    let is = grown c.extend_from_slice.result c.extend_from_slice.new.self.items b.part.items u (sym c.if-is_err.false ∙ c.is_err.ensures.value) c.extend_from_slice.ensures.items in
+    let is = c.in_ok-extend_from_slice.ensures.items in
     let none = rw (c.in-Ok-Partial.field-0-is, c.deref.ensures.value) at c.in-Ok-Partial.ensures.partial in
     let whole : u ++ drop c.line_len-n.result piece ≡ piece = take-append-drop c.line_len-n.result piece in
     let P : List ℕ → Type 0 = λ s. Refuses BadChunk (at Line b.content.items b.part.items) s in
@@ -76,7 +75,7 @@ returns-in-Err c =
     let b = c.args.self.now in
     let piece = c.args.piece.now in
     let u = take c.line_len-n.result piece in
-    let is = grown c.extend_from_slice.result c.extend_from_slice.new.self.items b.part.items u (sym c.if-is_err.false ∙ c.is_err.ensures.value) c.extend_from_slice.ensures.items in
+    let is = c.in_ok-extend_from_slice.ensures.items in
     let never = rw c.deref.ensures.value at c.in-Err.ensures.invalid in
     let whole : u ++ drop c.line_len-n.result piece ≡ piece = take-append-drop c.line_len-n.result piece in
     let P : List ℕ → Type 0 = λ s. Refuses BadChunk (at Line b.content.items b.part.items) s in

@@ -6,7 +6,6 @@ use Rattle.http_edge.specs.Body.{IsOpen, Refuses, Reaches}
 use Rattle.http_edge.specs.declared.fault.HttpFault.TheVariants.{BadChunk}
 use Rattle.http_edge.specs.declared.phase.Phase.TheVariants.{Trailer, Whole}
 use Rattle.http_edge.proofs.BodyLemmas.{at, trailer_whole, trailer_overflows, trailer_long}
-use Rattle.http_edge.proofs.ListLemmas.{grown}
 use Rattle.http_edge.proofs.body.Body.take_trailer.Goals as goal
 
 pub returns-then-len-ge-MAX_TRAILER : goal.returns-then-len-ge-MAX_TRAILER
@@ -14,7 +13,7 @@ returns-then-len-ge-MAX_TRAILER c =
     let b = c.args.self.now in
     let piece = c.args.piece.now in
     let u = take c.min-n.result piece in
-    let is = grown c.extend_from_slice.result c.extend_from_slice.new.self.items b.part.items u (sym c.if-is_err.false ∙ c.is_err.ensures.value) c.extend_from_slice.ensures.items in
+    let is = c.in_ok-extend_from_slice.ensures.items in
     let none = rw (c.in-Ok-Partial.field-0-is, c.deref.ensures.value) at c.in-Ok-Partial.ensures.partial in
     let Q : List ℕ → Type 0 = λ s. HasNoSection s in
     let whole : u ++ drop c.min-n.result piece ≡ piece = take-append-drop c.min-n.result piece in
@@ -26,7 +25,7 @@ returns-in-Err c =
     let b = c.args.self.now in
     let piece = c.args.piece.now in
     let u = take c.min-n.result piece in
-    let is = grown c.extend_from_slice.result c.extend_from_slice.new.self.items b.part.items u (sym c.if-is_err.false ∙ c.is_err.ensures.value) c.extend_from_slice.ensures.items in
+    let is = c.in_ok-extend_from_slice.ensures.items in
     let many = rw c.deref.ensures.value at c.in-Err.ensures.no_room in
     let Q : List ℕ → Type 0 = λ s. SectionOverflows 64 s in
     let whole : u ++ drop c.min-n.result piece ≡ piece = take-append-drop c.min-n.result piece in
@@ -38,12 +37,12 @@ returns-in-Ok-Complete c =
     let b = c.args.self.now in
     let piece = c.args.piece.now in
     let u = take c.min-n.result piece in
-    let is = grown c.extend_from_slice.result c.extend_from_slice.new.self.items b.part.items u (sym c.if-is_err.false ∙ c.is_err.ensures.value) c.extend_from_slice.ensures.items in
+    let is = c.in_ok-extend_from_slice.ensures.items in
     let found = rw (c.in-Ok-Complete.field-0-is, c.deref.ensures.value) at c.in-Ok-Complete.ensures.complete in
     let within = rw (c.in-Ok-Complete.field-0-is, c.deref.ensures.value) at c.in-Ok-Complete.ensures.within in
     let r = c.in-Ok-Complete.field-0-0 in
     let spans = c.parse_headers.new.headers in
-    let opened : IsOpen (at Trailer b.content.items b.part.items) = rw c.requires.phase at c.requires.open_ in
+    let opened : IsOpen (at Trailer b.content.items b.part.items) = rw c.requires.phase at c.requires.is_open in
     let P : List ℕ → Type 0 = λ s. IsSectionAt s 0 spans r.0 r.1 found.0 found.1 in
     let Q : List ℕ → Type 0 = λ s. IsSectionWithin s spans r.0 r.1 in
     let u_len : length u ≡ c.min-n.result = length-take-le c.min-n.result piece (omega arith) in

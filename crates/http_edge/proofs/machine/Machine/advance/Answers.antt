@@ -1,29 +1,34 @@
+use Rattle.std.proofs.Common.{◌≡◌, Some, ap}
 use Rattle.std.proofs.lemmas.List.{take_rest}
 use Rattle.std.proofs.lemmas.Result.{err_from_is_err_and}
-use Rattle.http_edge.specs.Body.{stand_of}
+use Rattle.http_edge.specs.Body.{body_state}
+use Rattle.http_edge.specs.Holds.{in_body}
 use Rattle.http_edge.proofs.FaultLemmas.{fails_more}
 use Rattle.http_edge.proofs.MachineLemmas.{stops_behind, begun, advanced, stopped}
 use Rattle.http_edge.proofs.machine.Machine.advance.Goals as goal
 
-pub returns-in_err-done-in-InHead-clause-fault : goal.returns-in_err-done-in-InHead-clause-fault
-returns-in_err-done-in-InHead-clause-fault c =
+pub returns-in_err-done-in-InHead : goal.returns-in_err-done-in-InHead
+returns-in_err-done-in-InHead c =
     let p = err_from_is_err_and c.from_residual-in_err-done-in-InHead.result c.from_residual-in_err-done-in-InHead.ensures.1 in
     let ends = rw c.in-Some.is at c.in_ok-n-in-InHead.ensures.ok in
-    rw (p.1, p.2, c.in-InHead.is) (stops_behind c.in_err-done-in-InHead.field-0.0 c.in-InHead.head.items c.take_head.new.head.items c.args.piece.now c.in-Some.n c.in-Some.framing (stand_of c.empty_body-body.result) ends c.empty_body-body.ensures (simp take_rest at c.in_err-done-in-InHead.ensures.fault))
+    let fault = stops_behind c.in_err-done-in-InHead.field-0.0 c.in-InHead.head.items c.take_head.new.head.items c.args.piece.now c.in-Some.n c.in-Some.framing (body_state c.empty_body-body.result) ends c.empty_body-body.ensures (simp take_rest at c.in_err-done-in-InHead.ensures.fault) in
+    rw (p.1, p.2, c.in-InHead.is) (record { ok = tt; fault = fault; again = λ e is. absurd cc; whole = λ is. absurd cc })
 
-pub returns-in_ok-done-in-InHead-clause-ok : goal.returns-in_ok-done-in-InHead-clause-ok
-returns-in_ok-done-in-InHead-clause-ok c =
+pub returns-in_ok-done-in-InHead : goal.returns-in_ok-done-in-InHead
+returns-in_ok-done-in-InHead c =
     let ends = rw c.in-Some.is at c.in_ok-n-in-InHead.ensures.ok in
     let ok = simp take_rest at c.in_ok-done-in-InHead.ensures.ok in
-    rw (c.in-InHead.is, c.replace-whole.ensures.value) (begun c.in-InHead.head.items c.take_head.new.head.items c.args.piece.now c.in-Some.n c.in-Some.framing (stand_of c.empty_body-body.result) (stand_of c.take_body.new.body) c.in_ok-done-in-InHead.done ends c.empty_body-body.ensures ok.0 ok.1)
+    let goes = begun c.in-InHead.head.items c.take_head.new.head.items c.args.piece.now c.in-Some.n c.in-Some.framing (body_state c.empty_body-body.result) (body_state c.take_body.new.body) c.in_ok-done-in-InHead.done ends c.empty_body-body.ensures ok.0 ok.1 in
+    rw (c.in-InHead.is, c.replace-whole.ensures.value) (record { ok = goes; fault = tt; again = λ e is. absurd cc; whole = λ is. absurd cc })
 
-pub returns-in-InBody-clause-ok : goal.returns-in-InBody-clause-ok
-returns-in-InBody-clause-ok c =
+pub returns-in-InBody : goal.returns-in-InBody
+returns-in-InBody c =
     let sound = rw c.in-InBody.is at c.requires in
-    rw c.in-InBody.is (advanced c.take_body-in-InBody.result c.in-InBody.field-0.items (stand_of c.in-InBody.body) (stand_of c.take_body-in-InBody.new.body) c.args.piece.now sound.0 c.take_body-in-InBody.ensures.ok)
+    let head = c.in-InBody.field-0.items in
+    let ok = advanced c.take_body-in-InBody.result head (body_state c.in-InBody.body) (body_state c.take_body-in-InBody.new.body) c.args.piece.now sound.0 c.take_body-in-InBody.ensures.ok in
+    let fault = stopped c.take_body-in-InBody.result head (body_state c.in-InBody.body) c.args.piece.now c.take_body-in-InBody.ensures.fault in
+    rw c.in-InBody.is (record { ok = ok; fault = fault; again = λ e is. absurd cc; whole = λ is. let stays = c.take_body-in-InBody.ensures.whole is in (stays.0, ap (in_body head) stays.1) })
 
-pub returns-in-InBody-clause-fault : goal.returns-in-InBody-clause-fault
-returns-in-InBody-clause-fault c = rw c.in-InBody.is (stopped c.take_body-in-InBody.result c.in-InBody.field-0.items (stand_of c.in-InBody.body) c.args.piece.now c.take_body-in-InBody.ensures.fault)
-
-pub returns-in-Failed-clause-fault : goal.returns-in-Failed-clause-fault
-returns-in-Failed-clause-fault c = λ bytes h. let f = rw c.in-Failed.is at h in fails_more c.in-Failed.fault bytes c.args.piece.now f
+pub returns-in-Failed : goal.returns-in-Failed
+returns-in-Failed c =
+    rw c.in-Failed.is (record { ok = tt; fault = λ bytes h. fails_more c.in-Failed.fault bytes c.args.piece.now h; again = λ e is. let same : Some c.in-Failed.fault ≡ Some e = is in cc; whole = λ is. absurd cc })

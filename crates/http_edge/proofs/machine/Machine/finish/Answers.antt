@@ -1,7 +1,7 @@
 use Rattle.std.proofs.Common.{ℕ, List, [], sym, subst, ◌∙◌, Some}
 use Rattle.http_edge.specs.declared.phase.Phase.{Phase}
 use Rattle.http_edge.specs.Message.{IsHeadAt}
-use Rattle.http_edge.specs.Body.{stand_of}
+use Rattle.http_edge.specs.Body.{body_state}
 use Rattle.http_edge.specs.Holds.{IsBehind}
 use Rattle.http_edge.proofs.BodyLemmas.{at}
 use Rattle.http_edge.proofs.FinishLemmas.{answers_of}
@@ -11,7 +11,7 @@ use Rattle.http_edge.proofs.machine.Machine.finish.Goals as goal
 pub returns-then-not-is_whole-clause-answers : goal.returns-then-not-is_whole-clause-answers
 returns-then-not-is_whole-clause-answers c = λ bytes h.
     let head = c.in-InBody.head.items in
-    let body = stand_of c.in-InBody.body in
+    let body = body_state c.in-InBody.body in
     let x = rw c.in-InBody.is at h in
     let sound = rw c.in-InBody.is at c.requires in
     (some_bytes bytes x.1 x.0 (head_behind head bytes x.1 body x.0 x.2), not_yet_in_body head bytes x.1 body x.0 sound.1 (sym c.is_whole.ensures ∙ c.if-not-is_whole.true) x.2)
@@ -39,7 +39,7 @@ returns-else-not-is_whole-clause-cut c = λ bytes h fine some none.
     absurd (none b.0 (Some b.1) b.2)
 
 pub returns-then-not-is_whole-clause-closed : goal.returns-then-not-is_whole-clause-closed
-returns-then-not-is_whole-clause-closed c = λ h fine. let x = rw c.in-InBody.is at h in absurd (some_fed c.in-InBody.head.items (stand_of c.in-InBody.body) x)
+returns-then-not-is_whole-clause-closed c = λ h fine. let x = rw c.in-InBody.is at h in absurd (some_fed c.in-InBody.head.items (body_state c.in-InBody.body) x)
 
 pub returns-else-not-is_whole-clause-closed : goal.returns-else-not-is_whole-clause-closed
-returns-else-not-is_whole-clause-closed c = λ h fine. let x = rw c.in-InBody.is at h in absurd (some_fed c.in-InBody.head.items (stand_of c.in-InBody.body) x)
+returns-else-not-is_whole-clause-closed c = λ h fine. let x = rw c.in-InBody.is at h in absurd (some_fed c.in-InBody.head.items (body_state c.in-InBody.body) x)

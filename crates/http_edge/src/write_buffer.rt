@@ -1,30 +1,32 @@
-//! Bytes that are joined before they are written.
-ghost use Rattle.std.specs.Prelude.{◌≡◌, ◌≤◌, ◌<◌, ◌+◌, ◌^◌, ◌++◌, [], length, take, IfOk, IfErr, OnOk, is_err};
+//! A buffer in which short parts wait for one call of the writer.
+ghost use Rattle.std.specs.Prelude.{◌≡◌, ◌≤◌, ◌<◌, ◌+◌, ◌^◌, ◌++◌, [], length, take};
+ghost use Rattle.std.specs.Prelude.{IfOk, IfErr, OnOk, is_err};
 ghost use Rattle.std.specs.Io.KnownBytes.{Appends};
 ghost use Rattle.byte_ends.specs.Counts.{counted};
-ghost use Rattle.http_edge.specs.declared.joined.TheConstants.{ROOM};
+ghost use Rattle.http_edge.specs.declared.write_buffer.TheConstants.{ROOM};
 ghost use Rattle.http_edge.specs.Sent.{Failed, IsCut, Ends};
 
 use crate::written::Written;
 use byte_ends::Sink;
 
-/// How many bytes are joined at most.
+/// The most bytes that wait.
 const ROOM: usize = 1_024;
 
 /// Bytes that wait to be written in one call, and how many were written before them.
 #[derive(Drop)]
-pub struct Joined {
+pub struct WriteBuffer {
     bytes: [u8; ROOM],
     len: usize,
     sent: usize,
     ghost room: { len ≤ ROOM },
 }
 
-/// Writes until all is taken or a call fails, and answers how much was taken.
+/// Writes until all bytes are taken or a call fails, and returns how many were taken.
 fn write_bytes<K: Sink>(sink: &mut K, bytes: &[u8]) -> usize
     ensures within { result ≤ length bytes.now }
     ensures taken { Appends (K.contents sink.old) (K.contents sink.new) (take result bytes.now) }
-    ensures failed { result < length bytes.now → K.failures sink.new ≡ K.one_more (K.failures sink.old) }
+    ensures failed { result < length bytes.now →
+        K.failures sink.new ≡ K.one_more (K.failures sink.old) }
     ensures well { result ≡ length bytes.now → K.failures sink.new ≡ K.failures sink.old }
 {
     let mut at = 0;
@@ -37,12 +39,15 @@ fn write_bytes<K: Sink>(sink: &mut K, bytes: &[u8]) -> usize
     at
 }
 
-/// Writes these bytes behind so many that were sent, and answers how many are sent then.
+/// Writes these bytes where `sent` were written before, and returns how many are written then.
 fn send<K: Sink>(sink: &mut K, sent: usize, bytes: &[u8]) -> Result<usize, Written>
     requires { sent + length bytes.now < 2 ^ 64 }
-    ensures all { IfOk result (λ n. (n ≡ sent + length bytes.now) × Appends (K.contents sink.old) (K.contents sink.new) bytes.now) }
-    ensures cut { IfErr result (IsCut (K.contents sink.old) (K.contents sink.new) sent bytes.now) }
-    ensures failed { K.failures sink.new ≡ counted K.one_more (is_err result) (K.failures sink.old) }
+    ensures all { IfOk result (λ n. (n ≡ sent + length bytes.now)
+        × Appends (K.contents sink.old) (K.contents sink.new) bytes.now) }
+    ensures cut { IfErr result
+        (IsCut (K.contents sink.old) (K.contents sink.new) sent bytes.now) }
+    ensures failed { K.failures sink.new
+        ≡ counted K.one_more (is_err result) (K.failures sink.old) }
 {
     let n = write_bytes(sink, bytes);
     if n == bytes.len() {
@@ -54,15 +59,15 @@ fn send<K: Sink>(sink: &mut K, sent: usize, bytes: &[u8]) -> Result<usize, Writt
     Err(Written::Part(sent + n))
 }
 
-impl Joined {
-    ghost use Rattle.http_edge.specs.Joined.{waiting, Passes};
+impl WriteBuffer {
+    ghost use Rattle.http_edge.specs.WriteBuffer.{waiting_bytes, Passes};
 
     /// Nothing waits, and nothing was written.
     pub fn new() -> Self
-        ensures none { waiting result ≡ [] }
+        ensures none { waiting_bytes result ≡ [] }
         ensures sent { result.sent ≡ 0 }
     {
-        Joined {
+        WriteBuffer {
             bytes: [0; ROOM],
             len: 0,
             sent: 0,
@@ -72,7 +77,7 @@ impl Joined {
     /// Lets these bytes wait behind the others.
     fn keep(&mut self, part: &[u8])
         requires { self.old.len + length part.now ≤ ROOM }
-        ensures kept { waiting self.new ≡ waiting self.old ++ part.now }
+        ensures kept { waiting_bytes self.new ≡ waiting_bytes self.old ++ part.now }
         ensures sent { self.new.sent ≡ self.old.sent }
     {
         self.bytes[self.len..self.len + part.len()].copy_from_slice(part);
@@ -83,22 +88,32 @@ impl Joined {
     fn flush<K: Sink>(&mut self, sink: &mut K) -> Result<(), Written>
         requires { self.old.sent + self.old.len < 2 ^ 64 }
         ensures none { OnOk result (self.new.len ≡ 0) }
-        ensures passes { OnOk result (Passes (K.contents sink.old) (K.contents sink.new) self.old.sent self.new (waiting self.old)) }
-        ensures cut { IfErr result (IsCut (K.contents sink.old) (K.contents sink.new) self.old.sent (waiting self.old)) }
-        ensures failed { K.failures sink.new ≡ counted K.one_more (is_err result) (K.failures sink.old) }
+        ensures passes { OnOk result
+            (Passes (K.contents sink.old) (K.contents sink.new) self.old.sent self.new
+            (waiting_bytes self.old)) }
+        ensures cut { IfErr result
+            (IsCut (K.contents sink.old) (K.contents sink.new) self.old.sent
+            (waiting_bytes self.old)) }
+        ensures failed { K.failures sink.new
+            ≡ counted K.one_more (is_err result) (K.failures sink.old) }
     {
         self.sent = send(sink, self.sent, &self.bytes[..self.len])?;
         self.len = 0;
         Ok(())
     }
 
-    /// Lets the part wait behind the others. Where it has no room they are written first, and a part that
-    /// is longer than all the room goes after them at once.
+    /// Lets the part wait behind the others. Where there is no room for it they are written first,
+    /// and a part that is longer than the whole buffer is written after them at once.
     pub fn put<K: Sink>(&mut self, sink: &mut K, part: &[u8]) -> Result<(), Written>
-        requires { self.old.sent + length (waiting self.old) + length part.now < 2 ^ 64 }
-        ensures passes { OnOk result (Passes (K.contents sink.old) (K.contents sink.new) self.old.sent self.new (waiting self.old ++ part.now)) }
-        ensures cut { IfErr result (IsCut (K.contents sink.old) (K.contents sink.new) self.old.sent (waiting self.old ++ part.now)) }
-        ensures failed { K.failures sink.new ≡ counted K.one_more (is_err result) (K.failures sink.old) }
+        requires { self.old.sent + length (waiting_bytes self.old) + length part.now < 2 ^ 64 }
+        ensures passes { OnOk result
+            (Passes (K.contents sink.old) (K.contents sink.new) self.old.sent self.new
+            (waiting_bytes self.old ++ part.now)) }
+        ensures cut { IfErr result
+            (IsCut (K.contents sink.old) (K.contents sink.new) self.old.sent
+            (waiting_bytes self.old ++ part.now)) }
+        ensures failed { K.failures sink.new
+            ≡ counted K.one_more (is_err result) (K.failures sink.old) }
     {
         if part.len() <= ROOM - self.len {
             self.keep(part);
@@ -113,10 +128,11 @@ impl Joined {
         Ok(())
     }
 
-    /// Writes what waits, and answers how much was written in all.
+    /// Writes what waits, and returns how much was written in all.
     pub fn end<K: Sink>(mut self, sink: &mut K) -> Written
-        requires { self.sent + length (waiting self) < 2 ^ 64 }
-        ensures text { Ends (K.contents sink.old) (K.contents sink.new) self.sent (waiting self) result }
+        requires { self.sent + length (waiting_bytes self) < 2 ^ 64 }
+        ensures text { Ends (K.contents sink.old) (K.contents sink.new) self.sent
+            (waiting_bytes self) result }
         ensures failed { Failed K.one_more (K.failures sink.old) (K.failures sink.new) result }
     {
         match self.flush(sink) {

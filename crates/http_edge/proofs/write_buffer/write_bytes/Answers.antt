@@ -1,7 +1,7 @@
 use Rattle.std.proofs.Common.{arith, ◌≤◌, length, drop}
 use Rattle.std.proofs.lemmas.List.{take_rest, length-drop}
 use Rattle.http_edge.proofs.WriteLemmas.{more_taken}
-use Rattle.http_edge.proofs.joined.write_bytes.Goals as goal
+use Rattle.http_edge.proofs.write_buffer.write_bytes.Goals as goal
 
 pub loop-at-preserved : goal.loop-at-preserved
 loop-at-preserved g c =

@@ -1,7 +1,7 @@
 use Rattle.std.proofs.Common.{◌≡◌, ℕ, ◌+◌, ◌<◌, min, Option, Some, None, option_map, refl, arith}
 use Rattle.decimals.specs.Numbers.{number}
 use Rattle.http_edge.specs.declared.framing.Framing.TheVariants.{Sized}
-use Rattle.http_edge.proofs.framing.sized.Goals as goal
+use Rattle.http_edge.proofs.framing.framing_by_length.Goals as goal
 
 -- a number that was read up to one more than the limit, and is over it
 too_long : (o : Option ℕ) (size : ℕ) → Some size ≡ option_map (λ n. min n (4194304 + 1)) o → 4194304 < size → (n : ℕ) × (option_map (λ k. Sized k) o ≡ Some (Sized n)) × (4194304 < n)
