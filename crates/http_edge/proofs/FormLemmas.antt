@@ -1,7 +1,7 @@
 -- What an answer rules out, for each form of message.
-use Rattle.std.proofs.Common.{◌≡◌, ◌≢◌, ℕ, List, [], ◌++◌, Option, Some, None, Ok, Err, inl, inr, refl, sym, ap, subst, ◌∙◌}
+use Rattle.std.proofs.Common.{◌≡◌, ◌≢◌, ◌<◌, ℕ, List, [], ◌++◌, length, append_assoc, arith, Option, Some, None, Ok, Err, inl, inr, refl, sym, ap, subst, ◌∙◌}
 use Rattle.std.specs.Prelude.{Result, IfSome, ◌⊎◌, ⊤}
-use Rattle.std.proofs.lemmas.List.{append-nil}
+use Rattle.std.proofs.lemmas.List.{append-nil, length-append}
 use Rattle.std.specs.Io.KnownBytes.{Consumes, IsAtEnd}
 use Rattle.http_edge.specs.declared.fault.HttpFault.{HttpFault}
 use Rattle.http_edge.specs.declared.fault.HttpFault.TheVariants.{Closed, BadHead, TooManyHeaders, HeadTooLong, BadLength, BodyTooLong, BadChunk, Truncated, Io, NoMemory}
@@ -124,6 +124,15 @@ says form laws (Some bytes) r x closed = says_of form laws r bytes closed x
 abbrev pub BeginsAs : Option (List ℕ) → List ℕ → Type 0
 BeginsAs old front = IfSome old (λ bytes. (left : List ℕ) × (bytes ≡ front ++ left))
 
+pub shorter_front : (old : Option (List ℕ)) (front back : List ℕ) → BeginsAs old (front ++ back) → BeginsAs old front
+shorter_front None front back is = tt
+shorter_front (Some bytes) front back is = (back ++ is.0, is.1 ∙ append_assoc front back is.0)
+
+-- where there is a byte, nothing has to be said of a source without one
+pub not_empty : (old : Option (List ℕ)) (front : List ℕ) (P : Type 0) → BeginsAs old front → 0 < length front → IfSome old (λ bytes. bytes ≡ [] → P)
+not_empty None front P is some = tt
+not_empty (Some bytes) front P is some = λ e. absurd (omega (arith, ap length e, ap length is.1, length-append front is.0, some))
+
 pub known_front : (old now : Option (List ℕ)) (fed : List ℕ) → Consumes old now fed → BeginsAs old fed
 known_front None now fed known = tt
 known_front (Some bytes) None fed known = absurd known
@@ -133,6 +142,10 @@ known_front (Some bytes) (Some left) fed known = (left, known)
 pub said_of_front : {M R : Type 0} (form : Form M R) (old : Option (List ℕ)) (front : List ℕ) (r : Result R HttpFault) → BeginsAs old front → ((more : List ℕ) → IsAnswer form (front ++ more) r) → Said form old r
 said_of_front form None front r is answers = tt
 said_of_front form (Some bytes) front r is answers = inr (subst (λ (s : List ℕ). IsAnswer form s r) (sym is.1) (answers is.0))
+
+pub said_of_memory : {M R : Type 0} (form : Form M R) (laws : Laws M R form) (old : Option (List ℕ)) → Said form old (Err NoMemory)
+said_of_memory form laws None = tt
+said_of_memory form laws (Some bytes) = inr (laws.memory bytes)
 
 -- at its end the source has given all its bytes
 pub said_at_end : {M R : Type 0} (form : Form M R) (old now : Option (List ℕ)) (fed : List ℕ) (r : Result R HttpFault) → Consumes old now fed → IsAtEnd now → IsAnswer form fed r → Said form old r

@@ -15,8 +15,7 @@ use Rattle.http_edge.specs.Message.{Header}
 use Rattle.http_edge.specs.Framing.{is_named, values_of}
 use Rattle.http_edge.specs.Reply.{ReplyHead, first_of, reply_of, reply_in, BeginsWithReply, NoReply, ExplainsReply, reply_form}
 use Rattle.http_edge.specs.Form.{IsLasting}
-use Rattle.http_edge.specs.Delivery.{StopsReading}
-use Rattle.http_edge.proofs.FormLemmas.{IsSilent, Laws, Said, BeginsAs, said_of_front}
+use Rattle.http_edge.proofs.FormLemmas.{IsSilent, Laws, Said, BeginsAs, known_front, shorter_front, said_of_front}
 use Rattle.http_edge.proofs.SourceLemmas.{known_more}
 use Rattle.http_edge.proofs.FieldLemmas.{values_of-append, values_of_more}
 use Rattle.http_edge.proofs.ListLemmas.{front_of}
@@ -145,29 +144,13 @@ pub no_reply : (old now : Option (List ℕ)) (kept : List ℕ) → HeadSoFar old
 no_reply old now kept so k after b = so.none k after b.reads
 
 -- the front of a piece was kept
-pub record Grows (old : Option (List ℕ)) (new : List ℕ) : Type 0 where
-  pub all : BeginsAs old new
-  pub some : 0 < length new
+pub grows : (old now next : Option (List ℕ)) (kept piece front back new : List ℕ) → Consumes old now kept → Consumes now next piece → piece ≡ front ++ back → new ≡ kept ++ front → BeginsAs old new
+grows old now next kept piece front back new known took cut is =
+    let e : kept ++ piece ≡ new ++ back = ap (λ x. kept ++ x) cut ∙ sym (append_assoc kept front back) ∙ ap (λ x. x ++ back) (sym is) in
+    shorter_front old new back (subst (BeginsAs old) e (known_front old next (kept ++ piece) (known_more old now next kept piece known took)))
 
-pub grows : (old now next : Option (List ℕ)) (kept piece front back new : List ℕ) → HeadSoFar old now kept → Consumes now next piece → piece ≡ front ++ back → 0 < length front → new ≡ kept ++ front → Grows old new
-grows None now next kept piece front back new so took cut some is = record { all = tt; some = omega (arith, ap length is, length-append kept front, some) }
-grows (Some bytes) None next kept piece front back new so took cut some is = absurd so.known
-grows (Some bytes) (Some left) None kept piece front back new so took cut some is = absurd took
-grows (Some bytes) (Some left) (Some more) kept piece front back new so took cut some is =
-    let e : bytes ≡ (kept ++ (front ++ back)) ++ more = known_more (Some bytes) (Some left) (Some more) kept piece so.known took ∙ ap (λ x. (kept ++ x) ++ more) cut in
-    let f : (kept ++ (front ++ back)) ++ more ≡ new ++ (back ++ more) = ap (λ x. x ++ more) (sym (append_assoc kept front back)) ∙ append_assoc (kept ++ front) back more ∙ ap (λ x. x ++ (back ++ more)) (sym is) in
-    record { all = (back ++ more, e ∙ f); some = omega (arith, ap length is, length-append kept front, some) }
+pub said : (old : Option (List ℕ)) (new : List ℕ) (r : Reply) → BeginsAs old new → BeginsWithReply new (reply_in r) → Said reply_form old (Ok r)
+said old new r is b = said_of_front reply_form old new (Ok r) is (λ more. begins-append new more (reply_in r) b)
 
-no_reply_yet : NoReply []
-no_reply_yet k after b = none_at_first k after b.reads
-
--- no call was made
-pub nothing_read : (old : Option (List ℕ)) (given : ℕ) → StopsReading NoReply old old given
-nothing_read None given = ([], [], tt, omega arith, no_reply_yet)
-nothing_read (Some bytes) given = ([], [], refl, omega arith, no_reply_yet)
-
-pub said : (old : Option (List ℕ)) (new : List ℕ) (r : Reply) → Grows old new → BeginsWithReply new (reply_in r) → Said reply_form old (Ok r)
-said old new r g b = said_of_front reply_form old new (Ok r) g.all (λ more. begins-append new more (reply_in r) b)
-
-pub refused : (old : Option (List ℕ)) (new : List ℕ) (e : HttpFault) → Grows old new → IsLasting e → ExplainsReply e new → Said reply_form old (Err e)
-refused old new e g lasts x = said_of_front reply_form old new (Err e) g.all (λ more. explains_more e new more lasts x)
+pub refused : (old : Option (List ℕ)) (new : List ℕ) (e : HttpFault) → BeginsAs old new → IsLasting e → ExplainsReply e new → Said reply_form old (Err e)
+refused old new e is lasts x = said_of_front reply_form old new (Err e) is (λ more. explains_more e new more lasts x)

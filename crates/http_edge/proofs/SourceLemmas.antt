@@ -1,7 +1,7 @@
 -- What a source gave, call by call.
-use Rattle.std.proofs.Common.{◌≡◌, ◌<◌, ◌≤◌, List, ℕ, [], ◌++◌, length, take, Option, Some, None, sym, ap, ◌∙◌, append_assoc, arith}
+use Rattle.std.proofs.Common.{◌≡◌, ◌≤◌, List, ℕ, [], ◌++◌, length, take, Option, Some, None, sym, ap, ◌∙◌, append_assoc, arith}
 use Rattle.std.specs.Prelude.{IfSome}
-use Rattle.std.proofs.lemmas.List.{length-append, length-take-le}
+use Rattle.std.proofs.lemmas.List.{length-take-le}
 use Rattle.std.specs.Io.KnownBytes.{Consumes, IsAtEnd}
 use Rattle.http_edge.specs.Delivery.{StopsReading}
 
@@ -11,13 +11,6 @@ known_more None now next before piece known took = tt
 known_more (Some bytes) None next before piece known took = absurd known
 known_more (Some bytes) (Some left) None before piece known took = absurd took
 known_more (Some bytes) (Some left) (Some more) before piece known took = known ∙ ap (λ x. before ++ x) took ∙ sym (append_assoc before piece more)
-
--- where a call gave a byte, there was one
-pub not_empty : (old now next : Option (List ℕ)) (before piece : List ℕ) (P : Type 0) → Consumes old now before → Consumes now next piece → 0 < length piece → IfSome old (λ bytes. bytes ≡ [] → P)
-not_empty None now next before piece P known took some = tt
-not_empty (Some bytes) None next before piece P known took some = absurd known
-not_empty (Some bytes) (Some left) None before piece P known took some = absurd took
-not_empty (Some bytes) (Some left) (Some more) before piece P known took some = λ e. absurd (omega (arith, ap length known, ap length e, length-append before left, ap length took, length-append piece more, some))
 
 -- how far it was read, where n bytes came last
 pub stops : (Open : List ℕ → Type 0) (old now next : Option (List ℕ)) (given n : ℕ) (before buf : List ℕ) → Consumes old now before → Consumes now next (take n buf) → n ≤ length buf → given ≡ n → Open before → StopsReading Open old next given

@@ -1,9 +1,7 @@
 //! Reads a request from a source.
-ghost use Rattle.std.specs.Prelude.{◌≡◌, ◌≢◌, ◌⊎◌, [], Err, IfSome};
+ghost use Rattle.std.specs.Prelude.{◌≡◌, ◌≢◌, Err, IfSome};
 ghost use Rattle.std.specs.Io.KnownBytes.{IsAtEnd};
 ghost use Rattle.http_edge.specs.Reading.{NotYet};
-ghost use Rattle.http_edge.specs.Answer.{Answers};
-ghost use Rattle.http_edge.specs.Form.{IsClosed};
 ghost use Rattle.http_edge.specs.Delivery.{Says, StopsReading};
 
 use crate::decoder::Decoder;
@@ -12,34 +10,6 @@ use crate::limits::MAX_PIECE;
 use crate::request::Request;
 use byte_ends::Source;
 use std::alloc::Global;
-
-/// Feeds a decoder the pieces that the source gives, until the message is whole or the source ends.
-fn read_pieces<S: Source>(alloc: Global, source: &mut S) -> Result<Request, HttpFault>
-    ensures answer { IfSome (S.remaining source.old) (λ bytes.
-        (result ≡ Err HttpFault.Io) ⊎ Answers bytes result) }
-    ensures closed { IfSome (S.remaining source.old) (λ bytes. bytes ≡ [] → IsClosed result) }
-    ensures stops { StopsReading NotYet
-        (S.remaining source.old) (S.remaining source.new) (S.given source.new) }
-    ensures truncated { IfSome (S.remaining source.old) (λ _.
-        result ≡ Err HttpFault.Truncated → IsAtEnd (S.remaining source.new)) }
-    ensures io { result ≡ Err HttpFault.Io →
-        S.failures source.new ≡ S.one_more (S.failures source.old) }
-    ensures well { result ≢ Err HttpFault.Io → S.failures source.new ≡ S.failures source.old }
-{
-    let mut decoder = Decoder::new(alloc);
-    let mut piece = [0u8; MAX_PIECE];
-    'pieces: loop {
-        let Ok(n) = source.read(&mut piece) else {
-            return Err(HttpFault::Io);
-        };
-        if n == 0 {
-            return decoder.finish();
-        }
-        if decoder.feed(&piece[..n])? {
-            return decoder.finish();
-        }
-    }
-}
 
 /// Reads the request that the source's bytes begin with (RFC 9112). Where the bytes of the source
 /// are known, each answer says one thing of them:
@@ -65,5 +35,17 @@ pub fn read_message<S: Source>(alloc: Global, source: &mut S) -> Result<Request,
         S.failures source.new ≡ S.one_more (S.failures source.old) }
     ensures well { result ≢ Err HttpFault.Io → S.failures source.new ≡ S.failures source.old }
 {
-    read_pieces(alloc, source)
+    let mut decoder = Decoder::new(alloc);
+    let mut piece = [0u8; MAX_PIECE];
+    'pieces: loop {
+        let Ok(n) = source.read(&mut piece) else {
+            return Err(HttpFault::Io);
+        };
+        if n == 0 {
+            return decoder.finish();
+        }
+        if decoder.feed(&piece[..n])? {
+            return decoder.finish();
+        }
+    }
 }

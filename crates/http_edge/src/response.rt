@@ -1,12 +1,11 @@
 //! Reads the head of a response (RFC 9112, section 4).
-ghost use Rattle.std.specs.Prelude.{◌≡◌, ◌≢◌, ◌≤◌, ◌⊎◌, [], length, map, All, Err};
+ghost use Rattle.std.specs.Prelude.{◌≡◌, ◌≢◌, ◌≤◌, length, map, All, Err};
 ghost use Rattle.std.specs.Prelude.{IfOk, IfSome, option_map};
 ghost use Rattle.std.specs.Io.KnownBytes.{IsAtEnd};
 ghost use Rattle.httparse.specs.Spans.{header_bytes, IsHeaderWithin};
 ghost use Rattle.http_edge.specs.Framing.{values_of};
 ghost use Rattle.http_edge.specs.Delivery.{StopsReading};
-ghost use Rattle.http_edge.specs.Form.{IsAnswer, IsClosed};
-ghost use Rattle.http_edge.specs.Reply.{first_of, NoReply, reply_form, LooksForReply, SaysReply};
+ghost use Rattle.http_edge.specs.Reply.{first_of, NoReply, LooksForReply, SaysReply};
 
 use crate::fault::HttpFault;
 use crate::framing::is_named;
@@ -67,11 +66,22 @@ fn look_for_reply(alloc: Global, buf: &[u8]) -> Result<Option<Reply>, HttpFault>
     }
 }
 
-/// Keeps what the source gives until a head is whole or the source ends.
-fn read_head<S: Source>(alloc: Global, source: &mut S) -> Result<Reply, HttpFault>
-    ensures answer { IfSome (S.remaining source.old) (λ bytes.
-        (result ≡ Err HttpFault.Io) ⊎ IsAnswer reply_form bytes result) }
-    ensures closed { IfSome (S.remaining source.old) (λ bytes. bytes ≡ [] → IsClosed result) }
+/// Reads the head of the response that the source's bytes begin with (RFC 9112, section 4), and not
+/// its body. Where the bytes of the source are known, each answer says one thing of them:
+///
+/// - a reply: they begin with a head that says it;
+/// - Closed: there is none;
+/// - NoMemory: there is one (that an allocation failed is not said, but comes at no other time);
+/// - Io: nothing, because a call failed;
+/// - BadHead, TooManyHeaders, HeadTooLong, Truncated: there is a byte, they begin with no head, and
+///   why. No other fault comes.
+///
+/// Truncated comes only at the end of the source, and the limits end a source that never ends.
+/// Exactly one call failed at Io, and none at any other answer. The source is not read again once
+/// there is a head: what was read before the last call has none. Bytes behind the head that came
+/// with its last ones are thrown away.
+pub fn read_response<S: Source>(alloc: Global, source: &mut S) -> Result<Reply, HttpFault>
+    ensures says { IfSome (S.remaining source.old) (λ bytes. SaysReply bytes result) }
     ensures stops { StopsReading NoReply
         (S.remaining source.old) (S.remaining source.new) (S.given source.new) }
     ensures truncated { IfSome (S.remaining source.old) (λ _.
@@ -98,31 +108,4 @@ fn read_head<S: Source>(alloc: Global, source: &mut S) -> Result<Reply, HttpFaul
             return Ok(reply);
         }
     }
-}
-
-/// Reads the head of the response that the source's bytes begin with (RFC 9112, section 4), and not
-/// its body. Where the bytes of the source are known, each answer says one thing of them:
-///
-/// - a reply: they begin with a head that says it;
-/// - Closed: there is none;
-/// - NoMemory: there is one (that an allocation failed is not said, but comes at no other time);
-/// - Io: nothing, because a call failed;
-/// - BadHead, TooManyHeaders, HeadTooLong, Truncated: there is a byte, they begin with no head, and
-///   why. No other fault comes.
-///
-/// Truncated comes only at the end of the source, and the limits end a source that never ends.
-/// Exactly one call failed at Io, and none at any other answer. The source is not read again once
-/// there is a head: what was read before the last call has none. Bytes behind the head that came
-/// with its last ones are thrown away.
-pub fn read_response<S: Source>(alloc: Global, source: &mut S) -> Result<Reply, HttpFault>
-    ensures says { IfSome (S.remaining source.old) (λ bytes. SaysReply bytes result) }
-    ensures stops { StopsReading NoReply
-        (S.remaining source.old) (S.remaining source.new) (S.given source.new) }
-    ensures truncated { IfSome (S.remaining source.old) (λ _.
-        result ≡ Err HttpFault.Truncated → IsAtEnd (S.remaining source.new)) }
-    ensures io { result ≡ Err HttpFault.Io →
-        S.failures source.new ≡ S.one_more (S.failures source.old) }
-    ensures well { result ≢ Err HttpFault.Io → S.failures source.new ≡ S.failures source.old }
-{
-    read_head(alloc, source)
 }

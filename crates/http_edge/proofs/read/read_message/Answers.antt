@@ -1,7 +1,101 @@
-use Rattle.http_edge.specs.Answer.{request_form}
-use Rattle.http_edge.proofs.FormLemmas.{says}
+use Rattle.std.proofs.Common.{◌<◌, [], refl, ◌++◌, length, take, arith, true, false, Ok, Err}
+use Rattle.std.specs.Io.KnownBytes.{Consumes}
+use Rattle.std.proofs.lemmas.List.{length-take-le, length-append}
+use Rattle.std.proofs.lemmas.Result.{err_from_is_err_and}
+use Rattle.http_edge.specs.Answer.{request_form, Reports}
+use Rattle.http_edge.specs.Reading.{NotYet}
 use Rattle.http_edge.proofs.AnswerLemmas.{request_laws}
+use Rattle.http_edge.proofs.FormLemmas.{says, said_at_end, known_front, not_empty}
+use Rattle.http_edge.proofs.ReadLemmas.{begins, goes_on, at_message, at_fault, closed_at_end, not_cut}
+use Rattle.http_edge.proofs.SourceLemmas.{known_more, at_end, stops}
 use Rattle.http_edge.proofs.read.read_message.Goals as goal
 
-pub returns-clause-says : goal.returns-clause-says
-returns-clause-says g c = says request_form request_laws (g.S.Source.remaining c.args.source.now) c.read_pieces.result c.read_pieces.ensures.answer c.read_pieces.ensures.closed
+pub pieces-init : goal.pieces-init
+pieces-init g c = record { so_far = ([], begins (g.S.Source.remaining c.args.source.now) c.new-decoder.result c.new-decoder.ensures.nothing c.new-decoder.ensures.fine); well = refl }
+
+pub pieces-preserved : goal.pieces-preserved
+pieces-preserved g c =
+    let fed = c.pieces.invariant.so_far.0 in
+    let so = c.pieces.invariant.so_far.1 in
+    let piece = take c.in-Ok.n c.read.new.buf in
+    let open_yet : Reports (fed ++ piece) (Ok false) = rw c.if-branch.false at (c.in_ok-feed.ensures.reports fed so.holds) in
+    record {
+      so_far = (fed ++ piece, goes_on (g.S.Source.remaining c.args.source.now) (g.S.Source.remaining c.pieces.source) (g.S.Source.remaining c.read.new.self) c.pieces.decoder c.feed.new.self fed piece so c.in-Ok.ensures.bytes.0 (c.feed.ensures.holds fed so.holds) c.in_ok-feed.ensures.fault open_yet);
+      well = rw c.in-Ok.ensures.failed c.pieces.invariant.well;
+    }
+
+-- ---- the source ended
+
+pub returns-then-n-eq0-clause-says : goal.returns-then-n-eq0-clause-says
+returns-then-n-eq0-clause-says g c =
+    let r0 = g.S.Source.remaining c.args.source.now in
+    let r1 = g.S.Source.remaining c.pieces.source in
+    let fed = c.pieces.invariant.so_far.0 in
+    let so = c.pieces.invariant.so_far.1 in
+    let ended = c.in-Ok.ensures.bytes.1 c.if-n-eq0.true (omega (arith, c.read.auto.buf)) in
+    let closed = closed_at_end r0 r1 c.pieces.decoder fed c.finish.result so c.finish.ensures.closed in
+    says request_form request_laws r0 c.finish.result (said_at_end request_form r0 r1 fed c.finish.result so.known ended (c.finish.ensures.answers fed so.holds)) closed
+
+pub returns-then-n-eq0-clause-stops : goal.returns-then-n-eq0-clause-stops
+returns-then-n-eq0-clause-stops g c =
+    stops NotYet (g.S.Source.remaining c.args.source.now) (g.S.Source.remaining c.pieces.source) (g.S.Source.remaining c.read.new.self) (g.S.Source.given c.read.new.self) c.in-Ok.n c.pieces.invariant.so_far.0 c.read.new.buf c.pieces.invariant.so_far.1.known c.in-Ok.ensures.bytes.0
+    c.in-Ok.ensures.bound c.in-Ok.ensures.given c.pieces.invariant.so_far.1.is_open
+
+pub returns-then-n-eq0-clause-truncated : goal.returns-then-n-eq0-clause-truncated
+returns-then-n-eq0-clause-truncated g c =
+    let none = c.if-n-eq0.true in
+    at_end (g.S.Source.remaining c.args.source.now) (g.S.Source.remaining c.pieces.source) (g.S.Source.remaining c.read.new.self) c.pieces.invariant.so_far.0 _ c.pieces.invariant.so_far.1.known (rw none at c.in-Ok.ensures.bytes.0)
+    (c.in-Ok.ensures.bytes.1 none (omega (arith, c.read.auto.buf)))
+
+-- ---- a fault was fed
+
+pub returns-in_err-feed-clause-says : goal.returns-in_err-feed-clause-says
+returns-in_err-feed-clause-says g c =
+    let r0 = g.S.Source.remaining c.args.source.now in
+    let r1 = g.S.Source.remaining c.pieces.source in
+    let r2 = g.S.Source.remaining c.read.new.self in
+    let fed = c.pieces.invariant.so_far.0 in
+    let so = c.pieces.invariant.so_far.1 in
+    let piece = take c.in-Ok.n c.read.new.buf in
+    let took : Consumes r1 r2 piece = c.in-Ok.ensures.bytes.0 in
+    let some : 0 < length (fed ++ piece) = omega (arith, length-append fed piece, length-take-le c.in-Ok.n c.read.new.buf c.in-Ok.ensures.bound, c.if-n-eq0.false) in
+    let front = known_front r0 r2 (fed ++ piece) (known_more r0 r1 r2 fed piece so.known took) in
+    let p = err_from_is_err_and c.from_residual.result c.from_residual.ensures.1 in
+    let e = c.in_err-feed.field-0.0 in
+    rw (p.1, p.2) (says request_form request_laws r0 (Err e) (at_fault r0 r1 r2 c.pieces.decoder fed piece e so took (c.in_err-feed.ensures.reports fed so.holds)) (not_empty r0 (fed ++ piece) _ front some))
+
+pub returns-in_err-feed-clause-stops : goal.returns-in_err-feed-clause-stops
+returns-in_err-feed-clause-stops g c =
+    stops NotYet (g.S.Source.remaining c.args.source.now) (g.S.Source.remaining c.pieces.source) (g.S.Source.remaining c.read.new.self) (g.S.Source.given c.read.new.self) c.in-Ok.n c.pieces.invariant.so_far.0 c.read.new.buf c.pieces.invariant.so_far.1.known c.in-Ok.ensures.bytes.0
+    c.in-Ok.ensures.bound c.in-Ok.ensures.given c.pieces.invariant.so_far.1.is_open
+
+-- ---- a message was fed
+
+pub returns-then-branch-clause-says : goal.returns-then-branch-clause-says
+returns-then-branch-clause-says g c =
+    let r0 = g.S.Source.remaining c.args.source.now in
+    let r1 = g.S.Source.remaining c.pieces.source in
+    let r2 = g.S.Source.remaining c.read.new.self in
+    let fed = c.pieces.invariant.so_far.0 in
+    let so = c.pieces.invariant.so_far.1 in
+    let piece = take c.in-Ok.n c.read.new.buf in
+    let took : Consumes r1 r2 piece = c.in-Ok.ensures.bytes.0 in
+    let some : 0 < length (fed ++ piece) = omega (arith, length-append fed piece, length-take-le c.in-Ok.n c.read.new.buf c.in-Ok.ensures.bound, c.if-n-eq0.false) in
+    let known = known_more r0 r1 r2 fed piece so.known took in
+    let whole : Reports (fed ++ piece) (Ok true) = rw c.if-branch.true at (c.in_ok-feed.ensures.reports fed so.holds) in
+    let r = c.finish-then-branch.result in
+    let answers = c.finish-then-branch.ensures.answers (fed ++ piece) (c.feed.ensures.holds fed so.holds) in
+    says request_form request_laws r0 r (at_message r0 r2 (fed ++ piece) r whole.0 known whole.1 answers) (not_empty r0 (fed ++ piece) _ (known_front r0 r2 (fed ++ piece) known) some)
+
+pub returns-then-branch-clause-stops : goal.returns-then-branch-clause-stops
+returns-then-branch-clause-stops g c =
+    stops NotYet (g.S.Source.remaining c.args.source.now) (g.S.Source.remaining c.pieces.source) (g.S.Source.remaining c.read.new.self) (g.S.Source.given c.read.new.self) c.in-Ok.n c.pieces.invariant.so_far.0 c.read.new.buf c.pieces.invariant.so_far.1.known c.in-Ok.ensures.bytes.0
+    c.in-Ok.ensures.bound c.in-Ok.ensures.given c.pieces.invariant.so_far.1.is_open
+
+pub returns-then-branch-clause-truncated : goal.returns-then-branch-clause-truncated
+returns-then-branch-clause-truncated g c =
+    let fed = c.pieces.invariant.so_far.0 in
+    let so = c.pieces.invariant.so_far.1 in
+    let piece = take c.in-Ok.n c.read.new.buf in
+    let whole : Reports (fed ++ piece) (Ok true) = rw c.if-branch.true at (c.in_ok-feed.ensures.reports fed so.holds) in
+    not_cut (g.S.Source.remaining c.args.source.now) (g.S.Source.remaining c.read.new.self) (fed ++ piece) whole.0 c.finish-then-branch.result whole.1 (c.finish-then-branch.ensures.answers (fed ++ piece) (c.feed.ensures.holds fed so.holds))

@@ -1,6 +1,6 @@
 use Rattle.std.proofs.Common.{◌≡◌, ◌-◌, length}
 use Rattle.http_edge.proofs.ReplyLemmas.{HeadSoFar}
-use Rattle.http_edge.proofs.response.read_head.Given as goal
+use Rattle.http_edge.proofs.response.read_response.Given as goal
 
 abbrev pub invariant-pieces : goal.invariant-pieces
 invariant-pieces g l = record {

@@ -1,7 +1,7 @@
 use Rattle.std.proofs.Common.{◌≡◌, ℕ, List}
 use Rattle.http_edge.specs.Holds.{most_to_come}
 use Rattle.http_edge.proofs.ReadLemmas.{Fed}
-use Rattle.http_edge.proofs.read.read_pieces.Given as goal
+use Rattle.http_edge.proofs.read.read_message.Given as goal
 
 abbrev pub invariant-pieces : goal.invariant-pieces
 invariant-pieces g l = record {
