@@ -8,11 +8,11 @@ use Rattle.http_edge.specs.declared.fault.HttpFault.{HttpFault}
 use Rattle.http_edge.specs.declared.fault.HttpFault.TheVariants.{Closed, BadHead, TooManyHeaders, HeadTooLong, BadLength, BodyTooLong, BadChunk, Truncated, Io, NoMemory}
 use Rattle.http_edge.specs.declared.framing.Framing.{Framing}
 use Rattle.http_edge.specs.declared.request.Request.{Request}
-use Rattle.http_edge.specs.Form.{Gives, Delivers, IsClosed}
+use Rattle.http_edge.specs.Form.{IsAnswer, Gives, Delivers, IsClosed}
 use Rattle.http_edge.specs.Message.{Message, IsHeadAt, NeverHead}
 use Rattle.http_edge.specs.Reading.{HasBody, framing_in, BeginsWith, IsTooLong, NotYet}
 use Rattle.http_edge.specs.Request.{message_in}
-use Rattle.http_edge.specs.Answer.{Explains, request_form, Answers, Fails, ReportsTooLong}
+use Rattle.http_edge.specs.Answer.{Explains, request_form, Fails, ReportsTooLong}
 use Rattle.http_edge.specs.Delivery.{Says, ReportsSize}
 use Rattle.http_edge.proofs.HeadLemmas.{never_bad, never_few, never_short}
 use Rattle.http_edge.proofs.FaultLemmas.{begins-append, fails_more}
@@ -62,7 +62,7 @@ request_laws = record {
 
 -- ---- what is answered
 
-pub gives : (bytes : List ℕ) (m : Message) (r : Result Request HttpFault) → Answers bytes r → BeginsWith bytes m → Gives request_form m r
+pub gives : (bytes : List ℕ) (m : Message) (r : Result Request HttpFault) → IsAnswer request_form bytes r → BeginsWith bytes m → Gives request_form m r
 gives bytes m r x b = form.gives request_form request_laws r bytes m x b
 
 size_or_memory : (e : HttpFault) (bytes : List ℕ) → (e ≡ NoMemory) ⊎ ((e ≡ BodyTooLong) ⊎ IsSilent e) → Explains e bytes → IsTooLong bytes → (e ≡ BodyTooLong) ⊎ (e ≡ NoMemory)
@@ -70,12 +70,12 @@ size_or_memory e bytes (inl is) x t = inr is
 size_or_memory e bytes (inr (inl is)) x t = inl is
 size_or_memory e bytes (inr (inr is)) x t = absurd (silent e bytes is x t.0 None t.1)
 
-pub reports_too_long : (bytes : List ℕ) (r : Result Request HttpFault) → Answers bytes r → IsTooLong bytes → ReportsTooLong r
+pub reports_too_long : (bytes : List ℕ) (r : Result Request HttpFault) → IsAnswer request_form bytes r → IsTooLong bytes → ReportsTooLong r
 reports_too_long bytes (Ok r) x t = not_both bytes (message_in r) x t
 reports_too_long bytes (Err e) x t = size_or_memory e bytes (form.sort e) x t
 
 -- what is answered of bytes that begin with a message is answered of more bytes
-pub answers_later : (r : Result Request HttpFault) (bytes more : List ℕ) (m : Message) → BeginsWith bytes m → Answers bytes r → Answers (bytes ++ more) r
+pub answers_later : (r : Result Request HttpFault) (bytes more : List ℕ) (m : Message) → BeginsWith bytes m → IsAnswer request_form bytes r → IsAnswer request_form (bytes ++ more) r
 answers_later (Ok r) bytes more m b x = begins-append bytes more (message_in r) x
 answers_later (Err e) bytes more m b x = let P : HttpFault → Type 0 = λ f. Explains f (bytes ++ more) in subst P (sym (form.only_memory request_form request_laws e bytes m x b)) tt
 

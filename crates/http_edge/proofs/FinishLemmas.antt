@@ -12,8 +12,8 @@ use Rattle.http_edge.specs.Message.{Header, Message, IsHeadAt}
 use Rattle.http_edge.specs.Head.{FindsHead}
 use Rattle.http_edge.specs.Reading.{message_of, BeginsWith}
 use Rattle.http_edge.specs.Request.{message_at}
-use Rattle.http_edge.specs.Form.{Gives}
-use Rattle.http_edge.specs.Answer.{Explains, request_form, Answers}
+use Rattle.http_edge.specs.Form.{IsAnswer, Gives}
+use Rattle.http_edge.specs.Answer.{Explains, request_form}
 
 same_message : (a b t u : List ℕ) (hs gs : List Header) (x : List ℕ) → a ≡ b → t ≡ u → hs ≡ gs
     → ◌≡◌ {A = Message} (record { method = a; target = t; headers = hs; body = x }) (record { method = b; target = u; headers = gs; body = x })
@@ -24,6 +24,6 @@ message_at_is buf spans r k j body is found =
     let same = request_unique buf j k (drop r.len buf) [] found.at.reads is.reads in
     same_message _ j.method _ j.target _ (map name_and_value j.fields) body found.at.method found.at.path found.at.fields ∙ ap (λ (h : RequestHead). message_of h body) same.0
 
-pub answers_of : (r : Result Request HttpFault) (bytes content : List ℕ) (k : RequestHead) → Gives request_form (message_of k content) r → BeginsWith bytes (message_of k content) → Answers bytes r
+pub answers_of : (r : Result Request HttpFault) (bytes content : List ℕ) (k : RequestHead) → Gives request_form (message_of k content) r → BeginsWith bytes (message_of k content) → IsAnswer request_form bytes r
 answers_of (Ok r) bytes content k is begins = subst (BeginsWith bytes) (sym is) begins
 answers_of (Err e) bytes content k is begins = subst (λ (f : HttpFault). Explains f bytes) (sym is) tt

@@ -8,8 +8,8 @@ use Rattle.http_edge.specs.declared.fault.HttpFault.TheVariants.{Closed, Truncat
 use Rattle.http_edge.specs.declared.request.Request.{Request}
 use Rattle.http_edge.specs.Message.{Message}
 use Rattle.http_edge.specs.Reading.{BeginsWith, NotYet}
-use Rattle.http_edge.specs.Form.{IsClosed}
-use Rattle.http_edge.specs.Answer.{Explains, request_form, Answers, Fails}
+use Rattle.http_edge.specs.Form.{IsAnswer, IsClosed}
+use Rattle.http_edge.specs.Answer.{Explains, request_form, Fails}
 use Rattle.http_edge.specs.Holds.{Progress, Holds, fault_in}
 use Rattle.http_edge.proofs.FaultLemmas.{fails_more}
 use Rattle.http_edge.proofs.MachineLemmas.{not_yet_in_head, start_is_sound}
@@ -35,7 +35,7 @@ pub goes_on : (old now next : Option (List ℕ)) (p q : Progress) (fed piece : L
 goes_on old now next p q fed piece so took holds fine none = record { holds = holds; known = known_more old now next fed piece so.known took; fine = fine; is_open = none }
 
 -- once a message was fed
-pub at_message : (old now : Option (List ℕ)) (fed : List ℕ) (r : Result Request HttpFault) (m : Message) → Consumes old now fed → BeginsWith fed m → Answers fed r → Said request_form old r
+pub at_message : (old now : Option (List ℕ)) (fed : List ℕ) (r : Result Request HttpFault) (m : Message) → Consumes old now fed → BeginsWith fed m → IsAnswer request_form fed r → Said request_form old r
 at_message old now fed r m known b x = said_of_front request_form old fed r (known_front old now fed known) (λ more. answers_later r fed more m b x)
 
 -- once a fault was fed
@@ -44,9 +44,9 @@ at_fault old now next p fed piece e so took f =
     said_of_front request_form old (fed ++ piece) (Err e) (known_front old next (fed ++ piece) (known_more old now next fed piece so.known took)) (λ more. (fails_more e (fed ++ piece) more f).1)
 
 -- where a message was fed, it is not cut
-pub not_cut : (old next : Option (List ℕ)) (fed : List ℕ) (m : Message) (r : Result Request HttpFault) → BeginsWith fed m → Answers fed r → IfSome old (λ _. r ≡ Err Truncated → IsAtEnd next)
+pub not_cut : (old next : Option (List ℕ)) (fed : List ℕ) (m : Message) (r : Result Request HttpFault) → BeginsWith fed m → IsAnswer request_form fed r → IfSome old (λ _. r ≡ Err Truncated → IsAtEnd next)
 not_cut None next fed m r b a = tt
-not_cut (Some bytes) next fed m r b a = λ e. let x : Explains Truncated fed = subst (Answers fed) e a in absurd (x.1 b.0 (Some b.1) b.2)
+not_cut (Some bytes) next fed m r b a = λ e. let x : Explains Truncated fed = subst (IsAnswer request_form fed) e a in absurd (x.1 b.0 (Some b.1) b.2)
 
 -- where there is no byte, nothing was fed
 pub closed_at_end : (old now : Option (List ℕ)) (p : Progress) (fed : List ℕ) (r : Result Request HttpFault) → Fed old now p fed → (Holds p [] → fault_in p ≡ None → r ≡ Err Closed) → IfSome old (λ bytes. bytes ≡ [] → IsClosed r)

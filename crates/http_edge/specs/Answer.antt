@@ -4,7 +4,7 @@ use Rattle.httparse.specs.Grammar.{RequestHead, NeverHasRequest}
 use Rattle.http_edge.specs.declared.fault.HttpFault.{HttpFault}
 use Rattle.http_edge.specs.declared.fault.HttpFault.TheVariants.{Closed, BadHead, TooManyHeaders, HeadTooLong, BadLength, BodyTooLong, BadChunk, Truncated, Io, NoMemory}
 use Rattle.http_edge.specs.declared.request.Request.{Request}
-use Rattle.http_edge.specs.Form.{Form, IsAnswer, IsLasting}
+use Rattle.http_edge.specs.Form.{Form, IsLasting}
 use Rattle.http_edge.specs.Message.{Message, IsHeadAt}
 use Rattle.http_edge.specs.Head.{HasTooManyFields, HasLongHead}
 use Rattle.http_edge.specs.Reading.{framing_in, BeginsWith, IsTooLong, NotYet, Never}
@@ -34,10 +34,6 @@ Explains NoMemory bytes = ⊤
 -- a request as a form of message
 abbrev pub request_form : Form Message Request
 request_form = record { begins = BeginsWith; seen = message_in; not_yet = NotYet; explains = Explains }
-
--- an answer about bytes that end here
-abbrev pub Answers : List ℕ → Result Request HttpFault → Type 0
-Answers bytes r = IsAnswer request_form bytes r
 
 -- the fault lasts, and this is what it says
 abbrev pub Fails : HttpFault → List ℕ → Type 0

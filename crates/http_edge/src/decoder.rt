@@ -4,7 +4,8 @@ ghost use Rattle.std.specs.Prelude.{[], length, true, false};
 ghost use Rattle.std.specs.Result.{result_err};
 ghost use Rattle.http_edge.specs.Message.{Message};
 ghost use Rattle.http_edge.specs.Reading.{BeginsWith, NotYet};
-ghost use Rattle.http_edge.specs.Answer.{Answers, Reports};
+ghost use Rattle.http_edge.specs.Form.{IsAnswer};
+ghost use Rattle.http_edge.specs.Answer.{Reports, request_form};
 ghost use Rattle.http_edge.specs.Holds.{fault_in, content_in, kept_len, Holds};
 ghost use Rattle.http_edge.specs.Holds.{most_to_come, most_of_a_message};
 
@@ -86,7 +87,7 @@ impl Decoder {
     /// message could still come, and the fault of an earlier call again. NoMemory comes where an
     /// allocation for the request failed.
     pub fn finish(self) -> Result<Request, HttpFault>
-        ensures answers { (bytes : List ℕ) → Holds self bytes → Answers bytes result }
+        ensures answers { (bytes : List ℕ) → Holds self bytes → IsAnswer request_form bytes result }
         ensures closed { Holds self [] → fault_in self ≡ None → result ≡ Err HttpFault.Closed }
         ensures cut { (bytes : List ℕ) →
             Holds self bytes → fault_in self ≡ None → bytes ≢ [] → NotYet bytes

@@ -4,8 +4,8 @@ ghost use Rattle.http_edge.specs.declared.fault.HttpFault.{HttpFault};
 ghost use Rattle.http_edge.specs.declared.request.Request.{Request};
 ghost use Rattle.http_edge.specs.Message.{Message};
 ghost use Rattle.http_edge.specs.Reading.{BeginsWith, IsTooLong};
-ghost use Rattle.http_edge.specs.Form.{Gives, Delivers, IsClosed};
-ghost use Rattle.http_edge.specs.Answer.{Answers, Fails, request_form, ReportsTooLong};
+ghost use Rattle.http_edge.specs.Form.{IsAnswer, Gives, Delivers, IsClosed};
+ghost use Rattle.http_edge.specs.Answer.{Fails, request_form, ReportsTooLong};
 ghost use Rattle.http_edge.specs.declared.reply.Reply.{Reply};
 ghost use Rattle.http_edge.specs.Delivery.{Says, ReportsSize};
 ghost use Rattle.http_edge.specs.Reply.{ReplyHead, BeginsWithReply, reply_form, SaysReply};
@@ -23,9 +23,9 @@ pub fn one_message()
 /// wrong behind the head, BodyTooLong is; unless memory ran out.
 pub fn one_answer()
     ensures message { (bytes : List ℕ) (m : Message) (r : Result Request HttpFault) →
-        Answers bytes r → BeginsWith bytes m → Gives request_form m r }
+        IsAnswer request_form bytes r → BeginsWith bytes m → Gives request_form m r }
     ensures too_long { (bytes : List ℕ) (r : Result Request HttpFault) →
-        Answers bytes r → IsTooLong bytes → ReportsTooLong r }
+        IsAnswer request_form bytes r → IsTooLong bytes → ReportsTooLong r }
 {}
 
 /// What a reading of all the bytes of a source says, unless a call failed or memory ran out: the

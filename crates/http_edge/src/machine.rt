@@ -2,8 +2,8 @@
 ghost use Rattle.std.specs.Prelude.{◌≡◌, ◌≢◌, ◌+◌, ◌≤◌, ◌<◌, ◌++◌, List, ℕ, Some, None, Ok, Err};
 ghost use Rattle.std.specs.Prelude.{[], length, true, IfOk, IfErr};
 ghost use Rattle.std.specs.Result.{result_err};
-ghost use Rattle.http_edge.specs.Form.{Gives};
-ghost use Rattle.http_edge.specs.Answer.{Fails, Answers, request_form};
+ghost use Rattle.http_edge.specs.Form.{IsAnswer, Gives};
+ghost use Rattle.http_edge.specs.Answer.{Fails, request_form};
 ghost use Rattle.httparse.specs.Grammar.{RequestHead, HasNoRequest};
 ghost use Rattle.http_edge.specs.Message.{IsHeadAt};
 ghost use Rattle.http_edge.specs.Reading.{NotYet, message_of};
@@ -82,7 +82,7 @@ impl Machine {
     /// The request, where the bytes end here.
     pub fn finish(self, alloc: Global) -> Result<Request, HttpFault>
         requires { IsSound (progress_of self) }
-        ensures answers { (bytes : List ℕ) → Holds (progress_of self) bytes → Answers bytes result }
+        ensures answers { (bytes : List ℕ) → Holds (progress_of self) bytes → IsAnswer request_form bytes result }
         ensures again { (e : HttpFault) → fault_in (progress_of self) ≡ Some e → result ≡ Err e }
         ensures closed { Holds (progress_of self) [] → fault_in (progress_of self) ≡ None
             → result ≡ Err HttpFault.Closed }

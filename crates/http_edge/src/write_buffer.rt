@@ -31,10 +31,10 @@ fn write_bytes<K: Sink>(sink: &mut K, bytes: &[u8]) -> usize
 {
     let mut at = 0;
     while at < bytes.len() {
-        match sink.write(&bytes[at..]) {
-            Ok(n) => at += n,
-            Err(_) => return at,
-        }
+        let Ok(n) = sink.write(&bytes[at..]) else {
+            return at;
+        };
+        at += n;
     }
     at
 }
