@@ -109,8 +109,8 @@ pub no_line_yet : HasNoChunkLine []
 unfolding print_chunk_line
 no_line_yet l rest h = omega (arith, h.0.digits.0, ap length h.1, simp length-append at (ap length h.1))
 
-pub fed : (b p : List ℕ) → IsOpen (at LineFeed b p) → Reaches (at LineFeed b p) (at Line b []) (10 ∷ [])
-fed b p is_open = record {
+pub line_feed_reaches : (b p : List ℕ) → IsOpen (at LineFeed b p) → Reaches (at LineFeed b p) (at Line b []) (10 ∷ [])
+line_feed_reaches b p is_open = record {
   opened = (omega arith, is_open.0, no_line_yet);
   steps = record {
     forward = λ more body h. let e : more ≡ h.0 = cc (h.1) in let P : List ℕ → Type 0 = λ s. HasChunks b s body in subst P (sym e) h.2;

@@ -46,7 +46,7 @@ pub only_memory : {M R : Type 0} (form : Form M R) (laws : Laws M R form) (e : H
 only_memory form laws e bytes m x b = only_memory_at form laws e bytes m (sort e) x b
 
 pub gives : {M R : Type 0} (form : Form M R) (laws : Laws M R form) (r : Result R HttpFault) (bytes : List ℕ) (m : M) → IsAnswer form bytes r → form.begins bytes m → Gives form m r
-gives form laws (Ok r) bytes m x b = laws.unique bytes (form.seen r) m x b
+gives form laws (Ok r) bytes m x b = laws.unique bytes (form.view r) m x b
 gives form laws (Err e) bytes m x b = only_memory form laws e bytes m x b
 
 -- ---- from what an answer says
@@ -84,7 +84,7 @@ closed_fault form laws BadChunk x = absurd (x.0.0 refl)
 closed_fault form laws Truncated x = absurd (x.0.0 refl)
 
 pub closed_at_no_byte : {M R : Type 0} (form : Form M R) (laws : Laws M R form) (r : Result R HttpFault) → AnswerSays form [] r → IsClosed r
-closed_at_no_byte form laws (Ok r) x = absurd (laws.some [] (form.seen r) x refl)
+closed_at_no_byte form laws (Ok r) x = absurd (laws.some [] (form.view r) x refl)
 closed_at_no_byte form laws (Err e) x = elim (closed_fault form laws e x) [ inl is ↦ inl (ap (λ (f : HttpFault). Err f) is) | inr is ↦ inr (ap (λ (f : HttpFault). Err f) is) ]
 
 -- ---- to what an answer says

@@ -14,8 +14,7 @@ use Rattle.http_edge.specs.declared.framing.Framing.TheVariants.{Sized, Chunked}
 use Rattle.http_edge.specs.declared.phase.Phase.{Phase}
 use Rattle.http_edge.specs.declared.phase.Phase.TheVariants.{Counted, Line, Content, Return, LineFeed, Trailer, Whole}
 use Rattle.http_edge.specs.Message.{Message, IsHeadAt}
-use Rattle.http_edge.specs.Framing.{framing_by}
-use Rattle.http_edge.specs.Framed.{Frames}
+use Rattle.http_edge.specs.Framing.{framing_by, Frames}
 use Rattle.http_edge.specs.Chunks.{HasTrailer, HasChunks}
 use Rattle.http_edge.specs.Head.{FindsHead}
 use Rattle.http_edge.specs.Reading.{HasBody, framing_in, message_of, Reads, BeginsWith, NotYet}
@@ -80,8 +79,8 @@ take_len n piece = length-take n piece
 
 -- ---- at the end of a head
 
-unread : (head bytes : List ℕ) (k : RequestHead) (w : Framing) (body : BodyState) → bytes ≡ head → length head ≤ 16384 → IsHeadAt head k [] → framing_in k ≡ Some w → Starts w body → IsBehind head body bytes k []
-unread head bytes k w body is short at framed starts =
+nothing_fed : (head bytes : List ℕ) (k : RequestHead) (w : Framing) (body : BodyState) → bytes ≡ head → length head ≤ 16384 → IsHeadAt head k [] → framing_in k ≡ Some w → Starts w body → IsBehind head body bytes k []
+nothing_fed head bytes k w body is short at framed starts =
     let Q : Option Framing → List ℕ → Option (List ℕ) → Type 0 = HasBody in
     record {
       at = at;
@@ -236,14 +235,14 @@ into_body part text piece n w first new ends starts reaches =
       sound = goes.sound;
       fine = refl;
       done_is = refl;
-      holds = λ bytes h. subst P (split part text piece bytes n ends.front h) (goes.holds text (ends.head, [], unread text text ends.head w first refl ends.short ends.at ends.framed starts));
+      holds = λ bytes h. subst P (split part text piece bytes n ends.front h) (goes.holds text (ends.head, [], nothing_fed text text ends.head w first refl ends.short ends.at ends.framed starts));
       less = λ e. omega (arith, reaches.less e, starts.less, ap length ends.front, length-append part (take n piece), take_len n piece, length-drop n piece, ends.within, ends.short);
     }
 
 pub stops_behind : (e : HttpFault) (part text piece : List ℕ) (n : ℕ) (w : Framing) (first : BodyState) → EndsHead part text piece n w → Starts w first → Refuses e first (drop n piece) → Stops (in_head part) piece e
 stops_behind e part text piece n w first ends starts refuses bytes h =
     let P : List ℕ → Type 0 = λ s. Fails e s in
-    subst P (split part text piece bytes n ends.front h) (stops_body e text first (drop n piece) refuses text (ends.head, [], unread text text ends.head w first refl ends.short ends.at ends.framed starts))
+    subst P (split part text piece bytes n ends.front h) (stops_body e text first (drop n piece) refuses text (ends.head, [], nothing_fed text text ends.head w first refl ends.short ends.at ends.framed starts))
 
 -- ---- before the first byte, and at an answer
 
@@ -267,19 +266,19 @@ whole_there p bytes m sound fine h b = by_answer (is_done p) refl (reports_at p 
 
 -- ---- a body by what its feeding answered
 
-advanced_at : (head : List ℕ) (old new : BodyState) (piece : List ℕ) (done : Bool) → length head ≤ 16384 → Reaches old new piece → done ≡ is_whole new.phase → Advances (in_body head old) (in_body head new) piece done
-advanced_at head old new piece done short reaches is = let P : Bool → Type 0 = λ b. Advances (in_body head old) (in_body head new) piece b in subst P (sym is) (goes_on_behind head old new piece short reaches)
+advance_at : (head : List ℕ) (old new : BodyState) (piece : List ℕ) (done : Bool) → length head ≤ 16384 → Reaches old new piece → done ≡ is_whole new.phase → Advances (in_body head old) (in_body head new) piece done
+advance_at head old new piece done short reaches is = let P : Bool → Type 0 = λ b. Advances (in_body head old) (in_body head new) piece b in subst P (sym is) (goes_on_behind head old new piece short reaches)
 
-pub advanced : (r : Result Bool HttpFault) (head : List ℕ) (old new : BodyState) (piece : List ℕ) → length head ≤ 16384 → IfOk r (λ done. Reaches old new piece × (done ≡ is_whole new.phase)) → IfOk r (Advances (in_body head old) (in_body head new) piece)
-advanced (Ok done) head old new piece short ok = advanced_at head old new piece done short ok.0 ok.1
-advanced (Err e) head old new piece short ok = tt
+pub advance_in_body : (r : Result Bool HttpFault) (head : List ℕ) (old new : BodyState) (piece : List ℕ) → length head ≤ 16384 → IfOk r (λ done. Reaches old new piece × (done ≡ is_whole new.phase)) → IfOk r (Advances (in_body head old) (in_body head new) piece)
+advance_in_body (Ok done) head old new piece short ok = advance_at head old new piece done short ok.0 ok.1
+advance_in_body (Err e) head old new piece short ok = tt
 
-pub stopped : (r : Result Bool HttpFault) (head : List ℕ) (old : BodyState) (piece : List ℕ) → IfErr r (λ e. Refuses e old piece) → IfErr r (Stops (in_body head old) piece)
-stopped (Ok done) head old piece refuses = tt
-stopped (Err e) head old piece refuses = stops_body e head old piece refuses
+pub stop_in_body : (r : Result Bool HttpFault) (head : List ℕ) (old : BodyState) (piece : List ℕ) → IfErr r (λ e. Refuses e old piece) → IfErr r (Stops (in_body head old) piece)
+stop_in_body (Ok done) head old piece refuses = tt
+stop_in_body (Err e) head old piece refuses = stops_body e head old piece refuses
 
-pub begun : (part text piece : List ℕ) (n : ℕ) (w : Framing) (first new : BodyState) (done : Bool) → EndsHead part text piece n w → Starts w first → Reaches first new (drop n piece) → done ≡ is_whole new.phase → Advances (in_head part) (in_body text new) piece done
-begun part text piece n w first new done ends starts reaches is = let P : Bool → Type 0 = λ b. Advances (in_head part) (in_body text new) piece b in subst P (sym is) (into_body part text piece n w first new ends starts reaches)
+pub begin_body : (part text piece : List ℕ) (n : ℕ) (w : Framing) (first new : BodyState) (done : Bool) → EndsHead part text piece n w → Starts w first → Reaches first new (drop n piece) → done ≡ is_whole new.phase → Advances (in_head part) (in_body text new) piece done
+begin_body part text piece n w first new done ends starts reaches is = let P : Bool → Type 0 = λ b. Advances (in_head part) (in_body text new) piece b in subst P (sym is) (into_body part text piece n w first new ends starts reaches)
 
 pub some_fed : (head : List ℕ) (body : BodyState) → ¬ (Holds (in_body head body) [])
 some_fed head body h = some_bytes [] h.1 h.0 (head_behind head [] h.1 body h.0 h.2) refl

@@ -149,8 +149,8 @@ grows old now next kept piece front back new known took cut is =
     let e : kept ++ piece ≡ new ++ back = ap (λ x. kept ++ x) cut ∙ sym (append_assoc kept front back) ∙ ap (λ x. x ++ back) (sym is) in
     shorter_front old new back (subst (BeginsAs old) e (known_front old next (kept ++ piece) (known_more old now next kept piece known took)))
 
-pub said : (old : Option (List ℕ)) (new : List ℕ) (r : Reply) → BeginsAs old new → BeginsWithReply new (reply_in r) → Said reply_form old (Ok r)
-said old new r is b = said_of_front reply_form old new (Ok r) is (λ more. begins-append new more (reply_in r) b)
+pub head_says : (old : Option (List ℕ)) (new : List ℕ) (r : Reply) → BeginsAs old new → BeginsWithReply new (reply_in r) → Said reply_form old (Ok r)
+head_says old new r is b = said_of_front reply_form old new (Ok r) is (λ more. begins-append new more (reply_in r) b)
 
-pub refused : (old : Option (List ℕ)) (new : List ℕ) (e : HttpFault) → BeginsAs old new → IsLasting e → ExplainsReply e new → Said reply_form old (Err e)
-refused old new e is lasts x = said_of_front reply_form old new (Err e) is (λ more. explains_more e new more lasts x)
+pub fault_says : (old : Option (List ℕ)) (new : List ℕ) (e : HttpFault) → BeginsAs old new → IsLasting e → ExplainsReply e new → Said reply_form old (Err e)
+fault_says old new e is lasts x = said_of_front reply_form old new (Err e) is (λ more. explains_more e new more lasts x)

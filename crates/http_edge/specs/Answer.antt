@@ -33,7 +33,7 @@ Explains NoMemory bytes = ⊤
 
 -- a request as a form of message
 abbrev pub request_form : Form Message Request
-request_form = record { begins = BeginsWith; seen = message_in; not_yet = NotYet; explains = Explains }
+request_form = record { begins = BeginsWith; view = message_in; not_yet = NotYet; explains = Explains }
 
 -- the fault lasts, and this is what it says
 abbrev pub Fails : HttpFault → List ℕ → Type 0

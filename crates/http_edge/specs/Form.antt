@@ -6,13 +6,13 @@ use Rattle.http_edge.specs.declared.fault.HttpFault.TheVariants.{Closed, BodyToo
 -- what bytes begin with, and what of it a value has; when they begin with nothing yet; and what a fault says of them
 pub record Form (M R : Type 0) : Type 1 where
   pub begins : List ℕ → M → Type 0
-  pub seen : R → M
+  pub view : R → M
   pub not_yet : List ℕ → Type 0
   pub explains : HttpFault → List ℕ → Type 0
 
 -- an answer about bytes that end here
 abbrev pub IsAnswer : {M R : Type 0} → Form M R → List ℕ → Result R HttpFault → Type 0
-IsAnswer form bytes (Ok r) = form.begins bytes (form.seen r)
+IsAnswer form bytes (Ok r) = form.begins bytes (form.view r)
 IsAnswer form bytes (Err e) = form.explains e bytes
 
 -- a fault that more bytes do not mend
@@ -32,12 +32,12 @@ FaultSays form e bytes = ((bytes ≢ []) × form.not_yet bytes) × form.explains
 
 -- what an answer says of all the bytes of a source
 abbrev pub AnswerSays : {M R : Type 0} → Form M R → List ℕ → Result R HttpFault → Type 0
-AnswerSays form bytes (Ok r) = form.begins bytes (form.seen r)
+AnswerSays form bytes (Ok r) = form.begins bytes (form.view r)
 AnswerSays form bytes (Err e) = FaultSays form e bytes
 
 -- what the bytes begin with is answered, unless memory ran out
 abbrev pub Gives : {M R : Type 0} → Form M R → M → Result R HttpFault → Type 0
-Gives form m (Ok r) = form.seen r ≡ m
+Gives form m (Ok r) = form.view r ≡ m
 Gives form m (Err e) = e ≡ NoMemory
 
 -- the same, unless a call failed

@@ -2,7 +2,6 @@ pub mod Message
 pub mod Framing
 pub mod Chunks
 pub mod Reading
-pub mod Framed
 pub mod Body
 pub mod Head
 pub mod Form

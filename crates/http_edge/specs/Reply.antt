@@ -53,7 +53,7 @@ ExplainsReply e bytes = ⊥
 
 -- the head of a response as a form of message
 abbrev pub reply_form : Form ReplyHead Reply
-reply_form = record { begins = BeginsWithReply; seen = reply_in; not_yet = NoReply; explains = ExplainsReply }
+reply_form = record { begins = BeginsWithReply; view = reply_in; not_yet = NoReply; explains = ExplainsReply }
 
 -- what a look for a reply answers
 abbrev pub LooksForReply : List ℕ → Result (Option Reply) HttpFault → Type 0

@@ -7,7 +7,7 @@ use Rattle.http_edge.specs.Form.{IsLasting}
 use Rattle.http_edge.specs.Reply.{NoReply, ExplainsReply, reply_form}
 use Rattle.http_edge.proofs.FormLemmas.{says, said_of_memory, known_front, not_empty}
 use Rattle.http_edge.proofs.SourceLemmas.{known_more, at_end, stops}
-use Rattle.http_edge.proofs.ReplyLemmas.{begins, grows, refused, said, no_reply, reply_laws}
+use Rattle.http_edge.proofs.ReplyLemmas.{begins, grows, fault_says, head_says, no_reply, reply_laws}
 use Rattle.http_edge.proofs.response.read_response.Goals as goal
 
 pub pieces-init : goal.pieces-init
@@ -48,7 +48,7 @@ returns-in_err-reply-clause-says g c =
     let e = c.in_err-reply.field-0.0 in
     let P : List ℕ → Type 0 = λ s. IsLasting e × ExplainsReply e s in
     let looks = subst P c.deref.ensures.value c.in_err-reply.ensures in
-    rw (p.1, p.2) (says reply_form reply_laws r0 (Err e) (refused r0 new e all looks.0 looks.1) closed)
+    rw (p.1, p.2) (says reply_form reply_laws r0 (Err e) (fault_says r0 new e all looks.0 looks.1) closed)
 
 pub returns-in-Some-clause-says : goal.returns-in-Some-clause-says
 returns-in-Some-clause-says g c =
@@ -68,7 +68,7 @@ returns-in-Some-clause-says g c =
     let cut : piece ≡ front ++ drop n piece = sym (take-append-drop n piece) ∙ ap (λ s. s ++ drop n piece) (take-take n c.in-Ok.n c.read.new.buf (omega arith)) in
     let all = grows r0 r1 r2 kept piece front (drop n piece) new so.known took cut is in
     let looks = rw (c.in-Some.is, c.deref.ensures.value) at c.in_ok-reply.ensures in
-    says reply_form reply_laws r0 (Ok c.in-Some.reply) (said r0 new c.in-Some.reply all looks) closed
+    says reply_form reply_laws r0 (Ok c.in-Some.reply) (head_says r0 new c.in-Some.reply all looks) closed
 
 pub returns-then-n-eq0-clause-stops : goal.returns-then-n-eq0-clause-stops
 returns-then-n-eq0-clause-stops g c =

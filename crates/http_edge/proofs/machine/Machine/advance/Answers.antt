@@ -4,7 +4,7 @@ use Rattle.std.proofs.lemmas.Result.{err_from_is_err_and}
 use Rattle.http_edge.specs.Body.{body_state}
 use Rattle.http_edge.specs.Holds.{in_body}
 use Rattle.http_edge.proofs.FaultLemmas.{fails_more}
-use Rattle.http_edge.proofs.MachineLemmas.{stops_behind, begun, advanced, stopped}
+use Rattle.http_edge.proofs.MachineLemmas.{stops_behind, begin_body, advance_in_body, stop_in_body}
 use Rattle.http_edge.proofs.machine.Machine.advance.Goals as goal
 
 pub returns-in_err-done-in-InHead : goal.returns-in_err-done-in-InHead
@@ -18,15 +18,15 @@ pub returns-in_ok-done-in-InHead : goal.returns-in_ok-done-in-InHead
 returns-in_ok-done-in-InHead c =
     let ends = rw c.in-Some.is at c.in_ok-n-in-InHead.ensures.ok in
     let ok = simp take_rest at c.in_ok-done-in-InHead.ensures.ok in
-    let goes = begun c.in-InHead.head.items c.take_head.new.head.items c.args.piece.now c.in-Some.n c.in-Some.framing (body_state c.empty_body-body.result) (body_state c.take_body.new.body) c.in_ok-done-in-InHead.done ends c.empty_body-body.ensures ok.0 ok.1 in
+    let goes = begin_body c.in-InHead.head.items c.take_head.new.head.items c.args.piece.now c.in-Some.n c.in-Some.framing (body_state c.empty_body-body.result) (body_state c.take_body.new.body) c.in_ok-done-in-InHead.done ends c.empty_body-body.ensures ok.0 ok.1 in
     rw (c.in-InHead.is, c.replace-whole.ensures.value) (record { ok = goes; fault = tt; again = λ e is. absurd cc; whole = λ is. absurd cc })
 
 pub returns-in-InBody : goal.returns-in-InBody
 returns-in-InBody c =
     let sound = rw c.in-InBody.is at c.requires in
     let head = c.in-InBody.field-0.items in
-    let ok = advanced c.take_body-in-InBody.result head (body_state c.in-InBody.body) (body_state c.take_body-in-InBody.new.body) c.args.piece.now sound.0 c.take_body-in-InBody.ensures.ok in
-    let fault = stopped c.take_body-in-InBody.result head (body_state c.in-InBody.body) c.args.piece.now c.take_body-in-InBody.ensures.fault in
+    let ok = advance_in_body c.take_body-in-InBody.result head (body_state c.in-InBody.body) (body_state c.take_body-in-InBody.new.body) c.args.piece.now sound.0 c.take_body-in-InBody.ensures.ok in
+    let fault = stop_in_body c.take_body-in-InBody.result head (body_state c.in-InBody.body) c.args.piece.now c.take_body-in-InBody.ensures.fault in
     rw c.in-InBody.is (record { ok = ok; fault = fault; again = λ e is. absurd cc; whole = λ is. let stays = c.take_body-in-InBody.ensures.whole is in (stays.0, ap (in_body head) stays.1) })
 
 pub returns-in-Failed : goal.returns-in-Failed
