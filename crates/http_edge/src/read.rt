@@ -15,8 +15,8 @@ use std::alloc::Global;
 /// are known, each answer says one thing of them:
 ///
 /// - a request: they begin with it;
-/// - Closed: there is none;
-/// - NoMemory: there is one (that an allocation failed is not said, but comes at no other time);
+/// - Closed: there is no byte;
+/// - NoMemory: there is a byte (no clause can say that an allocation failed, the tests do);
 /// - BodyTooLong: the head is whole, and the size of the body is the first thing that is wrong;
 /// - Io: nothing, because a call failed;
 /// - each other fault: there is a byte, they begin with no message, and why.

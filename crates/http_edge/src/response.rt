@@ -70,8 +70,8 @@ fn look_for_reply(alloc: Global, buf: &[u8]) -> Result<Option<Reply>, HttpFault>
 /// its body. Where the bytes of the source are known, each answer says one thing of them:
 ///
 /// - a reply: they begin with a head that says it;
-/// - Closed: there is none;
-/// - NoMemory: there is one (that an allocation failed is not said, but comes at no other time);
+/// - Closed: there is no byte;
+/// - NoMemory: there is a byte (no clause can say that an allocation failed, the tests do);
 /// - Io: nothing, because a call failed;
 /// - BadHead, TooManyHeaders, HeadTooLong, Truncated: there is a byte, they begin with no head, and
 ///   why. No other fault comes.
