@@ -205,6 +205,16 @@ fn failing_reader(rt: HostRuntime) {
     assert!(rt; writer.taken().is_empty());
 }
 
+// No clause counts the calls of a reader: one behind the end would fail here.
+#[test]
+fn nothing_is_read_behind_the_end(rt: HostRuntime) {
+    let reads = [Step::AtMost(12), Step::AtMost(1), Step::Fail];
+    let mut reader = Script::new(b"report\nsing\n", &reads);
+    let mut writer = Tape::new(rt.alloc(), &[]);
+    assert!(rt; play(rt.alloc(), &mut reader, &mut writer) == Ok(()));
+    assert!(rt; writer.taken() == b"end\nbad command\n".as_slice());
+}
+
 #[test]
 fn failing_writer(rt: HostRuntime) {
     let writes = [Step::AtMost(9), Step::AtMost(3), Step::Fail];
