@@ -9,6 +9,7 @@ use Rattle.back_answers.specs.declared.answer.Answer.TheVariants.{Unknown}
 use Rattle.delta_book.specs.Journal.{Journal, journal_of, appended, history, admits, Appends}
 use Rattle.delta_book.specs.Refusals.{admit_refusal, undo_refusal, confirm_refusal, quarantine_refusal}
 use Rattle.delta_book.specs.Totals.{totals_rows}
+use Rattle.delta_book.specs.Outcomes as book
 use Rattle.delta_book.specs.declared.totals.SeriesTotals.{SeriesTotals}
 use Rattle.delta_book.specs.declared.faults.AdmitFault.{AdmitFault}
 use Rattle.delta_book.specs.declared.faults.AdmitFault.TheVariants as admission
@@ -24,10 +25,10 @@ use Rattle.gate_workers.specs.declared.service.End.TheVariants.{NoBatch}
 use Rattle.gate_workers.specs.declared.book_keeper.BookKeeper.{BookKeeper}
 use Rattle.gate_workers.specs.declared.order.OrderFault.{OrderFault}
 use Rattle.gate_workers.specs.declared.refusal.Refusal.{Refusal}
-use Rattle.gate_workers.specs.declared.refusal.Refusal.TheVariants.{NotQuarantined as not_quarantined, NoMemory}
+use Rattle.gate_workers.specs.declared.refusal.Refusal.TheVariants.{NoMemory}
 use Rattle.gate_workers.specs.declared.flush.Turn.{Turn}
 use Rattle.gate_workers.specs.Calls.{Call, admit, undo, confirm, quarantine, lift, totals, order}
-use Rattle.gate_workers.specs.Refusals.{of_admit, of_quarantine}
+use Rattle.gate_workers.specs.Refusals.{of_admit, of_quarantine, of_lift}
 use Rattle.gate_workers.specs.Responses.{Response, json_response, refusal_response, or_no_memory, IsThatOrNoMemory, turn_response, report_response}
 use Rattle.gate_workers.specs.Asked as ask
 use Rattle.gate_workers.specs.Asked.{Asked}
@@ -37,7 +38,7 @@ use Rattle.gate_workers.specs.BookCalls.{KeeperGives, Adds, AreSent, entry_of}
 use Rattle.gate_workers.specs.declared.service.Served.{Served}
 use Rattle.gate_workers.specs.declared.service.Served.TheVariants.{Closed, Broken, Replied}
 use Rattle.gate_workers.specs.Served.{IsServed}
-use Rattle.gate_workers.specs.ServedBook.{IsServedBook, Outcome, IsOutcome, IsOneOf, served, post_outcome, admission_outcome, admission_or, quarantine_or, lift_or, flush_outcome, happens, only_says, unless_marked, end_by, closed_by}
+use Rattle.gate_workers.specs.ServedBook.{IsServedBook, Effects, HasEffects, IsOneOf, served, post_effects, admission_effects, by_call, done, flush_effects, only_says, unless_marked, end_by, closed_by}
 use Rattle.gate_workers.proofs.BookTurns.{nothing_added, two_added}
 
 abbrev pub KeeperOver : {U : Type 0} → (U → List ℕ → Answer → U → Type 0) → BookKeeper U → Call → BookKeeper U → Type 0
@@ -49,18 +50,18 @@ pub record IsKept {U : Type 0} (sends : U → List ℕ → Answer → U → Type
   pub max : k'.max ≡ k.max
   pub one : IsOneOf sends k.desk.seat k.max asked written k.desk.book k'.desk.book k.uplink k'.uplink response end
 
-outcome : {U : Type 0} (sends : U → List ℕ → Answer → U → Type 0) (seat max : ℕ) (asked : Asked) (written : Written) (J J' : Journal) (u u' : U) (response : Response) (end : End)
-    (answer : Answer) (mark : Bool) (want : Want) (o : Outcome) → served asked (history J) max answer written mark want ≡ o
+one_of : {U : Type 0} (sends : U → List ℕ → Answer → U → Type 0) (seat max : ℕ) (asked : Asked) (written : Written) (J J' : Journal) (u u' : U) (response : Response) (end : End)
+    (answer : Answer) (mark : Bool) (want : Want) (o : Effects) → served asked (history J) max answer written mark want ≡ o
     → response ≡ o.response → end ≡ o.end → Adds seat J J' o.events → AreSent sends answer u o.sent u' → IsOneOf sends seat max asked written J J' u u' response end
-outcome {U} sends seat max asked written J J' u u' response end answer mark want o is says ends adds sent =
-    let P : Outcome → Type 0 = λ (x : Outcome). IsOutcome sends seat answer J J' u u' x response end in
+one_of {U} sends seat max asked written J J' u u' response end answer mark want o is says ends adds sent =
+    let P : Effects → Type 0 = λ (x : Effects). HasEffects sends seat answer J J' u u' x response end in
     (answer, mark, want, subst P (sym is) (record { says = says; ends = ends; adds = adds; sent = sent }))
 
 silent : {U : Type 0} (sends : U → List ℕ → Answer → U → Type 0) (seat max : ℕ) (asked : Asked) (written : Written) (J J' : Journal) (u u' : U) (response : Response) (end : End)
     (mark : Bool) (r : Response) → served asked (history J) max Unknown written mark Nowhere ≡ only_says r
     → response ≡ r → end ≡ NoBatch → J' ≡ J → u' ≡ u → IsOneOf sends seat max asked written J J' u u' response end
 silent sends seat max asked written J J' u u' response end mark r is says ends book uplink =
-    outcome sends seat max asked written J J' u u' response end Unknown mark Nowhere (only_says r) is says ends (nothing_added seat J J' book) uplink
+    one_of sends seat max asked written J J' u u' response end Unknown mark Nowhere (only_says r) is says ends (nothing_added seat J J' book) uplink
 
 marked_only : (mark : Bool) (r : Response) → unless_marked mark (only_says r) ≡ only_says (or_no_memory mark r)
 marked_only true r = refl
@@ -71,7 +72,7 @@ marked_memory true = refl
 marked_memory false = refl
 
 -- a refusal that was said, or that there was no memory
-refused_or : {F : Type 0} (of : F → Refusal) (none fault : F) (refusal : Option F) (other : Option F → Outcome) (mark : Bool) → ((f : F) → other (Some f) ≡ only_says (refusal_response (of f)))
+refused_or : {F : Type 0} (of : F → Refusal) (none fault : F) (refusal : Option F) (other : Option F → Effects) (mark : Bool) → ((f : F) → other (Some f) ≡ only_says (refusal_response (of f)))
     → of none ≡ NoMemory → fault ≡ unwrap_or refusal none → (m : Bool) × (unless_marked m (other refusal) ≡ only_says (or_no_memory mark (refusal_response (of fault))))
 refused_or of none fault None other mark some memory is =
     (true, ap only_says (sym (marked_memory mark)) ∙ ap (λ (w : Refusal). only_says (or_no_memory mark (refusal_response w))) (sym (ap of is ∙ memory)))
@@ -110,11 +111,11 @@ kept_held : {U : Type 0} (sends : U → List ℕ → Answer → U → Type 0) (w
 kept_held sends written k k' response end s (Ok x) h says ends = record {
   seat = h.0;
   max = h.1;
-  one = outcome sends k.desk.seat k.max (ask.Quarantine s) written k.desk.book k'.desk.book k.uplink k'.uplink response end Unknown false Nowhere (happens (Quarantine s) (json_response (codes "{}")))
-      (ap (quarantine_or s) h.2.1.0) says ends h.2.1.1 h.2.0;
+  one = one_of sends k.desk.seat k.max (ask.Quarantine s) written k.desk.book k'.desk.book k.uplink k'.uplink response end Unknown false Nowhere (done (Quarantine s))
+      (ap (λ o. by_call of_quarantine done (book.unless (Quarantine s) o)) h.2.1.0) says ends h.2.1.1 h.2.0;
 }
 kept_held sends written k k' response end s (Err fault) h says ends =
-    let m = refused_or of_quarantine holding.NoMemory fault (quarantine_refusal (history k.desk.book) s) (quarantine_or s) says.0 (λ f. refl) refl h.2.1.0 in
+    let m = refused_or of_quarantine holding.NoMemory fault (quarantine_refusal (history k.desk.book) s) (λ o. by_call of_quarantine done (book.unless (Quarantine s) o)) says.0 (λ f. refl) refl h.2.1.0 in
     record {
       seat = h.0;
       max = h.1;
@@ -126,14 +127,14 @@ kept_lifted : {U : Type 0} (sends : U → List ℕ → Answer → U → Type 0) 
 kept_lifted sends written k k' response end s (Ok x) h says ends = record {
   seat = h.0;
   max = h.1;
-  one = outcome sends k.desk.seat k.max (ask.Lift s) written k.desk.book k'.desk.book k.uplink k'.uplink response end Unknown false Nowhere (happens (Lift s) (json_response (codes "{}")))
-      (ap (lift_or s) h.2.1.0) says ends h.2.1.1 h.2.0;
+  one = one_of sends k.desk.seat k.max (ask.Lift s) written k.desk.book k'.desk.book k.uplink k'.uplink response end Unknown false Nowhere (done (Lift s))
+      (ap (λ o. by_call of_lift done (book.unless (Lift s) o)) h.2.1.0) says ends h.2.1.1 h.2.0;
 }
 kept_lifted sends written k k' response end s (Err fault) h says ends = record {
   seat = h.0;
   max = h.1;
-  one = silent sends k.desk.seat k.max (ask.Lift s) written k.desk.book k'.desk.book k.uplink k'.uplink response end says.0 (or_no_memory says.0 (refusal_response not_quarantined))
-      (ap (λ o. unless_marked says.0 (lift_or s o)) h.2.1.0 ∙ marked_only says.0 (refusal_response not_quarantined)) says.1 ends h.2.1.1 h.2.0;
+  one = silent sends k.desk.seat k.max (ask.Lift s) written k.desk.book k'.desk.book k.uplink k'.uplink response end says.0 (or_no_memory says.0 (refusal_response (of_lift fault)))
+      (ap (λ o. unless_marked says.0 (by_call of_lift done (book.unless (Lift s) o))) h.2.1.0 ∙ marked_only says.0 (refusal_response (of_lift fault))) says.1 ends h.2.1.1 h.2.0;
 }
 
 kept_ordered : {U : Type 0} (sends : U → List ℕ → Answer → U → Type 0) (written : Written) (k k' : BookKeeper U) (response : Response) (end : End) (r : Result Turn OrderFault)
@@ -143,7 +144,7 @@ kept_ordered sends written k k' response end (Ok t) h says ends =
     record {
       seat = h.0;
       max = h.1;
-      one = outcome sends k.desk.seat k.max ask.FlushNow written k.desk.book k'.desk.book k.uplink k'.uplink response end made.0 says.0 made.1 (flush_outcome says.0 (turn_of (history k.desk.book) k.max made.0 made.1))
+      one = one_of sends k.desk.seat k.max ask.FlushNow written k.desk.book k'.desk.book k.uplink k'.uplink response end made.0 says.0 made.1 (flush_effects says.0 (turn_of (history k.desk.book) k.max made.0 made.1))
           refl (says.1 ∙ ap (λ x. or_no_memory says.0 (turn_response x)) made.2) ends made.3 made.4;
     }
 kept_ordered sends written k k' response end (Err fault) h says ends = absurd h.2
@@ -209,25 +210,25 @@ kept_admitted {U} sends written k m k' response end body text p ps (Ok n) opened
     let c = closed sends m k' n end written is_in.opened is_in.undoable (closes sends written m k' end opened n a.1 e) in
     let entry : Appends m.desk.book k'.desk.book k.desk.seat (closed_by written n) = c.entry ∙ ap (λ s. appended m.desk.book (entry_of s (closed_by written n))) h.0 in
     let adds : Adds k.desk.seat J k'.desk.book (Admit n batch ∷ closed_by written n ∷ []) = two_added k.desk.seat J m.desk.book k'.desk.book (Admit n batch) (closed_by written n) is_in.entry entry in
-    let is : served (ask.Metrics body text) E k.max Unknown written false Nowhere ≡ admission_outcome (admits E + 1) batch text written =
-    ap (λ xs. post_outcome E body.sender xs text written) some ∙ ap (λ o. admission_or (admits E + 1) batch text written o) is_in.none in
+    let is : served (ask.Metrics body text) E k.max Unknown written false Nowhere ≡ admission_effects (admits E + 1) text written (Admit (admits E + 1) batch) =
+    ap (λ xs. post_effects E body.sender xs text written) some ∙ ap (λ o. by_call of_admit (admission_effects (admits E + 1) text written) (book.unless (Admit (admits E + 1) batch) o)) is_in.none in
     record {
       seat = c.seat ∙ h.0;
       max = c.max ∙ h.1;
-      one = outcome sends k.desk.seat k.max (ask.Metrics body text) written J k'.desk.book k.uplink k'.uplink response end Unknown false Nowhere (admission_outcome (admits E + 1) batch text written)
+      one = one_of sends k.desk.seat k.max (ask.Metrics body text) written J k'.desk.book k.uplink k'.uplink response end Unknown false Nowhere (admission_effects (admits E + 1) text written (Admit (admits E + 1) batch))
           is a.0 c.ends (adds ∙ ap (λ i. journal_of J.opening (J.entries ++ map (entry_of k.desk.seat) (Admit i batch ∷ closed_by written i ∷ []))) is_in.number) (c.uplink ∙ h.2.0);
     }
 kept_admitted {U} sends written k m k' response end body text p ps (Err fault) opened some h a e =
     let J = k.desk.book in
     let E = history J in
     let batch = batch_of body.sender (p ∷ ps) in
-    let x = refused_or of_admit admission.NoMemory fault.0 (admit_refusal E batch) (λ o. admission_or (admits E + 1) batch text written o) a.0.0 (λ f. refl) refl h.2.1.0 in
+    let x = refused_or of_admit admission.NoMemory fault.0 (admit_refusal E batch) (λ o. by_call of_admit (admission_effects (admits E + 1) text written) (book.unless (Admit (admits E + 1) batch) o)) a.0.0 (λ f. refl) refl h.2.1.0 in
     let same = unended sends written m k' end opened a.1 e in
     record {
       seat = ap (λ (w : BookKeeper U). w.desk.seat) (sym same.0) ∙ h.0;
       max = ap (λ (w : BookKeeper U). w.max) (sym same.0) ∙ h.1;
       one = silent sends k.desk.seat k.max (ask.Metrics body text) written J k'.desk.book k.uplink k'.uplink response end x.0 (or_no_memory a.0.0 (refusal_response (of_admit fault.0)))
-          (ap (λ xs. unless_marked x.0 (post_outcome E body.sender xs text written)) some ∙ x.1) a.0.1 same.1
+          (ap (λ xs. unless_marked x.0 (post_effects E body.sender xs text written)) some ∙ x.1) a.0.1 same.1
           (ap (λ (w : BookKeeper U). w.desk.book) (sym same.0) ∙ h.2.1.1) (ap (λ (w : BookKeeper U). w.uplink) (sym same.0) ∙ h.2.0);
     }
 
@@ -240,7 +241,7 @@ kept_posted {U} sends written k m k' response end body text [] opened none h e =
       seat = ap (λ (x : BookKeeper U). x.desk.seat) (sym all);
       max = ap (λ (x : BookKeeper U). x.max) (sym all);
       one = silent sends k.desk.seat k.max (ask.Metrics body text) written k.desk.book k'.desk.book k.uplink k'.uplink response end false (json_response text)
-          (ap (λ xs. post_outcome (history k.desk.book) body.sender xs text written) none) h.1 same.1 (ap (λ (x : BookKeeper U). x.desk.book) (sym all)) (ap (λ (x : BookKeeper U). x.uplink) (sym all));
+          (ap (λ xs. post_effects (history k.desk.book) body.sender xs text written) none) h.1 same.1 (ap (λ (x : BookKeeper U). x.desk.book) (sym all)) (ap (λ (x : BookKeeper U). x.uplink) (sym all));
     }
 kept_posted sends written k m k' response end body text (p ∷ ps) opened some h e = kept_admitted sends written k m k' response end body text p ps h.0 opened some h.1 h.2 e
 

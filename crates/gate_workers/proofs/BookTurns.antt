@@ -12,7 +12,7 @@ use Rattle.back_answers.specs.declared.answer.Answer.TheVariants.{Unknown}
 use Rattle.back_answers.specs.declared.deed.Act.{Act}
 use Rattle.back_answers.specs.declared.deed.Act.TheVariants.{Settle, GiveBack, DropFlush}
 use Rattle.delta_book.specs.Journal.{Journal, journal_of, history, takes, Appends}
-use Rattle.delta_book.specs.Flushes.{is_full, IsTaken}
+use Rattle.delta_book.specs.Flushes.{is_full, take_refusal, IsTaken}
 use Rattle.delta_book.specs.declared.flush.Flush.{Flush}
 use Rattle.delta_book.specs.declared.faults.NotLive.{NotLive}
 use Rattle.delta_book.specs.declared.faults.TakeFault.{TakeFault}
@@ -21,7 +21,8 @@ use Rattle.gate_workers.specs.declared.book_keeper.Desk.{Desk}
 use Rattle.gate_workers.specs.declared.flush.Turn.{Turn}
 use Rattle.gate_workers.specs.declared.flush.Turn.TheVariants.{Idle, Full, NoMemory, Done}
 use Rattle.gate_workers.specs.Calls.{Call, take}
-use Rattle.gate_workers.specs.Turns.{IsTurn, IsIdleTurn, IsUnsent, IsClosing, Want, Nowhere, ForFlush, ForText, Made, ending, sending, taking, turn_by, turn_of, without_events}
+use Rattle.gate_workers.specs.Turns.{IsTurn, IsIdleTurn, IsUnsent, IsClosing, Want, Nowhere, ForFlush, ForText, Made, sending, taking, turn_by, turn_of, without_events}
+use Rattle.delta_book.specs.Outcomes as book
 use Rattle.gate_workers.specs.BookCalls.{BookGives, Adds, Ends, AreSent, IsMade, entry_of}
 use Rattle.out_texts.specs.Request.{request_text}
 
@@ -43,16 +44,16 @@ pub two_added : (seat : ℕ) (J M J' : Journal) (e f : Event) → Appends J M se
 two_added seat J M J' e f h k =
     k ∙ ap (λ (x : Journal). journal_of x.opening (x.entries ++ entry_of seat f ∷ [])) h ∙ ap (journal_of J.opening) (append_assoc J.entries (entry_of seat e ∷ []) (entry_of seat f ∷ []))
 
-idle_by : (E : History) (xs : List Identity) (full : Bool) (answer : Answer) (want : Want) → xs ≡ [] → turn_by E xs full answer want ≡ without_events Idle
-idle_by E xs full answer want h = rw h refl
+idle_by : (E : History) (f : ℕ) (xs : List Identity) (refusal : Option TakeFault) (answer : Answer) (want : Want) → xs ≡ [] → turn_by E f (book.take_of f xs refusal) answer want ≡ without_events Idle
+idle_by E f xs refusal answer want h = rw h refl
 
-full_by : (E : History) (xs : List Identity) (answer : Answer) (want : Want) → xs ≢ [] → turn_by E xs true answer want ≡ without_events Full
-full_by E [] answer want h = absurd (h refl)
-full_by E (x ∷ xs) answer want h = refl
+full_by : (E : History) (f : ℕ) (xs : List Identity) (answer : Answer) (want : Want) → xs ≢ [] → turn_by E f (book.take_of f xs (Some fault.Full)) answer want ≡ without_events Full
+full_by E f [] answer want h = absurd (h refl)
+full_by E f (x ∷ xs) answer want h = refl
 
-taken_by : (E : History) (xs : List Identity) (answer : Answer) (want : Want) → xs ≢ [] → turn_by E xs false answer want ≡ taking E (takes E + 1) xs answer want
-taken_by E [] answer want h = absurd (h refl)
-taken_by E (x ∷ xs) answer want h = refl
+taken_by : (E : History) (f : ℕ) (xs : List Identity) (answer : Answer) (want : Want) → xs ≢ [] → turn_by E f (book.take_of f xs None) answer want ≡ taking E f (Take f xs) answer want
+taken_by E f [] answer want h = absurd (h refl)
+taken_by E f (x ∷ xs) answer want h = refl
 
 not_full : (full : Bool) → (if full then Some fault.Full else None) ≡ None → full ≡ false
 not_full true h = cc
@@ -69,17 +70,17 @@ refused_turn : {U : Type 0} (sends : U → List ℕ → Answer → U → Type 0)
     → IsMade sends seat max J J' u u' (turn_of_fault e)
 refused_turn sends seat max J J' u u' e true is why some same_book same_uplink =
     made sends seat max J J' u u' (turn_of_fault e) Unknown Nowhere (without_events Full)
-    (rw is (full_by (history J) (pick (history J) max) Unknown Nowhere some)) (ap turn_of_fault why) (nothing_added seat J J' same_book) same_uplink
+    (rw is (full_by (history J) (takes (history J) + 1) (pick (history J) max) Unknown Nowhere some)) (ap turn_of_fault why) (nothing_added seat J J' same_book) same_uplink
 refused_turn sends seat max J J' u u' e false is why some same_book same_uplink =
     made sends seat max J J' u u' (turn_of_fault e) Unknown ForFlush (without_events NoMemory)
-    (rw is (taken_by (history J) (pick (history J) max) Unknown ForFlush some)) (ap turn_of_fault why) (nothing_added seat J J' same_book) same_uplink
+    (rw is (taken_by (history J) (takes (history J) + 1) (pick (history J) max) Unknown ForFlush some)) (ap turn_of_fault why) (nothing_added seat J J' same_book) same_uplink
 
 -- nothing may be taken
 idle_turn : {U : Type 0} (sends : U → List ℕ → Answer → U → Type 0) (seat max : ℕ) (J J' : Journal) (u u' : U) → pick (history J) max ≡ [] → J' ≡ J → u' ≡ u
     → IsMade sends seat max J J' u u' Idle
 idle_turn sends seat max J J' u u' none same_book same_uplink =
     made sends seat max J J' u u' Idle Unknown Nowhere (without_events Idle)
-    (idle_by (history J) (pick (history J) max) (is_full (history J)) Unknown Nowhere none) refl (nothing_added seat J J' same_book) same_uplink
+    (idle_by (history J) (takes (history J) + 1) (pick (history J) max) (take_refusal (history J)) Unknown Nowhere none) refl (nothing_added seat J J' same_book) same_uplink
 
 -- the flush that was taken is live
 ended : (seat max : ℕ) (J M J' : Journal) (flush : Flush) (event : Event) (r : Result (Unit {0}) NotLive) → IsTaken J M seat max flush → Ends seat M J' flush.number event r → Appends M J' seat event
@@ -97,8 +98,8 @@ both_added seat max J M J' flush event r h e =
 returned_turn : {U : Type 0} (sends : U → List ℕ → Answer → U → Type 0) (seat max : ℕ) (J M J' : Journal) (u u' : U) (flush : Flush) (r : Result (Unit {0}) NotLive)
     → IsTaken J M seat max flush → Ends seat M J' flush.number (GivenBack flush.number) r → u' ≡ u → IsMade sends seat max J J' u u' NoMemory
 returned_turn sends seat max J M J' u u' flush r h e same_uplink =
-    made sends seat max J J' u u' NoMemory Unknown ForText (taking (history J) (takes (history J) + 1) (pick (history J) max) Unknown ForText)
-    (rw (not_full (is_full (history J)) h.refused) (taken_by (history J) (pick (history J) max) Unknown ForText h.some)) refl
+    made sends seat max J J' u u' NoMemory Unknown ForText (taking (history J) (takes (history J) + 1) (Take (takes (history J) + 1) (pick (history J) max)) Unknown ForText)
+    (rw (not_full (is_full (history J)) h.refused) (taken_by (history J) (takes (history J) + 1) (pick (history J) max) Unknown ForText h.some)) refl
     (both_added seat max J M J' flush (λ n. GivenBack n) r h e) same_uplink
 
 -- the points of a flush that was taken
@@ -109,7 +110,7 @@ sent_points seat max J M flush h =
 
 -- a flush was sent and ended
 sent_turn : {U : Type 0} (sends : U → List ℕ → Answer → U → Type 0) (seat max : ℕ) (J M J' : Journal) (u u' : U) (flush : Flush) (answer : Answer) (r : Result (Unit {0}) NotLive)
-    → IsTaken J M seat max flush → sends u (request_text flush.points.items) answer u' → Ends seat M J' flush.number (ending (act_of answer) flush.number) r
+    → IsTaken J M seat max flush → sends u (request_text flush.points.items) answer u' → Ends seat M J' flush.number (book.event_of (act_of answer) flush.number) r
     → IsMade sends seat max J J' u u' (Done flush.number (length flush.points.items) answer (act_of answer))
 sent_turn {U} sends seat max J M J' u u' flush answer r h sent e =
     let f = takes (history J) + 1 in
@@ -117,13 +118,13 @@ sent_turn {U} sends seat max J M J' u u' flush answer r h sent e =
     let P : List DataPoint → Type 0 = λ ps. sends u (request_text ps) answer u' in
     let turn : Done flush.number (length flush.points.items) answer (act_of answer) ≡ Done f (length points) answer (act_of answer) =
     ap (λ n. Done n (length flush.points.items) answer (act_of answer)) h.number ∙ ap (λ ps. Done f (length ps) answer (act_of answer)) (sent_points seat max J M flush h) in
-    made sends seat max J J' u u' (Done flush.number (length flush.points.items) answer (act_of answer)) answer Nowhere (sending f (pick (history J) max) points answer)
-    (rw (not_full (is_full (history J)) h.refused) (taken_by (history J) (pick (history J) max) answer Nowhere h.some)) turn
-    (both_added seat max J M J' flush (ending (act_of answer)) r h e)
+    made sends seat max J J' u u' (Done flush.number (length flush.points.items) answer (act_of answer)) answer Nowhere (sending f (Take f (pick (history J) max)) points answer)
+    (rw (not_full (is_full (history J)) h.refused) (taken_by (history J) f (pick (history J) max) answer Nowhere h.some)) turn
+    (both_added seat max J M J' flush (book.event_of (act_of answer)) r h e)
     (u', subst P (sent_points seat max J M flush h) sent, refl)
 
 -- the closing call of a desk
-closed : (k k' : Desk) (act : Act) (flush : ℕ) → IsClosing DeskGives act flush k k' → (k'.seat ≡ k.seat) × ((r : Result (Unit {0}) NotLive) × Ends k.seat k.book k'.book flush (ending act flush) r)
+closed : (k k' : Desk) (act : Act) (flush : ℕ) → IsClosing DeskGives act flush k k' → (k'.seat ≡ k.seat) × ((r : Result (Unit {0}) NotLive) × Ends k.seat k.book k'.book flush (book.event_of act flush) r)
 closed k k' Settle flush h = (h.1.0, (h.0, h.1.1))
 closed k k' GiveBack flush h = (h.1.0, (h.0, h.1.1))
 closed k k' DropFlush flush h = (h.1.0, (h.0, h.1.1))
@@ -160,5 +161,5 @@ desk_turn sends max k k' u u' NoMemory h = idle sends max k k' u u' NoMemory h.0
 desk_turn sends max k k' u u' (Done number points answer act) h =
     let c = closed h.1 k' (act_of answer) h.0.number h.4 in (
       c.0 ∙ h.2.0,
-      rw (h.5, h.6, h.7) (sent_turn sends k.seat max k.book h.1.book k'.book u u' h.0 answer c.1.0 h.2.1 h.3 (at_seat h.1.seat k.seat h.1.book k'.book h.0.number (ending (act_of answer) h.0.number) c.1.0 h.2.0 c.1.1)),
+      rw (h.5, h.6, h.7) (sent_turn sends k.seat max k.book h.1.book k'.book u u' h.0 answer c.1.0 h.2.1 h.3 (at_seat h.1.seat k.seat h.1.book k'.book h.0.number (book.event_of (act_of answer) h.0.number) c.1.0 h.2.0 c.1.1)),
     )

@@ -16,8 +16,7 @@ use Rattle.gate_workers.specs.declared.flush.Turn.{Turn}
 use Rattle.gate_workers.specs.declared.service.End.{End}
 use Rattle.gate_workers.specs.declared.service.End.TheVariants.{NoBatch, Confirmed, Undone}
 use Rattle.gate_workers.specs.Calls.{Call, admit, undo, confirm, quarantine, lift, totals, order}
-use Rattle.gate_workers.specs.declared.refusal.Refusal.TheVariants.{NotQuarantined as not_quarantined}
-use Rattle.gate_workers.specs.Refusals.{of_admit, of_quarantine}
+use Rattle.gate_workers.specs.Refusals.{of_admit, of_quarantine, of_lift}
 use Rattle.gate_workers.specs.Responses.{Response, json_response, refusal_response, IsThatOrNoMemory, order_response, report_response}
 use Rattle.gate_workers.specs.Asked.{Asked, Metrics, Quarantine, Lift, FlushNow, Report, Refused}
 
@@ -66,7 +65,7 @@ SaysQuarantine (Err fault) response = IsThatOrNoMemory (refusal_response (of_qua
 
 abbrev pub SaysLift : Result (Unit {0}) NotQuarantined → Response → Type 0
 SaysLift (Ok u) response = response ≡ json_response (codes "{}")
-SaysLift (Err fault) response = IsThatOrNoMemory (refusal_response not_quarantined) response
+SaysLift (Err fault) response = IsThatOrNoMemory (refusal_response (of_lift fault)) response
 
 abbrev pub SaysOrder : Result Turn OrderFault → Response → Type 0
 SaysOrder answer response = IsThatOrNoMemory (order_response answer) response

@@ -4,6 +4,7 @@ use Rattle.delta_book.specs.declared.faults.AdmitFault.{AdmitFault}
 use Rattle.delta_book.specs.declared.faults.AdmitFault.TheVariants as admit
 use Rattle.delta_book.specs.declared.faults.QuarantineFault.{QuarantineFault}
 use Rattle.delta_book.specs.declared.faults.QuarantineFault.TheVariants as hold
+use Rattle.delta_book.specs.declared.faults.NotQuarantined.{NotQuarantined as LiftFault}
 use Rattle.http_edge.specs.declared.fault.HttpFault.{HttpFault}
 use Rattle.http_edge.specs.declared.fault.HttpFault.TheVariants as http
 use Rattle.gate_workers.specs.declared.order.OrderFault.{OrderFault}
@@ -92,6 +93,9 @@ abbrev pub of_quarantine : QuarantineFault → Refusal
 of_quarantine hold.Already = Already
 of_quarantine hold.Full = Full
 of_quarantine hold.NoMemory = NoMemory
+
+abbrev pub of_lift : LiftFault → Refusal
+of_lift fault = NotQuarantined
 
 abbrev pub of_order : OrderFault → Refusal
 of_order order.Gone = NoFlusher

@@ -1,7 +1,6 @@
 -- The responses.
 use Rattle.std.specs.Prelude.{◌≡◌, ℕ, Bool, true, false, List, codes, Option, Some, None, Result, Ok, Err}
-use Rattle.back_answers.specs.declared.answer.Answer.{Answer}
-use Rattle.back_answers.specs.declared.answer.Answer.TheVariants.{Success, Retryable, Final, Unknown}
+use Rattle.back_answers.specs.Waits.{asked_wait}
 use Rattle.delta_book.specs.declared.totals.SeriesTotals.{SeriesTotals}
 use Rattle.http_edge.specs.Texts.{response_text}
 use Rattle.http_edge.specs.Sent.{Sent}
@@ -45,18 +44,11 @@ or_no_memory false r = r
 abbrev pub IsThatOrNoMemory : Response → Response → Type 0
 IsThatOrNoMemory said response = (mark : Bool) × (response ≡ or_no_memory mark said)
 
--- the seconds that an answer asks to wait
-abbrev pub after_of : Answer → Option ℕ
-after_of Success = None
-after_of (Retryable after) = after
-after_of Final = None
-after_of Unknown = None
-
 abbrev pub turn_response : Turn → Response
 turn_response Idle = json_response (codes "{\"act\":\"nothing\"}")
 turn_response turn_full = refusal_response Full
 turn_response turn_memory = refusal_response NoMemory
-turn_response (Done flush points answer act) = json_response (turn_text flush points act (after_of answer))
+turn_response (Done flush points answer act) = json_response (turn_text flush points act (asked_wait answer))
 
 abbrev pub order_response : Result Turn OrderFault → Response
 order_response (Ok t) = turn_response t

@@ -1,17 +1,15 @@
 -- One flush turn: over any store, and over a history.
 use Rattle.std.specs.Prelude.{◌≡◌, ℕ, ◌+◌, Bool, true, false, List, [], ◌∷◌, length, Option, Some, None, Result, Ok, Err}
-use Rattle.series_id.specs.Identity.{Identity}
 use Rattle.metric_events.specs.History.{History, ◌▸◌}
-use Rattle.metric_events.specs.Choice.{pick, flush_points}
+use Rattle.metric_events.specs.Choice.{flush_points}
 use Rattle.metric_events.specs.DataPoint.{DataPoint}
 use Rattle.metric_events.specs.declared.event.Event.{Event}
-use Rattle.metric_events.specs.declared.event.Event.TheVariants.{Take, Settle as Settled, Drop as Dropped, GiveBack as GivenBack}
 use Rattle.back_answers.specs.Answers.{act_of}
 use Rattle.back_answers.specs.declared.answer.Answer.{Answer}
 use Rattle.back_answers.specs.declared.deed.Act.{Act}
 use Rattle.back_answers.specs.declared.deed.Act.TheVariants.{Settle, GiveBack, DropFlush}
 use Rattle.delta_book.specs.Journal.{takes}
-use Rattle.delta_book.specs.Flushes.{is_full}
+use Rattle.delta_book.specs.Outcomes as book
 use Rattle.delta_book.specs.declared.flush.Flush.{Flush}
 use Rattle.delta_book.specs.declared.faults.NotLive.{NotLive}
 use Rattle.delta_book.specs.declared.faults.TakeFault.{TakeFault}
@@ -65,30 +63,27 @@ pub record Made : Type 0 where
 abbrev pub without_events : Turn → Made
 without_events t = record { turn = t; events = []; sent = [] }
 
--- the event of an act
-abbrev pub ending : Act → ℕ → Event
-ending Settle flush = Settled flush
-ending GiveBack flush = GivenBack flush
-ending DropFlush flush = Dropped flush
-
-abbrev pub sending : ℕ → List Identity → List DataPoint → Answer → Made
-sending f series points answer = record {
+-- the events, where an event has taken the flush f of these points and its text was sent
+abbrev pub sending : ℕ → Event → List DataPoint → Answer → Made
+sending f taken points answer = record {
   turn = Done f (length points) answer (act_of answer);
-  events = Take f series ∷ ending (act_of answer) f ∷ [];
+  events = taken ∷ book.event_of (act_of answer) f ∷ [];
   sent = request_text points ∷ [];
 }
 
--- a flush f of these series is taken
-abbrev pub taking : History → ℕ → List Identity → Answer → Want → Made
-taking E f series answer Nowhere = sending f series (flush_points (E ▸ Take f series) f) answer
-taking E f series answer ForFlush = without_events NoMemory
-taking E f series answer ForText = record { turn = NoMemory; events = Take f series ∷ GivenBack f ∷ []; sent = [] }
+-- an event takes the flush f
+abbrev pub taking : History → ℕ → Event → Answer → Want → Made
+taking E f taken answer Nowhere = sending f taken (flush_points (E ▸ taken) f) answer
+taking E f taken answer ForFlush = without_events NoMemory
+taking E f taken answer ForText = record { turn = NoMemory; events = taken ∷ book.event_of GiveBack f ∷ []; sent = [] }
 
-abbrev pub turn_by : History → List Identity → Bool → Answer → Want → Made
-turn_by E [] full answer want = without_events Idle
-turn_by E (x ∷ xs) true answer want = without_events Full
-turn_by E (x ∷ xs) false answer want = taking E (takes E + 1) (x ∷ xs) answer want
+-- by what the take does
+abbrev pub turn_by : History → ℕ → Result Event (Option TakeFault) → Answer → Want → Made
+turn_by E f (Ok taken) answer want = taking E f taken answer want
+turn_by E f (Err None) answer want = without_events Idle
+turn_by E f (Err (Some fault.Full)) answer want = without_events Full
+turn_by E f (Err (Some fault.NoMemory)) answer want = without_events NoMemory
 
 -- the turn that takes at most max series after a history, where the back end gives this answer
 abbrev pub turn_of : History → ℕ → Answer → Want → Made
-turn_of E max answer want = turn_by E (pick E max) (is_full E) answer want
+turn_of E max answer want = turn_by E (takes E + 1) (book.outcome E (book.Take max)) answer want

@@ -1,6 +1,7 @@
 //! The response to a request: a value, which is written once.
 ghost use Rattle.std.specs.Prelude.{◌≡◌, ◌<◌, ◌^◌, codes, length, option_map, IfOk};
 ghost use Rattle.http_edge.specs.Sent.{Sent, Failed};
+ghost use Rattle.back_answers.specs.Waits.{asked_wait};
 ghost use Rattle.gate_workers.specs.Refusals.{allowed_name};
 ghost use Rattle.gate_workers.specs.Responses as spec;
 ghost use Rattle.gate_workers.specs.Responses.{IsThatOrNoMemory};
@@ -91,8 +92,8 @@ fn refusal_text(alloc: Global, why: Refusal) -> Result<Vec<u8>, AllocError>
 }
 
 /// The seconds that an answer asks to wait.
-fn after_of(answer: Answer) -> Option<u64>
-    ensures { result ≡ spec.after_of answer }
+fn asked_wait(answer: Answer) -> Option<u64>
+    ensures { result ≡ asked_wait answer }
 {
     match answer {
         Answer::Retryable { after } => after,
@@ -177,7 +178,7 @@ impl Response {
                 points,
                 answer,
                 act,
-            } => match turn_text(alloc, flush, points, act, after_of(answer)) {
+            } => match turn_text(alloc, flush, points, act, asked_wait(answer)) {
                 Ok(text) => Response::json(text),
                 Err(_) => Response::no_memory(),
             },

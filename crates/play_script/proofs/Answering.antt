@@ -7,7 +7,7 @@ use Rattle.metric_events.specs.Choice.{pick, flush_points}
 use Rattle.metric_events.specs.declared.event.Event.{Event}
 use Rattle.metric_events.specs.declared.event.Event.TheVariants.{Take, GiveBack}
 use Rattle.delta_book.specs.Journal.{Journal, history, takes}
-use Rattle.delta_book.specs.Flushes.{IsTaken}
+use Rattle.delta_book.specs.Flushes.{IsTaken, take_refusal}
 use Rattle.delta_book.specs.declared.flush.Flush.{Flush}
 use Rattle.delta_book.specs.declared.faults.TakeFault.{TakeFault}
 use Rattle.metric_events.specs.declared.point.PointFault.{PointFault}
@@ -29,15 +29,17 @@ use Rattle.play_script.specs.Replies.{said, batch_and_foreign, flush_text, wired
 use Rattle.out_texts.specs.Request.{request_text}
 use Rattle.back_answers.specs.Answers.{act_of}
 use Rattle.back_answers.specs.declared.answer.Answer.{Answer as BackAnswer}
-use Rattle.play_script.specs.Run.{answer, Found, Missed, MissedText, takes_memory, happens, refused, only_says, taken_or, flushed, body_of, admitted_or, posted, posted_batch, wired, wired_or, unwired_or, without_text, IsForwarded, event_of, act_text, wait_told}
+use Rattle.back_answers.specs.Waits.{asked_wait}
+use Rattle.delta_book.specs.Outcomes as book
+use Rattle.play_script.specs.Run.{answer, Found, Missed, MissedText, takes_memory, happens, refused, only_says, called, called_as, answer_by, fault_text, event_text, body_of, posted, posted_batch, posted_text, request_after, ended_text, returned_by, without_text, IsForwarded, act_text}
 use Rattle.play_script.specs.Answered.{Answers}
 use Rattle.play_script.specs.declared.refusal.Refusal.{Refusal}
 use Rattle.play_script.specs.declared.refusal.Refusal.TheVariants.{NotJson, WrongShape, NoMemory}
 
 -- the event happened
-pub happened : (asked : Asked) (old new : Journal) (event : Event) (word what : List ℕ) → history new ≡ history old ▸ event
-    → answer (history old) asked ≡ happens (history old) event word what → Answers (history old) asked (said word what) (history new)
-happened asked old new event word what h is = (
+pub happened : (asked : Asked) (old new : Journal) (event : Event) (text : List ℕ) → history new ≡ history old ▸ event
+    → answer (history old) asked ≡ happens (history old) event text → Answers (history old) asked text (history new)
+happened asked old new event text h is = (
   Found,
   record {
     allowed = refl;
@@ -89,20 +91,29 @@ pub refused_or : {F : Type 0} (asked : Asked) (old new : Journal) (refusal_of : 
 refused_or asked old new refusal_of none fault None may h is e k = rw (e, is) (without_memory asked old new may h)
 refused_or asked old new refusal_of none fault (Some f) may h is e k = rw e (refused_as asked old new (refusal_of f) h (k f refl))
 
-taken_some : (E : History) (xs : List Identity) → xs ≢ [] → taken_or E xs None ≡ flushed E (takes E + 1) (E ▸ Take (takes E + 1) xs)
-taken_some E [] h = absurd (h refl)
-taken_some E (x ∷ xs) h = refl
+taken_some : (f : ℕ) (xs : List Identity) → xs ≢ [] → book.take_of f xs None ≡ Ok (Take f xs)
+taken_some f [] h = absurd (h refl)
+taken_some f (x ∷ xs) h = refl
 
-pub taken_full : (E : History) (xs : List Identity) (fault : TakeFault) → xs ≢ [] → taken_or E xs (Some fault) ≡ refused E (of_take fault)
-taken_full E [] fault h = absurd (h refl)
-taken_full E (x ∷ xs) fault h = refl
+taken_full : (f : ℕ) (xs : List Identity) (fault : TakeFault) → xs ≢ [] → book.take_of f xs (Some fault) ≡ Err (Some fault)
+taken_full f [] fault h = absurd (h refl)
+taken_full f (x ∷ xs) fault h = refl
+
+-- what a call that takes a flush answers
+pub take_answer : (E : History) (max : ℕ) (text : Event → List ℕ) → pick E max ≢ [] → take_refusal E ≡ None
+    → called_as E text (book.Take max) ≡ happens E (Take (takes E + 1) (pick E max)) (text (Take (takes E + 1) (pick E max)))
+take_answer E max text some none = rw none (ap (answer_by E (fault_text (book.Take max)) text) (taken_some (takes E + 1) (pick E max) some))
+
+pub full_answer : (E : History) (max : ℕ) (text : Event → List ℕ) (fault : TakeFault) → pick E max ≢ [] → take_refusal E ≡ Some fault
+    → called_as E text (book.Take max) ≡ refused E (of_take fault)
+full_answer E max text fault some full = rw full (ap (answer_by E (fault_text (book.Take max)) text) (taken_full (takes E + 1) (pick E max) fault some))
 
 -- a flush was taken
 pub flush_taken : (old new : Journal) (seat max : ℕ) (flush : Flush) → IsTaken old new seat max flush
     → Answers (history old) (TakeLine max) (flush_text flush.number flush.points.items) (history new)
 flush_taken old new seat max flush h =
     let E = history old in
-    let is : answer E (TakeLine max) ≡ flushed E (takes E + 1) (E ▸ Take (takes E + 1) (pick E max)) = rw h.refused (taken_some E (pick E max) h.some) in
+    let is = take_answer E max (event_text E) h.some h.refused in
     let grown : history new ≡ E ▸ Take flush.number (pick E max) = h.grows in
     let after : history new ≡ E ▸ Take (takes E + 1) (pick E max) = grown ∙ ap (λ n. E ▸ Take n (pick E max)) h.number in (
       Found,
@@ -133,7 +144,7 @@ pub batch_admitted : (sender : List ℕ) (points : List PointWords) (old new : J
     → admit_refusal (history old) (body_of sender points) ≡ None
     → Answers (history old) (AdmitLine sender points) (said (codes "batch ") (decimal batch)) (history new)
 batch_admitted sender points old new batch made number entry none =
-    happened (AdmitLine sender points) old new (Admit batch (body_of sender points)) (codes "batch ") (decimal batch) entry (rw (made, none, number) refl)
+    happened (AdmitLine sender points) old new (Admit batch (body_of sender points)) (said (codes "batch ") (decimal batch)) entry (rw (made, none, number) refl)
 
 -- a body could not be read
 pub body_refused : (sender body : List ℕ) (old : Journal) (fault : ReadFault) → Reads body (Err fault)
@@ -152,12 +163,12 @@ not_empty [] empty is false_is = λ _. cc
 not_empty (p ∷ ps) empty is false_is = λ e. cc
 
 posted_some : (E : History) (sender : List ℕ) (points : List DataPoint) (foreign : ℕ) → points ≢ []
-    → posted E sender points foreign ≡ admitted_or E (admits E + 1) (posted_batch sender points) (batch_and_foreign (admits E + 1) foreign) (admit_refusal E (posted_batch sender points))
+    → posted E sender points foreign ≡ called_as E (posted_text (admits E + 1) foreign) (book.Admit (posted_batch sender points))
 posted_some E sender [] foreign h = absurd (h refl)
 posted_some E sender (p ∷ ps) foreign h = refl
 
 answer_posted : (E : History) (sender body : List ℕ) (t : Tally) → text_reading body ≡ Some (Ok t) → t.points ≢ []
-    → answer E (PostLine sender body) ≡ admitted_or E (admits E + 1) (posted_batch sender t.points) (batch_and_foreign (admits E + 1) t.foreign) (admit_refusal E (posted_batch sender t.points))
+    → answer E (PostLine sender body) ≡ called_as E (posted_text (admits E + 1) t.foreign) (book.Admit (posted_batch sender t.points))
 answer_posted E sender body t h some = rw h (posted_some E sender t.points t.foreign some)
 
 -- the book did not admit a body's points
@@ -174,23 +185,19 @@ pub post_admitted : (sender body : List ℕ) (old new : Journal) (t : Tally) (ba
     → admit_refusal (history old) (posted_batch sender t.points) ≡ None
     → Answers (history old) (PostLine sender body) (said (codes "batch ") (batch_and_foreign batch t.foreign)) (history new)
 post_admitted sender body old new t batch h some number entry none =
-    happened (PostLine sender body) old new (Admit batch (posted_batch sender t.points)) (codes "batch ") (batch_and_foreign batch t.foreign) entry
+    happened (PostLine sender body) old new (Admit batch (posted_batch sender t.points)) (said (codes "batch ") (batch_and_foreign batch t.foreign)) entry
     (answer_posted (history old) sender body t h some ∙ rw (none, number) refl)
 
-wired_some : (E : History) (xs : List Identity) → xs ≢ [] → wired_or E xs None ≡ wired (takes E + 1) (E ▸ Take (takes E + 1) xs)
-wired_some E [] h = absurd (h refl)
-wired_some E (x ∷ xs) h = refl
-
-unwired_some : (E : History) (xs : List Identity) → xs ≢ [] → unwired_or E xs None ≡ refused (E ▸ Take (takes E + 1) xs ▸ GiveBack (takes E + 1)) NoMemory
-unwired_some E [] h = absurd (h refl)
-unwired_some E (x ∷ xs) h = refl
+returned_some : (E : History) (max : ℕ) → pick E max ≢ [] → take_refusal E ≡ None
+    → without_text E (WireLine max) ≡ refused (E ▸ Take (takes E + 1) (pick E max) ▸ GiveBack (takes E + 1)) NoMemory
+returned_some E max some none = rw none (ap (returned_by E (takes E + 1) (fault_text (book.Take max))) (taken_some (takes E + 1) (pick E max) some))
 
 -- the request of a flush that was taken was told, or the flush was given back
 pub flush_wired : (old new : Journal) (seat max : ℕ) (flush : Flush) (F : History) (text : List ℕ) → IsTaken old new seat max flush
     → IsForwarded (history new) F flush.number flush.points.items text → Answers (history old) (WireLine max) text F
 flush_wired old new seat max flush F text h (inl (said_is, same)) =
     let E = history old in
-    let is : answer E (WireLine max) ≡ wired (takes E + 1) (E ▸ Take (takes E + 1) (pick E max)) = rw h.refused (wired_some E (pick E max) h.some) in
+    let is = take_answer E max (request_after E (takes E + 1)) h.some h.refused in
     let grown : history new ≡ E ▸ Take flush.number (pick E max) = h.grows in
     let after : history new ≡ E ▸ Take (takes E + 1) (pick E max) = grown ∙ ap (λ n. E ▸ Take n (pick E max)) h.number in (
       Found,
@@ -202,7 +209,7 @@ flush_wired old new seat max flush F text h (inl (said_is, same)) =
     )
 flush_wired old new seat max flush F text h (inr (said_is, home)) =
     let E = history old in
-    let is : without_text E (WireLine max) ≡ refused (E ▸ Take (takes E + 1) (pick E max) ▸ GiveBack (takes E + 1)) NoMemory = rw h.refused (unwired_some E (pick E max) h.some) in
+    let is = returned_some E max h.some h.refused in
     let grown : history new ≡ E ▸ Take flush.number (pick E max) = h.grows in
     let after : history new ≡ E ▸ Take (takes E + 1) (pick E max) = grown ∙ ap (λ n. E ▸ Take n (pick E max)) h.number in (
       MissedText,
@@ -214,14 +221,7 @@ flush_wired old new seat max flush F text h (inr (said_is, home)) =
     )
 
 -- the flush ended as the back end's answer says
-pub flush_answered : (old new : Journal) (f : ℕ) (back : BackAnswer) → flush_refusal (history old) f ≡ None → history new ≡ history old ▸ event_of (act_of back) f
-    → Answers (history old) (AnswerLine f back) (act_text (act_of back) (wait_told back) f) (history new)
+pub flush_answered : (old new : Journal) (f : ℕ) (back : BackAnswer) → flush_refusal (history old) f ≡ None → history new ≡ history old ▸ book.event_of (act_of back) f
+    → Answers (history old) (AnswerLine f back) (act_text (act_of back) (asked_wait back) f) (history new)
 flush_answered old new f back none grows =
-    let is : answer (history old) (AnswerLine f back) ≡ record { text = act_text (act_of back) (wait_told back) f; after = history old ▸ event_of (act_of back) f } = rw none refl in (
-      Found,
-      record {
-        allowed = refl;
-        text_is = ap (λ a. a.text) (sym is);
-        after_is = grows ∙ ap (λ a. a.after) (sym is);
-      },
-    )
+    happened (AnswerLine f back) old new (book.event_of (act_of back) f) (act_text (act_of back) (asked_wait back) f) grows (rw none refl)

@@ -2,31 +2,26 @@
 use Rattle.std.specs.Prelude.{◌≡◌, ◌⊎◌, ℕ, ◌+◌, Bool, true, false, ◌&&◌, List, [], ◌∷◌, ◌++◌, map, codes, decimal, Some, None, Ok, Err}
 use Rattle.std.specs.declared.option.Option.{Option}
 use Rattle.std.specs.declared.result.Result.{Result}
-use Rattle.series_id.specs.Identity.{Identity}
 use Rattle.back_answers.specs.Answers.{act_of}
+use Rattle.back_answers.specs.Waits.{asked_wait}
 use Rattle.back_answers.specs.declared.answer.Answer.{Answer as BackAnswer}
-use Rattle.back_answers.specs.declared.answer.Answer.TheVariants.{Success, Retryable, Final, Unknown}
 use Rattle.back_answers.specs.declared.deed.Act.{Act}
-use Rattle.back_answers.specs.declared.deed.Act.TheVariants as act
+use Rattle.back_answers.specs.declared.deed.Act.TheVariants.{Settle, GiveBack, DropFlush}
 use Rattle.metric_events.specs.History.{History, Start, Opened, ◌▸◌}
 use Rattle.metric_events.specs.Close.{close}
-use Rattle.metric_events.specs.Choice.{pick, flush_points}
+use Rattle.metric_events.specs.Choice.{flush_points}
 use Rattle.metric_events.specs.declared.batch.Batch.{Batch}
 use Rattle.metric_events.specs.declared.event.Event.{Event}
-use Rattle.metric_events.specs.declared.event.Event.TheVariants.{Admit, Undo, Confirm, Take, Settle, Drop, GiveBack, Quarantine, Lift}
+use Rattle.metric_events.specs.declared.event.Event.TheVariants as event
 use Rattle.metric_events.specs.declared.point.PointFault.{PointFault}
 use Rattle.metric_events.specs.DataPoint.{DataPoint}
 use Rattle.otlp_read.specs.declared.place.Place.{Place}
 use Rattle.otlp_read.specs.Tallies.{Tally}
 use Rattle.otlp_read.specs.Reading.{text_reading}
-use Rattle.delta_book.specs.declared.faults.AdmitFault.{AdmitFault}
-use Rattle.delta_book.specs.declared.faults.TakeFault.{TakeFault}
-use Rattle.delta_book.specs.declared.faults.UndoFault.{UndoFault}
-use Rattle.delta_book.specs.declared.faults.QuarantineFault.{QuarantineFault}
 use Rattle.delta_book.specs.Journal.{admits, takes}
+use Rattle.delta_book.specs.Outcomes as book
+use Rattle.delta_book.specs.declared.faults.TakeFault.{TakeFault}
 use Rattle.delta_book.specs.declared.faults.RoundFault.{RoundFault}
-use Rattle.delta_book.specs.Refusals.{admit_refusal, undo_refusal, flush_refusal, confirm_refusal, quarantine_refusal, lift_refusal}
-use Rattle.delta_book.specs.Flushes.{take_refusal}
 use Rattle.delta_book.specs.Totals.{totals_rows}
 use Rattle.delta_book.specs.Rounds.{round_refusal}
 use Rattle.delta_book.specs.PastRows.{past_rows}
@@ -49,33 +44,70 @@ pub record Answer : Type 0 where
 abbrev pub only_says : History → List ℕ → Answer
 only_says E text = record { text = text; after = E }
 
-abbrev pub refused : History → Refusal → Answer
-refused E why = only_says E (said (codes "refused ") (refusal_text why))
+abbrev pub refused_text : Refusal → List ℕ
+refused_text why = said (codes "refused ") (refusal_text why)
 
--- the event happens, and the reply names it
-abbrev pub happens : History → Event → List ℕ → List ℕ → Answer
-happens E event word what = record { text = said word what; after = E ▸ event }
+abbrev pub refused : History → Refusal → Answer
+refused E why = only_says E (refused_text why)
+
+-- the event happens
+abbrev pub happens : History → Event → List ℕ → Answer
+happens E e text = record { text = text; after = E ▸ e }
+
+-- what a reply says of a fault
+abbrev pub fault_text : (call : book.Asked) → book.Fault call → List ℕ
+fault_text (book.Admit body) fault = refused_text (of_admit fault)
+fault_text (book.Take max) None = codes "nothing\n"
+fault_text (book.Take max) (Some fault) = refused_text (of_take fault)
+fault_text (book.End act f) fault = refused_text NotLive
+fault_text (book.Undo b) fault = refused_text (of_undo fault)
+fault_text (book.Confirm b) fault = refused_text NotOpen
+fault_text (book.Quarantine s) fault = refused_text (of_hold fault)
+fault_text (book.Lift s) fault = refused_text NotHeld
+
+-- what it says of an event after a history: of a flush that is taken, its points
+abbrev pub event_text : History → Event → List ℕ
+event_text E (event.Admit b body) = said (codes "batch ") (decimal b)
+event_text E (event.Undo b) = said (codes "undone ") (decimal b)
+event_text E (event.Confirm b) = said (codes "confirmed ") (decimal b)
+event_text E (event.Take f series) = flush_text f (flush_points (E ▸ event.Take f series) f)
+event_text E (event.Settle f) = said (codes "settled ") (decimal f)
+event_text E (event.Drop f) = said (codes "dropped ") (decimal f)
+event_text E (event.GiveBack f) = said (codes "returned ") (decimal f)
+event_text E (event.Quarantine s) = said (codes "held ") s
+event_text E (event.Lift s) = said (codes "lifted ") s
+
+-- the texts of a fault and of an event, by which of them is the outcome
+abbrev pub answer_by : {F : Type 0} → History → (F → List ℕ) → (Event → List ℕ) → Result Event F → Answer
+answer_by E of_fault of_event (Ok e) = happens E e (of_event e)
+answer_by E of_fault of_event (Err fault) = only_says E (of_fault fault)
+
+-- what a call of the book answers where its event has this text
+abbrev pub called_as : History → (Event → List ℕ) → book.Asked → Answer
+called_as E text call = answer_by E (fault_text call) text (book.outcome E call)
+
+abbrev pub called : History → book.Asked → Answer
+called E call = called_as E (event_text E) call
 
 abbrev pub body_of : List ℕ → List PointWords → Batch
 body_of sender points = record { sender = sender; points = map point_of points }
 
--- a batch that is admitted is named so
-abbrev pub admitted_or : History → ℕ → Batch → List ℕ → Option AdmitFault → Answer
-admitted_or E b body named (Some fault) = refused E (of_admit fault)
-admitted_or E b body named None = happens E (Admit b body) (codes "batch ") named
-
 -- a point that can't be made is refused before the book is asked
 abbrev pub made_or : History → Batch → Option PointFault → Answer
 made_or E body (Some fault) = refused E (of_point fault)
-made_or E body None = admitted_or E (admits E + 1) body (decimal (admits E + 1)) (admit_refusal E body)
+made_or E body None = called E (book.Admit body)
 
 abbrev pub posted_batch : List ℕ → List DataPoint → Batch
 posted_batch sender points = record { sender = sender; points = points }
 
+-- the batch of a body, and how many of its points are none of it
+abbrev pub posted_text : ℕ → ℕ → Event → List ℕ
+posted_text b foreign e = said (codes "batch ") (batch_and_foreign b foreign)
+
 -- the points of the profile are one batch; without any the book is not asked
 abbrev pub posted : History → List ℕ → List DataPoint → ℕ → Answer
 posted E sender [] foreign = only_says E (said (codes "nothing foreign ") (decimal foreign))
-posted E sender (p ∷ ps) foreign = admitted_or E (admits E + 1) (posted_batch sender (p ∷ ps)) (batch_and_foreign (admits E + 1) foreign) (admit_refusal E (posted_batch sender (p ∷ ps)))
+posted E sender (p ∷ ps) foreign = called_as E (posted_text (admits E + 1) foreign) (book.Admit (posted_batch sender (p ∷ ps)))
 
 -- a body that can't be read is refused before the book is asked
 abbrev pub read_or : History → List ℕ → Option (Result Tally Place) → Answer
@@ -83,72 +115,24 @@ read_or E sender None = refused E NotJson
 read_or E sender (Some (Err place)) = refused E WrongShape
 read_or E sender (Some (Ok t)) = posted E sender t.points t.foreign
 
--- the flush of these series
-abbrev pub flushed : History → ℕ → History → Answer
-flushed E f F = record { text = flush_text f (flush_points F f); after = F }
-
-abbrev pub taken_or : History → List Identity → Option TakeFault → Answer
-taken_or E [] refusal = only_says E (codes "nothing\n")
-taken_or E (x ∷ xs) (Some fault) = refused E (of_take fault)
-taken_or E (x ∷ xs) None = flushed E (takes E + 1) (E ▸ Take (takes E + 1) (x ∷ xs))
-
--- the request of a flush is told, or it found no memory and the flush is given back
+-- the request of a flush, or no memory for it: then the flush is given back
 abbrev pub IsForwarded : History → History → ℕ → List DataPoint → List ℕ → Type 0
 IsForwarded E F f points text =
-    ((text ≡ wired_text f (request_text points)) × (F ≡ E)) ⊎ ((text ≡ said (codes "refused ") (refusal_text NoMemory)) × (F ≡ E ▸ GiveBack f))
+    ((text ≡ wired_text f (request_text points)) × (F ≡ E)) ⊎ ((text ≡ refused_text NoMemory) × (F ≡ E ▸ event.GiveBack f))
 
--- the request that forwards the flush of these series
-abbrev pub wired : ℕ → History → Answer
-wired f F = record { text = wired_text f (request_text (flush_points F f)); after = F }
+-- the request of the flush that an event takes
+abbrev pub request_after : History → ℕ → Event → List ℕ
+request_after E f e = wired_text f (request_text (flush_points (E ▸ e) f))
 
-abbrev pub wired_or : History → List Identity → Option TakeFault → Answer
-wired_or E [] refusal = only_says E (codes "nothing\n")
-wired_or E (x ∷ xs) (Some fault) = refused E (of_take fault)
-wired_or E (x ∷ xs) None = wired (takes E + 1) (E ▸ Take (takes E + 1) (x ∷ xs))
-
--- a flush that was taken and whose request found no memory goes home
-abbrev pub unwired_or : History → List Identity → Option TakeFault → Answer
-unwired_or E [] refusal = wired_or E [] refusal
-unwired_or E (x ∷ xs) (Some fault) = wired_or E (x ∷ xs) (Some fault)
-unwired_or E (x ∷ xs) None = refused (E ▸ Take (takes E + 1) (x ∷ xs) ▸ GiveBack (takes E + 1)) NoMemory
-
--- the event of an act
-abbrev pub event_of : Act → ℕ → Event
-event_of act.Settle f = Settle f
-event_of act.GiveBack f = GiveBack f
-event_of act.DropFlush f = Drop f
-
--- the seconds that the back end's answer asks to wait
-abbrev pub wait_told : BackAnswer → Option ℕ
-wait_told Success = None
-wait_told (Retryable after) = after
-wait_told Final = None
-wait_told Unknown = None
-
--- how a flush ended, and the wait where it went home
+-- how a flush ended, and how long to wait where it was given back
 abbrev pub act_text : Act → Option ℕ → ℕ → List ℕ
-act_text act.Settle wait f = said (codes "settled ") (decimal f)
-act_text act.GiveBack None f = said (codes "returned ") (decimal f)
-act_text act.GiveBack (Some seconds) f = said (codes "returned ") (flush_and_wait f seconds)
-act_text act.DropFlush wait f = said (codes "dropped ") (decimal f)
+act_text Settle wait f = said (codes "settled ") (decimal f)
+act_text GiveBack None f = said (codes "returned ") (decimal f)
+act_text GiveBack (Some seconds) f = said (codes "returned ") (flush_and_wait f seconds)
+act_text DropFlush wait f = said (codes "dropped ") (decimal f)
 
--- a flush that is live ends as the back end's answer says
-abbrev pub answered_or : {F : Type 0} → History → Option F → ℕ → BackAnswer → Answer
-answered_or E (Some fault) f answer = refused E NotLive
-answered_or E None f answer = record { text = act_text (act_of answer) (wait_told answer) f; after = E ▸ event_of (act_of answer) f }
-
--- the end of what is open, live or held, where it is
-abbrev pub ended : {F : Type 0} → History → Refusal → Option F → Event → List ℕ → List ℕ → Answer
-ended E why (Some fault) event word what = refused E why
-ended E why None event word what = happens E event word what
-
-abbrev pub undone_or : History → ℕ → Option UndoFault → Answer
-undone_or E b (Some fault) = refused E (of_undo fault)
-undone_or E b None = happens E (Undo b) (codes "undone ") (decimal b)
-
-abbrev pub held_or : History → List ℕ → Option QuarantineFault → Answer
-held_or E s (Some fault) = refused E (of_hold fault)
-held_or E s None = happens E (Quarantine s) (codes "held ") s
+abbrev pub ended_text : BackAnswer → ℕ → Event → List ℕ
+ended_text back f e = act_text (act_of back) (asked_wait back) f
 
 -- a round that may be closed is, and the next one begins
 abbrev pub closed_or : History → Option RoundFault → Answer
@@ -158,20 +142,20 @@ closed_or E None = record { text = said (codes "round ") (decimal (close E).roun
 -- what a command answers after a history
 abbrev pub answer : History → Asked → Answer
 answer E (AdmitLine sender points) = made_or E (body_of sender points) (first_fault points)
-answer E (TakeLine max) = taken_or E (pick E max) (take_refusal E)
-answer E (OkLine f) = ended E NotLive (flush_refusal E f) (Settle f) (codes "settled ") (decimal f)
-answer E (BackLine f) = ended E NotLive (flush_refusal E f) (GiveBack f) (codes "returned ") (decimal f)
+answer E (TakeLine max) = called E (book.Take max)
+answer E (OkLine f) = called E (book.End Settle f)
+answer E (BackLine f) = called E (book.End GiveBack f)
 answer E ReportLine = only_says E (report_text (totals_rows E))
-answer E (UndoLine b) = undone_or E b (undo_refusal E b)
-answer E (ConfirmLine b) = ended E NotOpen (confirm_refusal E b) (Confirm b) (codes "confirmed ") (decimal b)
-answer E (DropLine f) = ended E NotLive (flush_refusal E f) (Drop f) (codes "dropped ") (decimal f)
-answer E (HoldLine s) = held_or E s (quarantine_refusal E s)
-answer E (LiftLine s) = ended E NotHeld (lift_refusal E s) (Lift s) (codes "lifted ") s
+answer E (UndoLine b) = called E (book.Undo b)
+answer E (ConfirmLine b) = called E (book.Confirm b)
+answer E (DropLine f) = called E (book.End DropFlush f)
+answer E (HoldLine s) = called E (book.Quarantine s)
+answer E (LiftLine s) = called E (book.Lift s)
 answer E (PostLine sender body) = read_or E sender (text_reading body)
 answer E RoundLine = closed_or E (round_refusal E)
 answer E PastLine = only_says E (past_text (past_rows E))
-answer E (WireLine max) = wired_or E (pick E max) (take_refusal E)
-answer E (AnswerLine f back) = answered_or E (flush_refusal E f) f back
+answer E (WireLine max) = called_as E (request_after E (takes E + 1)) (book.Take max)
+answer E (AnswerLine f back) = called_as E (ended_text back f) (book.End (act_of back) f)
 answer E BadLine = only_says E (codes "bad command\n")
 
 -- what memory a line found: all that it took, none, or none for the request of a flush that was taken
@@ -180,9 +164,13 @@ pub data Mark : Type 0 where
   Missed : Mark
   MissedText : Mark
 
--- without memory for its request a flush that was taken is given back; else all is as ever
+-- a flush f that an event takes is given back, without memory for its request
+abbrev pub returned_by : History → ℕ → (Option TakeFault → List ℕ) → Result Event (Option TakeFault) → Answer
+returned_by E f of_fault (Ok e) = refused (E ▸ e ▸ event.GiveBack f) NoMemory
+returned_by E f of_fault (Err fault) = only_says E (of_fault fault)
+
 abbrev pub without_text : History → Asked → Answer
-without_text E (WireLine max) = unwired_or E (pick E max) (take_refusal E)
+without_text E (WireLine max) = returned_by E (takes E + 1) (fault_text (book.Take max)) (book.outcome E (book.Take max))
 without_text E asked = answer E asked
 
 -- what a command answers, with the memory that it found

@@ -7,6 +7,8 @@ ghost use Rattle.delta_book.specs.Refusals.{flush_refusal};
 ghost use Rattle.metric_events.specs.History.{◌▸◌};
 ghost use Rattle.play_script.specs.Answered.{Answers, reply_text};
 ghost use Rattle.play_script.specs.Commands as asked;
+ghost use Rattle.back_answers.specs.Waits.{asked_wait};
+ghost use Rattle.delta_book.specs.Outcomes.{event_of};
 ghost use Rattle.play_script.specs.Run as spec;
 ghost use Rattle.play_script.specs.Run.{IsForwarded};
 ghost use Rattle.metric_events.specs.declared.event.Event.TheVariants as event;
@@ -221,8 +223,8 @@ fn wire(alloc: Global, book: &mut Book, most: u64) -> Reply<'static>
 }
 
 /// The seconds that an answer asks to wait.
-fn wait_told(answer: Answer) -> Option<u64>
-    ensures { result ≡ spec.wait_told answer }
+fn asked_wait(answer: Answer) -> Option<u64>
+    ensures { result ≡ asked_wait answer }
 {
     match answer {
         Answer::Retryable { after } => after,
@@ -232,7 +234,7 @@ fn wait_told(answer: Answer) -> Option<u64>
 
 /// Ends a flush by an act.
 fn end_flush(book: &mut Book, flush: u64, by: Act) -> Result<(), NotLive>
-    ensures ok { OnOk result (history book.new ≡ history book.old ▸ spec.event_of by flush) }
+    ensures ok { OnOk result (history book.new ≡ history book.old ▸ event_of by flush) }
     ensures none { OnOk result (flush_refusal (history book.old) flush ≡ None) }
     ensures fault { IfErr result (λ e. flush_refusal (history book.old) flush ≡ Some e) }
     ensures err { OnErr result (book.new ≡ book.old) }
@@ -261,7 +263,7 @@ fn answered(book: &mut Book, flush: u64, answer: Answer) -> Reply<'static>
 {
     let by = act(answer);
     match end_flush(book, flush, by) {
-        Ok(()) => ended(flush, by, wait_told(answer)),
+        Ok(()) => ended(flush, by, asked_wait(answer)),
         Err(_) => Reply::Refused(Refusal::NotLive),
     }
 }
