@@ -55,7 +55,7 @@ by_method allowed m asked = if bytes_eq m.method (allowed_name allowed) then ask
 abbrev pub is_blank : ℕ → Bool
 is_blank b = b == 32 || b == 9
 
--- these words in any case, and nothing behind them but blanks
+-- these words, in any case, and only blanks behind them
 abbrev pub is_words : List ℕ → List ℕ → Bool
 is_words words value = str_eq_ignore_ascii_case (take (length words) value) words && list_all is_blank (drop (length words) value)
 
@@ -75,7 +75,7 @@ abbrev pub first : List (List ℕ) → Option (List ℕ)
 first [] = None
 first (v ∷ vs) = Some v
 
--- the first content type is JSON's, and no coding has to be undone
+-- the first content type is that of JSON, and there is no content coding
 abbrev pub is_plain_json : List Header → Bool
 is_plain_json hs = is_json_type (first (values_of (codes "content-type") hs)) && list_all is_uncoded hs
 

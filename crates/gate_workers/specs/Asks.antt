@@ -6,19 +6,19 @@ use Rattle.http_edge.specs.Delivery.{IsMalformed}
 use Rattle.gate_workers.specs.declared.refusal.Refusal.TheVariants.{Malformed, BodyTooLong, NoMemory}
 use Rattle.gate_workers.specs.Asked.{Asked, Refused, asked}
 
--- what bytes ask for: what their message asks, or they are turned away
+-- what bytes ask for: what their message asks, or they are refused
 abbrev pub Asks : List ℕ → Asked → Type 0
 Asks bytes a =
     ((m : Message) × BeginsWith bytes m × (a ≡ asked m))
     ⊎ ((IsTooLong bytes × (a ≡ Refused BodyTooLong))
     ⊎ (IsMalformed bytes × (a ≡ Refused Malformed)))
 
--- where the bytes are known, there is one, and that is asked, or there was no memory to find out
+-- where the bytes are known: there is one, and they ask for that, or it was out of memory
 abbrev pub IsHeard : Option (List ℕ) → Asked → Type 0
 IsHeard None a = ⊤
 IsHeard (Some bytes) a = (bytes ≢ []) × ((a ≡ Refused NoMemory) ⊎ Asks bytes a)
 
--- where the bytes are known, there are none
+-- where the bytes are known: there are none
 abbrev pub IsEmpty : Option (List ℕ) → Type 0
 IsEmpty None = ⊤
 IsEmpty (Some bytes) = bytes ≡ []

@@ -1,4 +1,4 @@
--- What the body of a response says.
+-- The body of a response.
 use Rattle.std.specs.Prelude.{ℕ, List, codes}
 use Rattle.out_texts.specs.Answers.{status_text}
 use Rattle.gate_workers.specs.declared.response.Body.{Body}

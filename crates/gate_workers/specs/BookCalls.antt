@@ -1,4 +1,4 @@
--- What calls make of a book of one's own, and of a keeper over it.
+-- How calls change a book, and a keeper with a book.
 use Rattle.std.specs.Prelude.{◌≡◌, ◌≢◌, ℕ, ◌+◌, if◌then◌else◌, List, [], ◌∷◌, ◌++◌, map, Some, None, Result, Ok, Err, unwrap_or}
 use Rattle.metric_events.specs.Choice.{pick}
 use Rattle.metric_events.specs.declared.batch.Batch.{Batch}
@@ -38,7 +38,7 @@ abbrev pub Ends : ℕ → Journal → Journal → ℕ → Event → Result (Unit
 Ends seat J J' f event (Ok u) = (flush_refusal (history J) f ≡ None) × Appends J J' seat event
 Ends seat J J' f event (Err e) = (flush_refusal (history J) f ≡ Some e) × (J' ≡ J)
 
--- what a call with its answer makes of a journal
+-- how a call with its answer changes a journal
 abbrev pub BookGives : ℕ → Journal → Call → Journal → Type 0
 BookGives seat J (admit body (Ok n)) J' = IsIn seat J J' body n
 BookGives seat J (admit body (Err e)) J' = (e.0 ≡ unwrap_or (admit_refusal (history J) body) admission.NoMemory) × (J' ≡ J)
@@ -65,14 +65,14 @@ abbrev pub AreSent : {U : Type 0} → (U → List ℕ → Answer → U → Type 
 AreSent sends answer u [] u' = u' ≡ u
 AreSent {U} sends answer u (x ∷ xs) u' = (m : U) × sends u x answer m × AreSent sends answer m xs u'
 
--- a turn over a journal: what it answers, what it adds and what it sends
+-- a turn of a journal: its result, the events that it adds and what it sends
 abbrev pub IsMade : {U : Type 0} → (U → List ℕ → Answer → U → Type 0) → ℕ → ℕ → Journal → Journal → U → U → Turn → Type 0
 IsMade sends seat max J J' u u' t =
     (answer : Answer) × (want : Want) × (t ≡ (turn_of (history J) max answer want).turn)
     × Adds seat J J' (turn_of (history J) max answer want).events
     × AreSent sends answer u (turn_of (history J) max answer want).sent u'
 
--- what a call makes of a keeper over a book: this seat, this many series a flush
+-- how a call changes a keeper with a book, of this seat, and of so many series a flush
 abbrev pub KeeperGives : {U : Type 0} → (U → List ℕ → Answer → U → Type 0) → ℕ → ℕ → Journal → U → Call → Journal → U → Type 0
 KeeperGives sends seat max J u (order (Ok t)) J' u' = IsMade sends seat max J J' u u' t
 KeeperGives sends seat max J u (order (Err e)) J' u' = ⊥

@@ -1,4 +1,4 @@
--- What a keeper is asked for a request, and what is said of its answers. Where a keeper is shared, other calls may come between.
+-- The calls of a keeper for a request, and the response to their answers. Where the book is shared, other calls may come between.
 use Rattle.std.specs.Prelude.{◌≡◌, ℕ, List, [], ◌∷◌, Option, Some, None, Result, Ok, Err, codes}
 use Rattle.metric_events.specs.DataPoint.{DataPoint}
 use Rattle.metric_events.specs.declared.batch.Batch.{Batch}
@@ -20,42 +20,42 @@ use Rattle.gate_workers.specs.Refusals.{of_admit, of_quarantine, of_lift}
 use Rattle.gate_workers.specs.Responses.{Response, json_response, refusal_response, IsThatOrNoMemory, order_response, report_response}
 use Rattle.gate_workers.specs.Asked.{Asked, Metrics, Quarantine, Lift, FlushNow, Report, Refused}
 
--- what a call with its answer makes of a keeper
+-- how a call with its answer changes a keeper
 abbrev pub Giving : Type 0 → Type 1
 Giving K = K → Call → K → Type 0
 
 abbrev pub IsConfirmed : {K : Type 0} → Giving K → ℕ → K → K → End → Type 0
 IsConfirmed gives batch k k' end = (r : Result (Unit {0}) NotOpen) × gives k (confirm batch r) k' × (end ≡ Confirmed)
 
--- after the answer to an undo: one that is refused as Taken is followed by the Confirm
+-- after the answer to an undo: Taken is followed by the Confirm
 abbrev pub IsUndone : {K : Type 0} → Giving K → ℕ → Result (Unit {0}) UndoFault → K → K → End → Type 0
 IsUndone gives batch (Err Taken) k k' end = IsConfirmed gives batch k k' end
 IsUndone gives batch (Err not_open) k k' end = (k ≡ k') × (end ≡ Undone)
 IsUndone gives batch (Ok u) k k' end = (k ≡ k') × (end ≡ Undone)
 
--- an admitted batch is closed by what was written of the response
+-- an admitted batch is closed by how much of the response was written
 abbrev pub IsClosed : {K : Type 0} → Giving K → ℕ → Written → K → K → End → Type 0
 IsClosed {K} gives batch None_ k k' end = (r : Result (Unit {0}) UndoFault) × (m : K) × gives k (undo batch r) m × IsUndone gives batch r m k' end
 IsClosed {K} gives batch All k k' end = IsConfirmed gives batch k k' end
 IsClosed {K} gives batch (Part n) k k' end = IsConfirmed gives batch k k' end
 
--- the batch that a request opened, if it did, is closed by what was written of the response
+-- the batch of a request, where it has one, is closed by how much of the response was written
 abbrev pub IsEnded : {K : Type 0} → Giving K → Option ℕ → Written → K → K → End → Type 0
 IsEnded gives None written k k' end = (k ≡ k') × (end ≡ NoBatch)
 IsEnded gives (Some batch) written k k' end = IsClosed gives batch written k k' end
 
--- what is said of an admission, and the batch that is open then
+-- the response to an admission, and the batch that is open then
 abbrev pub SaysAdmission : List ℕ → Result ℕ (AdmitFault × Batch) → Response → Option ℕ → Type 0
 SaysAdmission text (Ok number) response batch = (response ≡ json_response text) × (batch ≡ Some number)
 SaysAdmission text (Err e) response batch = IsThatOrNoMemory (refusal_response (of_admit e.0)) response × (batch ≡ None)
 
--- without points the keeper is not asked
+-- a batch without points needs no call
 abbrev pub IsPosted : {K : Type 0} → Giving K → List ℕ → List DataPoint → List ℕ → K → K → Response → Option ℕ → Type 0
 IsPosted {K} gives sender [] text k k' response batch = (k ≡ k') × (response ≡ json_response text) × (batch ≡ None)
 IsPosted {K} gives sender (p ∷ ps) text k k' response batch =
     (r : Result ℕ (AdmitFault × Batch)) × gives k (admit (record { sender = sender; points = p ∷ ps }) r) k' × SaysAdmission text r response batch
 
--- one call, and what is said of its answer
+-- one call, and the response to its answer
 abbrev pub IsOneCall : {K A : Type 0} → Giving K → (A → Call) → (A → Response → Type 0) → K → K → Response → Type 0
 IsOneCall {K} {A} gives call Says k k' response = (a : A) × gives k (call a) k' × Says a response
 
@@ -73,7 +73,7 @@ SaysOrder answer response = IsThatOrNoMemory (order_response answer) response
 abbrev pub SaysReport : Option (List SeriesTotals) → Response → Type 0
 SaysReport rows response = IsThatOrNoMemory (report_response rows) response
 
--- the calls before the response is written: what is said, and the batch that is open until then
+-- the calls before the response is written: the response, and the batch that is open until then
 abbrev pub IsHandled : {K : Type 0} → Giving K → Asked → K → K → Response → Option ℕ → Type 0
 IsHandled gives (Metrics body text) k k' response batch = IsPosted gives body.sender body.points text k k' response batch
 IsHandled gives (Quarantine sender) k k' response batch = IsOneCall gives (quarantine sender) SaysQuarantine k k' response × (batch ≡ None)
@@ -82,7 +82,7 @@ IsHandled gives FlushNow k k' response batch = IsOneCall gives order SaysOrder k
 IsHandled gives Report k k' response batch = IsOneCall gives totals SaysReport k k' response × (batch ≡ None)
 IsHandled gives (Refused why) k k' response batch = (k ≡ k') × IsThatOrNoMemory (refusal_response why) response × (batch ≡ None)
 
--- the calls of a request: those that its response is said of, and those that close its batch
+-- the calls of a request: those before its response, and those that close its batch
 abbrev pub IsConversation : {K : Type 0} → Giving K → Asked → K → K → Response → Written → End → Type 0
 IsConversation {K} gives asked k k' response written end =
     (m : K) × (batch : Option ℕ) × IsHandled gives asked k m response batch × IsEnded gives batch written m k' end

@@ -1,4 +1,4 @@
--- What one exchange with the back end comes to.
+-- The result of an exchange with the back end.
 use Rattle.std.specs.Prelude.{◌≡◌, ◌≢◌, ℕ, List, Option, IfSome, Result, Ok, Err, option_map}
 use Rattle.back_answers.specs.Answers.{answer_of}
 use Rattle.back_answers.specs.declared.answer.Answer.{Answer}
@@ -11,12 +11,12 @@ use Rattle.http_edge.specs.declared.fault.HttpFault.TheVariants.{Io}
 use Rattle.http_edge.specs.declared.written.Written.{Written}
 use Rattle.http_edge.specs.declared.written.Written.TheVariants.{All, None_, Part}
 
--- the class of a head that was read; without one it is unknown
+-- the class of the head that was read; unknown without one
 abbrev pub answer_to : Result Reply HttpFault → Answer
 answer_to (Ok r) = answer_of r.status (option_map (λ v. v.items) r.retry_after)
 answer_to (Err e) = Unknown
 
--- what was read of the reader, and the answer that it gives: its bytes before and after, how many its last call gave, the count of its failed calls before and after, and the head or the fault.
+-- what was read, and the answer: the reader's bytes before and after, how many its last call returned, its count of failed calls before and after, and the head or the fault.
 -- No read follows the one that completes the head
 pub record IsRead (input left : Option (List ℕ)) (given : ℕ) (one_more : ℕ → ℕ) (old new : ℕ) (r : Result Reply HttpFault) (answer : Answer) : Type 0 where
   pub says : IfSome input (λ bytes. SaysReply bytes r)
@@ -25,7 +25,7 @@ pub record IsRead (input left : Option (List ℕ)) (given : ℕ) (one_more : ℕ
   pub well : r ≢ Err Io → new ≡ old
   pub class : answer ≡ answer_to r
 
--- where all of the request was written, the answer is that of the head that was read; else it is unknown, and no known byte was read
+-- where the whole request was written, the answer is that of the head that was read; else it is unknown, and no known byte was read
 abbrev pub IsAnswered : Option (List ℕ) → Option (List ℕ) → ℕ → (ℕ → ℕ) → ℕ → ℕ → Written → Answer → Type 0
 IsAnswered input left given one_more old new All answer = (r : Result Reply HttpFault) × IsRead input left given one_more old new r answer
 IsAnswered input left given one_more old new None_ answer = (answer ≡ Unknown) × (left ≡ input) × (new ≡ old)

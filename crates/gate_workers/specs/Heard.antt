@@ -1,4 +1,4 @@
--- What is heard of a reader.
+-- What is read of a reader.
 use Rattle.std.specs.Prelude.{◌≡◌, ℕ, List, Option, ⊤}
 use Rattle.http_edge.specs.declared.fault.HttpFault.{HttpFault}
 use Rattle.http_edge.specs.declared.fault.HttpFault.TheVariants as http
@@ -9,7 +9,7 @@ use Rattle.gate_workers.specs.declared.service.Heard.TheVariants as heard
 use Rattle.gate_workers.specs.Asks.{IsHeard, IsEmpty}
 use Rattle.gate_workers.specs.Shown.{shown}
 
--- what is heard where there is no request
+-- what is read where there is no request
 abbrev pub heard_of : HttpFault → Heard
 heard_of http.Closed = heard.Closed
 heard_of http.Io = heard.Broken
@@ -22,13 +22,13 @@ heard_of http.Truncated = heard.Asks (ask.Refused Malformed)
 heard_of http.BodyTooLong = heard.Asks (ask.Refused BodyTooLong)
 heard_of http.NoMemory = heard.Asks (ask.Refused NoMemory)
 
--- what is heard of a reader whose bytes are these, where they are known
+-- what is read of these bytes, where they are known
 abbrev pub Hears : Option (List ℕ) → Heard → Type 0
 Hears input heard.Closed = IsEmpty input
 Hears input heard.Broken = ⊤
 Hears input (heard.Asks ask) = IsHeard input (shown ask)
 
--- the failed calls at first and at last: one at Broken, and else none
+-- the count of failed calls, before and after: one more at Broken
 abbrev pub HearingFails : (ℕ → ℕ) → ℕ → ℕ → Heard → Type 0
 HearingFails one_more old new heard.Closed = new ≡ old
 HearingFails one_more old new heard.Broken = new ≡ one_more old

@@ -1,4 +1,4 @@
--- What a keeper over a book is made of.
+-- The parts of a keeper with a book.
 use Rattle.std.specs.Prelude.{ℕ}
 use Rattle.delta_book.specs.Journal.{Journal}
 use Rattle.gate_workers.specs.declared.book_keeper.BookKeeper.{BookKeeper}

@@ -1,4 +1,4 @@
--- Names that were looked at.
+-- Names of senders.
 use Rattle.std.specs.Prelude.{◌≡◌, ◌≢◌, ℕ, List, Option, Some, None}
 use Rattle.metric_events.specs.Senders.{name_fault}
 

@@ -34,7 +34,7 @@ refusal_status NotQuarantined = 400
 refusal_status NoFlusher = 503
 refusal_status NoMemory = 503
 
--- points are named by their place in the batch, from 0
+-- points are named by their index in the batch, from 0
 abbrev pub refusal_message : Refusal → List ℕ
 refusal_message Malformed = codes "malformed request"
 refusal_message BodyTooLong = codes "body too long"

@@ -35,12 +35,12 @@ text_response body = record { status = 200; kind = codes "text/plain"; allow = N
 abbrev pub refusal_response : Refusal → Response
 refusal_response why = record { status = refusal_status why; kind = codes "application/json"; allow = refusal_allow why; body = status_text (refusal_message why) }
 
--- where a mark says that there was no memory for its text, that is said
+-- out of memory, where the mark says that there is none for its text
 abbrev pub or_no_memory : Bool → Response → Response
 or_no_memory true r = refusal_response NoMemory
 or_no_memory false r = r
 
--- that is the response, or that there was no memory for it
+-- the response is that, or out of memory
 abbrev pub IsThatOrNoMemory : Response → Response → Type 0
 IsThatOrNoMemory said response = (mark : Bool) × (response ≡ or_no_memory mark said)
 
@@ -58,7 +58,7 @@ abbrev pub report_response : Option (List SeriesTotals) → Response
 report_response None = refusal_response NoMemory
 report_response (Some rows) = text_response (report_text rows)
 
--- the response was written so far
+-- how much of the response was written, and its status
 pub record IsSaid (old new : Option (List ℕ)) (r : Response) (status : ℕ) (written : Written) : Type 0 where
   pub status_is : status ≡ r.status
   pub sent : Sent old new (bytes_of r) written

@@ -1,4 +1,4 @@
--- What serving one request comes to.
+-- The result of serving a request.
 use Rattle.std.specs.Prelude.{◌≡◌, ℕ, List, Option}
 use Rattle.http_edge.specs.Sent.{Failed}
 use Rattle.gate_workers.specs.declared.service.Served.{Served}
@@ -8,20 +8,20 @@ use Rattle.gate_workers.specs.Asks.{IsHeard, IsEmpty}
 use Rattle.gate_workers.specs.Responses.{Response, IsSaid}
 use Rattle.gate_workers.specs.Conversations.{Giving, IsConversation}
 
--- nothing was done and nothing written, or what the bytes ask for was done and said
+-- no call and nothing written, or the calls that the bytes ask for and their response
 abbrev pub IsServed : {K : Type 0} → Giving K → Option (List ℕ) → K → K → Option (List ℕ) → Option (List ℕ) → Served → Type 0
 IsServed gives input k k' old new Closed = IsEmpty input × (k ≡ k') × (old ≡ new)
 IsServed gives input k k' old new Broken = (k ≡ k') × (old ≡ new)
 IsServed gives input k k' old new (Replied status written end) =
     (asked : Asked) × (response : Response) × IsHeard input asked × IsConversation gives asked k k' response written end × IsSaid old new response status written
 
--- the reader's failed calls at first and at last: one at Broken, and else none
+-- the reader's count of failed calls, before and after: one more at Broken
 abbrev pub ReadingFails : (ℕ → ℕ) → ℕ → ℕ → Served → Type 0
 ReadingFails one_more old new Closed = new ≡ old
 ReadingFails one_more old new Broken = new ≡ one_more old
 ReadingFails one_more old new (Replied status written end) = new ≡ old
 
--- the writer's: none where all of a response was written or there is none, and else one
+-- the writer's: one more where a response was not written whole
 abbrev pub WritingFails : (ℕ → ℕ) → ℕ → ℕ → Served → Type 0
 WritingFails one_more old new Closed = new ≡ old
 WritingFails one_more old new Broken = new ≡ old

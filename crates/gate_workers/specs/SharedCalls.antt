@@ -1,4 +1,4 @@
--- What the calls of a keeper over a shared book tell its seat.
+-- How the calls of a keeper change the receipts of its seat, where the book is shared.
 use Rattle.std.specs.Prelude.{◌≡◌, ◌≢◌, ℕ, Bool, false, ⊤, if◌then◌else◌, [], Some, None, Result, Ok, Err, unwrap_or}
 use Rattle.metric_events.specs.History.{History}
 use Rattle.metric_events.specs.Choice.{pick}
@@ -17,12 +17,12 @@ use Rattle.shared_book.specs.Moments.{AsOf, IsRecorded, IsTakenFor}
 use Rattle.gate_workers.specs.declared.order.OrderFault.TheVariants.{Gone}
 use Rattle.gate_workers.specs.Calls.{Call, admit, undo, confirm, take, settle, drop_flush, give_back, quarantine, lift, totals, order}
 
--- what contracts see of a keeper over a shared book: what its seat was told, and whether it has an end for orders
+-- what contracts see of a keeper of a shared book: its seat's receipts, and whether it can order
 pub record Worker : Type 0 where
   pub told : SeatView
   pub orders : Bool
 
--- the seat was told nothing, and of the history at some moment of the round with this opening this held
+-- the seat got no receipt, and P was true of the history at some moment of the round with this opening
 abbrev pub IsUntold : ℕ → Opening → SeatView → SeatView → (History → Type 0) → Type 0
 IsUntold seats opening t t' P = (t' ≡ t) × AsOf seats opening t P
 
@@ -31,8 +31,8 @@ abbrev pub EndsFor : ℕ → Opening → SeatView → SeatView → ℕ → Event
 EndsFor seats opening t t' f event (Ok u) = IsRecorded seats opening t t' event
 EndsFor seats opening t t' f event (Err e) = IsUntold seats opening t t' (λ E. flush_refusal E f ≡ Some e)
 
--- what a call with its answer tells a seat of so many, in the round with this opening: the receipt of its event, or nothing, where the book refuses it or has nothing to change.
--- An admission may also find no memory before it looks
+-- how a call with its answer changes the receipts of one of so many seats, in the round with this opening: its event's receipt is added, or none where the book refuses it or has nothing to change.
+-- An admission may also be out of memory before it looks
 abbrev pub SeatGives : ℕ → Opening → SeatView → Call → SeatView → Type 0
 SeatGives seats opening t (admit body (Ok n)) t' = IsRecorded seats opening t t' (Admit n body)
 SeatGives seats opening t (admit body (Err e)) t' = (t' ≡ t) × (e.0 ≢ admission.NoMemory → AsOf seats opening t (λ E. admit_refusal E body ≡ Some e.0))
@@ -54,12 +54,12 @@ SeatGives seats opening t (totals None) t' = t' ≡ t
 SeatGives seats opening t (totals (Some rows)) t' = IsUntold seats opening t t' (λ E. rows ≡ totals_rows E)
 SeatGives seats opening t (order r) t' = t' ≡ t
 
--- who has no end for orders is told that nobody takes them
+-- where the keeper can't order, the answer is Gone
 abbrev pub MayOrder : Call → Bool → Type 0
 MayOrder (order r) false = r ≡ Err Gone
 MayOrder c orders = ⊤
 
--- what a call with its answer makes of the keeper
+-- how a call with its answer changes the keeper
 pub record WorkerGives (seats : ℕ) (opening : Opening) (k : Worker) (c : Call) (k' : Worker) : Type 0 where
   pub seat : SeatGives seats opening k.told c k'.told
   pub orders : k'.orders ≡ k.orders

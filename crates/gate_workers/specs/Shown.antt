@@ -1,4 +1,4 @@
--- What an ask of the program asks.
+-- What the program's value of an ask is in the definitions.
 use Rattle.gate_workers.specs.declared.request.Ask.{Ask}
 use Rattle.gate_workers.specs.declared.request.Ask.TheVariants as ask
 use Rattle.gate_workers.specs.Asked.{Asked, Metrics, Quarantine, Lift, FlushNow, Report, Refused}

@@ -1,4 +1,4 @@
--- One flush turn: over any store, and over a history.
+-- A flush turn: of any store, and after a history.
 use Rattle.std.specs.Prelude.{◌≡◌, ℕ, ◌+◌, Bool, true, false, List, [], ◌∷◌, length, Option, Some, None, Result, Ok, Err}
 use Rattle.metric_events.specs.History.{History, ◌▸◌}
 use Rattle.metric_events.specs.Choice.{flush_points}
@@ -28,7 +28,7 @@ closing DropFlush flush r = drop_flush flush r
 abbrev pub IsClosing : {K : Type 0} → (K → Call → K → Type 0) → Act → ℕ → K → K → Type 0
 IsClosing gives act flush k k' = (r : Result (Unit {0}) NotLive) × gives k (closing act flush r) k'
 
--- no flush, or one whose text found no memory and which was given back
+-- no flush was taken, or one was given back without memory for its text
 abbrev pub IsUnsent : {K : Type 0} → (K → Call → K → Type 0) → ℕ → Result (Option Flush) TakeFault → K → K → Turn → Type 0
 IsUnsent gives max (Ok None) m k' t = (m ≡ k') × (t ≡ Idle)
 IsUnsent gives max (Ok (Some flush)) m k' t = IsClosing gives GiveBack flush.number m k' × (t ≡ NoMemory)
@@ -48,13 +48,13 @@ IsTurn {K} {U} gives sends max k k' u u' (Done number points answer act) =
     (flush : Flush) × (m : K) × gives k (take max (Ok (Some flush))) m × sends u (request_text flush.points.items) answer u' × IsClosing gives (act_of answer) flush.number m k'
     × (number ≡ flush.number) × (points ≡ length flush.points.items) × (act ≡ act_of answer)
 
--- where a turn found no memory: nowhere, for its flush, or for the flush's text
+-- where a turn is out of memory: nowhere, at its flush, or at the flush's text
 pub data Want : Type 0 where
   Nowhere : Want
   ForFlush : Want
   ForText : Want
 
--- what a turn comes to
+-- the result of a turn, the events that it adds, and what it sends
 pub record Made : Type 0 where
   pub turn : Turn
   pub events : List Event

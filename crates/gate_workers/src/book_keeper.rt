@@ -1,4 +1,4 @@
-//! A keeper over a book of its own.
+//! A keeper with a book of its own.
 ghost use Rattle.std.specs.Prelude.{◌≤◌, ◌≡◌};
 ghost use Rattle.metric_events.specs.declared.limits.TheConstants.{MAX_TAKEN};
 ghost use Rattle.gate_workers.specs.BookCalls.{BookGives, KeeperGives, IsMade};
@@ -18,14 +18,14 @@ use metric_events::limits::MAX_TAKEN;
 use metric_events::sender_name::SenderName;
 use std::alloc::{AllocError, Global};
 
-/// A book, and the seat that works on it.
+/// A book, and the seat of its entries.
 #[derive(Drop)]
 pub struct Desk {
     pub book: Book,
     pub seat: u16,
 }
 
-/// A keeper over a book and an uplink of its own, which waits for nobody.
+/// A keeper with a book and an uplink of its own. It waits for no other thread.
 #[derive(Drop)]
 pub struct BookKeeper<U> {
     desk: Desk,
@@ -79,7 +79,7 @@ impl Store for Desk {
     }
 }
 
-/// A turn over a book of one's own.
+/// A flush turn of a book.
 pub fn book_turn<U: Uplink, P: Pace>(
     alloc: Global,
     desk: &mut Desk,
@@ -99,7 +99,7 @@ pub fn book_turn<U: Uplink, P: Pace>(
 impl<U: Uplink + Drop> BookKeeper<U> {
     ghost use Rattle.gate_workers.specs.Keepers.{book_of, seat_of, uplink_of, max_of};
 
-    /// A keeper over a book, which works from this seat and takes so many series a flush.
+    /// A keeper of this book. A flush takes at most `max` series.
     pub fn new(alloc: Global, book: Book, seat: u16, uplink: U, max: usize) -> BookKeeper<U>
         requires low { 1 ≤ max }
         requires high { max ≤ MAX_TAKEN }
@@ -116,7 +116,7 @@ impl<U: Uplink + Drop> BookKeeper<U> {
         }
     }
 
-    /// The book, with all that was done.
+    /// The book, with all entries.
     pub fn into_book(self) -> Book
         ensures { result ≡ book_of self }
     {

@@ -1,4 +1,4 @@
-//! The content of a request, and parts of bytes.
+//! Whether a request's body is plain JSON, by its headers.
 ghost use Rattle.std.specs.Prelude.{◌≡◌, ◌==◌, position, take, drop, codes};
 ghost use Rattle.gate_workers.specs.Asked as spec;
 ghost use Rattle.std.specs.Str.{str_eq_ignore_ascii_case};
@@ -57,7 +57,7 @@ fn are_blanks(bytes: &[u8]) -> bool
     bytes.iter().all(|b| *b == b' ' || *b == b'\t')
 }
 
-/// Whether the value is these words in any case, with nothing behind them but blanks.
+/// Whether the value is these words, in any case, with only blanks behind them.
 fn is_words(words: &[u8], value: &[u8]) -> bool
     ensures { result ≡ spec.is_words words.now value.now }
 {
@@ -106,7 +106,7 @@ fn is_json(headers: &[Header]) -> bool
     }
 }
 
-/// Whether the body is JSON that is not coded (RFC 9110, sections 8.3 and 8.4).
+/// Whether the body is JSON without a content coding (RFC 9110, sections 8.3 and 8.4).
 pub fn is_plain_json(headers: &[Header]) -> bool
     ensures { result ≡ spec.is_plain_json (headers_in headers.now) }
 {

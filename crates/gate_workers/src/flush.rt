@@ -1,4 +1,4 @@
-//! One flush turn, and the exchange with the back end that it makes.
+//! A flush turn, and its exchange with the back end.
 ghost use Rattle.std.specs.Prelude.{ℕ, List, ◌≡◌, ◌≤◌, length, ◌<◌, ◌^◌};
 ghost use Rattle.back_answers.specs.declared.answer.Answer.{Answer};
 ghost use Rattle.gate_workers.specs.Turns.{IsTurn, IsClosing};
@@ -17,16 +17,16 @@ use metric_events::limits::MAX_TAKEN;
 use out_texts::request_text;
 use std::alloc::Global;
 
-/// What a flush turn came to.
+/// The result of a flush turn.
 #[derive(Clone, Copy, Debug, PartialEq, Eq)]
 pub enum Turn {
-    /// Nothing may be taken.
+    /// There was nothing to take.
     Idle,
-    /// Too many flushes are live, or there is no room in the journal.
+    /// Too many flushes were live, or the journal was full.
     Full,
-    /// No flush was taken, or it was given back before it was sent.
+    /// Out of memory: no flush was taken, or it was given back before it was sent.
     NoMemory,
-    /// A flush of so many points was sent and answered, and it ended by the act.
+    /// A flush of so many points was sent. It ended by the act of the answer.
     Done {
         flush: u64,
         points: u64,
@@ -37,15 +37,15 @@ pub enum Turn {
 
 /// The way to the back end.
 pub trait Uplink {
-    /// What a call with its bytes and its answer makes of it.
+    /// How a call with its bytes and its answer changes the uplink.
     ghost sends: { Self → List ℕ → Answer → Self → Type 0 };
 
-    /// Sends a request's body, and tells what was answered.
+    /// Sends a request's body, and returns the class of the answer.
     fn send(&mut self, bytes: &[u8]) -> Answer
         ensures { sends self.old bytes.now result self.new };
 }
 
-/// Ends a flush by the act. That it is not live changes nothing.
+/// Ends a flush by the act. Where it is not live, nothing changes.
 fn end_flush<K: Store>(keeper: &mut K, flush: u64, by: Act)
     ensures { IsClosing K.gives by flush keeper.old keeper.new }
 {
@@ -62,7 +62,7 @@ fn end_flush<K: Store>(keeper: &mut K, flush: u64, by: Act)
     }
 }
 
-/// Takes a flush, sends it, and ends it by the answer. Where its text finds no memory it is given
+/// Takes a flush, sends it, and ends it by the answer. Without memory for its text it is given
 /// back.
 pub fn flush_turn<K: Store, U: Uplink, P: Pace>(
     alloc: Global,
@@ -97,8 +97,8 @@ pub fn flush_turn<K: Store, U: Uplink, P: Pace>(
     }
 }
 
-/// Posts the body, and reads the head of what is answered: no read follows the one that completes
-/// it. Unknown unless all was written and a head was read.
+/// Posts the body, and reads the head of the answer. No read follows the one that completes it.
+/// The answer is Unknown unless the whole request was written and a head was read.
 pub fn exchange<S: Source, W: Sink>(
     alloc: Global,
     reader: &mut S,

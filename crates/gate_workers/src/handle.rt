@@ -1,4 +1,4 @@
-//! What is asked is done: the calls of the store that a request leads to, and its response.
+//! Handles a request: calls the store and builds the response.
 ghost use Rattle.std.specs.Prelude.{◌≡◌, None};
 ghost use Rattle.gate_workers.specs.Calls as call;
 ghost use Rattle.gate_workers.specs.Conversations.{IsHandled, IsPosted, IsOneCall};
@@ -13,8 +13,8 @@ use metric_events::batch::Batch;
 use metric_events::sender_name::SenderName;
 use std::alloc::Global;
 
-/// What a request came to: its response, and the batch that is open until the response is written,
-/// if there is one.
+/// A handled request: its response, and its batch, where it has one, which is open until the
+/// response is written.
 #[derive(Drop)]
 pub struct Handled {
     pub response: Response,
@@ -31,7 +31,7 @@ fn without_batch(response: Response) -> Handled
     }
 }
 
-/// Admits a batch. One without points is done without asking the store.
+/// Admits a batch. A batch without points needs no call of the store.
 fn post<K: Store>(alloc: Global, keeper: &mut K, body: Batch, text: Vec<u8>) -> Handled
     ensures { IsPosted K.gives body.sender body.points text.items keeper.old keeper.new
         result.response result.batch }
@@ -83,7 +83,7 @@ fn report<K: Store>(alloc: Global, keeper: &mut K) -> Response
     }
 }
 
-/// Does what is asked.
+/// Handles a request.
 pub fn handle<K: Keeper>(alloc: Global, keeper: &mut K, ask: Ask) -> Handled
     ensures { IsHandled K.gives (shown ask) keeper.old keeper.new result.response result.batch }
 {

@@ -1,4 +1,4 @@
-//! What bytes ask for.
+//! A law: bytes ask for one thing at most.
 ghost use Rattle.std.specs.Prelude.{◌≡◌, List, ℕ};
 ghost use Rattle.gate_workers.specs.Asked.{Asked};
 ghost use Rattle.gate_workers.specs.Asks.{Asks};

@@ -1,10 +1,11 @@
-//! What a worker does over a store: it serves one request, makes one flush turn, and exchanges one
+//! The work of a worker on a store: it serves a request, makes a flush turn, and exchanges a
 //! request with the back end.
-//! `serve` and `flush_turn` are over any store that tells its calls (`Store`, `Keeper`). A
-//! `BookKeeper` is one over a `Book` of its own, and `serve_book` and `book_turn` say what they
-//! come to over its journal; a `SharedKeeper` is one over a book that threads share, from a seat.
-//! `receiver_loop` and `flusher_loop` are what its threads run.
-//! Nothing here opens a connection or tries again, and only a `SharedKeeper` and the loops wait.
+//!
+//! `serve` and `flush_turn` work on any store (`Store`, `Keeper`). A `BookKeeper` has a `Book` of
+//! its own: `serve_book` and `book_turn` say what they do to its journal. A `SharedKeeper` works
+//! from a seat of a book that threads share. `receiver_loop` and `flusher_loop` are the loops of
+//! those threads. Nothing here opens a connection or tries again. Only a `SharedKeeper` and the
+//! loops wait.
 #![tactic(auto)]
 
 mod book_keeper;

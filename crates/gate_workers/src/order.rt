@@ -1,4 +1,4 @@
-//! An order for a flush turn.
+//! Orders for flush turns.
 ghost use Rattle.std.specs.Prelude.{◌≡◌, Ok, Err};
 ghost use Rattle.gate_workers.specs.Orders.{turn_or_gone};
 
@@ -15,17 +15,16 @@ pub enum OrderFault {
     NoMemory,
 }
 
-/// How many orders, and how many connections, lie in their channel at most until a worker takes
-/// them.
+/// How many orders, and how many connections, wait in their channel at most.
 pub const CHANNEL_PLACES: usize = 64;
 
-/// An order for one flush turn, with the end that the turn goes back on.
+/// An order for one flush turn, with the sender for its result.
 #[derive(Drop)]
 pub struct Order {
     pub reply: Sender<Turn>,
 }
 
-/// What came back of an order: without a turn, whoever took it is gone.
+/// The answer to an order. Where no turn came back, the flusher is gone.
 fn turn_or_gone(answer: Result<Turn, RecvError>) -> Result<Turn, OrderFault>
     ensures { result ≡ turn_or_gone answer }
 {
@@ -35,9 +34,9 @@ fn turn_or_gone(answer: Result<Turn, RecvError>) -> Result<Turn, OrderFault>
     }
 }
 
-/// Has one turn made by whoever takes the order, and waits for it. Gone where no end takes the
-/// order or gives a turn back; NoMemory where the way back can't be made, and then nothing was
-/// ordered.
+/// Orders one turn from the flushers, and waits for it. Errors: `Gone` where no flusher takes the
+/// order or sends a turn back; `NoMemory` where the channel of the reply can't be made, and then
+/// nothing was ordered.
 pub(crate) fn place_order<R: Wait>(
     rt: &R,
     alloc: Global,

@@ -10,7 +10,7 @@ use http::StatusCode;
 use http_edge::HttpFault;
 use std::alloc::{AllocError, Global};
 
-/// The one method that a path has.
+/// The one method of a path.
 #[derive(Clone, Copy, Debug, PartialEq, Eq)]
 pub enum Allowed {
     Post,
@@ -41,7 +41,7 @@ pub enum Refusal {
 }
 
 impl Allowed {
-    /// Its name, as requests write it.
+    /// The method's name in a request.
     pub fn name(self) -> &'static str
         ensures name { result.now ≡ allowed_name self }
         ensures short { length result.now < 2 ^ 32 }
@@ -54,7 +54,7 @@ impl Allowed {
 }
 
 impl Refusal {
-    /// The status of a refusal.
+    /// The status of the response.
     pub fn status(self) -> StatusCode
         ensures { result ≡ refusal_status self }
     {
@@ -80,7 +80,7 @@ impl Refusal {
         }
     }
 
-    /// The method that a refusal names.
+    /// The method that the response allows, where it names one.
     pub fn allowed(self) -> Option<Allowed>
         ensures { option_map allowed_name result ≡ refusal_allow self }
     {
@@ -90,7 +90,7 @@ impl Refusal {
         }
     }
 
-    /// The message of a refusal.
+    /// The message in the response. Points are named by their index in the batch, from 0.
     pub fn message(self, alloc: Global) -> Result<String, AllocError>
         ensures { IfOk result (λ text. string_bytes text ≡ refusal_message self) }
     {

@@ -1,4 +1,4 @@
-//! What a request asks for: the routes.
+//! The routes: what a request asks for.
 ghost use Rattle.std.specs.Prelude.{◌≡◌, codes, IfOk};
 ghost use Rattle.http_edge.specs.Request.{message_in};
 ghost use Rattle.gate_workers.specs.Asked as spec;
@@ -20,7 +20,7 @@ use std::alloc::{AllocError, Global};
 /// What a request asks for.
 #[derive(Drop)]
 pub enum Ask {
-    /// To admit this batch, which may have no point, and the text that says that it is done.
+    /// To admit this batch, which may have no point. The text is the body of the response.
     Metrics { body: Batch, text: Vec<u8> },
     /// To quarantine this sender.
     Quarantine(SenderName),
@@ -28,13 +28,13 @@ pub enum Ask {
     Lift(SenderName),
     /// A flush turn.
     FlushNow,
-    /// What the store has.
+    /// The report of the store.
     Report,
-    /// Nothing: it is refused before the keeper is asked.
+    /// Nothing: it is refused before any call of the store.
     Refused(Refusal),
 }
 
-/// The name of these bytes, where they are one.
+/// The sender's name in these bytes, where they are one.
 fn name_of(alloc: Global, bytes: &[u8]) -> Result<Option<SenderName>, AllocError>
     ensures { IfOk result (λ o. IsName bytes.now o) }
 {
@@ -45,7 +45,7 @@ fn name_of(alloc: Global, bytes: &[u8]) -> Result<Option<SenderName>, AllocError
     }
 }
 
-/// What the metrics of a sender ask for.
+/// What a sender asks for with this body.
 fn read_body(
     alloc: Global,
     body: &[u8],

@@ -1,4 +1,4 @@
-//! The response to a request: a value, which is written once.
+//! The response to a request: a value that is written once.
 ghost use Rattle.std.specs.Prelude.{◌≡◌, ◌<◌, ◌^◌, codes, length, option_map, IfOk};
 ghost use Rattle.http_edge.specs.Sent.{Sent, Failed};
 ghost use Rattle.back_answers.specs.Waits.{asked_wait};
@@ -26,9 +26,9 @@ pub enum Body {
     Plain(Vec<u8>),
     /// An object without members.
     Empty,
-    /// Nothing was there to flush.
+    /// There was nothing to flush.
     Idle,
-    /// There is no memory for another text.
+    /// Out of memory, as bytes that are there already.
     NoMemory,
 }
 
@@ -58,8 +58,8 @@ impl Body {
     }
 }
 
-/// A response: its status, its body with the media type, and the method that is allowed where a
-/// request had another. Contracts see what is written of it.
+/// A response: its status, its body, and the allowed method where the request had another one.
+/// Contracts see what is written of it.
 #[derive(Drop)]
 pub struct Response {
     status: StatusCode,
@@ -130,7 +130,7 @@ impl Response {
         Response::ok(Body::Empty)
     }
 
-    /// That there is no memory. Takes none.
+    /// Out of memory. Allocates nothing.
     pub fn no_memory() -> Response
         ensures { result ≡ spec.refusal_response Refusal.NoMemory }
     {
@@ -141,7 +141,7 @@ impl Response {
         }
     }
 
-    /// Why a request is refused; where there is no memory for that text, that there is none.
+    /// A refusal, or out of memory where there is none for its text.
     pub fn refusal(alloc: Global, why: Refusal) -> Response
         ensures { IsThatOrNoMemory (spec.refusal_response why) result }
     {
@@ -155,7 +155,7 @@ impl Response {
         }
     }
 
-    /// The report of these rows; where there is no memory for its text, that there is none.
+    /// The report of these rows, or out of memory where there is none for its text.
     pub fn report(alloc: Global, rows: &[SeriesTotals]) -> Response
         ensures { IsThatOrNoMemory (spec.report_response (Some rows.now)) result }
     {
@@ -165,7 +165,7 @@ impl Response {
         }
     }
 
-    /// What a flush turn came to; where there is no memory for its text, that there is none.
+    /// The result of a flush turn, or out of memory where there is none for its text.
     pub fn turn(alloc: Global, turn: Turn) -> Response
         ensures { IsThatOrNoMemory (spec.turn_response turn) result }
     {
@@ -185,7 +185,7 @@ impl Response {
         }
     }
 
-    /// What an order came to.
+    /// The answer to an order.
     pub fn order(alloc: Global, answer: Result<Turn, OrderFault>) -> Response
         ensures { IsThatOrNoMemory (spec.order_response answer) result }
     {
@@ -201,7 +201,7 @@ impl Response {
         self.status.as_u16()
     }
 
-    /// Writes it, and tells how much of it the sink took. Takes no memory.
+    /// Writes it, and returns how much of it the sink took. Allocates nothing.
     pub fn write<W: Sink>(&self, writer: &mut W) -> Written
         ensures sent { Sent (W.contents writer.old) (W.contents writer.new) (spec.bytes_of self.now)
             result }

@@ -1,4 +1,4 @@
-//! One request is served.
+//! Serves a request: reads it, handles it, writes the response and closes its batch.
 ghost use Rattle.std.specs.Prelude.{◌≡◌};
 ghost use Rattle.http_edge.specs.Delivery.{StopsReading};
 ghost use Rattle.http_edge.specs.Reading.{NotYet};
@@ -21,16 +21,16 @@ use http_edge::{HttpFault, Written, read_message};
 use otlp_read::Memo;
 use std::alloc::Global;
 
-/// How the batch of a request ended.
+/// How the batch of a request was closed.
 #[derive(Clone, Copy, Debug, PartialEq, Eq)]
 pub enum End {
-    /// None was admitted.
+    /// There was none.
     NoBatch,
     Confirmed,
     Undone,
 }
 
-/// What became of a request.
+/// The result of serving a request.
 #[derive(Clone, Copy, Debug, PartialEq, Eq)]
 pub enum Served {
     /// The reader ended before a byte; nothing was written.
@@ -44,7 +44,7 @@ pub enum Served {
     },
 }
 
-/// What was heard of a reader.
+/// What was read of a reader.
 #[derive(Drop)]
 pub enum Heard {
     /// It ended before a byte.
@@ -64,8 +64,8 @@ fn heard_of(fault: HttpFault) -> Heard
     }
 }
 
-/// Reads a message, and what it asks for. No read follows the one that completes the message, or
-/// shows that there is none.
+/// Reads a message, and finds what it asks for. No read follows the one that completes the message
+/// or shows that there is none.
 fn listen<S: Source, P: Pace>(alloc: Global, reader: &mut S, pace: &mut P, memo: &mut Memo) -> Heard
     ensures heard { Hears (S.remaining reader.old) result }
     ensures failed { HearingFails S.one_more (S.failures reader.old) (S.failures reader.new)
@@ -85,7 +85,7 @@ fn listen<S: Source, P: Pace>(alloc: Global, reader: &mut S, pace: &mut P, memo:
     }
 }
 
-/// Confirms a batch. That it is not open changes nothing.
+/// Confirms a batch. Where it is not open, nothing changes.
 fn confirm<K: Store>(keeper: &mut K, batch: u64) -> End
     ensures { IsConfirmed K.gives batch keeper.old keeper.new result }
 {
@@ -93,7 +93,7 @@ fn confirm<K: Store>(keeper: &mut K, batch: u64) -> End
     End::Confirmed
 }
 
-/// Undoes a batch. One of which something was taken meanwhile is confirmed.
+/// Undoes a batch. Where a point of it was taken meanwhile, it is confirmed.
 fn undo<K: Store>(keeper: &mut K, batch: u64) -> End
     ensures { IsClosed K.gives batch Written.None_ keeper.old keeper.new result }
 {
@@ -104,7 +104,7 @@ fn undo<K: Store>(keeper: &mut K, batch: u64) -> End
     }
 }
 
-/// Undoes a batch of whose response nothing was written, and confirms any other.
+/// Undoes a batch where nothing of its response was written, and else confirms it.
 fn close_batch<K: Store>(keeper: &mut K, batch: u64, written: Written) -> End
     ensures { IsClosed K.gives batch written keeper.old keeper.new result }
 {
@@ -114,7 +114,7 @@ fn close_batch<K: Store>(keeper: &mut K, batch: u64, written: Written) -> End
     }
 }
 
-/// Closes the batch of a request, if it has one.
+/// Closes the batch of a request, where it has one.
 fn close<K: Store>(keeper: &mut K, batch: Option<u64>, written: Written) -> End
     ensures { IsEnded K.gives batch written keeper.old keeper.new result }
 {
@@ -125,7 +125,7 @@ fn close<K: Store>(keeper: &mut K, batch: Option<u64>, written: Written) -> End
 }
 
 /// Serves the request that the reader's bytes begin with. No read follows the one that completes
-/// it, so whoever keeps an end open is not waited for.
+/// it, so a client that keeps its side open is not waited for.
 pub fn serve<K: Keeper, S: Source, W: Sink, P: Pace>(
     alloc: Global,
     keeper: &mut K,
@@ -145,8 +145,8 @@ pub fn serve<K: Keeper, S: Source, W: Sink, P: Pace>(
     serve_with(alloc, keeper, reader, writer, pace, &mut memo)
 }
 
-/// Serves a request as `serve` does. A body is read with a memo of the bodies before, whatever it
-/// holds.
+/// Serves a request as `serve` does. The body is read with a memo of the bodies before; no memo
+/// changes the result.
 pub fn serve_with<K: Keeper, S: Source, W: Sink, P: Pace>(
     alloc: Global,
     keeper: &mut K,

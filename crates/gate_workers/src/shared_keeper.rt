@@ -1,4 +1,4 @@
-//! A keeper over a book that threads share.
+//! A keeper of a book that threads share.
 ghost use Rattle.std.specs.Prelude.{◌≡◌, is_some};
 ghost use Rattle.gate_workers.specs.SharedCalls.{WorkerGives};
 
@@ -20,9 +20,9 @@ use std::alloc::{AllocError, Global};
 use std::marker::Model;
 use std::sync::Wait;
 
-/// A keeper over a shared book, from a seat of it. Each call takes the lock of the book for itself,
-/// and may wait for it; `order` takes none, and may wait for whoever makes the turn. Contracts see
-/// what the seat was told, and whether the keeper can order.
+/// A keeper of a shared book, which works from a seat. Each call takes the book's lock for itself
+/// and may wait for it. `order` takes no lock, and may wait for the flusher. Contracts see the
+/// seat's receipts, and whether the keeper can order.
 #[derive(Drop)]
 pub struct SharedKeeper<'a, L: Round, R: Wait> {
     rt: &'a R,
@@ -42,8 +42,8 @@ impl<'a, L: Round, R: Wait> Model for SharedKeeper<'a, L, R> {
 }
 
 impl<'a, L: Round, R: Wait> SharedKeeper<'a, L, R> {
-    /// A keeper that works from this seat, and orders by this end. A flusher has none, so that the
-    /// channel closes once the receivers have ended; its `order` answers Gone.
+    /// A keeper that works from this seat and sends its orders here. A flusher has no `orders`, so
+    /// that the channel closes once the receivers have ended. Its `order` answers `Gone`.
     pub fn new(
         rt: &'a R,
         alloc: Global,
@@ -63,7 +63,7 @@ impl<'a, L: Round, R: Wait> SharedKeeper<'a, L, R> {
         }
     }
 
-    /// The seat, with all that it was told. The end for orders is dropped.
+    /// The seat, with all its receipts. The sender for orders is dropped.
     pub fn into_seat(self) -> Seat<L>
         ensures { result ≡ self.entry.told }
     {

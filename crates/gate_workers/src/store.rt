@@ -1,4 +1,4 @@
-//! What keeps the points.
+//! The calls of a store.
 ghost use Rattle.std.specs.Prelude.{◌<◌, ◌≤◌, length, option_map};
 ghost use Rattle.std.specs.Result.{result_ok};
 ghost use Rattle.gate_workers.specs.Calls as call;
@@ -16,10 +16,10 @@ use metric_events::limits::MAX_TAKEN;
 use metric_events::sender_name::SenderName;
 use std::alloc::AllocError;
 
-/// What keeps the points: the calls of a `Book`, from one seat.
+/// A store of points: the calls of a `Book`, from one seat.
 pub trait Store {
-    /// What a call with its answer makes of it. Over a store of one's own that is all that the
-    /// answer is and what is stored then; over a shared one, what its seat is told.
+    /// How a call with its answer changes the store. Where the store has a book of its own, that
+    /// is the answer and what is stored then; where the book is shared, the receipts of its seat.
     ghost gives: { Self → Call → Self → Type 0 };
 
     fn admit(&mut self, body: Batch) -> Result<u64, (AdmitFault, Batch)>
@@ -60,7 +60,7 @@ pub trait Store {
 /// A store that can have a flush turn made. It is a trait of its own over the calls of the store,
 /// since what keeps both a store and an uplink can't lend both to a turn.
 pub trait Keeper: Store {
-    /// Has a turn made, and tells what it came to.
+    /// Has a flush turn made, and returns its result.
     fn order(&mut self) -> Result<Turn, OrderFault>
         ensures { Self.gives self.old (call.order result) self.new };
 }

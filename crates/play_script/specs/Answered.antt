@@ -1,4 +1,4 @@
--- What the program's replies say, and which reply a line may get.
+-- The texts of the program's replies, and which reply a line may get.
 use Rattle.std.specs.Prelude.{◌≡◌, ℕ, true, List, map, codes, decimal}
 use Rattle.metric_events.specs.History.{History}
 use Rattle.delta_book.specs.PastRows.{told as past_told}

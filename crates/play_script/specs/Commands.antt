@@ -76,7 +76,7 @@ named line (Some name) = line name
 abbrev pub within_taken : ℕ → Option ℕ
 within_taken max = if max == 0 then None else (if nat_le max MAX_TAKEN then Some max else None)
 
--- how many series may be taken, which is the one word
+-- how many series a flush may take, which is the one word
 abbrev pub only_taken : List (List ℕ) → Option ℕ
 only_taken rest = option_and_then within_taken (only_number rest)
 
@@ -103,7 +103,7 @@ post_words (sender ∷ word ∷ more) = post_line (name_of sender) (join_with_by
 abbrev pub with_status : Option ℕ → Option (List ℕ) → Option Answer
 with_status code retry_after = option_map (λ s. answer_of s retry_after) code
 
--- what the back end answered: none that is known, a status, or a status and a word for `Retry-After`
+-- the back end's answer: unknown, a status, or a status and the value of `Retry-After`
 abbrev pub told_answer : List (List ℕ) → Option Answer
 told_answer [] = None
 told_answer (word ∷ []) = if bytes_eq word (codes "none") then Some Unknown else with_status (status word) None
@@ -116,7 +116,7 @@ answer_line None answer = BadLine
 answer_line (Some flush) None = BadLine
 answer_line (Some flush) (Some answer) = AnswerLine flush answer
 
--- a flush, and what the back end answered to it
+-- a flush, and the back end's answer to its request
 abbrev pub answer_words : List (List ℕ) → Asked
 answer_words [] = BadLine
 answer_words (flush ∷ answer) = answer_line (number flush) (told_answer answer)

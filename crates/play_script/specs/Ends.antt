@@ -6,7 +6,7 @@ use Rattle.std.specs.Io.KnownBytes.{Appends}
 use Rattle.play_script.specs.declared.fault.PlayFault.{PlayFault}
 use Rattle.play_script.specs.declared.fault.PlayFault.TheVariants.{CannotRead, TooLong, CannotWrite, NoMemory}
 
--- more bytes were to come, where those are known
+-- there are more bytes than that, where they are known
 abbrev pub HasMore : Option (List ℕ) → ℕ → Type 0
 HasMore None most = ⊤
 HasMore (Some xs) most = most < length xs
@@ -30,7 +30,7 @@ cannot_write (Err TooLong) = false
 cannot_write (Err CannotWrite) = true
 cannot_write (Err NoMemory) = false
 
--- the fault of reading: the input was too long, or no reason of the writer's
+-- the faults of reading: TooLong where there are more bytes than that, and none of the writer's
 abbrev pub IsReadFault : Option (List ℕ) → ℕ → PlayFault → Type 0
 IsReadFault old most CannotRead = ⊤
 IsReadFault old most TooLong = HasMore old most

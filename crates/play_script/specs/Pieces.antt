@@ -3,7 +3,7 @@ use Rattle.std.specs.Prelude.{ℕ, ◌==◌, List, [], ◌∷◌}
 use Rattle.std.specs.List.{slice_split}
 use Rattle.play_script.specs.declared.pieces.TheConstants.{LINE_FEED, SPACE}
 
--- what stands between the bytes of this value
+-- what is between the bytes of this value
 abbrev pub pieces : ℕ → List ℕ → List (List ℕ)
 pieces mark bytes = slice_split (λ b. b == mark) bytes
 
@@ -18,6 +18,6 @@ without_empty_last (piece ∷ next ∷ more) = piece ∷ without_empty_last (nex
 abbrev pub lines : List ℕ → List (List ℕ)
 lines text = without_empty_last (pieces LINE_FEED text)
 
--- the words of a line, which stand between its spaces and may be empty
+-- the words of a line: what is between its spaces, which may be empty
 abbrev pub words : List ℕ → List (List ℕ)
 words line = pieces SPACE line

@@ -13,7 +13,7 @@ use Rattle.play_script.specs.declared.fault.PlayFault.{PlayFault}
 use Rattle.play_script.specs.declared.fault.PlayFault.TheVariants.{CannotRead, TooLong, CannotWrite, NoMemory}
 use Rattle.play_script.specs.declared.input.TheConstants.{MAX_INPUT}
 
--- a line got its answer, for some mark; it was written whole, or a part of it where the writer failed, or nothing
+-- a line got its answer, for some mark. All of it was written, or its first bytes where the writer failed; out of memory nothing was
 abbrev pub LineIsAnswered : History → Asked → History → Option (List ℕ) → Option (List ℕ) → Result (Unit {0}) PlayFault → Type 0
 LineIsAnswered E asked F old new (Ok x) = (text : List ℕ) × Answers E asked text F × Appends old new text
 LineIsAnswered E asked F old new (Err CannotRead) = ⊥
@@ -25,7 +25,7 @@ LineIsAnswered E asked F old new (Err NoMemory) = Keeps old new
 abbrev pub WritesAll : Option (List ℕ) → Option (List ℕ) → List (List ℕ) → Type 0
 WritesAll old new lines = (marks : List Mark) × (are_marks lines marks ≡ true) × Appends old new (run lines marks)
 
--- for some marks a front part of the replies was written
+-- for some marks the first bytes of the replies were written
 abbrev pub WritesPart : Option (List ℕ) → Option (List ℕ) → List (List ℕ) → Type 0
 WritesPart old new lines = (marks : List Mark) × (are_marks lines marks ≡ true) × AppendsPart old new (run lines marks)
 
@@ -33,7 +33,7 @@ WritesPart old new lines = (marks : List Mark) × (are_marks lines marks ≡ tru
 abbrev pub WritesBefore : Option (List ℕ) → Option (List ℕ) → List (List ℕ) → Type 0
 WritesBefore old new lines = (done : List (List ℕ)) × (later : List (List ℕ)) × (done ++ later ≡ lines) × (later ≡ [] → done ≡ []) × WritesAll old new done
 
--- what the replies to lines left written, by how it ended
+-- what was written of the replies to lines, by the result
 abbrev pub LinesArePlayed : Option (List ℕ) → Option (List ℕ) → List (List ℕ) → Result (Unit {0}) PlayFault → Type 0
 LinesArePlayed old new lines (Ok x) = WritesAll old new lines
 LinesArePlayed old new lines (Err CannotRead) = ⊥
@@ -41,7 +41,7 @@ LinesArePlayed old new lines (Err TooLong) = ⊥
 LinesArePlayed old new lines (Err CannotWrite) = WritesPart old new lines
 LinesArePlayed old new lines (Err NoMemory) = WritesBefore old new lines
 
--- what a script left written, by how it ended: of an input over the limit nothing is answered
+-- what was written for a script, by the result: for an input over the limit nothing
 abbrev pub IsPlayed : Option (List ℕ) → Option (List ℕ) → List ℕ → Result (Unit {0}) PlayFault → Type 0
 IsPlayed old new input (Ok x) = (length input ≤ MAX_INPUT) × WritesAll old new (lines input)
 IsPlayed old new input (Err CannotRead) = Keeps old new

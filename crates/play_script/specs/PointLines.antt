@@ -10,7 +10,7 @@ use Rattle.metric_events.specs.PointFaults.{sum_fault}
 use Rattle.metric_events.specs.declared.point.PointFault.{PointFault}
 use Rattle.play_script.specs.Numbers.{number, value}
 
--- a point as a script writes it
+-- a point as four words
 pub record PointWords : Type 0 where
   pub name : List ℕ
   pub start : ℕ
@@ -21,7 +21,7 @@ pub record PointWords : Type 0 where
 abbrev pub name_of : List ℕ → Option (List ℕ)
 name_of word = if is_sender_name word then Some word else None
 
--- a point of what its four words say, where each of them says it
+-- the point of four words, where each of them can be read
 abbrev pub with_words : Option (List ℕ) → Option ℕ → Option ℕ → Option ℤ → Option PointWords
 with_words (Some name) (Some start) (Some end) (Some value) = Some (record { name = name; start = start; end = end; value = value })
 with_words name start end value = None
@@ -40,7 +40,7 @@ point_words [] = Some []
 point_words (a ∷ b ∷ c ∷ d ∷ words) = with_point (point_of_words a b c d) (point_words words)
 point_words words = None
 
--- the series that a name stands for: the plain sum of this metric name, all else empty
+-- the series of a name: the plain sum with this metric name, all else empty
 abbrev pub series_named : List ℕ → Identity
 series_named name = record { resource = []; scope_name = []; scope_version = []; scope_attrs = []; name = name; unit = []; kind = Sum false; attrs = [] }
 

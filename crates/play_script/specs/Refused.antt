@@ -17,11 +17,11 @@ use Rattle.metric_events.specs.declared.point.PointFault.TheVariants as point
 use Rattle.play_script.specs.declared.refusal.Refusal.{Refusal}
 use Rattle.play_script.specs.declared.refusal.Refusal.TheVariants.{BadSpan, PointTooLarge, Quarantined, Full, OtherWriter, OutOfOrder, TooManySeries, TooLarge, NotOpen, Taken, NotLive, Already, NotHeld, NotJson, WrongShape, BatchOpen, FlushLive, LastRound, NoMemory}
 
--- a point's place, and the frontier of its series
+-- a point's index, and the frontier of its series
 abbrev pub place_text : ℕ → ℕ → List ℕ
 place_text i frontier = decimal i ++ codes " " ++ decimal frontier
 
--- a point is named by its place in its batch, from 0
+-- a point is named by its index in its batch, from 0
 unfoldable pub refusal_text : Refusal → List ℕ
 refusal_text BadSpan = codes "bad-span"
 refusal_text PointTooLarge = codes "point-too-large"
@@ -43,7 +43,7 @@ refusal_text FlushLive = codes "flush-live"
 refusal_text LastRound = codes "last-round"
 refusal_text NoMemory = codes "no-memory"
 
--- the refusal that a fault is: of a plain sum's point only these three can be
+-- the refusal of a point's fault
 abbrev pub of_point : PointFault → Refusal
 of_point point.BadSpan = BadSpan
 of_point point.NegativeMonotonic = PointTooLarge

@@ -158,7 +158,7 @@ answer E (WireLine max) = called_as E (request_after E (takes E + 1)) (book.Take
 answer E (AnswerLine f back) = called_as E (ended_text back f) (book.End (act_of back) f)
 answer E BadLine = only_says E (codes "bad command\n")
 
--- what memory a line found: all that it took, none, or none for the request of a flush that was taken
+-- whether the allocations of a line went well: all, not all, or not that of a request after its flush was taken
 pub data Mark : Type 0 where
   Found : Mark
   Missed : Mark
@@ -203,7 +203,7 @@ abbrev pub sends_text : Asked → Bool
 sends_text (WireLine max) = true
 sends_text asked = false
 
--- a mark stands only where the command may find no memory
+-- which marks a command may have
 abbrev pub may_stand : Mark → Asked → Bool
 may_stand Found asked = true
 may_stand Missed asked = takes_memory asked
@@ -213,7 +213,7 @@ may_stand MissedText asked = sends_text asked
 abbrev pub line_answer : History → List ℕ → Mark → Answer
 line_answer E line mark = marked_answer E (command line) mark
 
--- each line has a mark that may stand there
+-- each line has a mark that its command may have
 abbrev pub are_marks : List (List ℕ) → List Mark → Bool
 are_marks [] [] = true
 are_marks [] (mark ∷ marks) = false

@@ -1,4 +1,4 @@
--- What the values of the program tell.
+-- What the program's values are in the definitions.
 use Rattle.std.specs.Prelude.{◌≡◌, ℕ, ◌<◌, ◌≤◌, List, [], map, Some, None, true, Vec, vec_len, ⊤}
 use Rattle.metric_events.specs.Senders.{is_sender_name}
 use Rattle.std.specs.declared.option.Option.{Option}

@@ -1,4 +1,4 @@
-//! Commands asked of a book, and what it replies.
+//! Carries out commands: calls the book and makes the reply.
 
 ghost use Rattle.std.specs.Prelude.{◌≡◌, ◌≤◌, ◌<◌, Some, None, true, length, IfErr, OnErr, OnOk};
 ghost use Rattle.metric_events.specs.Senders.{is_sender_name};
@@ -30,7 +30,7 @@ use otlp_read::read_request;
 use out_texts::request_text;
 use std::alloc::Global;
 
-/// The seat from which a script's events come.
+/// The seat of a script's entries in the journal.
 const SEAT: u16 = 0;
 
 fn admit(alloc: Global, book: &mut Book, sender: &[u8], lines: &[PointLine<'_>]) -> Reply<'static>
@@ -193,7 +193,7 @@ fn send_home(book: &mut Book, flush: u64)
     };
 }
 
-/// The request of a flush that is live; where it finds no memory the flush is given back.
+/// The reply with the request of a live flush. Without memory for it the flush is given back.
 fn forward(alloc: Global, book: &mut Book, flush: &Flush) -> Reply<'static>
     requires { flush_refusal (history book.old) flush.now.number ≡ None }
     ensures { IsForwarded (history book.old) (history book.new) flush.now.number flush.now.points.items (reply_text result) }
@@ -246,7 +246,7 @@ fn end_flush(book: &mut Book, flush: u64, by: Act) -> Result<(), NotLive>
     }
 }
 
-/// What is said of a flush that ended by an act.
+/// The reply about a flush that an act has ended.
 fn ended(flush: u64, by: Act, wait: Option<u64>) -> Reply<'static>
     ensures { reply_text result ≡ spec.act_text by wait flush }
 {
@@ -268,7 +268,7 @@ fn answered(book: &mut Book, flush: u64, answer: Answer) -> Reply<'static>
     }
 }
 
-/// Asks the book what the command says, and makes the reply.
+/// Carries out a command and makes its reply.
 pub fn reply_to<'a>(alloc: Global, book: &mut Book, command: Command<'a>) -> Reply<'a>
     requires { IsReady (Some command) }
     ensures { Answers (history book.old) (told (Some command.entry)) (reply_text result) (history book.new) }

@@ -42,9 +42,9 @@ pub enum Command<'a> {
     },
     /// Close the round and begin the next one.
     Round,
-    /// Tell what earlier rounds brought.
+    /// Report what earlier rounds brought.
     Past,
-    /// Take a flush of at most so many series and tell the request that forwards it.
+    /// Take a flush of at most so many series and reply with the request that forwards it.
     Wire(u64),
     /// End a flush as the back end's answer says.
     Answered {
@@ -53,7 +53,7 @@ pub enum Command<'a> {
     },
 }
 
-/// The number that is the one word of the rest.
+/// The number, where the rest of the line is one word.
 fn only_number(rest: Option<&[u8]>) -> Option<u64>
     ensures { result ≡ spec.only_number (rest_words rest.entry) }
 {
@@ -64,7 +64,7 @@ fn only_number(rest: Option<&[u8]>) -> Option<u64>
     }
 }
 
-/// The name that is the one word of the rest.
+/// The name, where the rest of the line is one word.
 fn only_name<'a>(rest: Option<&'a [u8]>) -> Option<&'a [u8]>
     ensures name { option_copied result ≡ spec.only_name (rest_words rest.entry) }
     ensures ready { IfSome result (λ name. senders.is_sender_name name.now ≡ true) }
@@ -77,7 +77,7 @@ fn only_name<'a>(rest: Option<&'a [u8]>) -> Option<&'a [u8]>
     }
 }
 
-/// The command of a sender and its points, which memory is taken for.
+/// `admit`: a sender and its points. Allocates the list of points.
 fn admit<'a>(alloc: Global, rest: Option<&'a [u8]>) -> Result<Option<Command<'a>>, AllocError>
     ensures told { IfOk result (λ command. told command ≡ spec.admit_words (rest_words rest.entry)) }
     ensures ready { IfOk result IsReady }
@@ -102,7 +102,7 @@ fn admit<'a>(alloc: Global, rest: Option<&'a [u8]>) -> Result<Option<Command<'a>
     }))
 }
 
-/// How many series may be taken, which is the one word of the rest.
+/// How many series a flush may take, where the rest of the line is one word.
 fn only_taken(rest: Option<&[u8]>) -> Option<u64>
     ensures value { result ≡ spec.only_taken (rest_words rest.entry) }
     ensures low { IfSome result (λ max. 1 ≤ max) }
@@ -115,7 +115,7 @@ fn only_taken(rest: Option<&[u8]>) -> Option<u64>
     Some(max)
 }
 
-/// The answer of this status, with the one word of the rest as its `Retry-After`.
+/// The answer of this status, where the rest of the line is one word: its `Retry-After`.
 fn retried(code: &[u8], rest: &[u8]) -> Option<Answer>
     ensures { result ≡ spec.told_answer (code.now ∷ words rest.now) }
 {
@@ -127,7 +127,7 @@ fn retried(code: &[u8], rest: &[u8]) -> Option<Answer>
     }
 }
 
-/// What the back end answered, by the rest of the line.
+/// The back end's answer in the rest of the line.
 fn answer_of(text: &[u8]) -> Option<Answer>
     ensures { result ≡ spec.told_answer (words text.now) }
 {
@@ -139,7 +139,7 @@ fn answer_of(text: &[u8]) -> Option<Answer>
     }
 }
 
-/// The command to end a flush by what the back end answered.
+/// `answer`: a flush, and the back end's answer to its request.
 fn answered(rest: Option<&[u8]>) -> Option<Command<'_>>
     ensures told { told result ≡ spec.answer_words (rest_words rest.entry) }
     ensures ready { IsReady result }
@@ -150,7 +150,7 @@ fn answered(rest: Option<&[u8]>) -> Option<Command<'_>>
     Some(Command::Answered { flush, answer })
 }
 
-/// The command to report, of which nothing more is said.
+/// `report`, without further words.
 fn report(rest: Option<&[u8]>) -> Option<Command<'_>>
     ensures told { told result ≡ spec.nothing_more spec.ReportLine (rest_words rest.entry) }
     ensures ready { IsReady result }
@@ -161,7 +161,7 @@ fn report(rest: Option<&[u8]>) -> Option<Command<'_>>
     }
 }
 
-/// The command to close the round, of which nothing more is said.
+/// `round`, without further words.
 fn round(rest: Option<&[u8]>) -> Option<Command<'_>>
     ensures told { told result ≡ spec.nothing_more spec.RoundLine (rest_words rest.entry) }
     ensures ready { IsReady result }
@@ -172,7 +172,7 @@ fn round(rest: Option<&[u8]>) -> Option<Command<'_>>
     }
 }
 
-/// The command to tell of earlier rounds, of which nothing more is said.
+/// `past`, without further words.
 fn past(rest: Option<&[u8]>) -> Option<Command<'_>>
     ensures told { told result ≡ spec.nothing_more spec.PastLine (rest_words rest.entry) }
     ensures ready { IsReady result }
@@ -183,7 +183,7 @@ fn past(rest: Option<&[u8]>) -> Option<Command<'_>>
     }
 }
 
-/// The command to read a body, which is the rest of the line after the sender.
+/// `post`: a sender, and a body, which is the rest of the line.
 fn post(rest: Option<&[u8]>) -> Option<Command<'_>>
     ensures told { told result ≡ spec.post_words (rest_words rest.entry) }
     ensures ready { IsReady result }
@@ -199,7 +199,7 @@ fn post(rest: Option<&[u8]>) -> Option<Command<'_>>
     })
 }
 
-/// The command of a verb and the rest of its line, which takes no memory.
+/// The command of a verb and the rest of its line. Allocates nothing.
 fn command_by(verb: Verb, rest: Option<&[u8]>) -> Option<Command<'_>>
     requires { verb ≢ Verb.Admit }
     ensures told { told result ≡ spec.command_by (Some verb) (rest_words rest.entry) }
@@ -224,9 +224,9 @@ fn command_by(verb: Verb, rest: Option<&[u8]>) -> Option<Command<'_>>
     }
 }
 
-/// The command of a line, where it is one: the words stand apart by one space each, numbers are
-/// decimal digits of a number in its range, names are those that a sender may have.
-/// Memory is taken for the points of an `admit` line alone.
+/// The command of a line, or None where it is none. Words are separated by one space. Numbers are
+/// decimal digits and within their range, names are those that a sender may have. Only the list of
+/// points of an `admit` line is allocated.
 pub fn command_of<'a>(alloc: Global, line: &'a [u8]) -> Result<Option<Command<'a>>, AllocError>
     ensures told { IfOk result (λ command. told command ≡ spec.command line.now) }
     ensures ready { IfOk result IsReady }

@@ -1,4 +1,4 @@
-//! A flush and its points, as a reply tells them.
+//! The text of a flush and of its points.
 
 ghost use Rattle.std.specs.Prelude.{◌≡◌, ◌++◌, OnOk};
 ghost use Rattle.play_script.specs.Replies as spec;
@@ -31,7 +31,7 @@ fn put_point(out: &mut Vec<u8>, point: &FlushPoint) -> Result<(), AllocError>
     out.extend_from_slice(b"\n")
 }
 
-/// Puts the flush's number and how many points it has, and a line for each point.
+/// Puts a line with the flush's number and its count of points, and a line for each point.
 #[tactic(auto, unfolding(crate::specs::Replies::flush_text))]
 pub fn put_flush(out: &mut Vec<u8>, flush: &Flush) -> Result<(), AllocError>
     ensures { OnOk result (out.new.items ≡ out.old.items ++ spec.flush_text flush.now.number flush.now.points.items) }

@@ -1,4 +1,4 @@
-//! The whole input of a script.
+//! Reads the input of a script.
 
 ghost use Rattle.std.specs.Prelude.{◌≡◌, ◌≤◌, IfOk, IfErr, length, vec_len};
 ghost use Rattle.byte_ends.specs.Counts.{counted};
@@ -12,10 +12,10 @@ use std::alloc::Global;
 /// The most bytes of an input.
 pub const MAX_INPUT: usize = 16_777_216;
 
-/// How many bytes are asked for at once.
+/// The most bytes that one call of the reader is asked for.
 const PIECE: usize = 4096;
 
-/// Reads all that is there. A reader without end is cut: it gives `TooLong`.
+/// Reads all bytes, at most `MAX_INPUT` of them. So a reader without end gives `TooLong`.
 pub fn read_all<R: Source>(alloc: Global, reader: &mut R) -> Result<Vec<u8>, PlayFault>
     ensures all { IfOk result (λ input. AreAll (R.remaining reader.old) input.items) }
     ensures short { IfOk result (λ input. vec_len input ≤ MAX_INPUT) }

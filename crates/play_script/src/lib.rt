@@ -1,8 +1,9 @@
-//! Runs a script of commands on a store of one thread and writes the replies. `play` reads its
-//! input whole, splits it into lines, makes each line's reply and writes it, for any source and
-//! sink of bytes; its contract is the definition of a script's run. A line that is no command is
-//! answered too, so only the ends and the memory can fail. The program `play` runs it on
-//! standard input and output.
+//! Runs a script of commands on a store of one thread and writes the replies.
+//!
+//! `play` reads the whole input, splits it into lines, makes the reply to each line and writes it,
+//! for any source and sink of bytes. Its contract is the definition of a script's run. A line that
+//! is no command gets a reply too, so only the reader, the writer and allocations can fail. The
+//! program `play` runs it on standard input and output.
 #![tactic(auto)]
 
 mod calls;

@@ -19,7 +19,7 @@ struct NextPoint<'a> {
     rest: Option<&'a [u8]>,
 }
 
-/// The point of the first four words, where they are one.
+/// The point in the first four words, where they are one.
 fn next_point(text: &[u8]) -> Option<NextPoint<'_>>
     ensures point { MatchOption result (point_words (words text.now) ≡ None) (λ next. point_words (words text.now) ≡ with_point (Some (told_point next.point)) (points_after next.rest)) }
     ensures short { MatchOption result (Unit {0}) (λ next. MatchOption next.rest (Unit {0}) (λ rest. length rest.now < length text.now)) }
@@ -43,8 +43,8 @@ fn next_point(text: &[u8]) -> Option<NextPoint<'_>>
     })
 }
 
-/// The points of the words, or None where the words are no points. A list for which there is no memory is
-/// told only where all the words are points.
+/// The points of the words, or None where the words are no points. Out of memory is reported only
+/// where all the words are points.
 pub fn read_points<'a>(
     alloc: Global,
     text: &'a [u8],

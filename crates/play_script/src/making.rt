@@ -1,4 +1,4 @@
-//! The points of an `admit` line, made.
+//! Makes the points of an `admit` line.
 
 ghost use Rattle.std.specs.Prelude.{◌≡◌, ◌⊎◌, true, map, None, Some, IfOk, IfErr, OnOk, is_some};
 ghost use Rattle.metric_events.specs.Senders.{is_sender_name};
@@ -23,7 +23,7 @@ fn text_of(alloc: Global, name: &[u8]) -> Result<Text, AllocError>
     }
 }
 
-/// The series that a name stands for: the plain sum of this metric name, all else empty.
+/// The series of a name: the plain sum with this metric name, all else empty.
 fn series_named(alloc: Global, name: &[u8]) -> Result<SeriesId, AllocError>
     requires { is_sender_name name.now ≡ true }
     ensures { IfOk result (λ series. series ≡ spec.series_named name.now) }
@@ -48,7 +48,7 @@ fn series_named(alloc: Global, name: &[u8]) -> Result<SeriesId, AllocError>
     }
 }
 
-/// The point that a script writes.
+/// The point of four words.
 fn make_point(alloc: Global, line: PointLine<'_>) -> Result<Point, PointFault>
     ensures value { IfOk result (λ point. point ≡ point_of (told_point line.entry)) }
     ensures none { OnOk result (fault_of (told_point line.entry) ≡ None) }
@@ -60,7 +60,7 @@ fn make_point(alloc: Global, line: PointLine<'_>) -> Result<Point, PointFault>
     }
 }
 
-/// The points of the lines, or the fault of the first that can't be made.
+/// The points of a line, or the fault of the first that can't be made.
 pub fn make_points(alloc: Global, lines: &[PointLine<'_>]) -> Result<Points, PointFault>
     ensures value { IfOk result (λ points. points ≡ map point_of (told_points lines.now)) }
     ensures none { OnOk result (first_fault (told_points lines.now) ≡ None) }

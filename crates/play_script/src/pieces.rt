@@ -1,4 +1,4 @@
-//! Pieces of bytes: the lines of a script, and the words of a line.
+//! Splits a script into lines, and a line into words.
 
 ghost use Rattle.std.specs.Prelude.{◌≡◌, ◌==◌, ◌∷◌, [], ◌<◌, List, MatchOption, length};
 ghost use Rattle.std.specs.List.{position};
@@ -7,7 +7,7 @@ ghost use Rattle.play_script.specs.Pieces.{pieces, lines, words};
 /// What ends a line.
 pub const LINE_FEED: u8 = 10;
 
-/// What stands between two words.
+/// What separates two words.
 pub const SPACE: u8 = 32;
 
 /// Bytes up to the first mark, and what follows it, where there is one.
@@ -17,14 +17,14 @@ pub struct Cut<'a> {
     pub rest: Option<&'a [u8]>,
 }
 
-/// Where the first mark stands.
+/// The position of the first mark.
 fn place_of(bytes: &[u8], mark: u8) -> Option<usize>
     ensures { result ≡ position (λ b. b == mark) bytes.now }
 {
     bytes.iter().position(|byte| *byte == mark)
 }
 
-/// The first piece, and the rest after the mark that ends it.
+/// The bytes before the first mark, and those after it.
 fn cut_at(bytes: &[u8], mark: u8) -> Cut<'_>
     ensures short { MatchOption result.rest (result.first.now ≡ bytes.now) (λ rest. length rest.now < length bytes.now) }
     ensures pieces { MatchOption result.rest (pieces mark bytes.now ≡ result.first.now ∷ []) (λ rest. pieces mark bytes.now ≡ result.first.now ∷ pieces mark rest.now) }

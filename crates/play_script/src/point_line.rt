@@ -1,7 +1,9 @@
+//! A point of an `admit` line.
+
 ghost use Rattle.std.specs.Prelude.{◌≡◌, true};
 ghost use Rattle.metric_events.specs.Senders.{is_sender_name};
 
-/// A point as a script writes it, with the name as it stands in the line.
+/// A point of an `admit` line. Its name is a part of the line; its times are nanoseconds.
 #[derive(Clone, Copy)]
 pub struct PointLine<'a> {
     pub name: &'a [u8],

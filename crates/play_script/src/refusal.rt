@@ -9,33 +9,33 @@ use otlp_read::ReadFault;
 use out_texts::put_number;
 use std::alloc::AllocError;
 
-/// Why a command is refused. A point is named by its place in its batch, from 0.
+/// Why a command is refused. A point is named by its index in its batch, from 0.
 #[derive(Clone, Copy, Debug, PartialEq, Eq)]
 pub enum Refusal {
-    /// A point does not end after a start of at least 1.
+    /// A point's start is 0, or its end is not after its start.
     BadSpan,
     /// A point is over a limit by itself.
     PointTooLarge,
-    /// The sender is held.
+    /// The sender is quarantined.
     Quarantined,
-    /// Too much is open, live or held, or the journal has no room.
+    /// Too many batches are open, flushes live or senders quarantined, or the journal is full.
     Full,
     /// The point's series has another sender.
     OtherWriter(usize),
-    /// The point starts before its series' frontier.
+    /// The point starts before its series' frontier, in nanoseconds.
     OutOfOrder(usize, u64),
     TooManySeries,
-    /// The sums of a series would be over a limit.
+    /// A sum of a series would be over a limit.
     TooLarge,
     /// No such batch is open.
     NotOpen,
-    /// A point of the batch is not at home.
+    /// A point of the batch is not pending.
     Taken,
     /// No such flush is live.
     NotLive,
-    /// The sender is held already.
+    /// The sender is quarantined already.
     Already,
-    /// The sender is not held.
+    /// The sender is not quarantined.
     NotHeld,
     /// The body is no JSON text.
     NotJson,
@@ -50,7 +50,7 @@ pub enum Refusal {
     NoMemory,
 }
 
-/// Puts a point's place and its series' frontier.
+/// Puts a point's index and its series' frontier.
 fn put_place(out: &mut Vec<u8>, point: u64, frontier: u64) -> Result<(), AllocError>
     ensures { OnOk result (out.new.items ≡ out.old.items ++ spec.place_text point frontier) }
 {
@@ -93,7 +93,7 @@ pub fn put_refusal(out: &mut Vec<u8>, refusal: Refusal) -> Result<(), AllocError
     }
 }
 
-/// The refusal of a point. A plain sum has no other faults.
+/// The refusal of a point. That of a plain sum is never `NegativeMonotonic` or `BucketMismatch`.
 pub fn of_point(fault: PointFault) -> Refusal
     ensures { result ≡ spec.of_point fault }
 {

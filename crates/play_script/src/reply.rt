@@ -1,4 +1,4 @@
-//! Replies to lines.
+//! The replies to lines, and their texts.
 
 ghost use Rattle.std.specs.Prelude.{◌≡◌, ◌++◌, OnOk, codes, decimal};
 ghost use Rattle.play_script.specs.Answered.{reply_text};
@@ -21,11 +21,11 @@ pub enum Reply<'a> {
     Refused(Refusal),
     /// There is nothing to take.
     Nothing,
-    /// A batch was admitted and has this number.
+    /// A batch of this number was admitted.
     Batch(u64),
-    /// A batch of a body was admitted, which has so many foreign points.
+    /// The batch of a body was admitted. The body has so many foreign points.
     Posted { batch: u64, foreign: u64 },
-    /// A body has no point of the profile, and so many others.
+    /// A body has only foreign points, so many.
     OnlyForeign(u64),
     Flushed(Flush),
     Settled(u64),
@@ -39,9 +39,9 @@ pub enum Reply<'a> {
     /// The round of this number has begun.
     Round(u64),
     Past(Vec<PastTotals>),
-    /// A flush was taken and has this number; this request forwards it.
+    /// A flush of this number was taken. This request forwards it.
     Wired { flush: u64, request: Vec<u8> },
-    /// A flush went home, and the back end asks to wait so many seconds.
+    /// A flush was given back, and the back end asks to wait so many seconds.
     Waits { flush: u64, seconds: u64 },
 }
 
@@ -67,7 +67,7 @@ fn put_numbered(out: &mut Vec<u8>, word: &[u8], number: u64) -> Result<(), Alloc
     Ok(())
 }
 
-/// Puts the number of a body's batch, and how many of its points are foreign.
+/// Puts the number of a body's batch, and the count of the body's foreign points.
 #[tactic(auto, unfolding(crate::specs::Replies::said, crate::specs::Replies::batch_and_foreign))]
 fn put_posted(out: &mut Vec<u8>, batch: u64, foreign: u64) -> Result<(), AllocError>
     ensures { OnOk result (out.new.items ≡ out.old.items ++ said (codes "batch ") (batch_and_foreign batch foreign)) }
@@ -87,7 +87,7 @@ fn put_wired(out: &mut Vec<u8>, flush: u64, request: &[u8]) -> Result<(), AllocE
     out.extend_from_slice(b"\n")
 }
 
-/// Puts the number of a flush that went home, and the seconds to wait.
+/// Puts the number of a flush that was given back, and the seconds to wait.
 #[tactic(auto, unfolding(crate::specs::Replies::said, crate::specs::Replies::flush_and_wait))]
 fn put_wait(out: &mut Vec<u8>, flush: u64, seconds: u64) -> Result<(), AllocError>
     ensures { OnOk result (out.new.items ≡ out.old.items ++ said (codes "returned ") (flush_and_wait flush seconds)) }
@@ -107,7 +107,7 @@ fn put_refused(out: &mut Vec<u8>, why: Refusal) -> Result<(), AllocError>
     Ok(())
 }
 
-/// Puts a reply's text, which ends each of its lines by a line feed.
+/// Puts the text of a reply. Each line ends with a line feed.
 pub fn put_reply(out: &mut Vec<u8>, reply: &Reply<'_>) -> Result<(), AllocError>
     ensures { OnOk result (out.new.items ≡ out.old.items ++ reply_text reply.now) }
 {

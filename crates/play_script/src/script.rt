@@ -1,4 +1,4 @@
-//! The run of a script.
+//! Runs a script: reads it, answers its lines, writes the replies.
 
 ghost use Rattle.std.specs.Prelude.{◌≡◌, List, ℕ, Some};
 ghost use Rattle.byte_ends.specs.Counts.{counted};
@@ -22,7 +22,7 @@ use byte_ends::{Sink, Source};
 use delta_book::book::Book;
 use std::alloc::Global;
 
-/// The book's reply to a line.
+/// Carries out a line and makes its reply.
 fn reply_of<'a>(alloc: Global, book: &mut Book, line: &'a [u8]) -> Reply<'a>
     ensures { Answers (history book.old) (command line.now) (reply_text result) (history book.new) }
 {
@@ -54,7 +54,7 @@ fn answer_line<W: Sink>(
     }
 }
 
-/// Answers all lines of an input, one after another.
+/// Answers the lines of an input, one after another.
 fn answer_lines<W: Sink>(
     alloc: Global,
     book: &mut Book,
@@ -76,10 +76,10 @@ fn answer_lines<W: Sink>(
 
 /// Runs a script: reads all of it, makes the reply to each line and writes it.
 ///
-/// Fails with `CannotRead` or `CannotWrite` where the reader or the writer failed, with `TooLong`
-/// where there are more than `MAX_INPUT` bytes, and with `NoMemory` where memory was refused that
-/// no reply could tell of. Where it can't read or the input is too long, whether that or the want of
-/// memory is told, nothing was written.
+/// Errors: `CannotRead` and `CannotWrite` where a call of the reader or the writer failed,
+/// `TooLong` where the input has more than `MAX_INPUT` bytes, `NoMemory` where an allocation failed
+/// that no reply could report. After `CannotRead`, or any error where the input is too long,
+/// nothing was written; after another `NoMemory`, the replies to the lines before.
 pub fn play<R: Source, W: Sink>(
     alloc: Global,
     reader: &mut R,

@@ -4,7 +4,7 @@ ghost use Rattle.std.specs.Prelude.{◌≡◌};
 ghost use Rattle.std.specs.Str.{bytes_eq};
 ghost use Rattle.play_script.specs.Commands as spec;
 
-/// What a command asks for.
+/// The first word of a command.
 #[derive(Clone, Copy, Debug, PartialEq, Eq)]
 pub enum Verb {
     Admit,
@@ -30,7 +30,7 @@ fn is(word: &[u8], text: &[u8]) -> bool
     word == text
 }
 
-/// The command that a word names.
+/// The verb of a word, where it is one.
 pub fn verb_of(word: &[u8]) -> Option<Verb>
     ensures { result ≡ spec.verb word.now }
 {
