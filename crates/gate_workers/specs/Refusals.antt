@@ -5,8 +5,6 @@ use Rattle.delta_book.specs.declared.faults.AdmitFault.TheVariants as admit
 use Rattle.delta_book.specs.declared.faults.QuarantineFault.{QuarantineFault}
 use Rattle.delta_book.specs.declared.faults.QuarantineFault.TheVariants as hold
 use Rattle.delta_book.specs.declared.faults.NotQuarantined.{NotQuarantined as LiftFault}
-use Rattle.http_edge.specs.declared.fault.HttpFault.{HttpFault}
-use Rattle.http_edge.specs.declared.fault.HttpFault.TheVariants as http
 use Rattle.gate_workers.specs.declared.order.OrderFault.{OrderFault}
 use Rattle.gate_workers.specs.declared.order.OrderFault.TheVariants as order
 use Rattle.gate_workers.specs.declared.refusal.Allowed.{Allowed}
@@ -100,16 +98,3 @@ of_lift fault = NotQuarantined
 abbrev pub of_order : OrderFault → Refusal
 of_order order.Gone = NoFlusher
 of_order order.NoMemory = NoMemory
-
--- why bytes that give no request are refused; Closed and Io get no response
-abbrev pub of_http : HttpFault → Refusal
-of_http http.BodyTooLong = BodyTooLong
-of_http http.NoMemory = NoMemory
-of_http http.Closed = Malformed
-of_http http.BadHead = Malformed
-of_http http.TooManyHeaders = Malformed
-of_http http.HeadTooLong = Malformed
-of_http http.BadLength = Malformed
-of_http http.BadChunk = Malformed
-of_http http.Truncated = Malformed
-of_http http.Io = Malformed

@@ -2,12 +2,11 @@
 ghost use Rattle.std.specs.Prelude.{◌≡◌, ◌<◌, ◌^◌, IfOk, string_bytes, option_map, length};
 ghost use Rattle.gate_workers.specs.Refusals.{allowed_name, refusal_status, refusal_message};
 ghost use Rattle.gate_workers.specs.Refusals.{refusal_allow};
-ghost use Rattle.gate_workers.specs.Refusals.{of_admit, of_http, of_quarantine, of_order};
+ghost use Rattle.gate_workers.specs.Refusals.{of_admit, of_quarantine, of_order};
 
 use crate::order::OrderFault;
 use delta_book::faults::{AdmitFault, QuarantineFault};
 use http::StatusCode;
-use http_edge::HttpFault;
 use std::alloc::{AllocError, Global};
 
 /// The one method of a path.
@@ -152,19 +151,6 @@ impl From<OrderFault> for Refusal {
         match fault {
             OrderFault::Gone => Refusal::NoFlusher,
             OrderFault::NoMemory => Refusal::NoMemory,
-        }
-    }
-}
-
-/// A fault that gets a response: Closed and Io get none.
-impl From<HttpFault> for Refusal {
-    ghost from_gives = { λ fault why. why ≡ of_http fault };
-
-    fn from(fault: HttpFault) -> Refusal {
-        match fault {
-            HttpFault::BodyTooLong => Refusal::BodyTooLong,
-            HttpFault::NoMemory => Refusal::NoMemory,
-            _ => Refusal::Malformed,
         }
     }
 }

@@ -54,13 +54,21 @@ pub enum Heard {
     Asks(Ask),
 }
 
+/// What is read where there is no message. A reader that ended or failed gets no response.
 fn heard_of(fault: HttpFault) -> Heard
     ensures { result ≡ heard_of fault }
 {
     match fault {
         HttpFault::Closed => Heard::Closed,
         HttpFault::Io => Heard::Broken,
-        _ => Heard::Asks(Ask::Refused(Refusal::from(fault))),
+        HttpFault::BodyTooLong => Heard::Asks(Ask::Refused(Refusal::BodyTooLong)),
+        HttpFault::NoMemory => Heard::Asks(Ask::Refused(Refusal::NoMemory)),
+        HttpFault::BadHead
+        | HttpFault::TooManyHeaders
+        | HttpFault::HeadTooLong
+        | HttpFault::BadLength
+        | HttpFault::BadChunk
+        | HttpFault::Truncated => Heard::Asks(Ask::Refused(Refusal::Malformed)),
     }
 }
 
