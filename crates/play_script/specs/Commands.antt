@@ -3,7 +3,7 @@ use Rattle.std.specs.Prelude.{ℕ, List, [], ◌∷◌, ◌==◌, codes, if◌th
 use Rattle.std.specs.declared.option.Option.{Option}
 use Rattle.std.specs.List.{join_with_byte}
 use Rattle.std.specs.Str.{bytes_eq}
-use Rattle.std.specs.Option.{option_map, option_and_then}
+use Rattle.std.specs.Option.{option_map, option_and_then, option_or}
 use Rattle.back_answers.specs.Answers.{answer_of}
 use Rattle.back_answers.specs.declared.answer.Answer.{Answer}
 use Rattle.back_answers.specs.declared.answer.Answer.TheVariants.{Unknown}
@@ -33,24 +33,36 @@ pub data Asked : Type 0 where
   AnswerLine : (flush : ℕ) (answer : Answer) → Asked
   BadLine : Asked
 
--- the first word of a command
-abbrev pub verb : List ℕ → Option Verb
-verb word =
+-- the first words of commands on batches
+abbrev pub batch_verb : List ℕ → Option Verb
+batch_verb word =
     if bytes_eq word (codes "admit") then Some Admit
-    else (if bytes_eq word (codes "take") then Some Take
+    else (if bytes_eq word (codes "post") then Some Post
+    else (if bytes_eq word (codes "undo") then Some Undo
+    else (if bytes_eq word (codes "confirm") then Some Confirm else None)))
+
+-- on flushes
+abbrev pub flush_verb : List ℕ → Option Verb
+flush_verb word =
+    if bytes_eq word (codes "take") then Some Take
+    else (if bytes_eq word (codes "wire") then Some Wire
     else (if bytes_eq word (codes "ok") then Some Settle
     else (if bytes_eq word (codes "back") then Some GiveBack
-    else (if bytes_eq word (codes "report") then Some Report
-    else (if bytes_eq word (codes "undo") then Some Undo
-    else (if bytes_eq word (codes "confirm") then Some Confirm
     else (if bytes_eq word (codes "drop") then Some Discard
-    else (if bytes_eq word (codes "hold") then Some Hold
+    else (if bytes_eq word (codes "answer") then Some Answered else None)))))
+
+-- on senders and rounds, and the report
+abbrev pub other_verb : List ℕ → Option Verb
+other_verb word =
+    if bytes_eq word (codes "hold") then Some Hold
     else (if bytes_eq word (codes "lift") then Some Lift
-    else (if bytes_eq word (codes "post") then Some Post
+    else (if bytes_eq word (codes "report") then Some Report
     else (if bytes_eq word (codes "round") then Some Round
-    else (if bytes_eq word (codes "past") then Some Past
-    else (if bytes_eq word (codes "wire") then Some Wire
-    else (if bytes_eq word (codes "answer") then Some Answered else None))))))))))))))
+    else (if bytes_eq word (codes "past") then Some Past else None))))
+
+-- the first word of a command
+abbrev pub verb : List ℕ → Option Verb
+verb word = option_or (option_or (batch_verb word) (flush_verb word)) (other_verb word)
 
 -- a number that is the one word
 abbrev pub only_number : List (List ℕ) → Option ℕ

@@ -30,24 +30,15 @@ fn is(word: &[u8], text: &[u8]) -> bool
     word == text
 }
 
-/// The verb of a word, where it is one.
-pub fn verb_of(word: &[u8]) -> Option<Verb>
-    ensures { result ≡ spec.verb word.now }
+/// The verb of a command on batches.
+fn batch_verb(word: &[u8]) -> Option<Verb>
+    ensures { result ≡ spec.batch_verb word.now }
 {
     if is(word, b"admit") {
         return Some(Verb::Admit);
     }
-    if is(word, b"take") {
-        return Some(Verb::Take);
-    }
-    if is(word, b"ok") {
-        return Some(Verb::Settle);
-    }
-    if is(word, b"back") {
-        return Some(Verb::GiveBack);
-    }
-    if is(word, b"report") {
-        return Some(Verb::Report);
+    if is(word, b"post") {
+        return Some(Verb::Post);
     }
     if is(word, b"undo") {
         return Some(Verb::Undo);
@@ -55,17 +46,46 @@ pub fn verb_of(word: &[u8]) -> Option<Verb>
     if is(word, b"confirm") {
         return Some(Verb::Confirm);
     }
+    None
+}
+
+/// The verb of a command on flushes.
+fn flush_verb(word: &[u8]) -> Option<Verb>
+    ensures { result ≡ spec.flush_verb word.now }
+{
+    if is(word, b"take") {
+        return Some(Verb::Take);
+    }
+    if is(word, b"wire") {
+        return Some(Verb::Wire);
+    }
+    if is(word, b"ok") {
+        return Some(Verb::Settle);
+    }
+    if is(word, b"back") {
+        return Some(Verb::GiveBack);
+    }
     if is(word, b"drop") {
         return Some(Verb::Discard);
     }
+    if is(word, b"answer") {
+        return Some(Verb::Answered);
+    }
+    None
+}
+
+/// The verb of a command on senders or rounds, or of the report.
+fn other_verb(word: &[u8]) -> Option<Verb>
+    ensures { result ≡ spec.other_verb word.now }
+{
     if is(word, b"hold") {
         return Some(Verb::Hold);
     }
     if is(word, b"lift") {
         return Some(Verb::Lift);
     }
-    if is(word, b"post") {
-        return Some(Verb::Post);
+    if is(word, b"report") {
+        return Some(Verb::Report);
     }
     if is(word, b"round") {
         return Some(Verb::Round);
@@ -73,11 +93,12 @@ pub fn verb_of(word: &[u8]) -> Option<Verb>
     if is(word, b"past") {
         return Some(Verb::Past);
     }
-    if is(word, b"wire") {
-        return Some(Verb::Wire);
-    }
-    if is(word, b"answer") {
-        return Some(Verb::Answered);
-    }
     None
+}
+
+/// The verb of a word, where it is one.
+pub fn verb_of(word: &[u8]) -> Option<Verb>
+    ensures { result ≡ spec.verb word.now }
+{
+    batch_verb(word).or(flush_verb(word)).or(other_verb(word))
 }
