@@ -31,14 +31,14 @@ use Rattle.back_answers.specs.Answers.{act_of}
 use Rattle.back_answers.specs.declared.answer.Answer.{Answer as BackAnswer}
 use Rattle.back_answers.specs.Waits.{asked_wait}
 use Rattle.delta_book.specs.Outcomes as book
-use Rattle.play_script.specs.Run.{answer, Found, Missed, MissedText, takes_memory, happens, refused, only_says, called, called_as, answer_by, fault_text, event_text, body_of, posted, posted_batch, posted_text, request_after, ended_text, returned_by, without_text, IsForwarded, act_text}
-use Rattle.play_script.specs.Answered.{Answers}
+use Rattle.play_script.specs.Run.{answer, Found, Missed, MissedText, takes_memory, happens, refused, only_says, called_as, answer_by, fault_text, event_text, body_of, posted, posted_batch, posted_text, request_after, returned_by, without_text, IsForwarded, act_text}
+use Rattle.play_script.specs.Answered.{IsReply}
 use Rattle.play_script.specs.declared.refusal.Refusal.{Refusal}
 use Rattle.play_script.specs.declared.refusal.Refusal.TheVariants.{NotJson, WrongShape, NoMemory}
 
 -- the event happened
 pub happened : (asked : Asked) (old new : Journal) (event : Event) (text : List ℕ) → history new ≡ history old ▸ event
-    → answer (history old) asked ≡ happens (history old) event text → Answers (history old) asked text (history new)
+    → answer (history old) asked ≡ happens (history old) event text → IsReply (history old) asked text (history new)
 happened asked old new event text h is = (
   Found,
   record {
@@ -50,7 +50,7 @@ happened asked old new event text h is = (
 
 -- nothing happened, and the reply says why
 pub refused_as : (asked : Asked) (old new : Journal) (why : Refusal) → new ≡ old
-    → answer (history old) asked ≡ refused (history old) why → Answers (history old) asked (said (codes "refused ") (refusal_text why)) (history new)
+    → answer (history old) asked ≡ refused (history old) why → IsReply (history old) asked (said (codes "refused ") (refusal_text why)) (history new)
 refused_as asked old new why h is = (
   Found,
   record {
@@ -62,7 +62,7 @@ refused_as asked old new why h is = (
 
 -- nothing happened, and the reply says something
 pub says : (asked : Asked) (old new : Journal) (text : List ℕ) → new ≡ old
-    → answer (history old) asked ≡ only_says (history old) text → Answers (history old) asked text (history new)
+    → answer (history old) asked ≡ only_says (history old) text → IsReply (history old) asked text (history new)
 says asked old new text h is = (
   Found,
   record {
@@ -74,7 +74,7 @@ says asked old new text h is = (
 
 -- there was no memory
 pub without_memory : (asked : Asked) (old new : Journal) → takes_memory asked ≡ true → new ≡ old
-    → Answers (history old) asked (said (codes "refused ") (refusal_text NoMemory)) (history new)
+    → IsReply (history old) asked (said (codes "refused ") (refusal_text NoMemory)) (history new)
 without_memory asked old new may h = (
   Missed,
   record {
@@ -87,7 +87,7 @@ without_memory asked old new may h = (
 -- the refusal that a fault is, where there is one, else want of memory
 pub refused_or : {F : Type 0} (asked : Asked) (old new : Journal) (refusal_of : F → Refusal) (none fault : F) (refusal : Option F) → takes_memory asked ≡ true → new ≡ old
     → refusal_of none ≡ NoMemory → fault ≡ unwrap_or refusal none → ((f : F) → refusal ≡ Some f → answer (history old) asked ≡ refused (history old) (refusal_of f))
-    → Answers (history old) asked (said (codes "refused ") (refusal_text (refusal_of fault))) (history new)
+    → IsReply (history old) asked (said (codes "refused ") (refusal_text (refusal_of fault))) (history new)
 refused_or asked old new refusal_of none fault None may h is e k = rw (e, is) (without_memory asked old new may h)
 refused_or asked old new refusal_of none fault (Some f) may h is e k = rw e (refused_as asked old new (refusal_of f) h (k f refl))
 
@@ -110,7 +110,7 @@ full_answer E max text fault some full = rw full (ap (answer_by E (fault_text (b
 
 -- a flush was taken
 pub flush_taken : (old new : Journal) (seat max : ℕ) (flush : Flush) → IsTaken old new seat max flush
-    → Answers (history old) (TakeLine max) (flush_text flush.number flush.points.items) (history new)
+    → IsReply (history old) (TakeLine max) (flush_text flush.number flush.points.items) (history new)
 flush_taken old new seat max flush h =
     let E = history old in
     let is = take_answer E max (event_text E) h.some h.refused in
@@ -126,14 +126,14 @@ flush_taken old new seat max flush h =
 
 -- a point could not be made
 pub point_refused : (sender : List ℕ) (points : List PointWords) (old : Journal) (fault : PointFault) → (fault ≡ point.NoMemory) ⊎ (first_fault points ≡ Some fault)
-    → Answers (history old) (AdmitLine sender points) (said (codes "refused ") (refusal_text (of_point fault))) (history old)
+    → IsReply (history old) (AdmitLine sender points) (said (codes "refused ") (refusal_text (of_point fault))) (history old)
 point_refused sender points old fault (inl e) = rw e (without_memory (AdmitLine sender points) old old refl refl)
 point_refused sender points old fault (inr e) = refused_as (AdmitLine sender points) old old (of_point fault) refl (rw e refl)
 
 -- the book did not admit the batch
 pub batch_refused : (sender : List ℕ) (points : List PointWords) (old new : Journal) (fault : AdmitFault) → first_fault points ≡ None → new ≡ old
     → fault ≡ unwrap_or (admit_refusal (history old) (body_of sender points)) admit.NoMemory
-    → Answers (history old) (AdmitLine sender points) (said (codes "refused ") (refusal_text (of_admit fault))) (history new)
+    → IsReply (history old) (AdmitLine sender points) (said (codes "refused ") (refusal_text (of_admit fault))) (history new)
 batch_refused sender points old new fault made h is =
     refused_or (AdmitLine sender points) old new of_admit admit.NoMemory fault (admit_refusal (history old) (body_of sender points)) refl h refl is
     (λ f e. rw (made, e) refl)
@@ -142,20 +142,20 @@ batch_refused sender points old new fault made h is =
 pub batch_admitted : (sender : List ℕ) (points : List PointWords) (old new : Journal) (batch : ℕ) → first_fault points ≡ None
     → batch ≡ admits (history old) + 1 → history new ≡ history old ▸ Admit batch (body_of sender points)
     → admit_refusal (history old) (body_of sender points) ≡ None
-    → Answers (history old) (AdmitLine sender points) (said (codes "batch ") (decimal batch)) (history new)
+    → IsReply (history old) (AdmitLine sender points) (said (codes "batch ") (decimal batch)) (history new)
 batch_admitted sender points old new batch made number entry none =
     happened (AdmitLine sender points) old new (Admit batch (body_of sender points)) (said (codes "batch ") (decimal batch)) entry (rw (made, none, number) refl)
 
 -- a body could not be read
 pub body_refused : (sender body : List ℕ) (old : Journal) (fault : ReadFault) → Reads body (Err fault)
-    → Answers (history old) (PostLine sender body) (said (codes "refused ") (refusal_text (of_read fault))) (history old)
+    → IsReply (history old) (PostLine sender body) (said (codes "refused ") (refusal_text (of_read fault))) (history old)
 body_refused sender body old read.NoMemory h = without_memory (PostLine sender body) old old refl refl
 body_refused sender body old read.NotJson h = refused_as (PostLine sender body) old old NotJson refl (rw h refl)
 body_refused sender body old (read.WrongShape place) h = refused_as (PostLine sender body) old old WrongShape refl (rw h refl)
 
 -- a body has no point of the profile
 pub only_foreign : (sender body : List ℕ) (old : Journal) (t : Tally) → text_reading body ≡ Some (Ok t) → t.points ≡ []
-    → Answers (history old) (PostLine sender body) (said (codes "nothing foreign ") (decimal t.foreign)) (history old)
+    → IsReply (history old) (PostLine sender body) (said (codes "nothing foreign ") (decimal t.foreign)) (history old)
 only_foreign sender body old t h none = says (PostLine sender body) old old (said (codes "nothing foreign ") (decimal t.foreign)) refl (rw (h, none) refl)
 
 pub not_empty : (points : List DataPoint) (empty : Bool) → empty ≡ (length points == 0) → empty ≡ false → points ≢ []
@@ -174,7 +174,7 @@ answer_posted E sender body t h some = rw h (posted_some E sender t.points t.for
 -- the book did not admit a body's points
 pub post_refused : (sender body : List ℕ) (old new : Journal) (t : Tally) (fault : AdmitFault) → text_reading body ≡ Some (Ok t) → t.points ≢ [] → new ≡ old
     → fault ≡ unwrap_or (admit_refusal (history old) (posted_batch sender t.points)) admit.NoMemory
-    → Answers (history old) (PostLine sender body) (said (codes "refused ") (refusal_text (of_admit fault))) (history new)
+    → IsReply (history old) (PostLine sender body) (said (codes "refused ") (refusal_text (of_admit fault))) (history new)
 post_refused sender body old new t fault h some same is =
     refused_or (PostLine sender body) old new of_admit admit.NoMemory fault (admit_refusal (history old) (posted_batch sender t.points)) refl same refl is
     (λ f e. answer_posted (history old) sender body t h some ∙ rw e refl)
@@ -183,7 +183,7 @@ post_refused sender body old new t fault h some same is =
 pub post_admitted : (sender body : List ℕ) (old new : Journal) (t : Tally) (batch : ℕ) → text_reading body ≡ Some (Ok t) → t.points ≢ []
     → batch ≡ admits (history old) + 1 → history new ≡ history old ▸ Admit batch (posted_batch sender t.points)
     → admit_refusal (history old) (posted_batch sender t.points) ≡ None
-    → Answers (history old) (PostLine sender body) (said (codes "batch ") (batch_and_foreign batch t.foreign)) (history new)
+    → IsReply (history old) (PostLine sender body) (said (codes "batch ") (batch_and_foreign batch t.foreign)) (history new)
 post_admitted sender body old new t batch h some number entry none =
     happened (PostLine sender body) old new (Admit batch (posted_batch sender t.points)) (said (codes "batch ") (batch_and_foreign batch t.foreign)) entry
     (answer_posted (history old) sender body t h some ∙ rw (none, number) refl)
@@ -194,7 +194,7 @@ returned_some E max some none = rw none (ap (returned_by E (takes E + 1) (fault_
 
 -- the request of a flush that was taken was told, or the flush was given back
 pub flush_wired : (old new : Journal) (seat max : ℕ) (flush : Flush) (F : History) (text : List ℕ) → IsTaken old new seat max flush
-    → IsForwarded (history new) F flush.number flush.points.items text → Answers (history old) (WireLine max) text F
+    → IsForwarded (history new) F flush.number flush.points.items text → IsReply (history old) (WireLine max) text F
 flush_wired old new seat max flush F text h (inl (said_is, same)) =
     let E = history old in
     let is = take_answer E max (request_after E (takes E + 1)) h.some h.refused in
@@ -222,6 +222,6 @@ flush_wired old new seat max flush F text h (inr (said_is, home)) =
 
 -- the flush ended as the back end's answer says
 pub flush_answered : (old new : Journal) (f : ℕ) (back : BackAnswer) → flush_refusal (history old) f ≡ None → history new ≡ history old ▸ book.event_of (act_of back) f
-    → Answers (history old) (AnswerLine f back) (act_text (act_of back) (asked_wait back) f) (history new)
+    → IsReply (history old) (AnswerLine f back) (act_text (act_of back) (asked_wait back) f) (history new)
 flush_answered old new f back none grows =
     happened (AnswerLine f back) old new (book.event_of (act_of back) f) (act_text (act_of back) (asked_wait back) f) grows (rw none refl)

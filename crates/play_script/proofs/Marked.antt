@@ -7,7 +7,7 @@ use Rattle.metric_events.specs.History.{History, Start}
 use Rattle.play_script.specs.Commands.{command}
 use Rattle.play_script.specs.Ends.{AppendsPart}
 use Rattle.play_script.specs.Run.{line_answer, replies, history_after, are_marks, may_stand, run, Mark, Found}
-use Rattle.play_script.specs.Answered.{Answers}
+use Rattle.play_script.specs.Answered.{IsReply}
 use Rattle.play_script.specs.Played.{WritesAll, WritesPart, WritesBefore, LineIsAnswered, LinesArePlayed}
 use Rattle.play_script.specs.declared.fault.PlayFault.{PlayFault}
 use Rattle.play_script.specs.declared.fault.PlayFault.TheVariants.{CannotRead, TooLong, CannotWrite, NoMemory}
@@ -70,7 +70,7 @@ one_mark line mark h = and_from _ _ h refl
 
 -- one more line
 pub line_done : (old mid new : Option (List ℕ)) (E F : History) (all rest after : List (List ℕ)) (line text : List ℕ)
-    → SoFar old mid E all rest → rest ≡ line ∷ after → Answers E (command line) text F → Appends mid new text → SoFar old new F all after
+    → SoFar old mid E all rest → rest ≡ line ∷ after → IsReply E (command line) text F → Appends mid new text → SoFar old new F all after
 line_done old mid new E F all rest after line text (done, marks, h) first (mark, a) wrote = (
   done ++ line ∷ [],
   marks ++ mark ∷ [],
@@ -108,7 +108,7 @@ part_appended old mid new xs text more h (part, rest, whole, wrote) =
 
 -- the writer failed at the next line
 pub broken : (old mid new : Option (List ℕ)) (E F : History) (all rest after : List (List ℕ)) (line text : List ℕ)
-    → SoFar old mid E all rest → rest ≡ line ∷ after → Answers E (command line) text F → AppendsPart mid new text → WritesPart old new all
+    → SoFar old mid E all rest → rest ≡ line ∷ after → IsReply E (command line) text F → AppendsPart mid new text → WritesPart old new all
 broken old mid new E F all rest after line text (done, marks, h) first (mark, a) wrote =
     let H = history_after Start done marks in
     let b = line_answer H line mark in

@@ -75,11 +75,11 @@ post_more all sender body h = ap spec.post_words h ∙ some_body sender (words b
 pub good_post : (all : List (List ℕ)) (sender body : List ℕ) → all ≡ sender ∷ words body → is_sender_name sender ≡ true → spec.PostLine sender body ≡ spec.post_words all
 good_post all sender body h named = sym (post_more all sender body h ∙ rw named refl)
 
-no_answer : (code word : List ℕ) (more : List (List ℕ)) → 0 < length more → None ≡ spec.told_answer (code ∷ word ∷ more)
+no_answer : (code word : List ℕ) (more : List (List ℕ)) → 0 < length more → None ≡ spec.answer_in (code ∷ word ∷ more)
 no_answer code [] [] h = absurd (omega arith)
 no_answer code (b ∷ bs) [] h = absurd (omega arith)
 no_answer code [] (next ∷ more) h = refl
 no_answer code (b ∷ bs) (next ∷ more) h = refl
 
-pub told_answer_more : (code : List ℕ) (all : List (List ℕ)) (word rest : List ℕ) → all ≡ word ∷ words rest → None ≡ spec.told_answer (code ∷ all)
-told_answer_more code all word rest h = rw h (no_answer code word (words rest) (some_words rest))
+pub answer_in_more : (code : List ℕ) (all : List (List ℕ)) (word rest : List ℕ) → all ≡ word ∷ words rest → None ≡ spec.answer_in (code ∷ all)
+answer_in_more code all word rest h = rw h (no_answer code word (words rest) (some_words rest))

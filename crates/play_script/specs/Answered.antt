@@ -9,7 +9,7 @@ use Rattle.out_texts.specs.Report.{report_text}
 use Rattle.out_texts.specs.Past.{past_text}
 use Rattle.play_script.specs.Run.{Mark, marked_answer, may_stand}
 use Rattle.play_script.specs.declared.reply.Reply.{Reply}
-use Rattle.play_script.specs.declared.reply.Reply.TheVariants.{BadCommand, Refused, Nothing, Batch, Posted, OnlyForeign, Flushed, Settled, Returned, Undone, Confirmed, Dropped, Held, Lifted, Report, Round, Past, Wired, Waits}
+use Rattle.play_script.specs.declared.reply.Reply.TheVariants.{BadCommand, Refused, Nothing, Batch, Posted, OnlyForeign, Flushed, Settled, Returned, Undone, Confirmed, Dropped, Quarantined, Lifted, Report, Round, Past, Wired, Waits}
 
 -- the text of a reply
 abbrev pub reply_text : Reply → List ℕ
@@ -25,7 +25,7 @@ reply_text (Returned f) = said (codes "returned ") (decimal f)
 reply_text (Undone b) = said (codes "undone ") (decimal b)
 reply_text (Confirmed b) = said (codes "confirmed ") (decimal b)
 reply_text (Dropped f) = said (codes "dropped ") (decimal f)
-reply_text (Held s) = said (codes "held ") s.now
+reply_text (Quarantined s) = said (codes "held ") s.now
 reply_text (Lifted s) = said (codes "lifted ") s.now
 reply_text (Report rows) = report_text rows.items
 reply_text (Round n) = said (codes "round ") (decimal n)
@@ -34,11 +34,11 @@ reply_text (Wired f request) = wired_text f request.items
 reply_text (Waits f seconds) = said (codes "returned ") (flush_and_wait f seconds)
 
 -- this text and this history are the command's answer, for this mark
-pub record IsAnswer (E : History) (asked : Asked) (text : List ℕ) (F : History) (mark : Mark) : Type 0 where
+pub record IsMarkedReply (E : History) (asked : Asked) (text : List ℕ) (F : History) (mark : Mark) : Type 0 where
   pub allowed : may_stand mark asked ≡ true
   pub text_is : text ≡ (marked_answer E asked mark).text
   pub after_is : F ≡ (marked_answer E asked mark).after
 
 -- for some mark
-abbrev pub Answers : History → Asked → List ℕ → History → Type 0
-Answers E asked text F = (mark : Mark) × IsAnswer E asked text F mark
+abbrev pub IsReply : History → Asked → List ℕ → History → Type 0
+IsReply E asked text F = (mark : Mark) × IsMarkedReply E asked text F mark

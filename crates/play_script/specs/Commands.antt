@@ -13,7 +13,7 @@ use Rattle.play_script.specs.PointLines.{PointWords, point_words, name_of}
 use Rattle.play_script.specs.declared.pieces.TheConstants.{SPACE}
 use Rattle.metric_events.specs.declared.limits.TheConstants.{MAX_TAKEN}
 use Rattle.play_script.specs.declared.verb.Verb.{Verb}
-use Rattle.play_script.specs.declared.verb.Verb.TheVariants.{Admit, Take, Settle, GiveBack, Report, Undo, Confirm, Discard, Hold, Lift, Post, Round, Past, Wire, Answered}
+use Rattle.play_script.specs.declared.verb.Verb.TheVariants.{Admit, Take, Settle, GiveBack, Report, Undo, Confirm, Discard, Quarantine, Lift, Post, Round, Past, Wire, Answered}
 
 pub data Asked : Type 0 where
   AdmitLine : (sender : List ℕ) (points : List PointWords) → Asked
@@ -24,7 +24,7 @@ pub data Asked : Type 0 where
   UndoLine : (batch : ℕ) → Asked
   ConfirmLine : (batch : ℕ) → Asked
   DropLine : (flush : ℕ) → Asked
-  HoldLine : (sender : List ℕ) → Asked
+  QuarantineLine : (sender : List ℕ) → Asked
   LiftLine : (sender : List ℕ) → Asked
   PostLine : (sender : List ℕ) (body : List ℕ) → Asked
   RoundLine : Asked
@@ -54,7 +54,7 @@ flush_verb word =
 -- on senders and rounds, and the report
 abbrev pub other_verb : List ℕ → Option Verb
 other_verb word =
-    if bytes_eq word (codes "hold") then Some Hold
+    if bytes_eq word (codes "hold") then Some Quarantine
     else (if bytes_eq word (codes "lift") then Some Lift
     else (if bytes_eq word (codes "report") then Some Report
     else (if bytes_eq word (codes "round") then Some Round
@@ -116,12 +116,12 @@ abbrev pub with_status : Option ℕ → Option (List ℕ) → Option Answer
 with_status code retry_after = option_map (λ s. answer_of s retry_after) code
 
 -- the back end's answer: unknown, a status, or a status and the value of `Retry-After`
-abbrev pub told_answer : List (List ℕ) → Option Answer
-told_answer [] = None
-told_answer (word ∷ []) = if bytes_eq word (codes "none") then Some Unknown else with_status (status word) None
-told_answer (word ∷ [] ∷ []) = None
-told_answer (word ∷ (b ∷ bs) ∷ []) = with_status (status word) (Some (b ∷ bs))
-told_answer (word ∷ next ∷ more ∷ others) = None
+abbrev pub answer_in : List (List ℕ) → Option Answer
+answer_in [] = None
+answer_in (word ∷ []) = if bytes_eq word (codes "none") then Some Unknown else with_status (status word) None
+answer_in (word ∷ [] ∷ []) = None
+answer_in (word ∷ (b ∷ bs) ∷ []) = with_status (status word) (Some (b ∷ bs))
+answer_in (word ∷ next ∷ more ∷ others) = None
 
 abbrev pub answer_line : Option ℕ → Option Answer → Asked
 answer_line None answer = BadLine
@@ -131,7 +131,7 @@ answer_line (Some flush) (Some answer) = AnswerLine flush answer
 -- a flush, and the back end's answer to its request
 abbrev pub answer_words : List (List ℕ) → Asked
 answer_words [] = BadLine
-answer_words (flush ∷ answer) = answer_line (number flush) (told_answer answer)
+answer_words (flush ∷ answer) = answer_line (number flush) (answer_in answer)
 
 abbrev pub nothing_more : Asked → List (List ℕ) → Asked
 nothing_more line [] = line
@@ -148,7 +148,7 @@ command_by (Some Report) rest = nothing_more ReportLine rest
 command_by (Some Undo) rest = numbered UndoLine (only_number rest)
 command_by (Some Confirm) rest = numbered ConfirmLine (only_number rest)
 command_by (Some Discard) rest = numbered DropLine (only_number rest)
-command_by (Some Hold) rest = named HoldLine (only_name rest)
+command_by (Some Quarantine) rest = named QuarantineLine (only_name rest)
 command_by (Some Lift) rest = named LiftLine (only_name rest)
 command_by (Some Post) rest = post_words rest
 command_by (Some Round) rest = nothing_more RoundLine rest

@@ -2,7 +2,7 @@ pub mod Pieces
 pub mod Numbers
 pub mod PointLines
 pub mod Commands
-pub mod Told
+pub mod Views
 pub mod Refused
 pub mod Replies
 pub mod Ends

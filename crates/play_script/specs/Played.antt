@@ -8,17 +8,17 @@ use Rattle.play_script.specs.Pieces.{lines}
 use Rattle.play_script.specs.Commands.{Asked}
 use Rattle.play_script.specs.Ends.{AppendsPart}
 use Rattle.play_script.specs.Run.{Mark, are_marks, run}
-use Rattle.play_script.specs.Answered.{Answers}
+use Rattle.play_script.specs.Answered.{IsReply}
 use Rattle.play_script.specs.declared.fault.PlayFault.{PlayFault}
 use Rattle.play_script.specs.declared.fault.PlayFault.TheVariants.{CannotRead, TooLong, CannotWrite, NoMemory}
 use Rattle.play_script.specs.declared.input.TheConstants.{MAX_INPUT}
 
 -- a line got its answer, for some mark. All of it was written, or its first bytes where the writer failed; out of memory nothing was
 abbrev pub LineIsAnswered : History → Asked → History → Option (List ℕ) → Option (List ℕ) → Result (Unit {0}) PlayFault → Type 0
-LineIsAnswered E asked F old new (Ok x) = (text : List ℕ) × Answers E asked text F × Appends old new text
+LineIsAnswered E asked F old new (Ok x) = (text : List ℕ) × IsReply E asked text F × Appends old new text
 LineIsAnswered E asked F old new (Err CannotRead) = ⊥
 LineIsAnswered E asked F old new (Err TooLong) = ⊥
-LineIsAnswered E asked F old new (Err CannotWrite) = (text : List ℕ) × Answers E asked text F × AppendsPart old new text
+LineIsAnswered E asked F old new (Err CannotWrite) = (text : List ℕ) × IsReply E asked text F × AppendsPart old new text
 LineIsAnswered E asked F old new (Err NoMemory) = Keeps old new
 
 -- for some marks all replies were written

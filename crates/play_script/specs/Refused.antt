@@ -15,7 +15,7 @@ use Rattle.otlp_read.specs.declared.fault.ReadFault.TheVariants as read
 use Rattle.metric_events.specs.declared.point.PointFault.{PointFault}
 use Rattle.metric_events.specs.declared.point.PointFault.TheVariants as point
 use Rattle.play_script.specs.declared.refusal.Refusal.{Refusal}
-use Rattle.play_script.specs.declared.refusal.Refusal.TheVariants.{BadSpan, PointTooLarge, Quarantined, Full, OtherWriter, OutOfOrder, TooManySeries, TooLarge, NotOpen, Taken, NotLive, Already, NotHeld, NotJson, WrongShape, BatchOpen, FlushLive, LastRound, NoMemory}
+use Rattle.play_script.specs.declared.refusal.Refusal.TheVariants.{BadSpan, PointTooLarge, Quarantined, Full, OtherWriter, OutOfOrder, TooManySeries, TooLarge, NotOpen, Taken, NotLive, Already, NotQuarantined, NotJson, WrongShape, BatchOpen, FlushLive, LastRound, NoMemory}
 
 -- a point's index, and the frontier of its series
 abbrev pub place_text : ℕ → ℕ → List ℕ
@@ -35,7 +35,7 @@ refusal_text NotOpen = codes "not-open"
 refusal_text Taken = codes "taken"
 refusal_text NotLive = codes "not-live"
 refusal_text Already = codes "already"
-refusal_text NotHeld = codes "not-held"
+refusal_text NotQuarantined = codes "not-held"
 refusal_text NotJson = codes "not-json"
 refusal_text WrongShape = codes "wrong-shape"
 refusal_text BatchOpen = codes "batch-open"
@@ -68,10 +68,10 @@ abbrev pub of_undo : UndoFault → Refusal
 of_undo undo.NotOpen = NotOpen
 of_undo undo.Taken = Taken
 
-abbrev pub of_hold : QuarantineFault → Refusal
-of_hold hold.Already = Already
-of_hold hold.Full = Full
-of_hold hold.NoMemory = NoMemory
+abbrev pub of_quarantine : QuarantineFault → Refusal
+of_quarantine hold.Already = Already
+of_quarantine hold.Full = Full
+of_quarantine hold.NoMemory = NoMemory
 
 abbrev pub of_round : RoundFault → Refusal
 of_round round.BatchOpen = BatchOpen

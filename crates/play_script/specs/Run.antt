@@ -26,14 +26,14 @@ use Rattle.delta_book.specs.Totals.{totals_rows}
 use Rattle.delta_book.specs.Rounds.{round_refusal}
 use Rattle.delta_book.specs.PastRows.{past_rows}
 use Rattle.play_script.specs.PointLines.{PointWords, point_of, first_fault}
-use Rattle.play_script.specs.Commands.{Asked, AdmitLine, TakeLine, OkLine, BackLine, ReportLine, UndoLine, ConfirmLine, DropLine, HoldLine, LiftLine, PostLine, RoundLine, PastLine, WireLine, AnswerLine, BadLine, command}
-use Rattle.play_script.specs.Refused.{refusal_text, of_point, of_admit, of_take, of_undo, of_hold, of_round}
+use Rattle.play_script.specs.Commands.{Asked, AdmitLine, TakeLine, OkLine, BackLine, ReportLine, UndoLine, ConfirmLine, DropLine, QuarantineLine, LiftLine, PostLine, RoundLine, PastLine, WireLine, AnswerLine, BadLine, command}
+use Rattle.play_script.specs.Refused.{refusal_text, of_point, of_admit, of_take, of_undo, of_quarantine, of_round}
 use Rattle.play_script.specs.Replies.{said, batch_and_foreign, flush_text, wired_text, flush_and_wait}
 use Rattle.out_texts.specs.Report.{report_text}
 use Rattle.out_texts.specs.Past.{past_text}
 use Rattle.out_texts.specs.Request.{request_text}
 use Rattle.play_script.specs.declared.refusal.Refusal.{Refusal}
-use Rattle.play_script.specs.declared.refusal.Refusal.TheVariants.{NotOpen, NotLive, NotHeld, NotJson, WrongShape, NoMemory}
+use Rattle.play_script.specs.declared.refusal.Refusal.TheVariants.{NotOpen, NotLive, NotQuarantined, NotJson, WrongShape, NoMemory}
 
 -- the reply to a line, and the history after it
 pub record Answer : Type 0 where
@@ -62,8 +62,8 @@ fault_text (book.Take max) (Some fault) = refused_text (of_take fault)
 fault_text (book.End act f) fault = refused_text NotLive
 fault_text (book.Undo b) fault = refused_text (of_undo fault)
 fault_text (book.Confirm b) fault = refused_text NotOpen
-fault_text (book.Quarantine s) fault = refused_text (of_hold fault)
-fault_text (book.Lift s) fault = refused_text NotHeld
+fault_text (book.Quarantine s) fault = refused_text (of_quarantine fault)
+fault_text (book.Lift s) fault = refused_text NotQuarantined
 
 -- what it says of an event after a history: of a flush that is taken, its points
 abbrev pub event_text : History → Event → List ℕ
@@ -149,7 +149,7 @@ answer E ReportLine = only_says E (report_text (totals_rows E))
 answer E (UndoLine b) = called E (book.Undo b)
 answer E (ConfirmLine b) = called E (book.Confirm b)
 answer E (DropLine f) = called E (book.End DropFlush f)
-answer E (HoldLine s) = called E (book.Quarantine s)
+answer E (QuarantineLine s) = called E (book.Quarantine s)
 answer E (LiftLine s) = called E (book.Lift s)
 answer E (PostLine sender body) = read_or E sender (text_reading body)
 answer E RoundLine = closed_or E (round_refusal E)
@@ -189,7 +189,7 @@ takes_memory ReportLine = true
 takes_memory (UndoLine b) = false
 takes_memory (ConfirmLine b) = false
 takes_memory (DropLine f) = false
-takes_memory (HoldLine s) = true
+takes_memory (QuarantineLine s) = true
 takes_memory (LiftLine s) = true
 takes_memory (PostLine sender body) = true
 takes_memory RoundLine = true

@@ -5,19 +5,21 @@ ghost use Rattle.metric_events.specs.Senders.{is_sender_name};
 ghost use Rattle.delta_book.specs.Journal.{history};
 ghost use Rattle.delta_book.specs.Refusals.{flush_refusal};
 ghost use Rattle.metric_events.specs.History.{◌▸◌};
-ghost use Rattle.play_script.specs.Answered.{Answers, reply_text};
+ghost use Rattle.play_script.specs.Answered.{IsReply, reply_text};
 ghost use Rattle.play_script.specs.Commands as asked;
 ghost use Rattle.back_answers.specs.Waits.{asked_wait};
 ghost use Rattle.delta_book.specs.Outcomes.{event_of};
 ghost use Rattle.play_script.specs.Run as spec;
 ghost use Rattle.play_script.specs.Run.{IsForwarded};
 ghost use Rattle.metric_events.specs.declared.event.Event.TheVariants as event;
-ghost use Rattle.play_script.specs.Told.{told, told_points, IsReady};
+ghost use Rattle.play_script.specs.Views.{asked_by, words_of_each, IsReady};
 
 use crate::command::Command;
 use crate::making::make_points;
 use crate::point_line::PointLine;
-use crate::refusal::{Refusal, of_admit, of_hold, of_point, of_read, of_round, of_take, of_undo};
+use crate::refusal::{
+    Refusal, of_admit, of_point, of_quarantine, of_read, of_round, of_take, of_undo,
+};
 use crate::reply::Reply;
 use back_answers::{Act, Answer, act};
 use delta_book::book::Book;
@@ -36,7 +38,8 @@ const SEAT: u16 = 0;
 fn admit(alloc: Global, book: &mut Book, sender: &[u8], lines: &[PointLine<'_>]) -> Reply<'static>
     requires named { is_sender_name sender.now ≡ true }
     requires some { 0 < length lines.now }
-    ensures { Answers (history book.old) (asked.AdmitLine sender.now (told_points lines.now)) (reply_text result) (history book.new) }
+    ensures { IsReply (history book.old) (asked.AdmitLine sender.now (words_of_each lines.now))
+        (reply_text result) (history book.new) }
 {
     let Ok(sender) = SenderName::new(alloc, sender) else {
         return Reply::Refused(Refusal::NoMemory);
@@ -53,7 +56,8 @@ fn admit(alloc: Global, book: &mut Book, sender: &[u8], lines: &[PointLine<'_>])
 
 fn post(alloc: Global, book: &mut Book, sender: &[u8], body: &[u8]) -> Reply<'static>
     requires named { is_sender_name sender.now ≡ true }
-    ensures { Answers (history book.old) (asked.PostLine sender.now body.now) (reply_text result) (history book.new) }
+    ensures { IsReply (history book.old) (asked.PostLine sender.now body.now) (reply_text result)
+        (history book.new) }
 {
     let reading = match read_request(alloc, body) {
         Ok(reading) => reading,
@@ -76,7 +80,8 @@ fn post(alloc: Global, book: &mut Book, sender: &[u8], body: &[u8]) -> Reply<'st
 fn take(book: &mut Book, max: u64) -> Reply<'static>
     requires low { 1 ≤ max }
     requires high { max ≤ MAX_TAKEN }
-    ensures { Answers (history book.old) (asked.TakeLine max) (reply_text result) (history book.new) }
+    ensures { IsReply (history book.old) (asked.TakeLine max) (reply_text result)
+        (history book.new) }
 {
     match book.take(SEAT, max as usize) {
         Ok(None) => Reply::Nothing,
@@ -86,7 +91,8 @@ fn take(book: &mut Book, max: u64) -> Reply<'static>
 }
 
 fn settle(book: &mut Book, flush: u64) -> Reply<'static>
-    ensures { Answers (history book.old) (asked.OkLine flush) (reply_text result) (history book.new) }
+    ensures { IsReply (history book.old) (asked.OkLine flush) (reply_text result)
+        (history book.new) }
 {
     match book.settle(SEAT, flush) {
         Ok(()) => Reply::Settled(flush),
@@ -95,7 +101,8 @@ fn settle(book: &mut Book, flush: u64) -> Reply<'static>
 }
 
 fn give_back(book: &mut Book, flush: u64) -> Reply<'static>
-    ensures { Answers (history book.old) (asked.BackLine flush) (reply_text result) (history book.new) }
+    ensures { IsReply (history book.old) (asked.BackLine flush) (reply_text result)
+        (history book.new) }
 {
     match book.give_back(SEAT, flush) {
         Ok(()) => Reply::Returned(flush),
@@ -104,7 +111,8 @@ fn give_back(book: &mut Book, flush: u64) -> Reply<'static>
 }
 
 fn discard(book: &mut Book, flush: u64) -> Reply<'static>
-    ensures { Answers (history book.old) (asked.DropLine flush) (reply_text result) (history book.new) }
+    ensures { IsReply (history book.old) (asked.DropLine flush) (reply_text result)
+        (history book.new) }
 {
     match book.drop_flush(SEAT, flush) {
         Ok(()) => Reply::Dropped(flush),
@@ -113,7 +121,8 @@ fn discard(book: &mut Book, flush: u64) -> Reply<'static>
 }
 
 fn undo(book: &mut Book, batch: u64) -> Reply<'static>
-    ensures { Answers (history book.old) (asked.UndoLine batch) (reply_text result) (history book.new) }
+    ensures { IsReply (history book.old) (asked.UndoLine batch) (reply_text result)
+        (history book.new) }
 {
     match book.undo(SEAT, batch) {
         Ok(()) => Reply::Undone(batch),
@@ -122,7 +131,8 @@ fn undo(book: &mut Book, batch: u64) -> Reply<'static>
 }
 
 fn confirm(book: &mut Book, batch: u64) -> Reply<'static>
-    ensures { Answers (history book.old) (asked.ConfirmLine batch) (reply_text result) (history book.new) }
+    ensures { IsReply (history book.old) (asked.ConfirmLine batch) (reply_text result)
+        (history book.new) }
 {
     match book.confirm(SEAT, batch) {
         Ok(()) => Reply::Confirmed(batch),
@@ -130,34 +140,36 @@ fn confirm(book: &mut Book, batch: u64) -> Reply<'static>
     }
 }
 
-fn hold<'a>(alloc: Global, book: &mut Book, sender: &'a [u8]) -> Reply<'a>
+fn quarantine<'a>(alloc: Global, book: &mut Book, sender: &'a [u8]) -> Reply<'a>
     requires { is_sender_name sender.now ≡ true }
-    ensures { Answers (history book.old) (asked.HoldLine sender.now) (reply_text result) (history book.new) }
+    ensures { IsReply (history book.old) (asked.QuarantineLine sender.now) (reply_text result)
+        (history book.new) }
 {
     let Ok(name) = SenderName::new(alloc, sender) else {
         return Reply::Refused(Refusal::NoMemory);
     };
     match book.quarantine(SEAT, name) {
-        Ok(()) => Reply::Held(sender),
-        Err(fault) => Reply::Refused(of_hold(fault)),
+        Ok(()) => Reply::Quarantined(sender),
+        Err(fault) => Reply::Refused(of_quarantine(fault)),
     }
 }
 
 fn lift<'a>(alloc: Global, book: &mut Book, sender: &'a [u8]) -> Reply<'a>
     requires { is_sender_name sender.now ≡ true }
-    ensures { Answers (history book.old) (asked.LiftLine sender.now) (reply_text result) (history book.new) }
+    ensures { IsReply (history book.old) (asked.LiftLine sender.now) (reply_text result)
+        (history book.new) }
 {
     let Ok(name) = SenderName::new(alloc, sender) else {
         return Reply::Refused(Refusal::NoMemory);
     };
     match book.lift(SEAT, &name) {
         Ok(()) => Reply::Lifted(sender),
-        Err(_) => Reply::Refused(Refusal::NotHeld),
+        Err(_) => Reply::Refused(Refusal::NotQuarantined),
     }
 }
 
 fn report(book: &Book) -> Reply<'static>
-    ensures { Answers (history book.now) asked.ReportLine (reply_text result) (history book.now) }
+    ensures { IsReply (history book.now) asked.ReportLine (reply_text result) (history book.now) }
 {
     match book.totals() {
         Ok(rows) => Reply::Report(rows),
@@ -166,7 +178,7 @@ fn report(book: &Book) -> Reply<'static>
 }
 
 fn round(book: &mut Book) -> Reply<'static>
-    ensures { Answers (history book.old) asked.RoundLine (reply_text result) (history book.new) }
+    ensures { IsReply (history book.old) asked.RoundLine (reply_text result) (history book.new) }
 {
     match book.close_round() {
         Ok(round) => Reply::Round(round),
@@ -175,7 +187,7 @@ fn round(book: &mut Book) -> Reply<'static>
 }
 
 fn past(book: &Book) -> Reply<'static>
-    ensures { Answers (history book.now) asked.PastLine (reply_text result) (history book.now) }
+    ensures { IsReply (history book.now) asked.PastLine (reply_text result) (history book.now) }
 {
     match book.past() {
         Ok(rows) => Reply::Past(rows),
@@ -184,7 +196,7 @@ fn past(book: &Book) -> Reply<'static>
 }
 
 /// Gives back a flush that is live.
-fn send_home(book: &mut Book, flush: u64)
+fn return_flush(book: &mut Book, flush: u64)
     requires { flush_refusal (history book.old) flush ≡ None }
     ensures { history book.new ≡ history book.old ▸ event.GiveBack flush }
 {
@@ -196,7 +208,8 @@ fn send_home(book: &mut Book, flush: u64)
 /// The reply with the request of a live flush. Without memory for it the flush is given back.
 fn forward(alloc: Global, book: &mut Book, flush: &Flush) -> Reply<'static>
     requires { flush_refusal (history book.old) flush.now.number ≡ None }
-    ensures { IsForwarded (history book.old) (history book.new) flush.now.number flush.now.points.items (reply_text result) }
+    ensures { IsForwarded (history book.old) (history book.new) flush.now.number
+        flush.now.points.items (reply_text result) }
 {
     match request_text(alloc, flush) {
         Ok(request) => Reply::Wired {
@@ -204,7 +217,7 @@ fn forward(alloc: Global, book: &mut Book, flush: &Flush) -> Reply<'static>
             request,
         },
         Err(_) => {
-            send_home(book, flush.number);
+            return_flush(book, flush.number);
             Reply::Refused(Refusal::NoMemory)
         }
     }
@@ -213,7 +226,8 @@ fn forward(alloc: Global, book: &mut Book, flush: &Flush) -> Reply<'static>
 fn wire(alloc: Global, book: &mut Book, most: u64) -> Reply<'static>
     requires low { 1 ≤ most }
     requires high { most ≤ MAX_TAKEN }
-    ensures { Answers (history book.old) (asked.WireLine most) (reply_text result) (history book.new) }
+    ensures { IsReply (history book.old) (asked.WireLine most) (reply_text result)
+        (history book.new) }
 {
     match book.take(SEAT, most as usize) {
         Ok(None) => Reply::Nothing,
@@ -247,7 +261,7 @@ fn end_flush(book: &mut Book, flush: u64, by: Act) -> Result<(), NotLive>
 }
 
 /// The reply about a flush that an act has ended.
-fn ended(flush: u64, by: Act, wait: Option<u64>) -> Reply<'static>
+fn end_reply(flush: u64, by: Act, wait: Option<u64>) -> Reply<'static>
     ensures { reply_text result ≡ spec.act_text by wait flush }
 {
     match (by, wait) {
@@ -258,12 +272,13 @@ fn ended(flush: u64, by: Act, wait: Option<u64>) -> Reply<'static>
     }
 }
 
-fn answered(book: &mut Book, flush: u64, answer: Answer) -> Reply<'static>
-    ensures { Answers (history book.old) (asked.AnswerLine flush answer) (reply_text result) (history book.new) }
+fn answer_flush(book: &mut Book, flush: u64, answer: Answer) -> Reply<'static>
+    ensures { IsReply (history book.old) (asked.AnswerLine flush answer) (reply_text result)
+        (history book.new) }
 {
     let by = act(answer);
     match end_flush(book, flush, by) {
-        Ok(()) => ended(flush, by, asked_wait(answer)),
+        Ok(()) => end_reply(flush, by, asked_wait(answer)),
         Err(_) => Reply::Refused(Refusal::NotLive),
     }
 }
@@ -271,7 +286,8 @@ fn answered(book: &mut Book, flush: u64, answer: Answer) -> Reply<'static>
 /// Carries out a command and makes its reply.
 pub fn reply_to<'a>(alloc: Global, book: &mut Book, command: Command<'a>) -> Reply<'a>
     requires { IsReady (Some command) }
-    ensures { Answers (history book.old) (told (Some command.entry)) (reply_text result) (history book.new) }
+    ensures { IsReply (history book.old) (asked_by (Some command.entry)) (reply_text result)
+        (history book.new) }
 {
     match command {
         Command::Admit { sender, points } => admit(alloc, book, sender, points.as_slice()),
@@ -282,12 +298,12 @@ pub fn reply_to<'a>(alloc: Global, book: &mut Book, command: Command<'a>) -> Rep
         Command::Undo(batch) => undo(book, batch),
         Command::Confirm(batch) => confirm(book, batch),
         Command::Discard(flush) => discard(book, flush),
-        Command::Hold(sender) => hold(alloc, book, sender),
+        Command::Quarantine(sender) => quarantine(alloc, book, sender),
         Command::Lift(sender) => lift(alloc, book, sender),
         Command::Post { sender, body } => post(alloc, book, sender, body),
         Command::Round => round(book),
         Command::Past => past(book),
         Command::Wire(max) => wire(alloc, book, max),
-        Command::Answered { flush, answer } => answered(book, flush, answer),
+        Command::Answered { flush, answer } => answer_flush(book, flush, answer),
     }
 }

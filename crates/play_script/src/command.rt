@@ -4,7 +4,7 @@ ghost use Rattle.std.specs.Prelude.{◌≡◌, ◌≢◌, ◌≤◌, ◌∷◌, 
 ghost use Rattle.play_script.specs.Commands as spec;
 ghost use Rattle.play_script.specs.Pieces.{words};
 ghost use Rattle.play_script.specs.Run.{takes_memory};
-ghost use Rattle.play_script.specs.Told.{told, rest_words, IsReady};
+ghost use Rattle.play_script.specs.Views.{asked_by, rest_words, IsReady};
 ghost use Rattle.metric_events.specs.Senders as senders;
 
 use crate::line_points::read_points;
@@ -33,7 +33,7 @@ pub enum Command<'a> {
     Undo(u64),
     Confirm(u64),
     Discard(u64),
-    Hold(&'a [u8]),
+    Quarantine(&'a [u8]),
     Lift(&'a [u8]),
     /// Admit the points of a request's body, which is the rest of the line.
     Post {
@@ -79,7 +79,8 @@ fn only_name<'a>(rest: Option<&'a [u8]>) -> Option<&'a [u8]>
 
 /// `admit`: a sender and its points. Allocates the list of points.
 fn admit<'a>(alloc: Global, rest: Option<&'a [u8]>) -> Result<Option<Command<'a>>, AllocError>
-    ensures told { IfOk result (λ command. told command ≡ spec.admit_words (rest_words rest.entry)) }
+    ensures asks { IfOk result (λ command. asked_by command ≡ spec.admit_words
+        (rest_words rest.entry)) }
     ensures ready { IfOk result IsReady }
     ensures memory { OnErr result (takes_memory (spec.admit_words (rest_words rest.entry)) ≡ true) }
 {
@@ -116,8 +117,8 @@ fn only_taken(rest: Option<&[u8]>) -> Option<u64>
 }
 
 /// The answer of this status, where the rest of the line is one word: its `Retry-After`.
-fn retried(code: &[u8], rest: &[u8]) -> Option<Answer>
-    ensures { result ≡ spec.told_answer (code.now ∷ words rest.now) }
+fn answer_with_wait(code: &[u8], rest: &[u8]) -> Option<Answer>
+    ensures { result ≡ spec.answer_in (code.now ∷ words rest.now) }
 {
     let word = cut_word(rest);
     match word.rest {
@@ -129,19 +130,19 @@ fn retried(code: &[u8], rest: &[u8]) -> Option<Answer>
 
 /// The back end's answer in the rest of the line.
 fn answer_of(text: &[u8]) -> Option<Answer>
-    ensures { result ≡ spec.told_answer (words text.now) }
+    ensures { result ≡ spec.answer_in (words text.now) }
 {
     let word = cut_word(text);
     match word.rest {
         None if word.first == b"none".as_slice() => Some(Answer::Unknown),
         None => Some(classify(status(word.first)?, None)),
-        Some(rest) => retried(word.first, rest),
+        Some(rest) => answer_with_wait(word.first, rest),
     }
 }
 
 /// `answer`: a flush, and the back end's answer to its request.
-fn answered(rest: Option<&[u8]>) -> Option<Command<'_>>
-    ensures told { told result ≡ spec.answer_words (rest_words rest.entry) }
+fn answer(rest: Option<&[u8]>) -> Option<Command<'_>>
+    ensures asks { asked_by result ≡ spec.answer_words (rest_words rest.entry) }
     ensures ready { IsReady result }
 {
     let word = cut_word(rest?);
@@ -152,7 +153,7 @@ fn answered(rest: Option<&[u8]>) -> Option<Command<'_>>
 
 /// `report`, without further words.
 fn report(rest: Option<&[u8]>) -> Option<Command<'_>>
-    ensures told { told result ≡ spec.nothing_more spec.ReportLine (rest_words rest.entry) }
+    ensures asks { asked_by result ≡ spec.nothing_more spec.ReportLine (rest_words rest.entry) }
     ensures ready { IsReady result }
 {
     match rest {
@@ -163,7 +164,7 @@ fn report(rest: Option<&[u8]>) -> Option<Command<'_>>
 
 /// `round`, without further words.
 fn round(rest: Option<&[u8]>) -> Option<Command<'_>>
-    ensures told { told result ≡ spec.nothing_more spec.RoundLine (rest_words rest.entry) }
+    ensures asks { asked_by result ≡ spec.nothing_more spec.RoundLine (rest_words rest.entry) }
     ensures ready { IsReady result }
 {
     match rest {
@@ -174,7 +175,7 @@ fn round(rest: Option<&[u8]>) -> Option<Command<'_>>
 
 /// `past`, without further words.
 fn past(rest: Option<&[u8]>) -> Option<Command<'_>>
-    ensures told { told result ≡ spec.nothing_more spec.PastLine (rest_words rest.entry) }
+    ensures asks { asked_by result ≡ spec.nothing_more spec.PastLine (rest_words rest.entry) }
     ensures ready { IsReady result }
 {
     match rest {
@@ -185,7 +186,7 @@ fn past(rest: Option<&[u8]>) -> Option<Command<'_>>
 
 /// `post`: a sender, and a body, which is the rest of the line.
 fn post(rest: Option<&[u8]>) -> Option<Command<'_>>
-    ensures told { told result ≡ spec.post_words (rest_words rest.entry) }
+    ensures asks { asked_by result ≡ spec.post_words (rest_words rest.entry) }
     ensures ready { IsReady result }
 {
     let sender = cut_word(rest?);
@@ -202,7 +203,7 @@ fn post(rest: Option<&[u8]>) -> Option<Command<'_>>
 /// The command of a verb and the rest of its line. Allocates nothing.
 fn command_by(verb: Verb, rest: Option<&[u8]>) -> Option<Command<'_>>
     requires { verb ≢ Verb.Admit }
-    ensures told { told result ≡ spec.command_by (Some verb) (rest_words rest.entry) }
+    ensures asks { asked_by result ≡ spec.command_by (Some verb) (rest_words rest.entry) }
     ensures ready { IsReady result }
 {
     match verb {
@@ -214,13 +215,13 @@ fn command_by(verb: Verb, rest: Option<&[u8]>) -> Option<Command<'_>>
         Verb::Undo => Some(Command::Undo(only_number(rest)?)),
         Verb::Confirm => Some(Command::Confirm(only_number(rest)?)),
         Verb::Discard => Some(Command::Discard(only_number(rest)?)),
-        Verb::Hold => Some(Command::Hold(only_name(rest)?)),
+        Verb::Quarantine => Some(Command::Quarantine(only_name(rest)?)),
         Verb::Lift => Some(Command::Lift(only_name(rest)?)),
         Verb::Post => post(rest),
         Verb::Round => round(rest),
         Verb::Past => past(rest),
         Verb::Wire => Some(Command::Wire(only_taken(rest)?)),
-        Verb::Answered => answered(rest),
+        Verb::Answered => answer(rest),
     }
 }
 
@@ -228,7 +229,7 @@ fn command_by(verb: Verb, rest: Option<&[u8]>) -> Option<Command<'_>>
 /// decimal digits and within their range, names are those that a sender may have. Only the list of
 /// points of an `admit` line is allocated.
 pub fn command_of<'a>(alloc: Global, line: &'a [u8]) -> Result<Option<Command<'a>>, AllocError>
-    ensures told { IfOk result (λ command. told command ≡ spec.command line.now) }
+    ensures asks { IfOk result (λ command. asked_by command ≡ spec.command line.now) }
     ensures ready { IfOk result IsReady }
     ensures memory { OnErr result (takes_memory (spec.command line.now) ≡ true) }
 {

@@ -20,7 +20,8 @@ pub fn read_all<R: Source>(alloc: Global, reader: &mut R) -> Result<Vec<u8>, Pla
     ensures all { IfOk result (λ input. AreAll (R.remaining reader.old) input.items) }
     ensures short { IfOk result (λ input. vec_len input ≤ MAX_INPUT) }
     ensures fault { IfErr result (λ fault. IsReadFault (R.remaining reader.old) MAX_INPUT fault) }
-    ensures failed { R.failures reader.new ≡ counted R.one_more (cannot_read result) (R.failures reader.old) }
+    ensures failed { R.failures reader.new ≡ counted R.one_more (cannot_read result)
+        (R.failures reader.old) }
 {
     let mut input = Vec::new(alloc);
     let mut piece = [0; PIECE];

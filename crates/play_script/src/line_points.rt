@@ -4,7 +4,7 @@ ghost use Rattle.std.specs.Prelude.{◌≡◌, ◌<◌, Some, None, MatchOption,
 ghost use Rattle.std.specs.Option.{is_some};
 ghost use Rattle.play_script.specs.Pieces.{words};
 ghost use Rattle.play_script.specs.PointLines.{point_words, with_point};
-ghost use Rattle.play_script.specs.Told.{told_point, points_after, AreRead};
+ghost use Rattle.play_script.specs.Views.{words_of, points_after, AreRead};
 
 use crate::numbers::{number, value};
 use crate::pieces::cut_word;
@@ -21,8 +21,11 @@ struct NextPoint<'a> {
 
 /// The point in the first four words, where they are one.
 fn next_point(text: &[u8]) -> Option<NextPoint<'_>>
-    ensures point { MatchOption result (point_words (words text.now) ≡ None) (λ next. point_words (words text.now) ≡ with_point (Some (told_point next.point)) (points_after next.rest)) }
-    ensures short { MatchOption result (Unit {0}) (λ next. MatchOption next.rest (Unit {0}) (λ rest. length rest.now < length text.now)) }
+    ensures point { MatchOption result (point_words (words text.now) ≡ None)
+        (λ next. point_words (words text.now) ≡ with_point (Some (words_of next.point))
+        (points_after next.rest)) }
+    ensures short { MatchOption result (Unit {0}) (λ next. MatchOption next.rest (Unit {0})
+        (λ rest. length rest.now < length text.now)) }
 {
     let name = cut_word(text);
     let start = cut_word(name.rest?);

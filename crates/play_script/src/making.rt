@@ -4,7 +4,7 @@ ghost use Rattle.std.specs.Prelude.{◌≡◌, ◌⊎◌, true, map, None, Some,
 ghost use Rattle.metric_events.specs.Senders.{is_sender_name};
 ghost use Rattle.play_script.specs.PointLines as spec;
 ghost use Rattle.play_script.specs.PointLines.{fault_of, first_fault, point_of};
-ghost use Rattle.play_script.specs.Told.{told_point, told_points};
+ghost use Rattle.play_script.specs.Views.{words_of, words_of_each};
 
 use crate::point_line::PointLine;
 use metric_events::point::{Point, PointFault};
@@ -50,9 +50,10 @@ fn series_named(alloc: Global, name: &[u8]) -> Result<SeriesId, AllocError>
 
 /// The point of four words.
 fn make_point(alloc: Global, line: PointLine<'_>) -> Result<Point, PointFault>
-    ensures value { IfOk result (λ point. point ≡ point_of (told_point line.entry)) }
-    ensures none { OnOk result (fault_of (told_point line.entry) ≡ None) }
-    ensures fault { IfErr result (λ fault. (fault ≡ PointFault.NoMemory) ⊎ (fault_of (told_point line.entry) ≡ Some fault)) }
+    ensures value { IfOk result (λ point. point ≡ point_of (words_of line.entry)) }
+    ensures none { OnOk result (fault_of (words_of line.entry) ≡ None) }
+    ensures fault { IfErr result (λ fault. (fault ≡ PointFault.NoMemory) ⊎
+        (fault_of (words_of line.entry) ≡ Some fault)) }
 {
     match series_named(alloc, line.name) {
         Ok(series) => Point::sum(alloc, series, line.start, line.end, line.value),
@@ -62,9 +63,10 @@ fn make_point(alloc: Global, line: PointLine<'_>) -> Result<Point, PointFault>
 
 /// The points of a line, or the fault of the first that can't be made.
 pub fn make_points(alloc: Global, lines: &[PointLine<'_>]) -> Result<Points, PointFault>
-    ensures value { IfOk result (λ points. points ≡ map point_of (told_points lines.now)) }
-    ensures none { OnOk result (first_fault (told_points lines.now) ≡ None) }
-    ensures fault { IfErr result (λ fault. (fault ≡ PointFault.NoMemory) ⊎ (first_fault (told_points lines.now) ≡ Some fault)) }
+    ensures value { IfOk result (λ points. points ≡ map point_of (words_of_each lines.now)) }
+    ensures none { OnOk result (first_fault (words_of_each lines.now) ≡ None) }
+    ensures fault { IfErr result (λ fault. (fault ≡ PointFault.NoMemory) ⊎
+        (first_fault (words_of_each lines.now) ≡ Some fault)) }
 {
     let mut points = Points::new(alloc);
     for line in lines {

@@ -26,8 +26,10 @@ fn place_of(bytes: &[u8], mark: u8) -> Option<usize>
 
 /// The bytes before the first mark, and those after it.
 fn cut_at(bytes: &[u8], mark: u8) -> Cut<'_>
-    ensures short { MatchOption result.rest (result.first.now ≡ bytes.now) (λ rest. length rest.now < length bytes.now) }
-    ensures pieces { MatchOption result.rest (pieces mark bytes.now ≡ result.first.now ∷ []) (λ rest. pieces mark bytes.now ≡ result.first.now ∷ pieces mark rest.now) }
+    ensures short { MatchOption result.rest (result.first.now ≡ bytes.now)
+        (λ rest. length rest.now < length bytes.now) }
+    ensures pieces { MatchOption result.rest (pieces mark bytes.now ≡ result.first.now ∷ [])
+        (λ rest. pieces mark bytes.now ≡ result.first.now ∷ pieces mark rest.now) }
 {
     match place_of(bytes, mark) {
         Some(at) => Cut {
@@ -43,8 +45,10 @@ fn cut_at(bytes: &[u8], mark: u8) -> Cut<'_>
 
 /// The first word of a line, and the rest of the line after the space that ends it.
 pub fn cut_word(line: &[u8]) -> Cut<'_>
-    ensures short { MatchOption result.rest (result.first.now ≡ line.now) (λ rest. length rest.now < length line.now) }
-    ensures words { MatchOption result.rest (words line.now ≡ result.first.now ∷ []) (λ rest. words line.now ≡ result.first.now ∷ words rest.now) }
+    ensures short { MatchOption result.rest (result.first.now ≡ line.now)
+        (λ rest. length rest.now < length line.now) }
+    ensures words { MatchOption result.rest (words line.now ≡ result.first.now ∷ [])
+        (λ rest. words line.now ≡ result.first.now ∷ words rest.now) }
 {
     cut_at(line, SPACE)
 }

@@ -36,7 +36,7 @@ pub enum Refusal {
     /// The sender is quarantined already.
     Already,
     /// The sender is not quarantined.
-    NotHeld,
+    NotQuarantined,
     /// The body is no JSON text.
     NotJson,
     /// A container of the body has another type.
@@ -83,7 +83,7 @@ pub fn put_refusal(out: &mut Vec<u8>, refusal: Refusal) -> Result<(), AllocError
         Refusal::Taken => out.extend_from_slice(b"taken"),
         Refusal::NotLive => out.extend_from_slice(b"not-live"),
         Refusal::Already => out.extend_from_slice(b"already"),
-        Refusal::NotHeld => out.extend_from_slice(b"not-held"),
+        Refusal::NotQuarantined => out.extend_from_slice(b"not-held"),
         Refusal::NotJson => out.extend_from_slice(b"not-json"),
         Refusal::WrongShape => out.extend_from_slice(b"wrong-shape"),
         Refusal::BatchOpen => out.extend_from_slice(b"batch-open"),
@@ -138,8 +138,8 @@ pub fn of_undo(fault: UndoFault) -> Refusal
     }
 }
 
-pub fn of_hold(fault: QuarantineFault) -> Refusal
-    ensures { result ≡ spec.of_hold fault }
+pub fn of_quarantine(fault: QuarantineFault) -> Refusal
+    ensures { result ≡ spec.of_quarantine fault }
 {
     match fault {
         QuarantineFault::Already => Refusal::Already,

@@ -33,7 +33,7 @@ pub enum Reply<'a> {
     Undone(u64),
     Confirmed(u64),
     Dropped(u64),
-    Held(&'a [u8]),
+    Quarantined(&'a [u8]),
     Lifted(&'a [u8]),
     Report(Vec<SeriesTotals>),
     /// The round of this number has begun.
@@ -70,7 +70,8 @@ fn put_numbered(out: &mut Vec<u8>, word: &[u8], number: u64) -> Result<(), Alloc
 /// Puts the number of a body's batch, and the count of the body's foreign points.
 #[tactic(auto, unfolding(crate::specs::Replies::said, crate::specs::Replies::batch_and_foreign))]
 fn put_posted(out: &mut Vec<u8>, batch: u64, foreign: u64) -> Result<(), AllocError>
-    ensures { OnOk result (out.new.items ≡ out.old.items ++ said (codes "batch ") (batch_and_foreign batch foreign)) }
+    ensures { OnOk result (out.new.items ≡ out.old.items ++ said (codes "batch ")
+        (batch_and_foreign batch foreign)) }
 {
     out.extend_from_slice(b"batch ")?;
     put_number(out, batch)?;
@@ -90,7 +91,8 @@ fn put_wired(out: &mut Vec<u8>, flush: u64, request: &[u8]) -> Result<(), AllocE
 /// Puts the number of a flush that was given back, and the seconds to wait.
 #[tactic(auto, unfolding(crate::specs::Replies::said, crate::specs::Replies::flush_and_wait))]
 fn put_wait(out: &mut Vec<u8>, flush: u64, seconds: u64) -> Result<(), AllocError>
-    ensures { OnOk result (out.new.items ≡ out.old.items ++ said (codes "returned ") (flush_and_wait flush seconds)) }
+    ensures { OnOk result (out.new.items ≡ out.old.items ++ said (codes "returned ")
+        (flush_and_wait flush seconds)) }
 {
     out.extend_from_slice(b"returned ")?;
     put_number(out, flush)?;
@@ -99,7 +101,8 @@ fn put_wait(out: &mut Vec<u8>, flush: u64, seconds: u64) -> Result<(), AllocErro
 
 #[tactic(auto, unfolding(crate::specs::Replies::said))]
 fn put_refused(out: &mut Vec<u8>, why: Refusal) -> Result<(), AllocError>
-    ensures { OnOk result (out.new.items ≡ out.old.items ++ said (codes "refused ") (refusal_text why)) }
+    ensures { OnOk result (out.new.items ≡ out.old.items ++ said (codes "refused ")
+        (refusal_text why)) }
 {
     out.extend_from_slice(b"refused ")?;
     put_refusal(out, why)?;
@@ -124,7 +127,7 @@ pub fn put_reply(out: &mut Vec<u8>, reply: &Reply<'_>) -> Result<(), AllocError>
         Reply::Undone(batch) => put_numbered(out, b"undone ", *batch),
         Reply::Confirmed(batch) => put_numbered(out, b"confirmed ", *batch),
         Reply::Dropped(flush) => put_numbered(out, b"dropped ", *flush),
-        Reply::Held(sender) => put_said(out, b"held ", sender),
+        Reply::Quarantined(sender) => put_said(out, b"held ", sender),
         Reply::Lifted(sender) => put_said(out, b"lifted ", sender),
         Reply::Report(rows) => put_report(out, rows.as_slice()),
         Reply::Round(round) => put_numbered(out, b"round ", *round),

@@ -4,7 +4,7 @@ ghost use Rattle.std.specs.Prelude.{◌≡◌, List, ℕ, Some};
 ghost use Rattle.byte_ends.specs.Counts.{counted};
 ghost use Rattle.metric_events.specs.History.{Start};
 ghost use Rattle.delta_book.specs.Journal.{history};
-ghost use Rattle.play_script.specs.Answered.{Answers, reply_text};
+ghost use Rattle.play_script.specs.Answered.{IsReply, reply_text};
 ghost use Rattle.play_script.specs.Commands.{command};
 ghost use Rattle.play_script.specs.Ends.{cannot_read, cannot_write};
 ghost use Rattle.play_script.specs.Pieces.{lines};
@@ -24,7 +24,7 @@ use std::alloc::Global;
 
 /// Carries out a line and makes its reply.
 fn reply_of<'a>(alloc: Global, book: &mut Book, line: &'a [u8]) -> Reply<'a>
-    ensures { Answers (history book.old) (command line.now) (reply_text result) (history book.new) }
+    ensures { IsReply (history book.old) (command line.now) (reply_text result) (history book.new) }
 {
     match command_of(alloc, line) {
         Ok(Some(command)) => reply_to(alloc, book, command),
@@ -40,8 +40,10 @@ fn answer_line<W: Sink>(
     line: &[u8],
     writer: &mut W,
 ) -> Result<(), PlayFault>
-    ensures answered { LineIsAnswered (history book.old) (command line.now) (history book.new) (W.contents writer.old) (W.contents writer.new) result }
-    ensures failed { W.failures writer.new ≡ counted W.one_more (cannot_write result) (W.failures writer.old) }
+    ensures answered { LineIsAnswered (history book.old) (command line.now) (history book.new)
+        (W.contents writer.old) (W.contents writer.new) result }
+    ensures failed { W.failures writer.new ≡ counted W.one_more (cannot_write result)
+        (W.failures writer.old) }
 {
     let reply = reply_of(alloc, book, line);
     let mut text = Vec::new(alloc);
@@ -62,8 +64,10 @@ fn answer_lines<W: Sink>(
     writer: &mut W,
 ) -> Result<(), PlayFault>
     requires { history book.old ≡ Start }
-    ensures played { LinesArePlayed (W.contents writer.old) (W.contents writer.new) (lines input.now) result }
-    ensures failed { W.failures writer.new ≡ counted W.one_more (cannot_write result) (W.failures writer.old) }
+    ensures played { LinesArePlayed (W.contents writer.old) (W.contents writer.new)
+        (lines input.now) result }
+    ensures failed { W.failures writer.new ≡ counted W.one_more (cannot_write result)
+        (W.failures writer.old) }
 {
     let mut rest = input;
     while !rest.is_empty() {
@@ -85,9 +89,12 @@ pub fn play<R: Source, W: Sink>(
     reader: &mut R,
     writer: &mut W,
 ) -> Result<(), PlayFault>
-    ensures played { (input : List ℕ) → R.remaining reader.old ≡ Some input → IsPlayed (W.contents writer.old) (W.contents writer.new) input result }
-    ensures read { R.failures reader.new ≡ counted R.one_more (cannot_read result) (R.failures reader.old) }
-    ensures written { W.failures writer.new ≡ counted W.one_more (cannot_write result) (W.failures writer.old) }
+    ensures played { (input : List ℕ) → R.remaining reader.old ≡ Some input → IsPlayed
+        (W.contents writer.old) (W.contents writer.new) input result }
+    ensures read { R.failures reader.new ≡ counted R.one_more (cannot_read result)
+        (R.failures reader.old) }
+    ensures written { W.failures writer.new ≡ counted W.one_more (cannot_write result)
+        (W.failures writer.old) }
 {
     let input = read_all(alloc, reader)?;
     let Ok(mut book) = Book::new(alloc) else {

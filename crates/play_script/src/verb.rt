@@ -15,7 +15,7 @@ pub enum Verb {
     Undo,
     Confirm,
     Discard,
-    Hold,
+    Quarantine,
     Lift,
     Post,
     Round,
@@ -79,7 +79,7 @@ fn other_verb(word: &[u8]) -> Option<Verb>
     ensures { result ≡ spec.other_verb word.now }
 {
     if is(word, b"hold") {
-        return Some(Verb::Hold);
+        return Some(Verb::Quarantine);
     }
     if is(word, b"lift") {
         return Some(Verb::Lift);

@@ -3,7 +3,7 @@ use Rattle.std.specs.Result.{is_ok}
 use Rattle.std.proofs.lemmas.List.{map-append}
 use Rattle.play_script.specs.Pieces.{words}
 use Rattle.play_script.specs.PointLines.{point_words}
-use Rattle.play_script.specs.Told.{told_point, told_points}
+use Rattle.play_script.specs.Views.{words_of, words_of_each}
 use Rattle.play_script.proofs.PointSteps.{one_read, some_after}
 use Rattle.play_script.proofs.line_points.read_points.Goals as goal
 use Rattle.play_script.proofs.line_points.read_points.Goals.{then-not-refused, else-not-refused}
@@ -11,8 +11,8 @@ use Rattle.play_script.proofs.line_points.read_points.Goals.{then-not-refused, e
 pub loop-next-preserved : goal.loop-next-preserved
 loop-next-preserved c =
     let first = rw c.in-Some-rest.is at c.in-Some.ensures.point in
-    let p = told_point c.in-Some.next.point in
-    let read = told_points c.loop-next.points.items in
+    let p = words_of c.in-Some.next.point in
+    let read = words_of_each c.loop-next.points.items in
     let left = point_words (words c.loop-next.left.now) in
     let rest = point_words (words c.in-Some-rest.rest.now) in
     let all = point_words (words c.args.text.now) in (
@@ -21,7 +21,7 @@ loop-next-preserved c =
         | then-not-refused w ↦ λ e.
             let went : is_ok w.push.result ≡ true = w.is_err-refused.ensures.negation ∙ ap not (sym w.refused-is ∙ e) in
             let grown = rw went at w.push.ensures.items in
-            one_read read _ p left rest all (ap (λ v. told_points v.items) w.points-is ∙ ap told_points grown ∙ map-append told_point c.loop-next.points.items (c.in-Some.next.point ∷ [])) first (c.loop-next.invariant.1 w.if-not-refused.true)
+            one_read read _ p left rest all (ap (λ v. words_of_each v.items) w.points-is ∙ ap words_of_each grown ∙ map-append words_of c.loop-next.points.items (c.in-Some.next.point ∷ [])) first (c.loop-next.invariant.1 w.if-not-refused.true)
         | else-not-refused w ↦ λ e. let was = w.if-not-refused.false in let now = sym w.refused-is ∙ e in cc
       ],
     )

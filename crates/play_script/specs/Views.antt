@@ -6,22 +6,22 @@ use Rattle.std.specs.declared.alloc.Global.{Global}
 use denote.Ref.{Bor}
 use Rattle.play_script.specs.Pieces.{words}
 use Rattle.play_script.specs.PointLines.{PointWords, point_words}
-use Rattle.play_script.specs.Commands.{Asked, AdmitLine, TakeLine, OkLine, BackLine, ReportLine, UndoLine, ConfirmLine, DropLine, HoldLine, LiftLine, PostLine, RoundLine, PastLine, WireLine, AnswerLine, BadLine}
+use Rattle.play_script.specs.Commands.{Asked, AdmitLine, TakeLine, OkLine, BackLine, ReportLine, UndoLine, ConfirmLine, DropLine, QuarantineLine, LiftLine, PostLine, RoundLine, PastLine, WireLine, AnswerLine, BadLine}
 use Rattle.metric_events.specs.declared.limits.TheConstants.{MAX_TAKEN}
 use Rattle.play_script.specs.declared.point_line.PointLine.{PointLine}
 use Rattle.play_script.specs.declared.command.Command.{Command}
-use Rattle.play_script.specs.declared.command.Command.TheVariants.{Admit, Take, Settle, GiveBack, Report, Undo, Confirm, Discard, Hold, Lift, Post, Round, Past, Wire, Answered}
+use Rattle.play_script.specs.declared.command.Command.TheVariants.{Admit, Take, Settle, GiveBack, Report, Undo, Confirm, Discard, Quarantine, Lift, Post, Round, Past, Wire, Answered}
 
-abbrev pub told_point : PointLine → PointWords
-told_point p = record { name = p.name.now; start = p.start; end = p.end; value = p.value }
+abbrev pub words_of : PointLine → PointWords
+words_of p = record { name = p.name.now; start = p.start; end = p.end; value = p.value }
 
-abbrev pub told_points : List PointLine → List PointWords
-told_points points = map told_point points
+abbrev pub words_of_each : List PointLine → List PointWords
+words_of_each points = map words_of points
 
 -- these are the points that were asked for, at least one
 abbrev pub AreRead : Option (Vec PointLine Global) → Option (List PointWords) → Type 0
 AreRead None asked = asked ≡ None
-AreRead (Some points) asked = (asked ≡ Some (told_points points.items)) × (0 < vec_len points)
+AreRead (Some points) asked = (asked ≡ Some (words_of_each points.items)) × (0 < vec_len points)
 
 -- the words of the rest of a line, where there is one
 abbrev pub rest_words : Option (Bor (List ℕ)) → List (List ℕ)
@@ -33,23 +33,23 @@ abbrev pub points_after : Option (Bor (List ℕ)) → Option (List PointWords)
 points_after rest = point_words (rest_words rest)
 
 -- what a command asks for
-abbrev pub told : Option Command → Asked
-told None = BadLine
-told (Some (Admit sender points)) = AdmitLine sender.now (told_points points.items)
-told (Some (Take max)) = TakeLine max
-told (Some (Settle flush)) = OkLine flush
-told (Some (GiveBack flush)) = BackLine flush
-told (Some Report) = ReportLine
-told (Some (Undo batch)) = UndoLine batch
-told (Some (Confirm batch)) = ConfirmLine batch
-told (Some (Discard flush)) = DropLine flush
-told (Some (Hold sender)) = HoldLine sender.now
-told (Some (Lift sender)) = LiftLine sender.now
-told (Some (Post sender body)) = PostLine sender.now body.now
-told (Some Round) = RoundLine
-told (Some Past) = PastLine
-told (Some (Wire max)) = WireLine max
-told (Some (Answered flush answer)) = AnswerLine flush answer
+abbrev pub asked_by : Option Command → Asked
+asked_by None = BadLine
+asked_by (Some (Admit sender points)) = AdmitLine sender.now (words_of_each points.items)
+asked_by (Some (Take max)) = TakeLine max
+asked_by (Some (Settle flush)) = OkLine flush
+asked_by (Some (GiveBack flush)) = BackLine flush
+asked_by (Some Report) = ReportLine
+asked_by (Some (Undo batch)) = UndoLine batch
+asked_by (Some (Confirm batch)) = ConfirmLine batch
+asked_by (Some (Discard flush)) = DropLine flush
+asked_by (Some (Quarantine sender)) = QuarantineLine sender.now
+asked_by (Some (Lift sender)) = LiftLine sender.now
+asked_by (Some (Post sender body)) = PostLine sender.now body.now
+asked_by (Some Round) = RoundLine
+asked_by (Some Past) = PastLine
+asked_by (Some (Wire max)) = WireLine max
+asked_by (Some (Answered flush answer)) = AnswerLine flush answer
 
 -- the parts of a command are in their ranges
 abbrev pub IsReady : Option Command → Type 0
@@ -62,7 +62,7 @@ IsReady (Some Report) = ⊤
 IsReady (Some (Undo batch)) = ⊤
 IsReady (Some (Confirm batch)) = ⊤
 IsReady (Some (Discard flush)) = ⊤
-IsReady (Some (Hold sender)) = is_sender_name sender.now ≡ true
+IsReady (Some (Quarantine sender)) = is_sender_name sender.now ≡ true
 IsReady (Some (Lift sender)) = is_sender_name sender.now ≡ true
 IsReady (Some (Post sender body)) = is_sender_name sender.now ≡ true
 IsReady (Some Round) = ⊤
