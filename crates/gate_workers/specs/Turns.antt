@@ -1,5 +1,5 @@
 -- A flush turn: of any store, and after a history.
-use Rattle.std.specs.Prelude.{◌≡◌, ℕ, ◌+◌, Bool, true, false, List, [], ◌∷◌, length, Option, Some, None, Result, Ok, Err}
+use Rattle.std.specs.Prelude.{◌≡◌, ℕ, ◌+◌, List, [], ◌∷◌, length, Option, Some, None, Result, Ok, Err}
 use Rattle.metric_events.specs.History.{History, ◌▸◌}
 use Rattle.metric_events.specs.Choice.{flush_points}
 use Rattle.metric_events.specs.DataPoint.{DataPoint}
