@@ -4,15 +4,10 @@
 #   - the rehearsal with its defaults, 20 times in a row
 #   - the shortest and the longest, five times each
 #   - one that is not: a line that is faulty
-# What is wanted is written out from docs/FORMATS.md. Each line tells one check; the last line tells how
-# many passed and failed, and the status is 0 where all passed.
+# What is wanted is written out from docs/FORMATS.md. Each line is one check; the last line counts those
+# that passed and failed, and the status is 0 where all passed.
 
-[ $# -eq 1 ] && [ -x "$1" ] || { echo "usage: $0 PROGRAM" >&2; exit 2; }
-program=$1
-folder=$(mktemp -d) || exit 2
-trap 'rm -rf "$folder"' EXIT
-passed=0
-failed=0
+. "$(dirname "$0")/checks.sh"
 
 # wanted SENDERS BATCHES: what such a rehearsal prints
 wanted() {
@@ -38,14 +33,12 @@ rehearses() {
         timeout 120 "$program" rehearse "$@" > "$folder/printed" 2> "$folder/errors"
         status=$?
         if [ $status -ne 0 ] || [ -s "$folder/errors" ] || ! cmp -s "$folder/wanted" "$folder/printed"; then
-            failed=$((failed + 1))
-            echo "failed: $what: run $run, status $status"
+            fail "$what" "run $run, status $status"
             cat "$folder/errors" "$folder/printed"
             return
         fi
     done
-    passed=$((passed + 1))
-    echo "passed: $what"
+    pass "$what"
 }
 
 # faulty ARGUMENTS: the line is refused with a text
@@ -53,11 +46,9 @@ faulty() {
     timeout 120 "$program" rehearse "$@" > "$folder/printed" 2> "$folder/errors"
     status=$?
     if [ $status -eq 2 ] && [ ! -s "$folder/printed" ] && [ -s "$folder/errors" ]; then
-        passed=$((passed + 1))
-        echo "passed: rehearse $* is refused"
+        pass "rehearse $* is refused"
     else
-        failed=$((failed + 1))
-        echo "failed: rehearse $*: status $status"
+        fail "rehearse $*" "status $status"
     fi
 }
 
@@ -68,5 +59,4 @@ faulty --senders 5
 faulty --batches 0
 faulty --connections 1
 
-echo "$passed passed, $failed failed"
-[ $failed -eq 0 ]
+finish

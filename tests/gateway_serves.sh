@@ -1,49 +1,27 @@
 #!/bin/sh
 # The gateway over loopback, as a sender and a back end see it. Call: tests/gateway_serves.sh PROGRAM,
 # with the path of the built gateway. It needs curl and python3, as tests/needs installs them.
-#   - bodies are posted: whole, in chunks, empty, out of order, of another type, by a held sender, too long
-#   - flushes are ordered from a back end that settles, returns and drops them; what it got is compared byte by byte
+#   - bodies are posted: whole, in chunks, empty, out of order, of another type, by a quarantined sender,
+#     too long
+#   - flushes are ordered from a back end that settles, returns and drops them; what it got is compared
+#     byte by byte
 #   - the report is read, and printed at the end
 #   - flushes to nobody and to a back end that says nothing back are returned
-#   - rounds of one connection are told from rounds of a thousand, and flushes of one series from larger ones
+#   - rounds of one connection differ from rounds of a thousand, and flushes of one series from larger ones
 #   - senders that go away or say nothing do not keep others from being served
-#   - faults of the command line, of the address, of a connection and of standard output end the program as told
-# What is wanted is written out from docs/FORMATS.md. Each line tells one check; the last line tells how
-# many passed and failed, and the status is 0 where all passed. How long a slow party may take is in tests/slow_parties.py.
+#   - faults of the command line, of the address, of a connection and of standard output end the program
+#     with their text and status
+# What is wanted is written out from docs/FORMATS.md. Each line is one check; the last line counts those
+# that passed and failed, and the status is 0 where all passed. How long a slow party may take is in
+# tests/slow_parties.py.
 
-[ $# -eq 1 ] && [ -x "$1" ] || { echo "usage: $0 PROGRAM" >&2; exit 2; }
-program=$1
+. "$(dirname "$0")/checks.sh"
 tests=$(dirname "$0")
 command -v curl > /dev/null || { echo 'no curl' >&2; exit 2; }
 command -v python3 > /dev/null || { echo 'no python3' >&2; exit 2; }
-folder=$(mktemp -d) || exit 2
 gateway=
 back_end=
 trap 'kill $gateway $back_end 2> /dev/null; rm -rf "$folder"' EXIT
-passed=0
-failed=0
-
-# same WHAT WANTED FOUND
-same() {
-    if [ "$2" = "$3" ]; then
-        passed=$((passed + 1))
-        echo "passed: $1"
-    else
-        failed=$((failed + 1))
-        echo "failed: $1: wanted '$2', found '$3'"
-    fi
-}
-
-# same_bytes WHAT WANTED_FILE FOUND_FILE
-same_bytes() {
-    if cmp "$2" "$3" > "$folder/difference" 2>&1; then
-        passed=$((passed + 1))
-        echo "passed: $1"
-    else
-        failed=$((failed + 1))
-        echo "failed: $1: $(cat "$folder/difference")"
-    fi
-}
 
 # Where nobody listens: the port on which a server throws away what it gets. No gateway is given it.
 nobody=127.0.0.1:9
@@ -62,7 +40,7 @@ wait_until() {
     done
 }
 
-# listens: the kernel's table tells it, since a connection would be one of those that are served
+# listens: by the kernel's table, since a connection would be one of those that are served
 listens() {
     grep -q "0100007F:$(printf '%04X' "$port") 00000000:0000 0A" /proc/net/tcp
 }
@@ -151,10 +129,10 @@ ask 'another path' '{"message":"no such path"} 404' -H "$json" -d '{}' "$at/v1/t
 ask 'another method' '{"message":"wrong method"} 405' "$at/v1/metrics"
 ask 'a flush that is settled' '{"act":"settled","flush":"1","points":"1"} 200' -X POST "$at/flush"
 ask 'a flush of nothing' '{"act":"nothing"} 200' -X POST "$at/flush"
-ask 'a sender is held' '{} 200' -X POST "$at/quarantine/A"
-ask 'a held sender' '{"message":"quarantined"} 403' \
+ask 'a sender is quarantined' '{} 200' -X POST "$at/quarantine/A"
+ask 'a quarantined sender' '{"message":"quarantined"} 403' \
     -H "$json" -H 'x-sender: A' -d "$(body 20 30 7)" "$at/v1/metrics"
-ask 'a sender is let go' '{} 200' -X POST "$at/lift/A"
+ask 'a sender is released' '{} 200' -X POST "$at/lift/A"
 ask 'a body in chunks' '{} 200' \
     -H "$json" -H 'x-sender: A' -H 'Transfer-Encoding: chunked' -d "$(body 20 30 7)" "$at/v1/metrics"
 ask 'a flush that is returned' '{"act":"returned","flush":"2","points":"1","retryAfter":"2"} 200' -X POST "$at/flush"
@@ -205,7 +183,7 @@ ask 'the report of the last round' "$stored
 gateway_ended 'rounds of one connection' "$stored
 admitted 1 acknowledged 0"
 
-# in_round WHAT ROUND TOLD: what the report tells of a point in the round behind the one that took and settled it
+# in_round WHAT ROUND REPORT: what is reported of a point in the round after the one that settled it
 in_round() {
     start_back_end 200
     start "$back_at" 4 --round "$2"
@@ -310,5 +288,4 @@ status=$?
 same 'closed output, status' 1 "$status"
 same 'closed output, standard error' 'gateway: cannot write' "$(cat "$folder/errors")"
 
-echo "$passed passed, $failed failed"
-[ "$failed" -eq 0 ]
+finish

@@ -1,29 +1,14 @@
 #!/bin/sh
-# The ends of the built program play, which no contract speaks of: what stands on standard error and
-# which status it leaves. Call: tests/play_ends.sh PROGRAM, with the path of the built program.
+# The ends of the built program play, of which no contract speaks: what is on standard error, and the
+# status. Call: tests/play_ends.sh PROGRAM, with the path of the built program.
 #   - a closed standard output: play: cannot write, status 1
 #   - 16,777,217 bytes of input, one too many: play: input too long, status 1, and no reply
 #   - 16,777,216 bytes of input: a reply, nothing on standard error, status 0
 #   - a standard input that can't be read: play: cannot read, status 1, and no reply
-# Each line tells one check; the last line tells how many passed and failed, and the status is 0 where all passed.
+# Each line is one check; the last line counts those that passed and failed, and the status is 0 where
+# all passed.
 
-[ $# -eq 1 ] && [ -x "$1" ] || { echo "usage: $0 PROGRAM" >&2; exit 2; }
-program=$1
-folder=$(mktemp -d) || exit 2
-trap 'rm -rf "$folder"' EXIT
-passed=0
-failed=0
-
-# same WHAT WANTED FOUND
-same() {
-    if [ "$2" = "$3" ]; then
-        passed=$((passed + 1))
-        echo "passed: $1"
-    else
-        failed=$((failed + 1))
-        echo "failed: $1: wanted '$2', found '$3'"
-    fi
-}
+. "$(dirname "$0")/checks.sh"
 
 # ended NAME STATUS ERRORS: of the run whose status and standard error were kept
 ended() {
@@ -58,5 +43,4 @@ status=$?
 ended 'a folder as input' 1 'play: cannot read'
 same 'a folder as input, replies' '' "$(cat "$folder/replies")"
 
-echo "$passed passed, $failed failed"
-[ "$failed" -eq 0 ]
+finish
