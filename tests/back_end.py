@@ -1,5 +1,5 @@
 #!/usr/bin/env python3
-"""A back end for tests: takes so many requests and gives them the answers that it is told.
+"""A back end for tests: takes a request for each of its arguments, and answers it so.
 
     tests/back_end.py FOLDER ANSWER ..
 
@@ -13,11 +13,11 @@ import sys
 from loopback import answered, request_of
 
 
-def answer_of(told):
-    """The bytes of an answer."""
-    status, _, seconds = told.partition(",")
+def bytes_of(answer):
+    """The bytes of an answer, by its argument."""
+    status, _, seconds = answer.partition(",")
     retry = f"Retry-After: {seconds}\r\n" if seconds else ""
-    return answered(f"{status} Told\r\n{retry}".encode())
+    return answered(f"{status} Answered\r\n{retry}".encode())
 
 
 def main():
@@ -25,12 +25,12 @@ def main():
     listener = socket.create_server(("127.0.0.1", 0))
     with open(f"{folder}/port", "w") as port:
         port.write(str(listener.getsockname()[1]))
-    for number, told in enumerate(answers, 1):
+    for number, answer in enumerate(answers, 1):
         connection, _ = listener.accept()
         with connection, open(f"{folder}/request-{number}", "wb") as file:
             file.write(request_of(connection))
-            if told != "none":
-                connection.sendall(answer_of(told))
+            if answer != "none":
+                connection.sendall(bytes_of(answer))
 
 
 main()

@@ -4,13 +4,14 @@
     tests/behind_proxies.py PROGRAM [haproxy|nginx|levels ..]
 
 Sixteen senders post on connections that they keep, flushes are ordered, and the back ends refuse one request in three.
-Meanwhile the proxy is killed and started again, and one gateway is replaced by operate/handover. What the senders
-were told is compared with what the back ends took, sender by sender: each post once, in order, and each sender in one
-gateway alone. Then names by token and certificate, HTTP/2, hidden routes, sizes, codings, and senders that stall.
+Meanwhile the proxy is killed and started again, and one gateway is replaced by operate/handover. What was
+answered to the senders is compared with what the back ends took, sender by sender: each post once, in order, and each
+sender in one gateway alone. Then names by token and certificate, HTTP/2, hidden routes, sizes, codings, and senders
+that stall.
 The levels are these gateways with an upper gateway as their back end, and a haproxy between them.
 
 It needs haproxy, nginx, curl, openssl and socat, for gzip libnginx-mod-http-lua and lua-zlib. Where one is missing a line
-says what is left out, and the status is 77. Each other line tells one check; the last one tells how many passed and
+says what is left out, and the status is 77. Each other line is one check; the last one counts those that passed and
 failed, and the status is 1 where one failed.
 """
 import contextlib
@@ -145,8 +146,9 @@ def under_load(program, checks, stack, proxy, gateways, back_ends):
     new = gateway_at(stack, program, back_ends[0].port, "--receivers", "4", "--flushers", "2")
     back_ends[0].refuses = False
     old = gateways[0]
-    told = f"127.0.0.1:{old.port} is drained\n127.0.0.1:{old.port} may be stopped, and 127.0.0.1:{new.port} be flushed"
-    checks.same(f"{kind}: a gateway is replaced under load", (0, told), proxy.handover(old, new))
+    said = (f"127.0.0.1:{old.port} is drained\n"
+            f"127.0.0.1:{old.port} may be stopped, and 127.0.0.1:{new.port} be flushed")
+    checks.same(f"{kind}: a gateway is replaced under load", (0, said), proxy.handover(old, new))
     end_gateway(old)
     gateways[0] = new
     checks.same(f"{kind}: all senders end", True, senders.end())
@@ -220,7 +222,7 @@ def sizes(checks, proxy, curl):
     head = b"POST /v1/metrics HTTP/1.1\r\nHost: x\r\nContent-Type: application/json\r\nx-sender: e\r\n"
     with socket.create_connection(("127.0.0.1", proxy.plain), SECONDS) as client:
         client.sendall(head + b"Content-Length: 2\r\nExpect: 100-continue\r\n\r\n")
-        checks.same(f"{kind}: a client that waits is told to go on", b"HTTP/1.1 100", client.recv(12))
+        checks.same(f"{kind}: a client that waits is asked to go on", b"HTTP/1.1 100", client.recv(12))
 
 
 def codings(checks, proxy, curl):

@@ -1,4 +1,4 @@
-"""Checks, each told in a line, and how many of them passed and failed in the last one."""
+"""Checks: a line for each, and a last one that counts those that passed and failed."""
 import threading
 
 # The status of a script that left something out for want of a program.

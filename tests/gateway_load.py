@@ -5,10 +5,10 @@
 
 Eight senders post 2,000 points of value 1, each on a connection of its own, while flushes are ordered;
 the back end refuses one request in three. So what it took plus what is stored at the end is what was
-accepted, whatever the order was. The same in more than 40 rounds; and with one sender that never ends
-its request, beside which the others are served by the other receiver.
+accepted, whatever the order was. The same with a round for each 50 connections; and with one sender that
+never ends its request, beside which the others are served by the other receiver.
 
-Each line tells one check; the last line tells how many passed and failed, and the status is 0 where all
+Each line is one check; the last line counts those that passed and failed, and the status is 0 where all
 passed.
 """
 import re
@@ -114,7 +114,7 @@ def slow(program, checks):
 def main(program):
     checks = Checks()
     load(program, checks, "one round", "--receivers", "8", "--flushers", "4")
-    load(program, checks, "more than 40 rounds", "--receivers", "4", "--flushers", "2", "--round", "50")
+    load(program, checks, "rounds of 50", "--receivers", "4", "--flushers", "2", "--round", "50")
     slow(program, checks)
     return checks.end()
 

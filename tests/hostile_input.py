@@ -9,7 +9,7 @@ Call: tests/hostile_input.py PROGRAM, with the path of the built gateway.
   - The back end closes in the middle of flush 1, a later point of the series is admitted meanwhile, and
     flush 2 forwards one point over both with their sum.
   - A back end that does not answer holds one flusher: another flush and the receivers go on.
-Each line tells one check; the last line tells how many passed and failed, and the status is 0 where none
+Each line is one check; the last line counts those that passed and failed, and the status is 0 where none
 failed.
 """
 import os
@@ -146,8 +146,9 @@ def held_flusher(program, checks):
     checks.same("a point of b", DONE, gateway.ask(posted(point(10, 20, 5, "b"))))
     checks.same("flush 2 goes on", turn("settled", 2), gateway.ask(ordered("POST /flush")))
     settled = series("b", "1,5,0", "0,0,0", "0,0,0")
-    held = response(b"200 OK", b"text/plain", series("a", "0,0,0", "1,5,0", "0,0,0") + settled + b"end\n")
-    checks.same("the report meanwhile", held, gateway.ask(ordered("GET /report")))
+    sent = series("a", "0,0,0", "1,5,0", "0,0,0")
+    report = response(b"200 OK", b"text/plain", sent + settled + b"end\n")
+    checks.same("the report meanwhile", report, gateway.ask(ordered("GET /report")))
     back_end.released.set()
     order.join(SECONDS)
     checks.same("flush 1 is given back", [turn("returned", 1)], first)

@@ -1,5 +1,5 @@
-"""The built gateway over loopback: a client that reads whole answers, and a back end that is told how to
-answer."""
+"""The built gateway over loopback: a client that reads whole answers, and a back end that is given its
+answers."""
 import itertools
 import json
 import os
@@ -121,8 +121,8 @@ def read_all(connection):
 
 
 class BackEnd:
-    """A back end that answers each request by the next of these answers, and 200 after them. An answer None is
-    a connection that is closed without one."""
+    """A back end that answers each request by the next of these answers, and 200 after them. An answer None
+    is a connection that is closed without one."""
 
     def __init__(self, answers=()):
         self.answers = list(answers)
@@ -170,7 +170,7 @@ class BackEnd:
 
 
 def request_of(connection):
-    """The bytes of a request, whose head tells its Content-Length, or of what came of it."""
+    """The bytes of a request, whose head has its Content-Length, or of what came of it."""
     text = b""
     while not is_whole(text):
         piece = connection.recv(65536)

@@ -4,20 +4,19 @@ says nothing and goes away; and the line by which the service starts the gateway
 
     tests/operating_scripts.py PROGRAM
 
-It needs curl and flock; where one is missing a line says what is left out, and the status is 77. Each other line tells one
-check; the last one tells how many passed and failed, and the status is 1 where one failed.
+It needs curl and flock; where one is missing a line says what is left out, and the status is 77. Each other line is one
+check; the last one counts those that passed and failed, and the status is 1 where one failed.
 """
 import os
 import re
 import shlex
 import signal
 import subprocess
-import sys
 import threading
 import time
 
 from loopback import SECONDS, BackEnd, free_port
-from shipped import (OPERATE, ask, end_gateway, folder, gateway_at, listens, missing, posting, run_script, script,
+from shipped import (OPERATE, ask, end_gateway, folder, gateway_at, missing, posting, run_script, script,
                      shipped, started, wait_until)
 
 OK, GONE = b"200 OK\r\n", None
@@ -143,7 +142,7 @@ def drains(program, checks, stack):
     site.drain("drain", 0, "is drained$")
     site.post()
     site.answers(NEVER)
-    site.drain("drain tells what is lost", 3, r"(?s)^LOST: .*is drained$")
+    site.drain("drain says what is lost", 3, r"(?s)^LOST: .*is drained$")
     site.post()
     site.answers(*[NOT_NOW] * 1000)
     site.drain("drain gives up and lists what is left", 75, "LEFT: stored 1, in flight 0, quarantined 0\nseries m0 ", "2")
@@ -152,7 +151,7 @@ def drains(program, checks, stack):
 
 
 def handovers(program, checks, stack):
-    """What handover says where it can't go on; that it does is told by tests/behind_proxies.py."""
+    """What handover says where it can't go on; that it does is a check of tests/behind_proxies.py."""
     site = Site(program, checks, stack)
     nobody = f"127.0.0.1:{free_port()}"
     for words in ([], [site.at, nobody], [site.at, nobody, "haproxy", "socket"], [site.at, nobody, "apache", "a", "b"]):

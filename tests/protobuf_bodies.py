@@ -8,8 +8,8 @@ definitions, which are built here by their names and numbers. They are posted as
 doubles written as whole numbers, as JavaScript writes them. The answers count the foreign points. One flush then forwards
 for each series one point, over all its spans, with its values, buckets and sums added up here.
 
-It needs python3-protobuf; where that is missing a line says so, and the status is 77. Each other line tells one check;
-the last one tells how many passed and failed, and the status is 1 where one failed.
+It needs python3-protobuf; where that is missing a line says so, and the status is 77. Each other line is one check;
+the last one counts those that passed and failed, and the status is 1 where one failed.
 """
 import importlib.util
 import json
@@ -31,7 +31,8 @@ except ImportError:
 
 ROUNDS = 120
 SEED = 20_231
-# Of each message its fields: name, number, type, and how it stands (one, many, maybe, or the name of its oneof).
+# Of each message its fields: name, number, type, and how many there are (one, many, maybe, or the name of
+# its oneof).
 MESSAGES = {
     "AnyValue": ["string_value 1 string value", "bool_value 2 bool value", "int_value 3 int64 value",
                  "double_value 4 double value", "array_value 5 ArrayValue value", "kvlist_value 6 KeyValueList value",

@@ -4,7 +4,7 @@ runs, and the top README's script has the replies of the built program play.
 
     tests/readme_examples.py PROGRAM
 
-PROGRAM is the built play. The last line tells how many examples there were and how many were wrong, and then the
+PROGRAM is the built play. The last line counts the examples and those that are wrong; where there is one the
 status is 1.
 """
 import os

@@ -14,15 +14,13 @@ while all from k on are, and makes the exchanges below over loopback.
   - At the end the gateway prints the report that all this leads to and how many points were admitted and
     acknowledged, status 0, or ends with `gateway: no memory`, status 1, and prints nothing; so it ends
     too where it can't start, or with `gateway: cannot start a thread`.
-The last line tells how many runs passed and failed, and the status is 0 where none failed.
+The last line counts the runs that passed and failed, and the status is 0 where none failed.
 """
 import copy
-import os
 import sys
-import tempfile
 
 from loopback import NO_MEMORY, BackEnd, Gateway, ordered, point, posted, response, sent_points
-from refusing import Counts, Refusing, Run, in_turn
+from refusing import Run, program_named, refuse_each
 
 JSON = b"application/json"
 DONE = response(b"200 OK", JSON, b"{}")
@@ -37,11 +35,11 @@ class Store:
         self.frontier = self.start = self.flushes = 0
         self.accepted = self.stored = self.acknowledged = (0, 0)
         self.owner = None
-        self.held = set()
+        self.quarantined = set()
         self.sent = []
 
     def post(self, start, end, value, sender="A"):
-        if sender in self.held:
+        if sender in self.quarantined:
             return response(b"403 Forbidden", JSON, b'{"message":"quarantined"}')
         if self.owner not in (None, sender):
             return response(b"400 Bad Request", JSON, b'{"message":"other writer: point 0"}')
@@ -75,14 +73,14 @@ class Store:
         """A turn whose request found no memory."""
         self.flushes += self.stored != (0, 0)
 
-    def hold(self):
-        self.held.add("B")
+    def quarantine(self):
+        self.quarantined.add("B")
         return DONE
 
     def lift(self):
-        if "B" not in self.held:
+        if "B" not in self.quarantined:
             return response(b"400 Bad Request", JSON, b'{"message":"not quarantined"}')
-        self.held.remove("B")
+        self.quarantined.remove("B")
         return DONE
 
     def report(self):
@@ -103,7 +101,7 @@ EXCHANGES = [
     (posted(point(10, 20, 5)), lambda store: store.post(10, 20, 5), False),
     (ordered("POST /flush"), Store.flush, True),
     (posted(point(20, 30, 7) + BLANKS), lambda store: store.post(20, 30, 7), False),
-    (ordered("POST /quarantine/B"), Store.hold, False),
+    (ordered("POST /quarantine/B"), Store.quarantine, False),
     (posted(point(30, 40, 1), "B"), lambda store: store.post(30, 40, 1, "B"), False),
     (posted(point(10, 20, 5)), lambda store: store.post(10, 20, 5), False),
     (ordered("POST /flush"), Store.flush, True),
@@ -135,7 +133,7 @@ def after(store, exchange, answer):
     return [store, returned] + [served for _, served in branches]
 
 
-def made(refusing, program, growth, form):
+def exchange_all(refusing, program, growth, form):
     """A run: the answers, the end, and what the back end got."""
     back_end = BackEnd([b"503 Service Unavailable\r\nRetry-After: 2\r\n"])
     environment = refusing.environment(growth, form)
@@ -191,21 +189,12 @@ def way_of(answers, bodies, run, form):
 
 
 def main(program):
-    counts = Counts("gateway")
+    def run_once(refusing, growth, form):
+        answers, bodies, run = exchange_all(refusing, program, growth, form)
+        return run, *way_of(answers, bodies, run, form)
 
-    def run_once(growth, form):
-        answers, bodies, run = made(refusing, program, growth, form)
-        way, told = way_of(answers, bodies, run, form)
-        counts.add(run, way, f"growth {growth} {form}: {told}")
-        return run
-
-    with tempfile.TemporaryDirectory() as folder:
-        refusing = Refusing(folder)
-        in_turn(run_once(0, "alone").growths or 0, run_once)
-    return counts.tell()
+    return refuse_each("gateway", run_once)
 
 
 if __name__ == "__main__":
-    if len(sys.argv) != 2 or not os.access(sys.argv[1], os.X_OK):
-        sys.exit(f"usage: {sys.argv[0]} PROGRAM")
-    sys.exit(main(sys.argv[1]))
+    sys.exit(main(program_named(sys.argv[1:])))

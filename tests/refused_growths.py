@@ -5,13 +5,13 @@ Call: tests/refused_growths.py PROGRAM [SCRIPT..], with the path of the built pl
 
 For each tests/scripts/NAME.script, and each k from 1 until a run meets no refusal, it runs the script
 while growth k alone is refused, and while all from k on are. The full run writes NAME.replies. Two
-lines are put behind each script, which tell what the store holds at its end.
+lines are put behind each script, which show what the store has at its end.
   - A run that met no refusal is the full run.
   - Else some lines, with k alone at most one, are answered `refused no-memory`, and the others as in a
     run of the script without those lines; a `wire` may also have taken its flush and given it back.
   - Or the run ends with `play: no memory` after whole replies, which are those of such a run.
   - Or each line is answered as in the full run, where the program can do without what it was refused.
-The last line tells how many runs passed and failed, and the status is 0 where none failed.
+The last line counts the runs that passed and failed, and the status is 0 where none failed.
 """
 import concurrent.futures
 import glob
@@ -21,7 +21,7 @@ import re
 import sys
 import tempfile
 
-from refusing import FORMS, HERE, Counts, Refusing, plain
+from refusing import FORMS, HERE, Counts, Refusing, plain, program_named
 
 PROBE = [b"report", b"take 1000"]
 NO_MEMORY = b"refused no-memory\n"
@@ -137,14 +137,14 @@ def play_all(refusing, counts, program, path):
         wanted = file.read()
     player = Player(program, name, script + PROBE)
     whole = plain([program], b"\n".join(script) + b"\n" if script else b"")
-    told = None if (whole.status, whole.out, whole.err) == (0, wanted, b"") else f"{name}: {whole.out}"
-    counts.add(whole, None if told else "without refusal", told)
+    is_right = (whole.status, whole.out, whole.err) == (0, wanted, b"")
+    counts.add(whole, "without refusal" if is_right else None, f"{name}: {whole.out}")
     given = b"\n".join(player.script) + b"\n"
     for form in FORMS:
         for growth in itertools.count(1):
             run = refusing.run([program], given, growth, form)
-            way, told = player.way_of(run, form)
-            counts.add(run, way, f"{name}, growth {growth} {form}: {told}")
+            way, fault = player.way_of(run, form)
+            counts.add(run, way, f"{name}, growth {growth} {form}: {fault}")
             if run.refused == 0 or run.status == "no end":
                 break
 
@@ -158,10 +158,8 @@ def main(program, *paths):
             jobs = [pool.submit(play_all, refusing, counts, program, path) for path in paths]
             for job in jobs:
                 job.result()
-    return counts.tell()
+    return counts.end()
 
 
 if __name__ == "__main__":
-    if len(sys.argv) < 2 or not os.access(sys.argv[1], os.X_OK):
-        sys.exit(f"usage: {sys.argv[0]} PROGRAM [SCRIPT..]")
-    sys.exit(main(*sys.argv[1:]))
+    sys.exit(main(program_named(sys.argv[1:], " [SCRIPT..]"), *sys.argv[2:]))

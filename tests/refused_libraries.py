@@ -3,7 +3,7 @@
 
 Call: tests/refused_libraries.py PROGRAM, with the path of the built growths; it needs gcc.
 
-The program makes each call, and again where it finds no memory; a line tells each answer. The full run
+The program makes each call, and again where it finds no memory; each answer is a line. The full run
 is crates/growths/stdout. For each k from 1 until a run meets no refusal:
   - With growth k alone refused the lines are those of the full run, and one of `no memory`, with the
     name of the call that met it; or those of the full run, where the call can do without.
@@ -12,17 +12,16 @@ is crates/growths/stdout. For each k from 1 until a run meets no refusal:
   - No call says that something changed, and none but the last ones ends the program.
   - Where the two books that it keeps find no memory the program ends with `growths: no memory`, and no
     line.
-The last line tells how many runs passed and failed, and the status is 0 where none failed.
+The last line counts the runs that passed and failed, and the status is 0 where none failed.
 """
 import os
 import sys
-import tempfile
 
-from refusing import HERE, Counts, Refusing, in_turn
+from refusing import HERE, program_named, refuse_each
 
 MARK = "no memory: "
 CUT = "the calls end here"
-# What a call is made on. Its growths are those of calls that stand in lines of their own.
+# What a call is made on. Its growths are those of calls that have lines of their own.
 SHARED = {"the value", "the batch", "the sender", "Book::totals", "Book::past", "SharedBook::totals"}
 
 
@@ -31,7 +30,7 @@ def ends_of(lines):
 
 
 def names_its_call(lines, place):
-    """Whether a line of `no memory` stands right before the line of its call."""
+    """Whether a line of `no memory` is right before the line of its call."""
     call = lines[place].removeprefix(MARK)
     return call in SHARED or lines[place + 1].startswith(call)
 
@@ -77,21 +76,13 @@ def way_of(full, run, form):
 def main(program):
     with open(os.path.join(HERE, "..", "crates", "growths", "stdout")) as file:
         full = file.read().splitlines()
-    counts = Counts("libraries")
 
-    def run_once(growth, form):
+    def run_once(refusing, growth, form):
         run = refusing.run([program], b"", growth, form)
-        way, told = way_of(full, run, form)
-        counts.add(run, way, f"growth {growth} {form}: {told}")
-        return run
+        return run, *way_of(full, run, form)
 
-    with tempfile.TemporaryDirectory() as folder:
-        refusing = Refusing(folder)
-        in_turn(run_once(0, "alone").growths or 0, run_once)
-    return counts.tell()
+    return refuse_each("libraries", run_once)
 
 
 if __name__ == "__main__":
-    if len(sys.argv) != 2 or not os.access(sys.argv[1], os.X_OK):
-        sys.exit(f"usage: {sys.argv[0]} PROGRAM")
-    sys.exit(main(sys.argv[1]))
+    sys.exit(main(program_named(sys.argv[1:])))

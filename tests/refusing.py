@@ -4,6 +4,8 @@ import itertools
 import os
 import re
 import subprocess
+import sys
+import tempfile
 import threading
 from collections import namedtuple
 
@@ -59,6 +61,29 @@ def plain(words, given):
     return Run(done.returncode, done.stdout, done.stderr, None, 0)
 
 
+def program_named(words, more=""):
+    """The program that a script is called with, where these words begin with one."""
+    if not words or not os.access(words[0], os.X_OK) or (len(words) > 1 and not more):
+        sys.exit(f"usage: {sys.argv[0]} PROGRAM{more}")
+    return words[0]
+
+
+def refuse_each(what, run_once):
+    """Calls run_once(refusing, growth, form), which returns a run, its way and what is wrong with it, for each
+    growth of the full run and those behind it. Returns the script's status."""
+    counts = Counts(what)
+
+    def count_once(growth, form):
+        run, way, fault = run_once(refusing, growth, form)
+        counts.add(run, way, f"growth {growth} {form}: {fault}")
+        return run
+
+    with tempfile.TemporaryDirectory() as folder:
+        refusing = Refusing(folder)
+        in_turn(count_once(0, "alone").growths or 0, count_once)
+    return counts.end()
+
+
 def in_turn(growths, run_once):
     """Makes a run for each growth of the full run and each form, side by side, and then for later growths
     until a run meets no refusal."""
@@ -72,7 +97,7 @@ def in_turn(growths, run_once):
 
 
 class Counts:
-    """What a runner ends by telling."""
+    """How many runs there were, and how they ended."""
 
     def __init__(self, what):
         self.what = what
@@ -80,20 +105,22 @@ class Counts:
         self.runs = self.refused = self.failed = 0
         self.ways = {}
 
-    def add(self, run, way, told=None):
-        """Counts a run: by which way a refusal ended, or why it failed, which is told."""
+    def add(self, run, way, fault=None):
+        """Counts a run: by the way in which it ended, or, where that is none, as one of this fault."""
         with self.lock:
             self.runs += 1
             if run.refused is None or run.refused:
                 self.refused += 1
             if way is None:
                 self.failed += 1
-                print(f"failed: {told}", flush=True)
+                print(f"failed: {fault}", flush=True)
             else:
                 self.ways[way] = self.ways.get(way, 0) + 1
 
-    def tell(self):
+    def end(self):
+        """The status of the script, and its last lines."""
         ways = ", ".join(f"{count} {way}" for way, count in sorted(self.ways.items()))
         print(f"{self.what}: {ways}")
-        print(f"{self.runs - self.failed} passed, {self.failed} failed, {self.refused} with a refusal", flush=True)
+        passed = self.runs - self.failed
+        print(f"{passed} passed, {self.failed} failed, {self.refused} with a refusal", flush=True)
         return 0 if self.failed == 0 and self.refused > 0 else 1

@@ -12,8 +12,8 @@ runs the crowd of 24 too, which takes three minutes.
     so many thrice.
   - Bodies of 9, 20 and 50 MB are refused, each read by a client that sends all before it reads.
   - Two orders to a back end that hangs: posts and the report are answered by the receivers that are left.
-All run side by side, in a little more than a minute, nearly all of it waiting. Each line tells one check;
-the last line tells how many passed and failed, and the status is 0 where none failed.
+All run side by side, in a little more than a minute, nearly all of it waiting. Each line is one check;
+the last line counts those that passed and failed, and the status is 0 where none failed.
 """
 import http.client
 import os
@@ -75,9 +75,9 @@ def end_of(gateway):
 class Slow(threading.Thread):
     """A slow sender: what it does on its connection, what it read at last, and the seconds up to then."""
 
-    def __init__(self, gateway, act):
+    def __init__(self, connection, act):
         super().__init__(daemon=True)
-        self.connection = gateway.connect()
+        self.connection = connection
         self.act = act
         self.read = None
         self.seconds = None
@@ -123,7 +123,7 @@ def slow_sender(program, checks, what, act):
     """A slow sender in the first round; the posts of others."""
     posts = ROUND + 4
     gateway = Gateway(program, NOBODY, 1 + posts, options=["--round", str(ROUND), "--receivers", "4"])
-    slow = Slow(gateway, act)
+    slow = Slow(gateway.connect(), act)
     time.sleep(0.5)
     answers = [asked(gateway, batch(number)) for number in range(posts)]
     slow.join(SLACK)
@@ -138,7 +138,7 @@ def slow_sender(program, checks, what, act):
 
 def late_sender(program, checks):
     gateway = Gateway(program, NOBODY, 1)
-    slow = Slow(gateway, late)
+    slow = Slow(gateway.connect(), late)
     slow.join(2 * REQUEST_SECONDS)
     checks.same("a sender that takes 45 seconds is served", DONE, slow.read)
     checks.same("a late sender: the end", (0, report(1, "late"), b""), end_of(gateway))
@@ -172,10 +172,7 @@ def slow_reader(program, checks):
     posts = ROUND + 4
     gateway = Gateway(program, NOBODY, 2 + posts, options=["--round", str(ROUND), "--receivers", "4"])
     checks.same("a slow reader: 9,000 series", DONE, asked(gateway, many_series(9000))[0])
-    slow = Slow.__new__(Slow)
-    threading.Thread.__init__(slow, daemon=True)
-    slow.connection, slow.act, slow.read, slow.seconds = narrow(gateway), never_reads, None, None
-    slow.start()
+    Slow(narrow(gateway), never_reads)
     time.sleep(0.5)
     answers = [asked(gateway, batch(number)) for number in range(posts)]
     checks.same("a slow reader: all others are answered", [DONE] * posts, [answer for answer, _ in answers])
@@ -192,7 +189,7 @@ def slow_reader(program, checks):
 def crowd(program, checks, count, seconds):
     """So many senders stall at 8 receivers, and one more comes."""
     gateway = Gateway(program, NOBODY, count + 1, options=["--receivers", "8"])
-    slow = [Slow(gateway, stall_in_body) for _ in range(count)]
+    slow = [Slow(gateway.connect(), stall_in_body) for _ in range(count)]
     time.sleep(0.5)
     answer, took = asked(gateway, batch(0))
     checks.same(f"{count} stalled senders: one more is answered", DONE, answer)
@@ -221,7 +218,7 @@ def long_bodies(program, checks):
 
 
 class HungBackEnd(BackEnd):
-    """A back end that takes requests and answers none until it is let go."""
+    """A back end that takes requests and answers none until it is released."""
 
     def __init__(self):
         self.released = threading.Event()
@@ -250,7 +247,7 @@ def hung_back_end(program, checks):
     back_end.released.set()
     for order in orders:
         order.join(AT_ONCE)
-    checks.true("a hung back end: both are given back once it lets go",
+    checks.true("a hung back end: both are given back once it is released",
                 len(turns) == 2 and all(b'{"act":"returned",' in turn for turn in turns), turns)
     checks.same("a hung back end: one more post", DONE, asked(gateway, batch(20))[0])
     checks.same("a hung back end: the end", (0, report(21), b""), end_of(gateway))
