@@ -8,8 +8,8 @@ FILE is bin/gateway, as `make build` makes it, where none is named. With no opti
 20 and 1,000 points a request and histograms of 20 (11 buckets each), over 800 series with 2 receivers;
 else each of the points with each of the kinds, series and receivers that are named. It needs gcc, for
 load.c, which posts; cargo and the Debian packages librust-serde-json-dev, librust-serde-derive-dev and
-librust-httparse-dev, for the plain program; and strace, for the system calls. What is missing is told, and
-left out.
+librust-httparse-dev, for the plain program; and strace, for the system calls. What is missing is left out,
+and a line says so.
 
 bench/plain is a gateway as one writes it in stock Rust: serde's derive, a hash map under a mutex, receivers
 as threads, one write an answer. It proves nothing, keeps nothing of a batch, undoes none, and has no
@@ -27,13 +27,15 @@ import os
 import re
 import shutil
 import signal
-import socket
 import subprocess
 import sys
 import tempfile
-import time
 
-ROOT = os.path.dirname(os.path.dirname(os.path.realpath(__file__)))
+from process import ROOT, memory, processor_seconds
+
+from loopback import free_port
+from shipped import listens, wait_until
+
 LOAD = f"{ROOT}/out/bench/load"
 PLAIN = f"{ROOT}/out/plain/release/plain"
 DEFAULT_ROWS = [("sum", 1), ("sum", 20), ("sum", 1000), ("histogram", 20)]
@@ -42,7 +44,6 @@ POINTS_A_RUN = 200_000
 REQUESTS = (200, 20_000)
 # A run that is traced is many times slower.
 TRACED_REQUESTS = 400
-TICK = 1 / os.sysconf("SC_CLK_TCK")
 NOBODY = "127.0.0.1:9"
 
 Row = collections.namedtuple("Row", "kind points series receivers")
@@ -59,13 +60,9 @@ class Server:
         self.posted = 0
 
     def __enter__(self):
-        row = f"0100007F:{self.port:04X} 00000000:0000 0A"
-        for _ in range(100):
-            with open("/proc/net/tcp", encoding="ascii") as table:
-                if row in table.read():
-                    return self
-            time.sleep(0.05)
-        sys.exit(f"{self.process.args[0]} does not listen")
+        if not wait_until(lambda: listens(self.port)):
+            sys.exit(f"{self.process.args[0]} does not listen")
+        return self
 
     def __exit__(self, *_):
         self.process.kill()
@@ -80,27 +77,10 @@ class Server:
         return int(whole), int(failed), *map(float, times)
 
     def seconds(self):
-        """The processor time of the process so far."""
-        with open(f"/proc/{self.process.pid}/stat", encoding="ascii") as file:
-            words = file.read().rpartition(")")[2].split()
-        return (int(words[11]) + int(words[12])) * TICK
+        return processor_seconds(self.process.pid)
 
-    def held(self):
-        """The memory of the process, in bytes."""
-        with open(f"/proc/{self.process.pid}/status", encoding="ascii") as file:
-            return int(re.search(r"VmRSS:\s+(\d+)", file.read())[1]) * 1024
-
-
-def free_port():
-    """A port below those that the system gives to clients."""
-    for port in range(20_000 + os.getpid() % 10_000, 32_000):
-        with socket.socket() as listener:
-            try:
-                listener.bind(("127.0.0.1", port))
-                return port
-            except OSError:
-                continue
-    sys.exit("no port is free")
+    def memory(self):
+        return memory(self.process.pid)
 
 
 def rounded(requests, clients):
@@ -118,26 +98,27 @@ def measure(command, environment, row, clients):
     requests = rounded(min(max(POINTS_A_RUN // row.points, REQUESTS[0]), REQUESTS[1]), clients)
     with Server(command, environment) as server:
         with_all_series(server, row, clients)
-        seconds, held = server.seconds(), server.held()
+        seconds, kept = server.seconds(), server.memory()
         whole, failed, took, median, last = server.load(row, requests, clients)
-        seconds, held = server.seconds() - seconds, server.held() - held
+        seconds, kept = server.seconds() - seconds, server.memory() - kept
     points = whole * row.points
-    return Figures(seconds / points * 1e6, seconds / whole * 1e6, whole / took, median, last, held / points, failed)
+    a_point, a_request = seconds / points * 1e6, seconds / whole * 1e6
+    return Figures(a_point, a_request, whole / took, median, last, kept / points, failed)
 
 
 def calls_a_request(command, environment, row, clients):
     """The system calls of each request by name, the most frequent ones first."""
     requests = rounded(TRACED_REQUESTS, clients)
-    with Server(command, environment) as server, tempfile.NamedTemporaryFile("r") as told:
+    with Server(command, environment) as server, tempfile.NamedTemporaryFile("r") as table:
         with_all_series(server, row, clients)
-        words = ["strace", "-f", "-c", "-o", told.name, "-p", str(server.process.pid)]
+        words = ["strace", "-f", "-c", "-o", table.name, "-p", str(server.process.pid)]
         tracer = subprocess.Popen(words, stderr=subprocess.PIPE, text=True)
         if "attached" not in tracer.stderr.readline():
             return "strace can't attach"
         whole = server.load(row, requests, clients)[0]
         tracer.send_signal(signal.SIGINT)
         tracer.communicate()
-        counts = re.findall(r"^ *[\d.]+ +[\d.]+ +\d+ +(\d+) +(?:\d+ +)?(\w+)$", told.read(), re.M)
+        counts = re.findall(r"^ *[\d.]+ +[\d.]+ +\d+ +(\d+) +(?:\d+ +)?(\w+)$", table.read(), re.M)
     counts = sorted(((int(count) / whole, name) for count, name in counts if name != "total"), reverse=True)
     names = ", ".join(f"{name} {count:.1f}" for count, name in counts if count >= 0.05)
     return f"{sum(count for count, _ in counts):.1f}: {names}"

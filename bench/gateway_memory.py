@@ -8,11 +8,9 @@ Resident memory before and after the posts of one round, of one sum each point, 
 import contextlib
 import json
 import os
-import re
 import sys
 
-HERE = os.path.dirname(os.path.abspath(__file__))
-sys.path.insert(0, os.path.join(HERE, "..", "tests"))
+from process import memory
 
 from loopback import free_port
 from shipped import ask, gateway_at, posting
@@ -27,22 +25,16 @@ def body(points, number):
     return json.dumps({"resourceMetrics": [{"scopeMetrics": [{"metrics": metrics}]}]})
 
 
-def resident(gateway):
-    """Kilobytes."""
-    with open(f"/proc/{gateway.process.pid}/status") as status:
-        return int(re.search(r"VmRSS:\s+(\d+)", status.read())[1])
-
-
 def measure(program, points, posts):
     with contextlib.ExitStack() as stack:
         gateway = gateway_at(stack, program, free_port(), "--receivers", "4")
         # The first two posts make the series.
         for number in range(posts + 2):
             if number == 2:
-                before = resident(gateway)
+                before = memory(gateway.process.pid)
             status, text = ask(gateway.port, "POST", "/v1/metrics", body(points, number), posting("A"))
             assert status == 200, text
-        kept = (resident(gateway) - before) * 1024 / (points * posts)
+        kept = (memory(gateway.process.pid) - before) / (points * posts)
         print(f"{points} points a post: {kept:.0f} bytes a point, {kept * points / 1024:.1f} KB a post", flush=True)
 
 

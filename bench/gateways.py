@@ -14,8 +14,7 @@ import subprocess
 import sys
 import time
 
-HERE = os.path.dirname(os.path.abspath(__file__))
-sys.path.insert(0, os.path.join(HERE, "..", "tests"))
+from process import ROOT
 
 import behind_proxies
 from loopback import free_port
@@ -38,10 +37,10 @@ def slots(kind, text, gateways):
 
 
 def load(ports, seconds):
-    """What wrk tells of its runs against these ports, side by side."""
+    """How many other answers wrk counts in its runs against these ports, side by side."""
     runs = []
     for number, port in enumerate(ports):
-        words = ["wrk", "-t", "2", "-c", str(max(2, CONNECTIONS // len(ports))), "-d", f"{seconds}s", "-s", f"{HERE}/posts.lua",
+        words = ["wrk", "-t", "2", "-c", str(max(2, CONNECTIONS // len(ports))), "-d", f"{seconds}s", "-s", f"{ROOT}/bench/posts.lua",
                  f"http://127.0.0.1:{port}"]
         runs.append(subprocess.Popen(words, stdout=subprocess.PIPE, text=True, env={**os.environ, "FIRST": f"w{number}-"}))
     texts = [run.communicate(timeout=10 * seconds + 60)[0] for run in runs]

@@ -8,10 +8,9 @@ named. A figure is the bytes of one row by the processor time of one call: that 
 second, the least of three, less that of a run with no call. `total` is a plain loop itself. What is
 printed says what was measured here, and asserts nothing.
 """
-
-import os
-import subprocess
 import sys
+
+from process import run_seconds
 
 KERNELS = ["copy", "fits", "add_into", "sub_from", "move_into", "total", "is_zero", "clear"]
 PLAIN = {"fits", "add_into", "sub_from", "move_into", "is_zero", "clear"}
@@ -24,11 +23,7 @@ RUNS = 3
 
 def seconds(program, name, words, times):
     """The processor time of a run."""
-    child = subprocess.Popen([program, name, str(words), str(times)], stdout=subprocess.DEVNULL)
-    _, status, usage = os.wait4(child.pid, 0)
-    if status != 0:
-        sys.exit(f"{program} {name} {words} {times} ended with status {status}")
-    return usage.ru_utime + usage.ru_stime
+    return run_seconds([program, name, str(words), str(times)])
 
 
 def bytes_a_second(program, name, words):

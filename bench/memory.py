@@ -9,13 +9,14 @@ The requests look like those of a real exporter: 200 points of 200 series each, 
 the resource, three of the point. Each series gets one point a request, so after the first request
 every point is of a known series. What is printed says what was measured here, and asserts nothing.
 """
-
 import json
 import os
 import subprocess
 import sys
 import tempfile
 import time
+
+from process import memory
 
 SERIES = 200
 COUNTS = [2_000, 20_000]
@@ -74,25 +75,16 @@ def script(points, flushes):
     return "\n".join(lines) + "\n" if lines else ""
 
 
-def peak_of(child):
-    """The most memory of a process so far, in bytes; 0 where it has ended."""
-    with open(f"/proc/{child.pid}/status") as status:
-        for line in status:
-            if line.startswith("VmHWM:"):
-                return int(line.split()[1]) * 1024
-    return 0
-
-
 def run(program, text):
     """Peak memory in bytes and processor time in seconds of a run over the text."""
     with tempfile.TemporaryFile() as stdin:
         stdin.write(text.encode())
         stdin.seek(0)
         child = subprocess.Popen([program], stdin=stdin, stdout=subprocess.DEVNULL)
-        # What wait4 tells of memory counts this process too, before it became the program.
+        # The memory that wait4 returns counts this process too, before it became the program.
         peak = 0
         while True:
-            peak = max(peak, peak_of(child))
+            peak = max(peak, memory(child.pid, "VmHWM"))
             done, status, usage = os.wait4(child.pid, os.WNOHANG)
             if done:
                 break

@@ -8,13 +8,9 @@ and at the end. LIBRARY is preloaded, for instance libjemalloc.so.2.
 """
 import collections
 import contextlib
-import json
 import os
 import subprocess
 import sys
-
-HERE = os.path.dirname(os.path.abspath(__file__))
-sys.path.insert(0, os.path.join(HERE, "..", "tests"))
 
 from gateway_memory import body
 from loopback import BackEnd, free_port, sent_points

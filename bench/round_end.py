@@ -9,13 +9,16 @@ one come from one sender, one after another, so that one of them waits over the 
 measured here, and asserts nothing.
 """
 import multiprocessing
-import os
 import socket
 import subprocess
 import sys
 import time
 
-ROOT = os.path.dirname(os.path.dirname(os.path.realpath(__file__)))
+from process import ROOT, memory, processor_seconds
+
+from loopback import free_port, posted, read_all
+from shipped import listens, wait_until
+
 DEFAULT_RUNS = ["1,32000", "20,20000", "1000,400", "1000,1000"]
 # With that of the last sender, no more than a gateway has.
 SERIES = 9_996
@@ -23,22 +26,6 @@ PROCESSES = 4
 # The last posts of a round, and the first of the next one, come one after another.
 LAST = 40
 FIRST = 10
-TICK = os.sysconf("SC_CLK_TCK")
-
-
-def free_port():
-    with socket.socket() as listener:
-        listener.bind(("127.0.0.1", 0))
-        return listener.getsockname()[1]
-
-
-def wait_until_it_listens(port):
-    row = f"0100007F:{port:04X} 00000000:0000 0A"
-    while True:
-        with open("/proc/net/tcp", encoding="ascii") as table:
-            if row in table.read():
-                return
-        time.sleep(0.02)
 
 
 class Sender:
@@ -64,15 +51,11 @@ class Sender:
 
     def post(self, points):
         """How many seconds the answer took."""
-        body = self.body(points)
-        head = f"POST /v1/metrics HTTP/1.1\r\nContent-Type: application/json\r\nx-sender: s{self.number}\r\n"
-        request = f"{head}Content-Length: {len(body)}\r\n\r\n".encode() + body
+        request = posted(self.body(points), f"s{self.number}")
         begun = time.monotonic()
         with socket.create_connection(("127.0.0.1", self.port)) as stream:
             stream.sendall(request)
-            answer = b""
-            while piece := stream.recv(65_536):
-                answer += piece
+            answer = read_all(stream)
         if not answer.startswith(b"HTTP/1.1 200"):
             sys.exit(f"a post was answered {answer[:200]}")
         return time.monotonic() - begun
@@ -84,24 +67,13 @@ def fill(port, number, posts, points):
         sender.post(points)
 
 
-def processor_seconds(pid):
-    with open(f"/proc/{pid}/stat", encoding="ascii") as file:
-        fields = file.read().rsplit(")", 1)[1].split()
-    return (int(fields[11]) + int(fields[12])) / TICK
-
-
-def resident_megabytes(pid):
-    with open(f"/proc/{pid}/status", encoding="ascii") as file:
-        return next(int(line.split()[1]) for line in file if line.startswith("VmRSS")) // 1024
-
-
 def run(program, points, posts):
     port = free_port()
     words = ["serve", "--backend", "127.0.0.1:9", "--connections", "1000000", "--receivers", "4"]
     words += ["--listen", f"127.0.0.1:{port}", "--round", str(posts)]
     gateway = subprocess.Popen([program, *words], stdout=subprocess.DEVNULL)
     try:
-        wait_until_it_listens(port)
+        wait_until(lambda: listens(port))
         each = (posts - LAST) // PROCESSES
         senders = [multiprocessing.Process(target=fill, args=(port, n, each, points)) for n in range(PROCESSES)]
         for sender in senders:
@@ -110,7 +82,7 @@ def run(program, points, posts):
             sender.join()
         last = Sender(port, PROCESSES, 1)
         before = [last.post(1) for _ in range(posts - each * PROCESSES - 1)]
-        kept = resident_megabytes(gateway.pid)
+        kept = memory(gateway.pid) >> 20
         used = processor_seconds(gateway.pid)
         over = [last.post(1) for _ in range(FIRST)]
         time.sleep(1)

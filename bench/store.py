@@ -8,11 +8,9 @@ time of a script less that of the same script without the calls that are measure
 reading of their lines and the writing of their replies too. What is printed says what was measured
 here, and asserts nothing.
 """
-
-import os
-import subprocess
 import sys
-import tempfile
+
+from process import run_seconds
 
 BATCH = 1_000
 TIMES = 200
@@ -53,19 +51,8 @@ def thousand(series, time):
 
 def seconds(program, lines):
     """The processor time of a run over these lines, the least of some runs."""
-    return min(run(program, lines) for _ in range(RUNS))
-
-
-def run(program, lines):
-    """The processor time of one run."""
-    with tempfile.TemporaryFile() as stdin:
-        stdin.write("".join(line + "\n" for line in lines).encode())
-        stdin.seek(0)
-        child = subprocess.Popen([program], stdin=stdin, stdout=subprocess.DEVNULL)
-        _, status, usage = os.wait4(child.pid, 0)
-    if status != 0:
-        sys.exit(f"{program} ended with status {status}")
-    return usage.ru_utime + usage.ru_stime
+    text = "".join(line + "\n" for line in lines)
+    return min(run_seconds([program], text) for _ in range(RUNS))
 
 
 def each_of(program, before, calls):
@@ -78,8 +65,8 @@ def main():
     program = sys.argv[1] if len(sys.argv) > 1 else "bin/play"
     for series in SERIES:
         admits = [thousand(series, time) for time in range(TIMES)]
-        told = each_of(program, filled(series), admits)
-        print(f"{series} series: an admit of {BATCH} points {told}")
+        taken = each_of(program, filled(series), admits)
+        print(f"{series} series: an admit of {BATCH} points {taken}")
     before = filled(10_000)
     first = len(before) + 1
     admits = [thousand(10_000, time) for time in range(TIMES)]
