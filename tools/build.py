@@ -1,11 +1,11 @@
 #!/usr/bin/env python3
-"""Proves programs and all that they stand on, and builds them into bin/.
+"""Proves programs and all crates below them, and builds them into bin/.
 
     tools/build.py [CRATE ..]
 
-The crates are play and gateway, or those that are named. Crates that don't stand on each other are
-proved side by side, as many as processors and memory carry; what is proved and has not changed since is
-not proved again, also not after an interrupt. The logs are in out/logs.
+The crates are play and gateway, or those that are named. Crates that don't use each other are proved
+side by side, as many as processors and memory carry; what is proved and has not changed since is not
+proved again, also not after an interrupt. The logs are in out/logs.
 """
 import hashlib
 import os
@@ -16,7 +16,7 @@ import sys
 import time
 
 from crates import ROOT, Digests, content, read_crates
-from steps import GIGABYTE, Failed, Step, Steps, told
+from steps import GIGABYTE, Failed, Step, Steps, shown
 from workspace import BuildSpace, lock_room
 
 PROGRAMS = ["play", "gateway"]
@@ -30,7 +30,7 @@ MOST_JOBS = 4
 
 
 class Building:
-    """Which crates are built as they stand, and steps for those that are not."""
+    """Which crates are built as they are, and steps for those that are not."""
 
     def __init__(self):
         self.digests = Digests()
@@ -39,8 +39,9 @@ class Building:
         return content(mark_of(crate)) == self.mark(crate)
 
     def mark(self, crate):
-        """What stands beside a built crate: what it was made of, and what was made."""
-        return f"{self.digests.of(crate)} {hashlib.sha256(content(made_by(crate))).hexdigest()}\n".encode()
+        """What is kept beside a built crate: what it was made of, and what was made."""
+        made = hashlib.sha256(content(made_by(crate))).hexdigest()
+        return f"{self.digests.of(crate)} {made}\n".encode()
 
     def step(self, crate, among):
         lines = crate.lines()
@@ -128,7 +129,7 @@ def main(names):
     for crate in programs:
         install(crate)
     built = " and ".join(shlex.quote(f"bin/{crate.name}") for crate in programs)
-    print(f"{built or 'the libraries'}: built in {told(time.monotonic() - begun)}")
+    print(f"{built or 'the libraries'}: built in {shown(time.monotonic() - begun)}")
     return 0
 
 

@@ -73,8 +73,8 @@ class Digests:
     """What a crate is made of, as one word: its files, its line, the toolchain, and all this of the crates below."""
 
     def __init__(self):
-        told = subprocess.run(["rt", "version"], stdout=subprocess.PIPE, check=True)
-        self.toolchain = told.stdout
+        version = subprocess.run(["rt", "version"], stdout=subprocess.PIPE, check=True)
+        self.toolchain = version.stdout
         self.known = {}
 
     def of(self, crate):

@@ -15,7 +15,7 @@ import sys
 import time
 
 from crates import ROOT, content, read_crates
-from steps import Failed, Step, Steps, end_of, end_of_lines, told
+from steps import Failed, Step, Steps, end_of, end_of_lines, shown
 from workspace import lock_room
 
 PLAY = "crates/play/out/play"
@@ -46,17 +46,17 @@ OWN_NETWORK = "tools/own_network.py"
 LEFT_OUT = 77
 
 COUNTS = re.compile(r"(\d+) passed, (\d+) failed$")
-# What `rt ci` tells as it goes: what a reader waits for, and what is wrong.
+# Lines of `rt ci` as it goes: what a reader waits for, and what is wrong.
 PROVED = re.compile(r"rt: (\w+)(?:: (its tests) are)? proved$")
 TRYING = re.compile(r"rt: (\w+): trying its must-fail edits \((\d+)\)$")
 WRONG = re.compile(r"rt: .*(NOT PROVED|its tests FAILED)$")
-WORTH_TELLING = re.compile(r"rt: (note: |must-fail .*(NOT REFUSED|BAD EDIT)|\w+ NOT PROVED: )")
+WORTH_SHOWING = re.compile(r"rt: (note: |must-fail .*(NOT REFUSED|BAD EDIT)|\w+ NOT PROVED: )")
 BLOCK = re.compile(r"== \w")
 IS_TEST = re.compile(rb"#\[test\]")
 
 
 class Prover:
-    """One run of `rt ci`, told as it goes."""
+    """One run of `rt ci`, shown as it goes."""
 
     def __init__(self):
         crates = read_crates().values()
@@ -82,21 +82,21 @@ class Prover:
             crate, tests = PROVED.match(line).groups()
             self.proved += 1
             step.count = f"{self.proved} of {self.whole}"
-            self.tell(step, f"{step.count}  {crate}{': ' + tests if tests else ''} proved")
+            self.show(step, f"{step.count}  {crate}{': ' + tests if tests else ''} proved")
         elif TRYING.match(line):
             crate, edits = TRYING.match(line).groups()
-            self.tell(step, f"{' ' * len(step.count)}  {crate}: its edits are tried ({edits})")
+            self.show(step, f"{' ' * len(step.count)}  {crate}: its edits are tried ({edits})")
         elif WRONG.match(line):
             for it in end_of_lines(self.block):
                 step.say(f"    | {it}")
-        elif WORTH_TELLING.match(line):
+        elif WORTH_SHOWING.match(line):
             step.say(line)
         elif COUNTS.match(line):
             self.passed, self.failed = map(int, COUNTS.match(line).groups())
             step.say(line)
 
-    def tell(self, step, text):
-        step.say(f"{told(time.monotonic() - self.begun):>6}  {text}")
+    def show(self, step, text):
+        step.say(f"{shown(time.monotonic() - self.begun):>6}  {text}")
 
 
 def has_tests(crate):
@@ -109,7 +109,7 @@ def step_of(script, program, seconds, is_timed, before):
 
     def work(step):
         status = step.run([*before, *command], limit=STEP_LIMIT)
-        last = (end_of(step.log) or ["it told nothing"])[-1]
+        last = (end_of(step.log) or ["it printed nothing"])[-1]
         if status not in (0, LEFT_OUT):
             raise Failed(last)
         return f"LEFT OUT: {last}" if status == LEFT_OUT else last

@@ -8,7 +8,6 @@ answers 200. An interrupt ends both. `rt try` builds the gateway with checks at 
 than the one that `make build` makes.
 """
 import http.server
-import os
 import signal
 import socket
 import subprocess
@@ -62,7 +61,7 @@ def is_free(port):
 
 
 def listens(port):
-    """Whether someone listens there: the kernel's table tells it, since a connection would be served."""
+    """Whether someone listens there, by the kernel's table: a connection would be served."""
     with open("/proc/net/tcp", encoding="ascii") as table:
         return f"0100007F:{port:04X} 00000000:0000 0A" in table.read()
 

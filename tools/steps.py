@@ -1,4 +1,4 @@
-"""Runs steps side by side, as many as processors and memory carry, and tells how each ended.
+"""Runs steps side by side, as many as processors and memory carry, and shows how each ended.
 
 A line for each step when it ends. On a terminal a last line moves with what runs. Of a step that fails
 the end of its log is shown, and the command that repeats it.
@@ -39,7 +39,7 @@ class Step:
     """A piece of work with a name of its own.
 
     `work` is a function of this step; it returns what its line says at the end, or raises Failed.
-    `after` names the steps that end well before it begins; `weight` tells how long it is beside others.
+    `after` names the steps that end well before it begins; `weight` is how long it takes beside others.
     No two steps of one `lane` run at the same time, and a step that is `alone` has none beside it.
     """
 
@@ -143,31 +143,31 @@ class Board:
         """The line that moves."""
         if self.moves:
             words = ", ".join(f"{step.name} {step.count}".rstrip() for step in running)
-            line = f"{self.ended} of {self.whole} in {told(time.monotonic() - self.begun)}: {words}"
+            line = f"{self.ended} of {self.whole} in {shown(time.monotonic() - self.begun)}: {words}"
             width = shutil.get_terminal_size().columns - 1
             print(f"\r\033[K{line[:width]}", end="", flush=True)
 
     def clear(self):
         print("\r\033[K" if self.moves else "", end="", flush=True)
 
-    def tell_end(self, step, seconds, note, passed):
+    def show_end(self, step, seconds, note, passed):
         self.ended += 1
         place = f"{self.ended:>{len(str(self.whole))}} of {self.whole}"
-        self.say(f"{place}  {step.name:<24} {told(seconds):>6}  {note if passed else 'FAILED: ' + note}")
+        self.say(f"{place}  {step.name:<24} {shown(seconds):>6}  {note if passed else 'FAILED: ' + note}")
         if not passed and not CHILDREN.is_ending:
             for line in end_of(step.log):
                 self.say(f"    | {line}")
             self.say(f"    The whole log is {os.path.relpath(step.log)}. Again: {step.again}")
 
 
-def told(seconds):
+def shown(seconds):
     """Seconds as they are read."""
     seconds = round(seconds)
     return f"{seconds} s" if seconds < 100 else f"{seconds // 60}:{seconds % 60:02}"
 
 
 def end_of(log):
-    """The end of a log, and the errors that stand before it."""
+    """The end of a log, and the errors before it."""
     try:
         with open(log, encoding="utf-8") as file:
             return end_of_lines([line.rstrip("\n") for line in file])
@@ -193,10 +193,10 @@ def free_memory():
     """The memory in bytes that may be taken: what the machine has, and what a control group leaves."""
     with open("/proc/meminfo", encoding="utf-8") as file:
         free = 1024 * int(re.search(r"MemAvailable:\s+(\d+)", file.read())[1])
-    for limit, held in GROUPS:
-        limit, held = number_in(limit), number_in(held)
-        if limit and held is not None:
-            free = min(free, limit - held)
+    for limit, used in GROUPS:
+        limit, used = number_in(limit), number_in(used)
+        if limit and used is not None:
+            free = min(free, limit - used)
     return free
 
 
@@ -208,7 +208,7 @@ class Steps:
         self.running = {}
         self.passed = set()
         self.failed = []
-        self.told = queue.Queue()
+        self.ended = queue.Queue()
         self.processors = len(os.sched_getaffinity(0))
         self.memory = free_memory()
         self.board = Board(len(self.waiting))
@@ -226,7 +226,7 @@ class Steps:
             while self.begin_some() or self.running:
                 self.board.show(self.running)
                 try:
-                    self.hear(*self.told.get(timeout=0.5))
+                    self.hear(*self.ended.get(timeout=0.5))
                 except queue.Empty:
                     pass
         except KeyboardInterrupt:
@@ -258,7 +258,7 @@ class Steps:
 
     def jobs_for(self, step, behind):
         """How many jobs a step gets: none where it has to wait, and more than one where processors would
-        stand idle or all that is left waits for its chain, whatever runs beside it."""
+        be idle or all that is left waits for its chain, whatever runs beside it."""
         idle = self.processors - sum(it.share() for it in self.running)
         is_apart = step.alone or any(it.alone for it in self.running)
         if self.running and (is_apart or any(it.lane and it.lane == step.lane for it in self.running)):
@@ -284,7 +284,7 @@ class Steps:
             end = (False, str(why))
         except BaseException as fault:
             end = (False, f"{type(fault).__name__}: {fault}")
-        self.told.put((step, time.monotonic() - begun, *end))
+        self.ended.put((step, time.monotonic() - begun, *end))
 
     def hear(self, step, seconds, passed, note):
         del self.running[step]
@@ -292,7 +292,7 @@ class Steps:
             self.passed.add(step.name)
         else:
             self.failed.append(step)
-        self.board.tell_end(step, seconds, note, passed)
+        self.board.show_end(step, seconds, note, passed)
 
 
 def chains(steps):

@@ -87,7 +87,7 @@ def put_back():
     for name in sorted(os.listdir(ROOM)):
         left, home = f"{ROOM}/{name}/crates/{name}", f"{ROOT}/crates/{name}"
         if os.path.isdir(left):
-            # The check of that run may still go on: it ends with the next line that it tells.
+            # The check of that run may still go on: it ends with the next line that it prints.
             held = lock(left)
             if os.path.isdir(home) and not os.path.exists(f"{home}/out"):
                 move(f"{left}/out", f"{home}/out")
