@@ -66,59 +66,61 @@ fn a_fault_is_answered_again(rt: HostRuntime) -> Result<(), Fail> {
     Ok(())
 }
 
+/// Messages with the fault of each.
+const FAULTS: [(&[u8], HttpFault); 14] = [
+    (b"", HttpFault::Closed),
+    (b"POST", HttpFault::Truncated),
+    (b"GET /report HTTP/2.0\r\n\r\n", HttpFault::BadHead),
+    (
+        b"GET / HTTP/1.1\r\nContent-Length: 2\r\ncontent-length: 2\r\n\r\n{}",
+        HttpFault::BadLength,
+    ),
+    (
+        b"GET / HTTP/1.1\r\nContent-Length: 2\r\nTransfer-Encoding: chunked\r\n\r\n{}",
+        HttpFault::BadLength,
+    ),
+    (
+        b"GET / HTTP/1.0\r\nTransfer-Encoding: chunked\r\n\r\n0\r\n\r\n",
+        HttpFault::BadLength,
+    ),
+    (
+        b"GET / HTTP/1.1\r\nTransfer-Encoding: gzip\r\n\r\n",
+        HttpFault::BadLength,
+    ),
+    (
+        b"GET / HTTP/1.1\r\nContent-Length: +2\r\n\r\n{}",
+        HttpFault::BadLength,
+    ),
+    (
+        b"GET / HTTP/1.1\r\nContent-Length: 4194305\r\n\r\n{}",
+        HttpFault::BodyTooLong,
+    ),
+    (
+        b"GET / HTTP/1.1\r\nContent-Length: 3\r\n\r\n{}",
+        HttpFault::Truncated,
+    ),
+    (
+        b"GET / HTTP/1.1\r\nTransfer-Encoding: chunked\r\n\r\n2\r\n{}xx",
+        HttpFault::BadChunk,
+    ),
+    (
+        b"GET / HTTP/1.1\r\nTransfer-Encoding: chunked\r\n\r\n2\r\n{",
+        HttpFault::Truncated,
+    ),
+    (
+        b"GET / HTTP/1.1\r\nTransfer-Encoding: chunked\r\n\r\n400001\r\n",
+        HttpFault::BodyTooLong,
+    ),
+    (
+        b"GET / HTTP/1.1\r\nTransfer-Encoding: chunked\r\n\r\n0\r\n:\r\n\r\n",
+        HttpFault::BadChunk,
+    ),
+];
+
 #[test]
 fn faults(rt: HostRuntime) -> Result<(), Fail> {
-    let cases: [(&[u8], HttpFault); 14] = [
-        (b"", HttpFault::Closed),
-        (b"POST", HttpFault::Truncated),
-        (b"GET /report HTTP/2.0\r\n\r\n", HttpFault::BadHead),
-        (
-            b"GET / HTTP/1.1\r\nContent-Length: 2\r\ncontent-length: 2\r\n\r\n{}",
-            HttpFault::BadLength,
-        ),
-        (
-            b"GET / HTTP/1.1\r\nContent-Length: 2\r\nTransfer-Encoding: chunked\r\n\r\n{}",
-            HttpFault::BadLength,
-        ),
-        (
-            b"GET / HTTP/1.0\r\nTransfer-Encoding: chunked\r\n\r\n0\r\n\r\n",
-            HttpFault::BadLength,
-        ),
-        (
-            b"GET / HTTP/1.1\r\nTransfer-Encoding: gzip\r\n\r\n",
-            HttpFault::BadLength,
-        ),
-        (
-            b"GET / HTTP/1.1\r\nContent-Length: +2\r\n\r\n{}",
-            HttpFault::BadLength,
-        ),
-        (
-            b"GET / HTTP/1.1\r\nContent-Length: 4194305\r\n\r\n{}",
-            HttpFault::BodyTooLong,
-        ),
-        (
-            b"GET / HTTP/1.1\r\nContent-Length: 3\r\n\r\n{}",
-            HttpFault::Truncated,
-        ),
-        (
-            b"GET / HTTP/1.1\r\nTransfer-Encoding: chunked\r\n\r\n2\r\n{}xx",
-            HttpFault::BadChunk,
-        ),
-        (
-            b"GET / HTTP/1.1\r\nTransfer-Encoding: chunked\r\n\r\n2\r\n{",
-            HttpFault::Truncated,
-        ),
-        (
-            b"GET / HTTP/1.1\r\nTransfer-Encoding: chunked\r\n\r\n400001\r\n",
-            HttpFault::BodyTooLong,
-        ),
-        (
-            b"GET / HTTP/1.1\r\nTransfer-Encoding: chunked\r\n\r\n0\r\n:\r\n\r\n",
-            HttpFault::BadChunk,
-        ),
-    ];
-    for (bytes, fault) in &cases {
-        assert_eq!(rt; fault_of(rt.alloc(), bytes), Some(*fault));
+    for (bytes, fault) in FAULTS {
+        assert_eq!(rt; fault_of(rt.alloc(), bytes), Some(fault));
     }
     Ok(())
 }
