@@ -3,22 +3,24 @@
 //! answered on standard error with status 2, any other fault with status 1.
 #![tactic(auto)]
 
-use gateway_options::{LineFault, Options, options};
+use gateway_options::{LineFault, Options, ServeOptions, options};
 use gateway_rehearse::rehearse;
-use gateway_serve::{GatewayFault, serve_all};
+use gateway_serve::{GatewayFault, serve_all, serve_bound};
+use std::fmt::Display;
 use std::io::Write;
+use std::net::TcpListener;
 use std::process::ExitCode;
 use std::{env, io};
 
 /// Reports a fault on standard error.
-fn fail<R: Eprint>(rt: &R, fault: GatewayFault) -> ExitCode {
+fn fail<R: Eprint, F: Display + Drop>(rt: &R, fault: F) -> ExitCode {
     let _ = eprintln!(rt; "gateway: {fault}");
     ExitCode::from(1)
 }
 
 /// Prints what a run has returned, or reports its fault.
-fn tell(rt: &HostRuntime, told: Result<Vec<u8>, GatewayFault>) -> ExitCode {
-    match told {
+fn finish<F: Display + Drop>(rt: &HostRuntime, outcome: Result<Vec<u8>, F>) -> ExitCode {
+    match outcome {
         Err(fault) => fail(rt, fault),
         Ok(text) => match io::writer(rt).write_all(text.as_slice()) {
             Ok(()) => ExitCode::SUCCESS,
@@ -48,12 +50,12 @@ fn main(rt: HostRuntime) -> ExitCode {
             let _ = eprint!(rt; "{error}");
             ExitCode::from(2)
         }
-        Ok(options) => {
-            let told = match options {
-                Options::Serve(options) => serve_all(&rt, alloc, &options),
-                Options::Rehearse(options) => rehearse(&rt, alloc, &options),
+        Ok(Options::Serve(options)) => finish(&rt, serve_all(&rt, alloc, &options)),
+        Ok(Options::Rehearse(options)) => {
+            let serve = |listener: &TcpListener, options: &ServeOptions<'_>| {
+                serve_bound(&rt, alloc, listener, options)
             };
-            tell(&rt, told)
+            finish(&rt, rehearse(&rt, alloc, &options, serve))
         }
     }
 }

@@ -5,10 +5,12 @@
 
 mod back_end;
 mod client;
+mod fault;
 mod posting;
 mod rehearsal;
 mod sender;
 mod stage;
 
+pub use fault::RehearsalFault;
 pub use posting::post_of;
 pub use rehearsal::rehearse;

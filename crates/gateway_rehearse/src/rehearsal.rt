@@ -2,10 +2,10 @@
 ghost use Rattle.std.specs.Prelude.{◌≡◌, ◌+◌, ◌*◌};
 
 use crate::back_end::answer_all;
+use crate::fault::RehearsalFault;
 use crate::sender::{ask_report, order_flushes, post_all};
 use crate::stage::Stage;
 use gateway_options::{RehearseOptions, ServeOptions};
-use gateway_serve::{GatewayFault, serve_bound};
 use std::alloc::Global;
 use std::net::{Net, TcpListener, TcpStream};
 use std::sync::Wait;
@@ -35,12 +35,10 @@ fn connections_of(options: &RehearseOptions) -> u64
 
 /// Has each sender post from a thread of its own and another thread order flushes meanwhile, until all
 /// have ended. Work for which no thread can be started is done here: the gateway waits for it.
-fn send_all<R: Net<Listener = TcpListener, Stream = TcpStream> + Threads + Wait + Clock + Sync>(
-    rt: &R,
-    alloc: Global,
-    stage: &Stage,
-    options: RehearseOptions,
-) -> Result<(), GatewayFault> {
+fn send_all<
+    F: Drop,
+    R: Net<Listener = TcpListener, Stream = TcpStream> + Threads + Wait + Clock + Sync,
+>(rt: &R, alloc: Global, stage: &Stage, options: RehearseOptions) -> Result<(), RehearsalFault<F>> {
     thread::scope(thread::scope_env(), rt, |scope| {
         let mut outcome = Ok(());
         if scope
@@ -48,7 +46,7 @@ fn send_all<R: Net<Listener = TcpListener, Stream = TcpStream> + Threads + Wait 
             .is_err()
         {
             order_flushes(rt, stage, FLUSHES_MEANWHILE);
-            outcome = Err(GatewayFault::CannotStart);
+            outcome = Err(RehearsalFault::CannotStart);
         }
         for sender in 0..options.senders {
             if scope
@@ -56,7 +54,7 @@ fn send_all<R: Net<Listener = TcpListener, Stream = TcpStream> + Threads + Wait 
                 .is_err()
             {
                 post_all(rt, alloc, stage, sender, options.batches);
-                outcome = Err(GatewayFault::CannotStart);
+                outcome = Err(RehearsalFault::CannotStart);
             }
         }
         outcome
@@ -64,84 +62,110 @@ fn send_all<R: Net<Listener = TcpListener, Stream = TcpStream> + Threads + Wait 
 }
 
 /// Serves, and then closes the listener, so that whoever still waits there is turned away.
-fn serve<R: Net<Listener = TcpListener, Stream = TcpStream> + Threads + Wait + Clock + Sync>(
-    rt: &R,
-    alloc: Global,
+fn serve<F, S: FnOnce(&TcpListener, &ServeOptions<'_>) -> Result<Vec<u8>, F>>(
+    serve_bound: S,
     listener: TcpListener,
     stage: &Stage,
     options: ServeOptions<'_>,
-) -> Result<Vec<u8>, GatewayFault> {
-    let told = serve_bound(rt, alloc, &listener, &options);
+) -> Result<Vec<u8>, F>
+    requires { S.IsAlwaysCallable serve_bound }
+{
+    let printed = serve_bound(&listener, &options);
     drop(listener);
     stage.end();
-    told
+    printed
 }
 
 /// Runs back end and gateway beside all that is sent.
-fn play<R: Net<Listener = TcpListener, Stream = TcpStream> + Threads + Wait + Clock + Sync>(
+fn play<
+    F: Drop + Send,
+    S: FnOnce(&TcpListener, &ServeOptions<'_>) -> Result<Vec<u8>, F> + Drop + Send,
+    R: Net<Listener = TcpListener, Stream = TcpStream> + Threads + Wait + Clock + Sync,
+>(
     rt: &R,
     alloc: Global,
+    serve_bound: S,
     listener: TcpListener,
     back_end: &TcpListener,
     stage: &Stage,
     served: ServeOptions<'_>,
     options: RehearseOptions,
-) -> Result<Vec<u8>, GatewayFault> {
-    thread::scope(thread::scope_env(), rt, |scope| {
-        if scope
-            .spawn(move || answer_all(rt, alloc, back_end, stage))
-            .is_err()
+) -> Result<Vec<u8>, RehearsalFault<F>>
+    requires { S.IsAlwaysCallable serve_bound }
+{
+    thread::scope(
+        thread::scope_env(),
+        rt,
+        |scope|
+            requires { S.IsAlwaysCallable serve_bound }
         {
-            return Err(GatewayFault::CannotStart);
-        }
-        let Ok(gateway) = scope.spawn(move || serve(rt, alloc, listener, stage, served)) else {
-            stage.end();
-            return Err(GatewayFault::CannotStart);
-        };
-        let sent = send_all(rt, alloc, stage, options);
-        order_flushes(rt, stage, FLUSHES_AFTER);
-        ask_report(rt, stage);
-        let told = gateway.join(rt)?;
-        sent?;
-        if stage.is_starved() {
-            return Err(GatewayFault::NoMemory);
-        }
-        Ok(told)
-    })
+            if scope
+                .spawn(move || answer_all(rt, alloc, back_end, stage))
+                .is_err()
+            {
+                return Err(RehearsalFault::CannotStart);
+            }
+            let Ok(gateway) = scope.spawn(
+                move ||
+                    requires { S.IsAlwaysCallable serve_bound }
+                { serve(serve_bound, listener, stage, served) },
+            ) else {
+                stage.end();
+                return Err(RehearsalFault::CannotStart);
+            };
+            let sent = send_all(rt, alloc, stage, options);
+            order_flushes(rt, stage, FLUSHES_AFTER);
+            ask_report(rt, stage);
+            let printed = gateway.join(rt).map_err(RehearsalFault::Serving)?;
+            sent?;
+            if stage.is_starved() {
+                return Err(RehearsalFault::NoMemory);
+            }
+            Ok(printed)
+        },
+    )
 }
 
 /// Plays senders, gateway and back end over loopback, and returns what the gateway prints at its end.
+/// The gateway is `serve_bound`: it serves the connections of a listener by the options that it is handed.
 ///
 /// Each sender posts its batches one after the other while two flushes are ordered; then four more are,
 /// and the report is asked for. The back end refuses the first request that it gets and takes the
-/// others. The faults are those of serving, and the first one that is met is returned. They also come
-/// from the rehearsal itself: `CannotListen` where it gets no listener, `CannotStart` where it gets no
-/// thread, and `NoMemory` where the allocation of a request fails.
-pub fn rehearse<R: Net<Listener = TcpListener, Stream = TcpStream> + Threads + Wait + Clock + Sync>(
+/// others. The first fault that is met is returned: `Serving` with the gateway's own, `CannotListen`
+/// where there is no listener, `CannotStart` where there is no thread, and `NoMemory` where the
+/// allocation of a request fails.
+pub fn rehearse<
+    F: Drop + Send,
+    S: FnOnce(&TcpListener, &ServeOptions<'_>) -> Result<Vec<u8>, F> + Drop + Send,
+    R: Net<Listener = TcpListener, Stream = TcpStream> + Threads + Wait + Clock + Sync,
+>(
     rt: &R,
     alloc: Global,
     options: &RehearseOptions,
-) -> Result<Vec<u8>, GatewayFault> {
+    serve_bound: S,
+) -> Result<Vec<u8>, RehearsalFault<F>>
+    requires { S.IsAlwaysCallable serve_bound }
+{
     let Ok(listener) = TcpListener::bind(rt, LOOPBACK) else {
-        return Err(GatewayFault::CannotListen);
+        return Err(RehearsalFault::CannotListen);
     };
     let Ok(back_end) = TcpListener::bind(rt, LOOPBACK) else {
-        return Err(GatewayFault::CannotListen);
+        return Err(RehearsalFault::CannotListen);
     };
     let (Ok(gateway_at), Ok(back_end_at), Ok(())) = (
         listener.local_addr(),
         back_end.local_addr(),
         back_end.set_nonblocking(true),
     ) else {
-        return Err(GatewayFault::CannotListen);
+        return Err(RehearsalFault::CannotListen);
     };
     let port = back_end_at.port();
     let Ok(backend) = format!(in alloc; "127.0.0.1:{port}") else {
-        return Err(GatewayFault::NoMemory);
+        return Err(RehearsalFault::NoMemory);
     };
     let backend = backend.as_str();
     if backend.len() > LONGEST_ADDRESS {
-        return Err(GatewayFault::CannotListen);
+        return Err(RehearsalFault::CannotListen);
     }
     let served = ServeOptions {
         backend,
@@ -153,5 +177,14 @@ pub fn rehearse<R: Net<Listener = TcpListener, Stream = TcpStream> + Threads + W
         round: 32_000,
     };
     let stage = Stage::new(gateway_at);
-    play(rt, alloc, listener, &back_end, &stage, served, *options)
+    play(
+        rt,
+        alloc,
+        serve_bound,
+        listener,
+        &back_end,
+        &stage,
+        served,
+        *options,
+    )
 }
