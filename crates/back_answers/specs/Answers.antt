@@ -1,30 +1,31 @@
--- What an answer of the back end means, and what is done then.
+-- What an answer of the back end means, and what is done with the flush then.
 use Rattle.std.specs.Prelude.{◌≡◌, ℕ, ◌⊎◌, ◌&&◌, ◌||◌, ◌==◌, Bool, List, Option, None, nat_le, if◌then◌else◌}
 use Rattle.std.specs.Int.{IsInRange}
 use Rattle.std.specs.Option.{option_and_then}
 use Rattle.back_answers.specs.declared.answer.Answer.{Answer}
 use Rattle.back_answers.specs.declared.answer.Answer.TheVariants.{Success, Retryable, Final, Unknown}
-use Rattle.back_answers.specs.declared.deed.Act.{Act}
-use Rattle.back_answers.specs.declared.deed.Act.TheVariants.{Settle, GiveBack, DropFlush}
+use Rattle.back_answers.specs.declared.answer.Act.{Act}
+use Rattle.back_answers.specs.declared.answer.Act.TheVariants.{Settle, GiveBack, DropFlush}
 use Rattle.back_answers.specs.Delay.{delay_seconds}
 
--- the request was taken
+-- the back end took the request
 abbrev pub IsSuccess : ℕ → Type 0
 IsSuccess status = IsInRange 200 299 status
 
--- it was not: an error of the sender, or of the server
+-- an error of the sender, or of the server
 abbrev pub IsError : ℕ → Type 0
 IsError status = IsInRange 400 599 status
 
--- an error after which the request may be sent again: too many requests, a bad gateway, an unavailable service, a gateway's timeout
+-- an error after which the request may be sent again: too many requests, a bad gateway,
+-- an unavailable service, a gateway's timeout
 abbrev pub IsRetryable : ℕ → Type 0
 IsRetryable status = (status ≡ 429) ⊎ (status ≡ 502) ⊎ (status ≡ 503) ⊎ (status ≡ 504)
 
--- one with which the server says how long to wait: too many requests, an unavailable service
+-- an error that may name the seconds to wait: too many requests, an unavailable service
 abbrev pub IsThrottling : ℕ → Type 0
 IsThrottling status = (status ≡ 429) ⊎ (status ≡ 503)
 
--- the same as tests
+-- the same as boolean tests
 abbrev pub is_between : ℕ → ℕ → ℕ → Bool
 is_between low high status = nat_le low status && nat_le status high
 
@@ -38,14 +39,14 @@ is_retryable status = is_throttling status || status == 502 || status == 504
 abbrev pub wait_of : ℕ → Option (List ℕ) → Option ℕ
 wait_of status retry_after = if is_throttling status then option_and_then delay_seconds retry_after else None
 
--- the meaning of an answer with this status, and this value of `Retry-After` if it has one
+-- the meaning of an answer with this status, and with this value of `Retry-After`, if any
 unfoldable pub answer_of : ℕ → Option (List ℕ) → Answer
 answer_of status retry_after =
     if is_between 200 299 status then Success else
     if is_retryable status then Retryable (wait_of status retry_after) else
     if is_between 400 599 status then Final else Unknown
 
--- a success alone settles, a final error alone drops, and what may be sent again is given back
+-- only a success settles a flush, and only a final error drops it; else it is given back
 abbrev pub act_of : Answer → Act
 act_of Success = Settle
 act_of (Retryable after) = GiveBack

@@ -1,15 +1,28 @@
+//! The classes of answers, and what is done after each.
+
 /// What an answer of the back end means for the request that it answers.
 #[derive(Clone, Copy, Debug, PartialEq, Eq)]
 pub enum Answer {
-    /// The request was taken.
+    /// The back end took the request.
     Success,
-    /// It was not taken now, and may be sent again.
+    /// The back end did not take the request now. It may be sent again.
     Retryable {
-        /// How many seconds the back end asks to wait before that, where it says so.
+        /// The seconds that the back end asks to wait before that, if it names them.
         after: Option<u64>,
     },
-    /// It was not taken, and must not be sent again.
+    /// The back end refused the request. It must not be sent again.
     Final,
-    /// The answer says neither, or there is none.
+    /// There is no answer, or one that the protocol does not know.
     Unknown,
+}
+
+/// What is done with a flush once its request was answered.
+#[derive(Clone, Copy, Debug, PartialEq, Eq)]
+pub enum Act {
+    /// Its points are acknowledged.
+    Settle,
+    /// Its points are pending again, and a later flush takes them.
+    GiveBack,
+    /// Its points are dropped.
+    DropFlush,
 }

@@ -1,9 +1,11 @@
+//! The table of answers: what a status and `Retry-After` mean, and what becomes of the flush.
+
 ghost use Rattle.std.specs.Prelude.{◌≡◌, ◌⊎◌, ◌↔◌, ℕ, Option, option_copied, IsSomeAnd};
 ghost use Rattle.back_answers.specs.Answers.{answer_of, act_of, IsSuccess, IsError, IsRetryable, IsThrottling};
-ghost use Rattle.back_answers.specs.Delay.{TellsDelay};
+ghost use Rattle.back_answers.specs.Delay.{delay_seconds, IsDelayOf};
 
-use crate::retry_after::seconds;
-use crate::{Act, Answer};
+use crate::answer::{Act, Answer};
+use decimals::number_up_to;
 
 // The retryable statuses (RFC 6585, section 4; RFC 9110, section 15.6).
 const TOO_MANY_REQUESTS: u16 = 429;
@@ -14,10 +16,11 @@ const SERVICE_UNAVAILABLE: u16 = 503;
 
 const GATEWAY_TIMEOUT: u16 = 504;
 
-/// What an answer with this status means, and this value of `Retry-After`, if it has one
-/// (OTLP/HTTP, "Failures" and "Throttling"; RFC 9110, section 10.2.3). Of the errors, 429, 502, 503
-/// and 504 are retryable, and only 429 and 503 say how many seconds to wait. A value that is no
-/// number of seconds below 2^64 says nothing: the answer is retryable all the same.
+/// The meaning of an answer with this status (OTLP/HTTP, "Failures" and "Throttling").
+/// `retry_after` is the value of its `Retry-After`, if it has one (RFC 9110, section 10.2.3).
+///
+/// Of the errors, 429, 502, 503 and 504 are retryable, and only 429 and 503 have seconds to wait. If
+/// the value is not a number of seconds below 2^64, the answer is retryable without seconds.
 #[tactic(auto, unfolding(crate::specs::Answers::answer_of))]
 pub fn classify(status: u16, retry_after: Option<&[u8]>) -> Answer
     ensures answer { result ≡ answer_of status (option_copied retry_after.entry) }
@@ -28,8 +31,8 @@ pub fn classify(status: u16, retry_after: Option<&[u8]>) -> Answer
     ensures retryable { ((after : Option ℕ) × (result ≡ Answer.Retryable after)) ↔ IsRetryable status }
     ensures unknown { (result ≡ Answer.Unknown) ↔ ¬ (IsSuccess status ⊎ IsError status) }
 
-    // The seconds are those of the value, where the status is one that may have some.
-    ensures waits { (n : ℕ) → (result ≡ Answer.Retryable (Some n)) ↔ (IsThrottling status × IsSomeAnd (option_copied retry_after.entry) (λ value. TellsDelay value n)) }
+    // The seconds are those of the value, if the status may have some.
+    ensures waits { (n : ℕ) → (result ≡ Answer.Retryable (Some n)) ↔ (IsThrottling status × IsSomeAnd (option_copied retry_after.entry) (λ value. IsDelayOf value n)) }
 {
     match status {
         200..=299 => Answer::Success,
@@ -42,8 +45,17 @@ pub fn classify(status: u16, retry_after: Option<&[u8]>) -> Answer
     }
 }
 
-/// What is done with the flush that the answer is for. One that may have been lost or refused for a
-/// while is given back; none is settled but by a success, and none dropped but by a final error.
+/// The seconds in the value of a `Retry-After` field (RFC 9110, section 10.2.3): one or more
+/// decimal digits, of a number below 2^64. A date, or any other value, has none.
+#[tactic(auto, unfolding(crate::specs::Delay::delay_seconds))]
+fn seconds(value: &[u8]) -> Option<u64>
+    ensures { result ≡ delay_seconds value.now }
+{
+    number_up_to(value, u64::MAX)
+}
+
+/// What is done with the flush that was answered. Only a success settles it, and only a final
+/// error drops it. After any other answer, or none, it is given back.
 pub fn act(answer: Answer) -> Act
     ensures act { result ≡ act_of answer }
     ensures settles { (result ≡ Act.Settle) ↔ (answer ≡ Answer.Success) }

@@ -1,8 +1,8 @@
 -- What a call does after a history: the event that it adds, or its fault.
 use Rattle.std.specs.Prelude.{ℕ, ◌+◌, List, [], ◌∷◌, Option, Some, None, Result, Ok, Err}
 use Rattle.series_id.specs.Identity.{Identity}
-use Rattle.back_answers.specs.declared.deed.Act.{Act}
-use Rattle.back_answers.specs.declared.deed.Act.TheVariants.{Settle, GiveBack, DropFlush}
+use Rattle.back_answers.specs.declared.answer.Act.{Act}
+use Rattle.back_answers.specs.declared.answer.Act.TheVariants.{Settle, GiveBack, DropFlush}
 use Rattle.metric_events.specs.History.{History, admits, takes}
 use Rattle.metric_events.specs.Choice.{pick}
 use Rattle.metric_events.specs.declared.batch.Batch.{Batch}

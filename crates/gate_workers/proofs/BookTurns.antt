@@ -9,8 +9,8 @@ use Rattle.metric_events.specs.DataPoint.{DataPoint}
 use Rattle.back_answers.specs.Answers.{act_of}
 use Rattle.back_answers.specs.declared.answer.Answer.{Answer}
 use Rattle.back_answers.specs.declared.answer.Answer.TheVariants.{Unknown}
-use Rattle.back_answers.specs.declared.deed.Act.{Act}
-use Rattle.back_answers.specs.declared.deed.Act.TheVariants.{Settle, GiveBack, DropFlush}
+use Rattle.back_answers.specs.declared.answer.Act.{Act}
+use Rattle.back_answers.specs.declared.answer.Act.TheVariants.{Settle, GiveBack, DropFlush}
 use Rattle.delta_book.specs.Journal.{Journal, journal_of, history, takes, Appends}
 use Rattle.delta_book.specs.Flushes.{is_full, take_refusal, IsTaken}
 use Rattle.delta_book.specs.declared.flush.Flush.{Flush}

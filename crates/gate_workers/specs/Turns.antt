@@ -6,8 +6,8 @@ use Rattle.metric_events.specs.DataPoint.{DataPoint}
 use Rattle.metric_events.specs.declared.event.Event.{Event}
 use Rattle.back_answers.specs.Answers.{act_of}
 use Rattle.back_answers.specs.declared.answer.Answer.{Answer}
-use Rattle.back_answers.specs.declared.deed.Act.{Act}
-use Rattle.back_answers.specs.declared.deed.Act.TheVariants.{Settle, GiveBack, DropFlush}
+use Rattle.back_answers.specs.declared.answer.Act.{Act}
+use Rattle.back_answers.specs.declared.answer.Act.TheVariants.{Settle, GiveBack, DropFlush}
 use Rattle.delta_book.specs.Journal.{takes}
 use Rattle.delta_book.specs.Outcomes as book
 use Rattle.delta_book.specs.declared.flush.Flush.{Flush}

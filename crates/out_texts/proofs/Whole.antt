@@ -5,7 +5,7 @@ use Rattle.serde_json.specs.Data.{Data, number, string, depth, items_depth}
 use Rattle.serde_json.specs.Find.{of_integer}
 use Rattle.serde_json.specs.View.{items_of}
 use Rattle.serde_json.specs.Written.{has_float, items_have_float}
-use Rattle.back_answers.specs.declared.deed.Act.{Act}
+use Rattle.back_answers.specs.declared.answer.Act.{Act}
 use Rattle.series_id.specs.declared.scalars.Scalar.{Scalar}
 use Rattle.series_id.specs.declared.scalars.Scalar.TheVariants.{Empty, Truth, Int, Text}
 use Rattle.series_id.specs.declared.values.AttrValue.{AttrValue}

@@ -5,8 +5,8 @@ use Rattle.std.specs.declared.result.Result.{Result}
 use Rattle.back_answers.specs.Answers.{act_of}
 use Rattle.back_answers.specs.Waits.{asked_wait}
 use Rattle.back_answers.specs.declared.answer.Answer.{Answer as BackAnswer}
-use Rattle.back_answers.specs.declared.deed.Act.{Act}
-use Rattle.back_answers.specs.declared.deed.Act.TheVariants.{Settle, GiveBack, DropFlush}
+use Rattle.back_answers.specs.declared.answer.Act.{Act}
+use Rattle.back_answers.specs.declared.answer.Act.TheVariants.{Settle, GiveBack, DropFlush}
 use Rattle.metric_events.specs.History.{History, Start, Opened, ◌▸◌}
 use Rattle.metric_events.specs.Close.{close}
 use Rattle.metric_events.specs.Choice.{flush_points}
