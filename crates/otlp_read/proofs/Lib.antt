@@ -5,4 +5,4 @@ pub mod PointLemmas
 pub mod WalkLemmas
 pub mod TextLemmas
 pub mod MemberLemmas
-pub mod KnownLemmas
+pub mod LookupLemmas

@@ -1,4 +1,4 @@
--- What the constructors of series and points leave of what they are given.
+-- The constructors of series and points, against the definitions.
 use Rattle.std.proofs.Common.{◌≡◌, ◌≢◌, Option, Some, None, ℤ, subst, Result, Ok, Err, IfOk, IfErr, OnOk, unwrap_or, List, true, false, refl, sym, ap, ◌∙◌, cond}
 use Rattle.std.specs.Result.{result_ok}
 use Rattle.series_id.specs.Identity.{Identity}

@@ -1,4 +1,4 @@
--- What the bytes of a request say, from what `serde_json` tells of them.
+-- What the bytes of a request say, by what `serde_json` reads from them.
 use Rattle.std.proofs.Common.{◌≡◌, ℕ, List, Some, None, option_map, Result, Ok, Err, ap, ◌∙◌, inl, inr}
 use Rattle.std.specs.Prelude.{IsUtf8}
 use Rattle.std.specs.Str.{is_utf8}

@@ -1,4 +1,4 @@
--- Attribute lists (`KeyValue` of the standard): arrays of objects with a key and a value.
+-- Attribute lists: arrays of objects with a key and a value (`KeyValue` of the standard).
 use Rattle.std.specs.Prelude.{ℕ, List, if◌then◌else◌, Option, Some, None, option_and_then, codes}
 use Rattle.serde_json.specs.Data.{Data}
 use Rattle.series_id.specs.declared.attributes.Attribute.{Attribute}
@@ -15,18 +15,18 @@ infixl 10 ◌>>=◌
 abbrev pub ◌>>=◌ : {A B : Type 0} → Option A → (A → Option B) → Option B
 o >>= f = option_and_then f o
 
--- a key, a text within the limit, and its value
+-- the key, a text within the limit, and the value
 abbrev pub key_and_value : Data → Option (List ℕ × AttrValue)
 key_and_value d = do
   key ← text_in (field (codes "key") d)
   value ← value_in (field (codes "value") d)
   Some (key, value)
 
--- an element of an attribute list: an object
+-- an element of an attribute list, which is an object
 unfoldable pub pair_of : Data → Option (List ℕ × AttrValue)
 pair_of d = if is_object d then key_and_value d else None
 
--- the set that pairs are: few, with short texts and lists, no key twice
+-- the set of the pairs: not too many, with short texts and lists, no key twice
 unfoldable pub set_of : List (List ℕ × AttrValue) → Option (List Attribute)
 set_of pairs = unless (attr_refusal pairs) (sorted_by_key pairs)
 

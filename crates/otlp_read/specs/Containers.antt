@@ -1,4 +1,4 @@
--- Containers: objects and arrays of objects, and what another type at a place means.
+-- Containers: objects, arrays of objects, and the error for one of another type.
 use Rattle.std.specs.Prelude.{◌≡◌, List, [], ◌∷◌, Bool, if◌then◌else◌, Option, Some, None, is_some, Result, Ok, Err, ⊤}
 use Rattle.std.specs.List.{list_all}
 use Rattle.serde_json.specs.Data.{Data, Items, no_items, item}
@@ -13,13 +13,13 @@ abbrev pub ◌>>=◌ : {A B : Type 0} → Result A Place → (A → Result B Pla
 (Ok x) >>= f = f x
 (Err e) >>= f = Err e
 
--- a fault of the walk names the wrong container; want of memory says nothing of the value
+-- an error of the walk names the wrong container; being out of memory says nothing of the value
 abbrev pub Fails : {Y : Type 0} → ReadFault → Result Y Place → Type 0
 Fails faults.NoMemory read = ⊤
 Fails faults.NotJson read = ⊥
 Fails (faults.WrongShape place) read = read ≡ Err place
 
--- what a function answered, seen by view, is what the value reads as, unless memory ran out
+-- the function's result, seen by view, is what the value reads as, unless memory ran out
 abbrev pub Gives : {X Y : Type 0} → (X → Y) → Result X ReadFault → Result Y Place → Type 0
 Gives view (Ok x) read = read ≡ Ok (view x)
 Gives view (Err e) read = Fails e read
@@ -33,17 +33,17 @@ elements (item d ds) = d ∷ elements ds
 abbrev pub is_object : Data → Bool
 is_object d = is_some (as_object d)
 
--- the elements, if there is an array and all of them are objects
+-- the elements of an array, if all of them are objects
 abbrev pub each_object : Place → Option Items → Result (List Data) Place
 each_object place None = Err place
 each_object place (Some ds) = if list_all is_object (elements ds) then Ok (elements ds) else Err place
 
--- an array of objects; absent is one without elements
+-- an array of objects; an absent one has no elements
 unfoldable pub objects : Place → Option Data → Result (List Data) Place
 objects place None = Ok []
 objects place (Some d) = each_object place (as_array d)
 
--- an object, or nothing where it is absent
+-- an object, which may be absent
 unfoldable pub object_in : Place → Option Data → Result (Option Data) Place
 object_in place None = Ok None
 object_in place (Some d) = if is_object d then Ok (Some d) else Err place

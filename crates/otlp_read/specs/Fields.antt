@@ -1,4 +1,4 @@
--- The fields of an object that hold no other object: texts, truths, flags, the temporality.
+-- The fields of an object that are no containers: texts, booleans, flags, the temporality, times.
 use Rattle.std.specs.Prelude.{ℕ, ◌-◌, ◌^◌, ◌%◌, List, [], length, Bool, true, false, ◌==◌, nat_le, if◌then◌else◌, Option, Some, None, option_and_then}
 use Rattle.serde_json.specs.Data.{Data, null, boolean, number, string, array, object}
 use Rattle.serde_json.specs.Find.{get, as_str, as_bool, as_number, as_u64}
@@ -15,7 +15,7 @@ present (Some (string s)) = Some (string s)
 present (Some (array ds)) = Some (array ds)
 present (Some (object ms)) = Some (object ms)
 
--- the member of that name, where it is there; nothing in what is no object
+-- the member of this name, if it is present; a value that is no object has none
 unfoldable pub field : List ℕ → Data → Option Data
 field name d = present (get name d)
 
@@ -39,7 +39,7 @@ abbrev pub is_even : Option ℕ → Bool
 is_even None = false
 is_even (Some n) = n % 2 == 0
 
--- flags: 32 bits of which the lowest, "no recorded value", is not set; absent is 0
+-- flags: 32 bits, the lowest of them, "no recorded value", not set; absent is 0
 unfoldable pub flags_fit : Option Data → Bool
 flags_fit None = true
 flags_fit (Some d) = is_even (unsigned_in (2 ^ 32 - 1) d)
@@ -49,11 +49,11 @@ abbrev pub is_one : Option ℕ → Bool
 is_one None = false
 is_one (Some n) = n == 1
 
--- aggregationTemporality: the number 1 (delta) alone; enums are numbers in OTLP's JSON
+-- aggregationTemporality is the number 1 (delta); enums are numbers in OTLP's JSON
 unfoldable pub is_delta : Option Data → Bool
 is_delta None = false
 is_delta (Some d) = is_one (option_and_then as_u64 (as_number d))
 
--- startTimeUnixNano and timeUnixNano: nanoseconds since the epoch, of 64 bits; absent is none
+-- startTimeUnixNano and timeUnixNano: nanoseconds since the epoch, of 64 bits, never absent
 unfoldable pub nanos_in : Option Data → Option ℕ
 nanos_in found = option_and_then unsigned_64 found

@@ -23,7 +23,7 @@ unfoldable pub count_in : Option Data → Option ℕ
 count_in None = Some 0
 count_in (Some d) = unsigned_64 d
 
--- sum: a whole number of 64 bits, absent where it is absent; how large it may be is a rule of points
+-- sum: a whole number of 64 bits, or absent; how large it may be is a rule of points
 unfoldable pub total_in : Option Data → Option (Option ℕ)
 total_in None = Some None
 total_in (Some d) = option_map (λ n. Some n) (unsigned_64 d)
@@ -35,7 +35,7 @@ pub record HistogramFields : Type 0 where
   pub count : ℕ
   pub total : Option ℕ
 
--- nothing where one of them is none
+-- none if one of them is none, or if there is no recorded value
 unfoldable pub histogram_fields : Data → Option HistogramFields
 histogram_fields d = do
   start ← nanos_in (field (codes "startTimeUnixNano") d)
@@ -44,13 +44,13 @@ histogram_fields d = do
   total ← total_in (field (codes "sum") d)
   if flags_fit (field (codes "flags") d) then Some (record { start = start; end = end; count = count; total = total }) else None
 
--- explicitBounds: whole numbers that are a histogram's bounds
+-- explicitBounds: whole numbers that may be the bounds of a histogram
 unfoldable pub kind_in : Data → Option Kind
 kind_in d = do
   bounds ← list_in (signed_in MAX_BOUND MAX_BOUND) (field (codes "explicitBounds") d)
   result_ok (histogram_of bounds)
 
--- a point of a histogram: without buckets and bounds its count is its one bucket
+-- a point of a histogram; without buckets and bounds its count is its one bucket
 unfoldable pub histogram_point : Stream → Data → Option DataPoint
 histogram_point stream d = do
   fields ← histogram_fields d
@@ -59,7 +59,7 @@ histogram_point stream d = do
   series ← series_of stream kind (field (codes "attributes") d)
   unless (histogram_fault series.kind fields.start fields.end fields.count fields.total buckets) (record { series = series; span = record { start = fields.start; end = fields.end }; row = histogram_row fields.total (given_buckets (bounds_of series.kind) fields.count buckets) })
 
--- below a stream that is none, nothing is a point
+-- in no stream, every point is foreign
 abbrev pub histogram_point_in : Option Stream → Data → Option DataPoint
 histogram_point_in None d = None
 histogram_point_in (Some stream) d = histogram_point stream d

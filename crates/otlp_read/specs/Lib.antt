@@ -4,7 +4,7 @@ pub mod Containers
 pub mod Lists
 pub mod Values
 pub mod ValueViews
-pub mod GivenViews
+pub mod RefViews
 pub mod Attributes
 pub mod Streams
 pub mod StreamViews

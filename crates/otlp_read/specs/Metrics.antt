@@ -1,4 +1,4 @@
--- Metrics: their five data fields, and what becomes of the points in them.
+-- Metrics: their five data fields, and the points in them.
 use Rattle.std.specs.Prelude.{ℕ, ◌+◌, List, length, Bool, nat_le, if◌then◌else◌, Option, Some, None, Result, Ok, codes}
 use Rattle.serde_json.specs.Data.{Data}
 use Rattle.otlp_read.specs.declared.place.Place.{Place}
@@ -10,7 +10,7 @@ use Rattle.otlp_read.specs.Sums.{sum_point_in}
 use Rattle.otlp_read.specs.Histograms.{histogram_point_in}
 use Rattle.otlp_read.specs.Tallies.{Tally, add_foreign, add_metric, each_point}
 
--- a data field that is there, and its points
+-- a data field, and its points
 pub record Part : Type 0 where
   pub whole : Data
   pub points : List Data
@@ -22,13 +22,13 @@ part_in (Some d) = do
   points ← objects DataPoints (field (codes "dataPoints") d)
   Ok (Some (record { whole = d; points = points }))
 
--- the data field of that name, an object, then its points, an array of objects
+-- the data field of this name, an object, then its points, an array of objects
 unfoldable pub part : List ℕ → Data → Result (Option Part) Place
 part name metric = do
   found ← object_in DataField (field name metric)
   part_in found
 
--- the five data fields, of which a metric has one
+-- the five data fields; a metric should have one of them
 pub record Parts : Type 0 where
   pub gauge : Option Part
   pub sum : Option Part
@@ -45,12 +45,12 @@ parts metric = do
   summary ← part (codes "summary") metric
   Ok (record { gauge = gauge; sum = sum; histogram = histogram; exponential = exponential; summary = summary })
 
--- whether a data field is there, as a number
+-- 1 for a data field that is present
 abbrev pub one_if : Option Part → ℕ
 one_if None = 0
 one_if (Some p) = 1
 
--- no second data field is there
+-- there is at most one data field
 unfoldable pub is_single : Parts → Bool
 is_single ps = nat_le (one_if ps.gauge + one_if ps.sum + one_if ps.histogram + one_if ps.exponential + one_if ps.summary) 1
 
@@ -69,7 +69,7 @@ abbrev pub add_histogram : Option Scope → Data → Option Part → Tally → T
 add_histogram scope metric None t = t
 add_histogram scope metric (Some p) t = each_point (histogram_point_in (stream_in scope metric p.whole)) p.points t
 
--- of a metric with one data field, sums and histograms are read; with more than one nothing is
+-- sums and histograms are read if they are the only data field; else all points are foreign
 unfoldable pub add_profile : Option Scope → Data → Parts → Tally → Tally
 add_profile scope metric ps t =
     if is_single ps then add_histogram scope metric ps.histogram (add_sum scope metric ps.sum t)

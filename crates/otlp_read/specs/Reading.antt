@@ -1,4 +1,5 @@
--- What a request says: its points of the profile in order, how many others it has, and how many metrics; or its first wrong container.
+-- What a request says: its points of the profile in order, the count of foreign points and that
+-- of metrics; or its first wrong container.
 use Rattle.std.specs.Prelude.{◌≡◌, ℕ, List, [], ◌∷◌, if◌then◌else◌, Option, Some, None, option_map, Result, Ok, Err, ⊤, codes}
 use Rattle.std.specs.Str.{is_utf8}
 use Rattle.serde_json.specs.Data.{Data}
@@ -21,7 +22,7 @@ unfoldable pub each : (Data → Tally → Result Tally Place) → List Data → 
 each step [] t = Ok t
 each step (d ∷ ds) t = step d t >>= λ after. each step ds after
 
--- a scope and its metrics, below the resource's attributes
+-- a scope of a resource with these attributes, and its metrics
 unfoldable pub scope_metrics : Option (List Attribute) → Data → Tally → Result Tally Place
 scope_metrics resource d t = do
   scope ← object_in place.Scope (field (codes "scope") d)
@@ -45,11 +46,11 @@ body d t = do
 unfoldable pub reading : Data → Result Tally Place
 reading d = if is_object d then body d nothing else Err place.Root
 
--- what bytes say: nothing where they are no JSON text
+-- what bytes say; nothing, if they are no JSON text
 unfoldable pub text_reading : List ℕ → Option (Result Tally Place)
 text_reading bytes = if is_utf8 bytes then option_map reading (read bytes) else None
 
--- what `read_request` answers
+-- what `read_request` returns
 abbrev pub Answers : List ℕ → Result Reading ReadFault → Type 0
 Answers bytes (Ok r) = text_reading bytes ≡ Some (Ok (tally r))
 Answers bytes (Err (faults.WrongShape p)) = text_reading bytes ≡ Some (Err p)

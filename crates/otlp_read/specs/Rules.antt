@@ -1,4 +1,4 @@
--- What the rules of other crates let through.
+-- What the rules of other crates allow.
 use Rattle.std.specs.Prelude.{Option, Some, None}
 
 -- a value, unless it breaks a rule

@@ -1,4 +1,4 @@
--- What stands above a point, without the references.
+-- Resource, scope and metric, without the references.
 use Rattle.std.specs.Prelude.{List}
 use Rattle.series_id.specs.declared.attributes.Attribute.{Attribute}
 use Rattle.otlp_read.specs.declared.streams.Resource.{Resource as BorrowedResource}

@@ -1,4 +1,4 @@
--- What stands above a point: the parts of its identity that it shares with others.
+-- The parts of an identity that points share: resource, scope and metric; and series.
 use Rattle.std.specs.Prelude.{ℕ, Bool, List, Option, Some, None, if◌then◌else◌, option_and_then, codes}
 use Rattle.std.specs.Result.{result_ok}
 use Rattle.serde_json.specs.Data.{Data}
@@ -26,11 +26,11 @@ pub record Stream : Type 0 where
   pub name : List ℕ
   pub unit : List ℕ
 
--- a field of an object that may be absent
+-- the field of this name in an object that may be absent
 unfoldable pub inner : List ℕ → Option Data → Option Data
 inner name found = found >>= field name
 
--- name, version and attributes of the scope, below the resource's attributes
+-- name, version and attributes of a scope, with its resource's attributes
 unfoldable pub scope_in : Option (List Attribute) → Option Data → Option (List Attribute) → Option Scope
 scope_in resource scope attributes = do
   above ← resource
@@ -39,7 +39,7 @@ scope_in resource scope attributes = do
   own ← attributes
   Some (record { resource = above; name = name; version = version; attributes = own })
 
--- name and unit of the metric; the temporality of its data is delta
+-- name and unit of a metric whose data have delta temporality
 unfoldable pub stream_in : Option Scope → Data → Data → Option Stream
 stream_in scope metric part = do
   above ← scope
@@ -47,7 +47,7 @@ stream_in scope metric part = do
   unit ← text_in (field (codes "unit") metric)
   if is_delta (field (codes "aggregationTemporality") part) then Some (record { scope = above; name = name; unit = unit }) else None
 
--- a stream of sums, and whether they only grow
+-- a stream of sums, and whether they are monotonic
 pub record SumStream : Type 0 where
   pub stream : Stream
   pub monotonic : Bool
@@ -59,7 +59,7 @@ sum_stream_in scope metric sum = do
   monotonic ← truth_in (field (codes "isMonotonic") sum)
   Some (record { stream = stream; monotonic = monotonic })
 
--- the series of a kind and of attributes in a stream
+-- the series of a stream with this kind and these attributes
 abbrev pub identity_in : Stream → Kind → List Attribute → Identity
 identity_in stream kind attributes = record {
   resource = stream.scope.resource;
@@ -72,10 +72,10 @@ identity_in stream kind attributes = record {
   attrs = attributes;
 }
 
--- that series, where its texts are within their limit
+-- that series, if its texts are within their limit
 unfoldable pub series_in : Stream → Kind → List Attribute → Option Identity
 series_in stream kind attributes = result_ok (checked_identity (identity_in stream kind attributes))
 
--- the series of a kind and of an attribute list in a stream
+-- the series of a stream with this kind and this attribute list
 unfoldable pub series_of : Stream → Kind → Option Data → Option Identity
 series_of stream kind found = attributes_in found >>= series_in stream kind

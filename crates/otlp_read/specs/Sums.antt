@@ -14,7 +14,8 @@ infixl 10 ◌>>=◌
 abbrev pub ◌>>=◌ : {A B : Type 0} → Option A → (A → Option B) → Option B
 o >>= f = option_and_then f o
 
--- asInt: a whole number of 64 bits; how large it may be, and that it is not negative in a monotonic sum, is a rule of points
+-- asInt: a whole number of 64 bits; that it is within its limit, and not negative in a monotonic
+-- sum, is a rule of points
 unfoldable pub number_in : Option Data → Option ℤ
 number_in found = found >>= signed_64
 
@@ -28,7 +29,7 @@ pub record SumFields : Type 0 where
   pub end : ℕ
   pub value : ℤ
 
--- nothing where one of them is none
+-- none if one of them is none, or if there is no recorded whole number
 unfoldable pub sum_fields : Data → Option SumFields
 sum_fields d = do
   start ← nanos_in (field (codes "startTimeUnixNano") d)
@@ -43,7 +44,7 @@ sum_point sum d = do
   series ← series_of sum.stream (Sum sum.monotonic) (field (codes "attributes") d)
   unless (sum_fault series.kind fields.start fields.end fields.value) (record { series = series; span = record { start = fields.start; end = fields.end }; row = sum_row fields.value })
 
--- below a stream that is none, nothing is a point
+-- in no stream, every point is foreign
 abbrev pub sum_point_in : Option SumStream → Data → Option DataPoint
 sum_point_in None d = None
 sum_point_in (Some sum) d = sum_point sum d

@@ -4,13 +4,13 @@ use Rattle.serde_json.specs.Data.{Data}
 use Rattle.metric_events.specs.DataPoint.{DataPoint}
 use Rattle.otlp_read.specs.declared.reading.Reading.{Reading}
 
--- the points of the profile in order, and how many others and how many metrics there are
+-- the points of the profile in order, the count of foreign points and that of metrics
 pub record Tally : Type 0 where
   pub points : List DataPoint
   pub foreign : ℕ
   pub metrics : ℕ
 
--- a reading as the program holds it
+-- the program's reading as a tally
 abbrev pub tally : Reading → Tally
 tally r = record { points = r.points; foreign = r.foreign; metrics = r.metrics }
 
@@ -18,11 +18,11 @@ tally r = record { points = r.points; foreign = r.foreign; metrics = r.metrics }
 abbrev pub nothing : Tally
 nothing = record { points = []; foreign = 0; metrics = 0 }
 
--- a count of 64 bits stops at its greatest value, which no request that fits a memory reaches
+-- a count of 64 bits stops at its largest value, which no request reaches that fits a memory
 abbrev pub plus : ℕ → ℕ → ℕ
 plus a b = min (a + b) (2 ^ 64 - 1)
 
--- so many points are foreign
+-- this many more foreign points
 abbrev pub add_foreign : ℕ → Tally → Tally
 add_foreign n t = record { points = t.points; foreign = plus t.foreign n; metrics = t.metrics }
 
@@ -30,7 +30,7 @@ add_foreign n t = record { points = t.points; foreign = plus t.foreign n; metric
 abbrev pub add_metric : Tally → Tally
 add_metric t = record { points = t.points; foreign = t.foreign; metrics = plus t.metrics 1 }
 
--- a point of the profile, or one that is foreign
+-- one more point: of the profile, or foreign
 abbrev pub add_point : Option DataPoint → Tally → Tally
 add_point None t = add_foreign 1 t
 add_point (Some p) t = record { points = t.points ++ p ∷ []; foreign = t.foreign; metrics = t.metrics }

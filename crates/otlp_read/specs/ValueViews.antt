@@ -1,4 +1,4 @@
--- The fields of a value object, without the references.
+-- The fields of a value, without the references.
 use Rattle.std.specs.Prelude.{option_map}
 use Rattle.serde_json.specs.View.{view}
 use Rattle.otlp_read.specs.declared.values.ValueFields.{ValueFields as Borrowed}

@@ -11,7 +11,7 @@ use Rattle.otlp_read.specs.Fields.{field}
 use Rattle.otlp_read.specs.Containers.{is_object}
 use Rattle.otlp_read.specs.Lists.{list_in}
 
--- the fields of a value object that are there; `other` where one of those that no series may hold is
+-- the fields of a value that are present; `other` if there is one that no series may have
 pub record ValueFields : Type 0 where
   pub text : Option Data
   pub truth : Option Data
@@ -23,7 +23,7 @@ pub record ValueFields : Type 0 where
 unfoldable pub has_other : Data → Bool
 has_other d = is_some (field (codes "doubleValue") d) || is_some (field (codes "kvlistValue") d) || is_some (field (codes "bytesValue") d)
 
--- the fields of a value object
+-- the fields of a value
 unfoldable pub fields_of : Data → ValueFields
 fields_of d = record {
   text = field (codes "stringValue") d;
@@ -33,7 +33,8 @@ fields_of d = record {
   other = has_other d;
 }
 
--- a text, a truth or a whole number of 64 bits; without any of them the empty value; nothing where there are two
+-- a text, a boolean or a whole number of 64 bits; the empty value without any of them; none if
+-- there are two
 abbrev pub only_of : Option Data → Option Data → Option Data → Option Scalar
 only_of None None None = Some Empty
 only_of (Some d) None None = option_map Text (as_str d)
@@ -43,32 +44,32 @@ only_of (Some d) (Some e) int = None
 only_of (Some d) None (Some e) = None
 only_of None (Some d) (Some e) = None
 
--- a scalar: neither a list nor one of the other values
+-- a scalar, if there is neither a list nor one of the other values
 unfoldable pub scalar_of : ValueFields → Option Scalar
 scalar_of fields = if fields.other || is_some fields.list then None else only_of fields.text fields.truth fields.int
 
--- the scalar that an element of a list is: an object
+-- the scalar of an element of a list, which is an object
 unfoldable pub scalar_in : Data → Option Scalar
 scalar_in d = if is_object d then scalar_of (fields_of d) else None
 
--- arrayValue: an object whose values are scalars; absent values are none
+-- arrayValue: an object whose values are scalars; absent values are the empty list
 unfoldable pub scalars_of : Data → Option (List Scalar)
 scalars_of d = if is_object d then list_in scalar_in (field (codes "values") d) else None
 
--- a list, where nothing else is there
+-- a list, if there is no other value
 unfoldable pub many_of : ValueFields → Data → Option AttrValue
 many_of fields list = if fields.other || is_some fields.text || is_some fields.truth || is_some fields.int then None else option_map Many (scalars_of list)
 
--- a list where its field is there, else a scalar
+-- a list if its field is present, else a scalar
 abbrev pub value_of_fields : ValueFields → Option Data → Option AttrValue
 value_of_fields fields None = option_map One (scalar_of fields)
 value_of_fields fields (Some list) = many_of fields list
 
--- the value that an object gives
+-- the value of an object
 unfoldable pub value_of : Data → Option AttrValue
 value_of d = if is_object d then value_of_fields (fields_of d) (fields_of d).list else None
 
--- value of an attribute; absent is the empty value
+-- the value of an attribute; absent is the empty value
 unfoldable pub value_in : Option Data → Option AttrValue
 value_in None = Some (One Empty)
 value_in (Some d) = value_of d

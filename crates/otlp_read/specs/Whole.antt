@@ -4,7 +4,7 @@ use Rattle.decimals.specs.Numbers.{number_up_to}
 use Rattle.serde_json.specs.Data.{Data, null, boolean, number, string, array, object}
 use Rattle.serde_json.specs.Find.{as_integer}
 
--- one or more decimal digits, with leading zeros or without, whose value is below 2^64: no range goes further
+-- one or more decimal digits, also with leading zeros, of a number below 2^64: no range is larger
 unfoldable pub magnitude : List ℕ → Option ℕ
 magnitude ds = number_up_to (2 ^ 64 - 1) ds
 
@@ -13,7 +13,7 @@ abbrev pub text_whole : List ℕ → Option ℤ
 text_whole [] = None
 text_whole (b ∷ bs) = if b == 45 then option_map (λ n. neg_ℤ (pos n)) (magnitude bs) else option_map pos (magnitude (b ∷ bs))
 
--- the whole number that a value is: a number without fraction and exponent, or a text of digits
+-- the whole number of a value: a number without fraction and exponent, or a text of digits
 abbrev pub whole : Data → Option ℤ
 whole null = None
 whole (boolean b) = None
@@ -28,7 +28,7 @@ up_to most None = None
 up_to most (Some (pos n)) = if nat_le n most then Some n else None
 up_to most (Some (negsuc n)) = None
 
--- the whole number from 0 to most that a value is
+-- the number of a value, if it is a whole number from 0 to most
 unfoldable pub unsigned_in : ℕ → Data → Option ℕ
 unsigned_in most d = up_to most (whole d)
 
@@ -38,11 +38,12 @@ between below above None = None
 between below above (Some (pos n)) = if nat_le n above then Some (pos n) else None
 between below above (Some (negsuc n)) = if nat_le (suc n) below then Some (negsuc n) else None
 
--- the whole number from -below to above that a value is
+-- the number of a value, if it is a whole number from -below to above
 unfoldable pub signed_in : ℕ → ℕ → Data → Option ℤ
 signed_in below above d = between below above (whole d)
 
--- the whole number of 64 bits that a value is, without a sign, and with one: the widths of the standard's messages
+-- the number of a value, if it is a whole number of 64 bits, without a sign and with one: the
+-- widths of the standard's messages
 abbrev pub unsigned_64 : Data → Option ℕ
 unsigned_64 d = unsigned_in (2 ^ 64 - 1) d
 

@@ -1,4 +1,4 @@
-//! Attribute lists.
+//! Reads attribute lists (`KeyValue` of `opentelemetry/proto/common/v1/common.proto`).
 
 ghost use Rattle.std.specs.Prelude.{◌≡◌, ◌≢◌, codes, map, option_map, IfOk, IfSome, OnErr, OnOk, Some};
 ghost use Rattle.std.specs.Result.{result_ok};
@@ -7,26 +7,25 @@ ghost use Rattle.serde_json.specs.View.{view, members_view};
 ghost use Rattle.otlp_read.specs.Fields.{field};
 ghost use Rattle.otlp_read.specs.Lists.{all_of};
 ghost use Rattle.otlp_read.specs.Attributes.{key_and_value, pair_of, set_of, attributes_in};
-ghost use Rattle.otlp_read.specs.GivenViews.{pair_data};
+ghost use Rattle.otlp_read.specs.RefViews.{pair_data};
 
 use crate::fields::text_in;
-use crate::given::Pair;
 use crate::lists::elements_in;
 use crate::members::take_named;
-use crate::values::{given_in, value_in};
+use crate::scalar_ref::PairRef;
+use crate::values::{scalar_ref_in, value_in};
 use serde_json::{Map, Value};
 use series_id::{AttrFault, AttrSet, AttrValue, Text};
 use std::alloc::{AllocError, Global};
 
-/// The fields of an attribute that are there (`KeyValue` of
-/// `opentelemetry/proto/common/v1/common.proto`).
+/// The fields of an attribute that are present.
 #[derive(Clone, Copy)]
 struct PairFields<'v> {
     key: Option<&'v Value>,
     value: Option<&'v Value>,
 }
 
-/// The fields of an attribute, of which each member is looked at once.
+/// The fields of an attribute, in one pass over its members.
 fn pair_fields<'v>(members: &'v Map<String, Value>) -> PairFields<'v>
     ensures key { option_map (λ v. view v.now) result.key ≡ field (codes "key") (object (members_view members.now.entries)) }
     ensures value { option_map (λ v. view v.now) result.value ≡ field (codes "value") (object (members_view members.now.entries)) }
@@ -41,8 +40,8 @@ fn pair_fields<'v>(members: &'v Map<String, Value>) -> PairFields<'v>
     PairFields { key, value }
 }
 
-/// The set of attributes that a field is, empty where it is absent, and
-/// nothing where it is no attribute list, or one that no series may have.
+/// The attribute set of a field, empty if it is absent. `None` if the field is no attribute list,
+/// or one that no series may have.
 #[tactic(auto, unfolding(crate::specs::Attributes::attributes_in))]
 pub fn attributes_in(alloc: Global, found: Option<&Value>) -> Result<Option<AttrSet>, AllocError>
     ensures { IfOk result (λ o. o ≡ attributes_in (option_map (λ v. view v.now) found.entry)) }
@@ -56,6 +55,7 @@ pub fn attributes_in(alloc: Global, found: Option<&Value>) -> Result<Option<Attr
     }
 }
 
+/// The keys and values of an attribute list; `None` if an element is no attribute.
 fn pairs(alloc: Global, values: &[Value]) -> Result<Option<Vec<(Text, AttrValue)>>, AllocError>
     ensures { IfOk result (λ o. option_map (λ v. v.items) o ≡ all_of pair_of (map view values.now)) }
 {
@@ -69,6 +69,7 @@ fn pairs(alloc: Global, values: &[Value]) -> Result<Option<Vec<(Text, AttrValue)
     Ok(Some(found))
 }
 
+/// The key and the value of an attribute; `None` if it is none.
 #[tactic(auto, unfolding(crate::specs::Attributes::pair_of))]
 fn pair_of(alloc: Global, value: &Value) -> Result<Option<(Text, AttrValue)>, AllocError>
     ensures { IfOk result (λ o. o ≡ pair_of (view value.now)) }
@@ -87,28 +88,27 @@ fn pair_of(alloc: Global, value: &Value) -> Result<Option<(Text, AttrValue)>, Al
     Ok(Some((key, found)))
 }
 
-/// An attribute, where its value is a single one.
+/// An attribute, if it has a single value.
 #[tactic(auto, unfolding(crate::specs::Attributes::pair_of))]
-pub fn given_pair<'v>(value: &'v Value) -> Option<Pair<'v>>
+pub fn pair_ref<'v>(value: &'v Value) -> Option<PairRef<'v>>
     ensures { IfSome result (λ p. pair_of (view value.now) ≡ Some (pair_data p)) }
 {
     let pair = pair_fields(value.as_object()?);
     let key = text_in(pair.key)?;
-    let value = given_in(pair.value)?;
-    Some(Pair { key, value })
+    let value = scalar_ref_in(pair.value)?;
+    Some(PairRef { key, value })
 }
 
-/// The set that the pairs are, where they are one.
+/// The set of the pairs; `None` if they break a rule of sets.
 fn set_of(alloc: Global, pairs: Vec<(Text, AttrValue)>) -> Result<Option<AttrSet>, AllocError>
     ensures { IfOk result (λ o. o ≡ set_of pairs.items) }
 {
-    let set = made_set(AttrSet::from_pairs(alloc, pairs))?;
+    let set = allowed_set(AttrSet::from_pairs(alloc, pairs))?;
     Ok(set)
 }
 
-/// The set that was made, or nothing where the pairs are none; an error only
-/// where memory ran out.
-fn made_set(set: Result<AttrSet, AttrFault>) -> Result<Option<AttrSet>, AllocError>
+/// The set, or `None` if its pairs break a rule of sets. Fails only if an allocation failed.
+fn allowed_set(set: Result<AttrSet, AttrFault>) -> Result<Option<AttrSet>, AllocError>
     ensures set { IfOk result (λ o. o ≡ result_ok set) }
     ensures ok { OnOk result (set ≢ Err AttrFault.NoMemory) }
     ensures memory { OnErr result (set ≡ Err AttrFault.NoMemory) }

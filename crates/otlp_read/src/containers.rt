@@ -1,4 +1,4 @@
-//! Containers: objects and arrays of objects.
+//! Reads containers: objects, and arrays of objects.
 
 ghost use Rattle.std.specs.Prelude.{◌≡◌, map, option_map};
 ghost use Rattle.std.specs.List.{list_all};
@@ -9,7 +9,8 @@ use crate::fault::ReadFault;
 use crate::place::Place;
 use serde_json::Value;
 
-/// The array of objects that a field is, without elements where it is absent.
+/// The elements of an array of objects, none if the field is absent. Fails with `WrongShape` if the
+/// field is no array, or if an element is no object.
 #[tactic(auto, using(crate::proofs::ContainerLemmas::elements_view), unfolding(crate::specs::Containers::objects))]
 pub fn objects<'v>(found: Option<&'v Value>, place: Place) -> Result<&'v [Value], ReadFault>
     ensures { Gives (λ vs. map view vs.now) result (objects place (option_map (λ v. view v.now) found.entry)) }
@@ -27,6 +28,7 @@ pub fn objects<'v>(found: Option<&'v Value>, place: Place) -> Result<&'v [Value]
     Ok(list)
 }
 
+/// Whether all values are objects.
 fn are_objects(list: &[Value]) -> bool
     ensures { result ≡ list_all is_object (map view list.now) }
 {
@@ -38,7 +40,7 @@ fn are_objects(list: &[Value]) -> bool
     true
 }
 
-/// The object that a field is, where it is there.
+/// The object of a field, if the field is present. Fails with `WrongShape` if it is no object.
 #[tactic(auto, unfolding(crate::specs::Containers::object_in))]
 pub fn object_in<'v>(found: Option<&'v Value>, place: Place) -> Result<Option<&'v Value>, ReadFault>
     ensures { Gives (λ o. option_map (λ v. view v.now) o) result (object_in place (option_map (λ v. view v.now) found.entry)) }

@@ -1,21 +1,21 @@
-//! Where a memo looks for an identity.
+//! The hash by which a memo looks for an identity.
 
-use crate::given::{Given, Pair};
+use crate::scalar_ref::{PairRef, ScalarRef};
 use series_id::{AttrSet, AttrValue, Attribute, Kind};
 use std::hash::{FoldHasher, Hasher};
 
 /// How many slots a memo has: three times as many as the store has series.
 pub const SLOTS: usize = 32_768;
 
-/// The most bytes of an identity that a memo keeps.
+/// The largest size, in bytes, of an identity that a memo keeps.
 const MAX_KEPT: usize = 4096;
 
-/// How many bytes a part is taken for beside its text.
+/// How many bytes a part counts for beside its text.
 const PART: usize = 16;
 
-/// A digest of the parts of an identity: the places where a memo looks for it, and its size.
+/// A digest of the parts of an identity: the two slots where a memo looks for it, and its size.
 ///
-/// No answer rests on a digest, since what stands at a place is compared in full.
+/// No answer depends on a digest, since an identity that a slot holds is compared in full.
 #[derive(Clone, Copy)]
 pub struct Digest {
     hash: FoldHasher,
@@ -23,7 +23,7 @@ pub struct Digest {
 }
 
 impl Digest {
-    /// The digest of nothing.
+    /// The digest of no parts.
     pub fn new() -> Digest {
         Digest {
             hash: FoldHasher::default(),
@@ -31,38 +31,38 @@ impl Digest {
         }
     }
 
-    /// Goes on with a text.
+    /// Adds a text.
     pub fn add_text(&mut self, text: &str) {
         self.hash.write(text.as_bytes());
         self.add_size(text.len());
     }
 
-    /// Goes on with attributes, in the order in which they stand.
-    pub fn add_pairs(&mut self, pairs: &[Pair<'_>]) {
+    /// Adds attributes, in the order of the slice.
+    pub fn add_pairs(&mut self, pairs: &[PairRef<'_>]) {
         for pair in pairs {
             self.add_text(pair.key);
-            self.add_given(pair.value);
+            self.add_scalar(pair.value);
         }
     }
 
-    /// Goes on with a single value.
-    fn add_given(&mut self, given: Given<'_>) {
-        match given {
-            Given::Empty => self.add_size(0),
-            Given::Truth(truth) => self.add_number(i64::from(truth)),
-            Given::Int(number) => self.add_number(number),
-            Given::Text(text) => self.add_text(text),
+    /// Adds a single value.
+    fn add_scalar(&mut self, value: ScalarRef<'_>) {
+        match value {
+            ScalarRef::Empty => self.add_size(0),
+            ScalarRef::Truth(truth) => self.add_number(i64::from(truth)),
+            ScalarRef::Int(number) => self.add_number(number),
+            ScalarRef::Text(text) => self.add_text(text),
         }
     }
 
-    /// Goes on with the pairs of a set.
+    /// Adds the attributes of a set, in key order.
     pub fn add_set(&mut self, set: &AttrSet) {
         for pair in set.pairs() {
             self.add_pair(pair);
         }
     }
 
-    /// Goes on with a kind.
+    /// Adds a kind.
     pub fn add_kind(&mut self, kind: &Kind) {
         match kind {
             Kind::Sum { monotonic } => self.add_number(i64::from(*monotonic)),
@@ -70,44 +70,48 @@ impl Digest {
         }
     }
 
-    /// Whether an identity of this size is kept.
+    /// Whether the identity is small enough to be kept.
     pub fn is_small(self) -> bool {
         self.size <= MAX_KEPT
     }
 
-    /// The place where the identity is looked for first.
-    pub fn place(self) -> usize {
+    /// The slot where the identity is looked for first.
+    pub fn slot(self) -> usize {
         (self.hash.finish() % SLOTS as u64) as usize
     }
 
-    /// The place where it is looked for next.
-    pub fn other_place(self) -> usize {
+    /// The slot where it is looked for next.
+    pub fn other_slot(self) -> usize {
         ((self.hash.finish() >> 32) % SLOTS as u64) as usize
     }
 
+    /// Adds an attribute of a set.
     fn add_pair(&mut self, pair: &Attribute) {
         self.add_text(pair.key.as_str());
         match &pair.value {
-            AttrValue::One(scalar) => self.add_given(Given::of(scalar)),
+            AttrValue::One(scalar) => self.add_scalar(ScalarRef::of(scalar)),
             AttrValue::Many(scalars) => {
                 for scalar in scalars.as_slice() {
-                    self.add_given(Given::of(scalar));
+                    self.add_scalar(ScalarRef::of(scalar));
                 }
             }
         }
     }
 
+    /// Adds numbers, in the order of the slice.
     fn add_numbers(&mut self, numbers: &[i64]) {
         for number in numbers {
             self.add_number(*number);
         }
     }
 
+    /// Adds a number, which counts for `PART` bytes.
     fn add_number(&mut self, number: i64) {
         self.hash.write_i64(number);
         self.add_size(0);
     }
 
+    /// Adds the size of a part whose text has `length` bytes.
     fn add_size(&mut self, length: usize) {
         self.size = self.size.saturating_add(length).saturating_add(PART);
     }

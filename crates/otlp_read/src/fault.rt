@@ -1,4 +1,4 @@
-//! Why a request could not be read.
+//! The errors of reading a request.
 
 ghost use Rattle.std.specs.Prelude.{◌≡◌};
 ghost use Rattle.otlp_read.specs.declared.fault.ReadFault.TheVariants.{NoMemory};
@@ -6,14 +6,14 @@ ghost use Rattle.otlp_read.specs.declared.fault.ReadFault.TheVariants.{NoMemory}
 use crate::place::Place;
 use std::alloc::{AllocError, AllocFailed};
 
-/// Why a body gives no reading.
+/// Why a body can't be read.
 #[derive(Clone, Copy, Debug, PartialEq, Eq)]
 pub enum ReadFault {
-    /// `serde_json` reads no value from the bytes.
+    /// `serde_json` reads no value: the bytes are no UTF-8, no JSON, or nested more than 127 deep.
     NotJson,
-    /// A container has another type; the first such one in the walk.
+    /// A container has the wrong type. `Place` names the first one.
     WrongShape(Place),
-    /// A growth was refused.
+    /// An allocation failed.
     NoMemory,
 }
 

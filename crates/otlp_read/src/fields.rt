@@ -1,4 +1,4 @@
-//! The fields of an object that hold no other object.
+//! Reads single fields of an object: texts, booleans, flags, the temporality, times.
 
 ghost use Rattle.std.specs.Prelude.{◌≡◌, option_map};
 ghost use Rattle.serde_json.specs.View.{view};
@@ -8,7 +8,7 @@ use crate::whole::{unsigned, unsigned_64};
 use serde_json::Value;
 use series_id::limits::MAX_TEXT;
 
-/// The member of that name, where it is there and not null.
+/// The member of this name, if it is present and not null.
 #[tactic(auto, unfolding(crate::specs::Fields::field))]
 pub fn field<'v>(value: &'v Value, name: &str) -> Option<&'v Value>
     ensures { option_map (λ v. view v.now) result ≡ field name.now (view value.now) }
@@ -17,7 +17,8 @@ pub fn field<'v>(value: &'v Value, name: &str) -> Option<&'v Value>
     if found.is_null() { None } else { Some(found) }
 }
 
-/// Whether the flags say that the point holds a recorded value.
+/// Whether the point has a recorded value: the flags fit 32 bits and their lowest bit is not set
+/// (`DataPointFlags` of `opentelemetry/proto/metrics/v1/metrics.proto`).
 #[tactic(auto, unfolding(crate::specs::Fields::flags_fit))]
 pub fn flags_fit(found: Option<&Value>) -> bool
     ensures { result ≡ flags_fit (option_map (λ v. view v.now) found.entry) }
@@ -31,7 +32,7 @@ pub fn flags_fit(found: Option<&Value>) -> bool
     }
 }
 
-/// A text of at most `MAX_TEXT` bytes, empty where it is absent.
+/// A text of at most `MAX_TEXT` bytes, empty if it is absent.
 #[tactic(auto, unfolding(crate::specs::Fields::text_in))]
 pub fn text_in<'v>(found: Option<&'v Value>) -> Option<&'v str>
     ensures { option_map (λ s. s.now) result ≡ text_in (option_map (λ v. view v.now) found.entry) }
@@ -47,7 +48,7 @@ pub fn text_in<'v>(found: Option<&'v Value>) -> Option<&'v str>
     }
 }
 
-/// A truth, false where it is absent.
+/// A boolean, false if it is absent.
 #[tactic(auto, unfolding(crate::specs::Fields::truth_in))]
 pub fn truth_in(found: Option<&Value>) -> Option<bool>
     ensures { result ≡ truth_in (option_map (λ v. view v.now) found.entry) }
@@ -58,7 +59,7 @@ pub fn truth_in(found: Option<&Value>) -> Option<bool>
     }
 }
 
-/// Whether the temporality is delta.
+/// Whether the temporality is delta: the number 1.
 #[tactic(auto, unfolding(crate::specs::Fields::is_delta))]
 pub fn is_delta(found: Option<&Value>) -> bool
     ensures { result ≡ is_delta (option_map (λ v. view v.now) found.entry) }
@@ -72,7 +73,7 @@ pub fn is_delta(found: Option<&Value>) -> bool
     }
 }
 
-/// Nanoseconds since the epoch, where they are given.
+/// A time in nanoseconds since the epoch, if it is present.
 #[tactic(auto, unfolding(crate::specs::Fields::nanos_in))]
 pub fn nanos_in(found: Option<&Value>) -> Option<u64>
     ensures { result ≡ nanos_in (option_map (λ v. view v.now) found.entry) }

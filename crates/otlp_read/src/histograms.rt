@@ -1,6 +1,7 @@
-//! Points of histograms.
+//! Reads the points of histograms (`HistogramDataPoint` of
+//! `opentelemetry/proto/metrics/v1/metrics.proto`).
 
-ghost use Rattle.std.specs.Prelude.{◌≡◌, codes, option_map, option_and_then, IfOk, IfSome};
+ghost use Rattle.std.specs.Prelude.{◌≡◌, ◌≢◌, codes, option_map, option_and_then, IfOk, IfSome, OnErr, OnOk};
 ghost use Rattle.std.specs.Result.{result_ok};
 ghost use Rattle.serde_json.specs.Data.{object};
 ghost use Rattle.serde_json.specs.View.{view, members_view};
@@ -15,19 +16,17 @@ ghost use Rattle.otlp_read.specs.StreamViews.{stream_data};
 
 use crate::fields::{flags_fit, nanos_in};
 use crate::lists::{signed_list, unsigned_list};
-use crate::made::made;
 use crate::members::take_named;
 use crate::memo::Memo;
 use crate::streams::{Stream, series_of};
 use crate::whole::unsigned_64;
-use metric_events::point::Point;
+use metric_events::point::{Point, PointFault};
 use serde_json::{Map, Value};
 use series_id::Kind;
 use series_id::limits::MAX_BOUND;
 use std::alloc::{AllocError, Global};
 
-/// The fields of a histogram's point that are there (`HistogramDataPoint` of
-/// `opentelemetry/proto/metrics/v1/metrics.proto`).
+/// The fields of a histogram's point that are present.
 #[derive(Clone, Copy)]
 struct HistogramMembers<'v> {
     start: Option<&'v Value>,
@@ -40,8 +39,8 @@ struct HistogramMembers<'v> {
     attributes: Option<&'v Value>,
 }
 
-/// Start, end, count and sum of a histogram's point, and the fields of its buckets, bounds and
-/// attributes.
+/// Start and end (nanoseconds), count and sum of a histogram's point, and the fields of its
+/// buckets, bounds and attributes, which are read later.
 #[derive(Clone, Copy)]
 struct HistogramFields<'v> {
     start: u64,
@@ -53,7 +52,7 @@ struct HistogramFields<'v> {
     attributes: Option<&'v Value>,
 }
 
-/// The fields of a point, of which each member is looked at once.
+/// The fields of a point, in one pass over its members.
 fn histogram_members<'v>(members: &'v Map<String, Value>) -> HistogramMembers<'v>
     ensures start { option_map (λ v. view v.now) result.start ≡ field (codes "startTimeUnixNano") (object (members_view members.now.entries)) }
     ensures end { option_map (λ v. view v.now) result.end ≡ field (codes "timeUnixNano") (object (members_view members.now.entries)) }
@@ -95,7 +94,7 @@ fn histogram_members<'v>(members: &'v Map<String, Value>) -> HistogramMembers<'v
     }
 }
 
-/// How many values there are, 0 where it is absent.
+/// The count of values, 0 if it is absent.
 #[tactic(auto, unfolding(crate::specs::Histograms::count_in))]
 fn count_in(found: Option<&Value>) -> Option<u64>
     ensures { result ≡ count_in (option_map (λ v. view v.now) found.entry) }
@@ -117,6 +116,7 @@ fn total_in(found: Option<&Value>) -> Option<Option<u64>>
     }
 }
 
+/// The fields of a point; `None` if the point is foreign for one of them.
 #[tactic(auto, unfolding(crate::specs::Histograms::histogram_fields))]
 fn histogram_fields<'v>(value: &'v Value) -> Option<HistogramFields<'v>>
     ensures fields { option_map histogram_fields_data result ≡ histogram_fields (view value.now) }
@@ -144,7 +144,7 @@ fn histogram_fields<'v>(value: &'v Value) -> Option<HistogramFields<'v>>
     }
 }
 
-/// The kind of a histogram with the bounds of a point.
+/// The kind of a histogram with these bounds; `None` if they are no bounds.
 fn kind_of(alloc: Global, bounds: Option<&Value>) -> Result<Option<Kind>, AllocError>
     ensures { IfOk result (λ o. o ≡ option_and_then (λ found. result_ok (histogram_of found)) (list_in (signed_in MAX_BOUND MAX_BOUND) (option_map (λ v. view v.now) bounds.entry))) }
 {
@@ -154,7 +154,7 @@ fn kind_of(alloc: Global, bounds: Option<&Value>) -> Result<Option<Kind>, AllocE
     Ok(Kind::histogram(found).ok())
 }
 
-/// The point that a data point of a histogram is, or nothing where it is foreign.
+/// Reads a point of a histogram; `None` if it is foreign, as it is in no stream.
 pub fn histogram_point_in(
     alloc: Global,
     memo: &mut Memo,
@@ -169,6 +169,7 @@ pub fn histogram_point_in(
     }
 }
 
+/// Reads a point of a histogram in a stream; `None` if it is foreign.
 #[tactic(auto, unfolding(crate::specs::Histograms::histogram_point, crate::specs::Histograms::kind_in))]
 fn histogram_point(
     alloc: Global,
@@ -197,6 +198,21 @@ fn histogram_point(
         total,
         ..
     } = fields;
-    let point = made(Point::shared_histogram(alloc, series, start, end, count, total, buckets))?;
+    let point = allowed_point(Point::shared_histogram(
+        alloc, series, start, end, count, total, buckets,
+    ))?;
     Ok(point)
+}
+
+/// The point, or `None` if it breaks a rule of points. Fails only if an allocation failed.
+fn allowed_point(point: Result<Point, PointFault>) -> Result<Option<Point>, AllocError>
+    ensures point { IfOk result (λ o. o ≡ result_ok point) }
+    ensures ok { OnOk result (point ≢ Err PointFault.NoMemory) }
+    ensures memory { OnErr result (point ≡ Err PointFault.NoMemory) }
+{
+    match point {
+        Ok(point) => Ok(Some(point)),
+        Err(PointFault::NoMemory) => Err(AllocError),
+        Err(_) => Ok(None),
+    }
 }

@@ -1,8 +1,8 @@
-//! Reads the JSON body of an OTLP metrics request.
+//! Reads the JSON body of an OTLP metrics request (`ExportMetricsServiceRequest`).
 //!
-//! `read_request` gives the delta sums and histograms that this gateway adds
-//! up, in the order of the document, and counts the points that it does not.
-//! A container of another type refuses the whole request.
+//! `read_request` returns the delta sums and histograms, in the order of the document, and counts
+//! the foreign points: all others. A container of the wrong type makes the whole request an error.
+//! `read_request_with` does the same with a memo of identities, so that points share them.
 #![tactic(auto)]
 
 mod attributes;
@@ -10,16 +10,15 @@ mod containers;
 mod digest;
 mod fault;
 mod fields;
-mod given;
 mod histograms;
-mod known;
 mod lists;
-mod made;
+mod lookup;
 mod members;
 mod memo;
 mod metrics;
 mod place;
 mod reading;
+mod scalar_ref;
 mod streams;
 mod sums;
 mod values;

@@ -1,4 +1,4 @@
-//! Arrays of whole numbers.
+//! Reads arrays, and arrays of whole numbers.
 
 ghost use Rattle.std.specs.Prelude.{◌≡◌, ◌<◌, ◌^◌, map, option_map, IfOk};
 ghost use Rattle.serde_json.specs.View.{view};
@@ -9,8 +9,7 @@ use crate::whole::{signed, unsigned};
 use serde_json::Value;
 use std::alloc::{AllocError, Global};
 
-/// The elements of the array that a field is: none where it is absent, and
-/// nothing where it is no array.
+/// The elements of an array, none if the field is absent. `None` if the field is no array.
 #[tactic(auto, using(crate::proofs::ContainerLemmas::elements_view), unfolding(crate::specs::Lists::elements_in))]
 pub fn elements_in<'v>(found: Option<&'v Value>) -> Option<&'v [Value]>
     ensures { option_map (λ vs. map view vs.now) result ≡ elements_in (option_map (λ v. view v.now) found.entry) }
@@ -22,7 +21,8 @@ pub fn elements_in<'v>(found: Option<&'v Value>) -> Option<&'v [Value]>
     Some(list.as_slice())
 }
 
-/// The whole numbers from 0 to `most` of the array that a field is.
+/// The numbers of an array, none if the field is absent. `None` if the field is no array, or an
+/// element is no whole number from 0 to `most`.
 pub fn unsigned_list(
     alloc: Global,
     found: Option<&Value>,
@@ -36,7 +36,8 @@ pub fn unsigned_list(
     }
 }
 
-/// The whole numbers of size at most `size` of the array that a field is.
+/// The numbers of an array, none if the field is absent. `None` if the field is no array, or an
+/// element is no whole number from `-size` to `size`.
 pub fn signed_list(
     alloc: Global,
     found: Option<&Value>,
@@ -51,7 +52,7 @@ pub fn signed_list(
     }
 }
 
-// The numbers of a list, if each is a whole number of at most `most`.
+/// The numbers of a list, if each is a whole number from 0 to `most`.
 fn unsigned_numbers(
     alloc: Global,
     values: &[Value],
@@ -69,7 +70,7 @@ fn unsigned_numbers(
     Ok(Some(found))
 }
 
-// The numbers of a list, if each is a whole number of size at most `size`.
+/// The numbers of a list, if each is a whole number from `-size` to `size`.
 fn signed_numbers(
     alloc: Global,
     values: &[Value],

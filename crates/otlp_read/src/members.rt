@@ -1,4 +1,4 @@
-//! The members of an object, looked at once.
+//! Finds several members of an object in one pass.
 
 ghost use Rattle.std.specs.Prelude.{◌≡◌, Some, option_map, if◌then◌else◌};
 ghost use Rattle.std.specs.Str.{bytes_eq};
@@ -7,8 +7,7 @@ ghost use Rattle.otlp_read.specs.Fields.{present};
 
 use serde_json::Value;
 
-/// Takes a member into the slot of the name that is wanted, where it has that name; `null` counts
-/// as absent.
+/// Sets `slot` to the member if the member has the wanted name. `null` counts as absent.
 #[inline(always)]
 pub fn take_named<'v>(slot: &mut Option<&'v Value>, wanted: &str, name: &str, member: &'v Value)
     ensures { option_map (λ v. view v.now) slot.new ≡ (if bytes_eq wanted.now name.now then present (Some (view member.now)) else option_map (λ v. view v.now) slot.old) }

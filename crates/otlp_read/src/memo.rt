@@ -1,4 +1,4 @@
-//! What a reader keeps from one body to the next.
+//! The identities that a reader keeps from one body to the next.
 
 ghost use Rattle.std.specs.Prelude.{◌≡◌, [], IfOk, IfSome};
 
@@ -7,12 +7,12 @@ use series_id::{SeriesId, SharedId};
 use std::alloc::{AllocError, Global};
 use std::marker::Model;
 
-/// The identities that a reader has met, so that it makes none again that it still holds.
-/// Contracts see its slots; there is none before the first identity is kept.
+/// The identities of earlier points. A point whose identity is kept shares it, and no second one is
+/// made. Contracts see the slots; there are none before the first identity is kept.
 ///
-/// What a body says is read in the same way whatever a memo holds: what is found in a slot is
-/// compared in full. An identity takes the place of an earlier one, and a large one is not kept.
-/// Where memory for the slots is refused, nothing is kept.
+/// What a body says does not depend on its reader's memo: an identity in a slot is compared in
+/// full. It is replaced by a later one that needs its slot. One of more than 4,096 bytes is not
+/// kept. If the memory for the slots can't be allocated, nothing is kept.
 #[derive(Drop)]
 pub struct Memo {
     slots: Vec<Option<SharedId>>,
@@ -30,7 +30,7 @@ impl Model for Memo {
 }
 
 impl Memo {
-    /// A memo without slots. Takes no memory.
+    /// A memo without slots. Allocates nothing.
     pub fn new(alloc: Global) -> Memo
         ensures { result ≡ [] }
     {
@@ -52,21 +52,21 @@ impl Memo {
         }
     }
 
-    /// Whether nothing is kept yet.
+    /// Whether there are no slots.
     pub(crate) fn is_empty(&self) -> bool {
         self.slots.is_empty()
     }
 
-    /// The identity at a place, where there is one.
-    pub(crate) fn at(&self, place: usize) -> Option<&SharedId> {
-        if place < self.slots.len() {
-            self.slots[place].as_ref()
+    /// The identity in a slot, if there is one.
+    pub(crate) fn at(&self, slot: usize) -> Option<&SharedId> {
+        if slot < self.slots.len() {
+            self.slots[slot].as_ref()
         } else {
             None
         }
     }
 
-    /// This identity, shared with what is kept of it.
+    /// This identity, shared with the one in a slot if they are equal. Otherwise it is kept.
     pub(crate) fn shared(
         &mut self,
         alloc: Global,
@@ -75,10 +75,10 @@ impl Memo {
     ) -> Result<SharedId, AllocError>
         ensures { IfOk result (λ shared. shared ≡ series) }
     {
-        if let Some(shared) = self.same_at(digest.place(), &series) {
+        if let Some(shared) = self.share_same(digest.slot(), &series) {
             return Ok(shared);
         }
-        if let Some(shared) = self.same_at(digest.other_place(), &series) {
+        if let Some(shared) = self.share_same(digest.other_slot(), &series) {
             return Ok(shared);
         }
         let shared = SharedId::new(alloc, series)?;
@@ -86,11 +86,11 @@ impl Memo {
         Ok(shared)
     }
 
-    /// A share of what stands at a place, where it is this identity.
-    fn same_at(&self, place: usize, series: &SeriesId) -> Option<SharedId>
+    /// A share of the identity in a slot, if it is this one.
+    fn share_same(&self, slot: usize, series: &SeriesId) -> Option<SharedId>
         ensures { IfSome result (λ shared. shared ≡ series.now) }
     {
-        let kept = self.at(place)?;
+        let kept = self.at(slot)?;
         if kept.as_series().is_same(series) {
             kept.share().ok()
         } else {
@@ -98,24 +98,24 @@ impl Memo {
         }
     }
 
-    /// Puts an identity at the first of its places that is free, else at the other one.
+    /// Puts an identity into the first of its slots if that is free, else into the other one.
     fn keep(&mut self, digest: Digest, series: &SharedId) {
         if !self.keeps || !digest.is_small() || self.take_slots().is_err() {
             return;
         }
-        let place = if self.at(digest.place()).is_none() {
-            digest.place()
+        let slot = if self.at(digest.slot()).is_none() {
+            digest.slot()
         } else {
-            digest.other_place()
+            digest.other_slot()
         };
-        if place < self.slots.len()
+        if slot < self.slots.len()
             && let Ok(shared) = series.share()
         {
-            self.slots[place] = Some(shared);
+            self.slots[slot] = Some(shared);
         }
     }
 
-    /// Takes the memory of all slots, once.
+    /// Allocates the slots, unless they are there.
     fn take_slots(&mut self) -> Result<(), AllocError> {
         if self.slots.is_empty() {
             self.slots = free_slots(self.alloc)?;

@@ -1,4 +1,5 @@
-//! Metrics: their data fields, and what becomes of the points in them.
+//! Reads metrics: their data fields, and the points in them (`Metric` of
+//! `opentelemetry/proto/metrics/v1/metrics.proto`).
 
 ghost use Rattle.std.specs.Prelude.{◌≡◌, ◌≤◌, map, option_map, IfOk, OnOk};
 ghost use Rattle.serde_json.specs.View.{view};
@@ -23,14 +24,14 @@ use metric_events::point::Point;
 use serde_json::Value;
 use std::alloc::{AllocError, Global};
 
-/// A data field that is there, and its points.
+/// A data field, and its points.
 #[derive(Clone, Copy)]
 struct Part<'v> {
     whole: &'v Value,
     points: &'v [Value],
 }
 
-/// The five data fields of a metric (`Metric.data`), of which it has one.
+/// The five data fields of a metric (`Metric.data`). A metric should have one of them.
 #[derive(Clone, Copy)]
 struct Parts<'v> {
     gauge: Option<Part<'v>>,
@@ -40,7 +41,7 @@ struct Parts<'v> {
     summary: Option<Part<'v>>,
 }
 
-/// Reads a metric below its scope into what has been read before.
+/// Reads a metric of a scope, and adds it to the reading.
 #[tactic(auto, unfolding(crate::specs::Metrics::metric))]
 pub fn metric(
     alloc: Global,
@@ -57,6 +58,7 @@ pub fn metric(
     Ok(())
 }
 
+/// The data fields of a metric.
 #[tactic(auto, unfolding(crate::specs::Metrics::parts))]
 fn parts_of<'v>(metric: &'v Value) -> Result<Parts<'v>, ReadFault>
     ensures { Gives parts_data result (parts (view metric.now)) }
@@ -75,6 +77,7 @@ fn parts_of<'v>(metric: &'v Value) -> Result<Parts<'v>, ReadFault>
     })
 }
 
+/// The data field of this name.
 #[tactic(auto, unfolding(crate::specs::Metrics::part))]
 fn part_of<'v>(metric: &'v Value, name: &str) -> Result<Option<Part<'v>>, ReadFault>
     ensures { Gives (λ p. option_map part_data p) result (part name.now (view metric.now)) }
@@ -86,6 +89,7 @@ fn part_of<'v>(metric: &'v Value, name: &str) -> Result<Option<Part<'v>>, ReadFa
     Ok(Some(Part { whole, points }))
 }
 
+/// Adds the points of all data fields.
 #[tactic(auto, unfolding(crate::specs::Metrics::add_parts))]
 fn add_parts(
     alloc: Global,
@@ -104,6 +108,7 @@ fn add_parts(
     Ok(())
 }
 
+/// Adds the points of the sum and of the histogram. With two data fields all are foreign.
 #[tactic(auto, unfolding(crate::specs::Metrics::add_profile))]
 fn add_profile(
     alloc: Global,
@@ -125,6 +130,7 @@ fn add_profile(
     Ok(())
 }
 
+/// Whether there is at most one data field.
 #[tactic(auto, unfolding(crate::specs::Metrics::is_single))]
 fn is_single(parts: Parts<'_>) -> bool
     ensures { result ≡ is_single (parts_data parts.entry) }
@@ -137,6 +143,7 @@ fn is_single(parts: Parts<'_>) -> bool
     there <= 1
 }
 
+/// 1 if the data field is present, else 0.
 fn one_if(part: Option<Part<'_>>) -> u8
     ensures value { result ≡ one_if (option_map part_data part.entry) }
     ensures small { result ≤ 1 }
@@ -156,6 +163,7 @@ fn add_all(out: &mut Reading, part: Option<Part<'_>>)
     }
 }
 
+/// Adds the points of a sum.
 fn add_sum(
     alloc: Global,
     memo: &mut Memo,
@@ -173,6 +181,7 @@ fn add_sum(
     sum_points(alloc, memo, out, sum, part.points)
 }
 
+/// Adds the points of a histogram.
 fn add_histogram(
     alloc: Global,
     memo: &mut Memo,
@@ -190,7 +199,7 @@ fn add_histogram(
     histogram_points(alloc, memo, out, stream, part.points)
 }
 
-/// Reads the points of a sum in order.
+/// Reads the points of a sum in order, and adds them.
 fn sum_points(
     alloc: Global,
     memo: &mut Memo,
@@ -207,7 +216,7 @@ fn sum_points(
     Ok(())
 }
 
-/// Reads the points of a histogram in order.
+/// Reads the points of a histogram in order, and adds them.
 fn histogram_points(
     alloc: Global,
     memo: &mut Memo,
@@ -224,7 +233,7 @@ fn histogram_points(
     Ok(())
 }
 
-/// Keeps a point of the profile, or counts one that is foreign.
+/// Adds a point of the profile, or counts a foreign one.
 fn add_point(out: &mut Reading, point: Option<Point>) -> Result<(), AllocError>
     ensures { OnOk result (tally out.new ≡ add_point point (tally out.old)) }
 {

@@ -1,10 +1,10 @@
-//! Where a request's shape is wrong.
+//! The places in a request where a container may have the wrong type.
 
-/// The field of a container that has another type than the standard gives it
+/// The field of a container that has the wrong type
 /// (`opentelemetry/proto/metrics/v1/metrics.proto`, in the proto3 JSON mapping).
 #[derive(Clone, Copy, Debug, PartialEq, Eq)]
 pub enum Place {
-    /// The body itself, which is an object.
+    /// The body itself, an object.
     Root,
     /// `resourceMetrics`, an array of objects.
     ResourceMetrics,

@@ -1,16 +1,16 @@
-//! What a request brings.
+//! The result of reading a request.
 
 use metric_events::points::Points;
 
-/// What a request brings: its points of the profile in the order of the
-/// document, how many others it has, and how many metrics.
+/// The content of a request: its points of the profile, the delta sums and histograms that this
+/// gateway stores, and two counts.
 #[derive(Drop)]
 pub struct Reading {
-    /// The delta sums and histograms that are added up.
+    /// The points of the profile, in the order of the document.
     pub points: Points,
-    /// How many points are not, for the sender's `rejectedDataPoints`
+    /// How many points are foreign: all others. A sender gets this count as `rejectedDataPoints`
     /// (OTLP, "Partial Success").
     pub foreign: u64,
-    /// How many metric objects there are.
+    /// How many metrics there are.
     pub metrics: u64,
 }

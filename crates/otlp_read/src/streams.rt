@@ -1,5 +1,5 @@
-//! What stands above a point: the parts of its identity that it shares with
-//! others of its metric, scope and resource.
+//! Reads the parts of an identity: resource, scope and metric, and with a point's kind and
+//! attributes its series.
 
 ghost use Rattle.std.specs.Prelude.{◌≡◌, option_map, IfOk};
 ghost use Rattle.serde_json.specs.View.{view};
@@ -9,7 +9,7 @@ ghost use Rattle.otlp_read.specs.StreamViews.{resource_data, scope_data, stream_
 use crate::attributes::attributes_in;
 use crate::digest::Digest;
 use crate::fields::{field, is_delta, text_in, truth_in};
-use crate::known::known_series;
+use crate::lookup::look_up;
 use crate::memo::Memo;
 use serde_json::Value;
 use series_id::{AttrSet, Kind, SeriesId, SharedId, Text};
@@ -32,7 +32,7 @@ pub struct Scope<'a> {
     pub digest: Digest,
 }
 
-/// A metric of a scope, and the digest of both.
+/// A metric of a scope, its name and unit, and the digest of both.
 #[derive(Clone, Copy)]
 pub struct Stream<'a> {
     pub scope: Scope<'a>,
@@ -41,14 +41,14 @@ pub struct Stream<'a> {
     pub digest: Digest,
 }
 
-/// A stream of sums, and whether they only grow.
+/// A stream of sums, and whether they are monotonic.
 #[derive(Clone, Copy)]
 pub struct SumStream<'a> {
     pub stream: Stream<'a>,
     pub monotonic: bool,
 }
 
-/// A field of an object that may be absent.
+/// The field of this name in an object that may be absent.
 #[tactic(auto, unfolding(crate::specs::Streams::inner))]
 pub fn inner<'v>(found: Option<&'v Value>, name: &str) -> Option<&'v Value>
     ensures { option_map (λ v. view v.now) result ≡ inner name.now (option_map (λ v. view v.now) found.entry) }
@@ -56,7 +56,7 @@ pub fn inner<'v>(found: Option<&'v Value>, name: &str) -> Option<&'v Value>
     field(found?, name)
 }
 
-/// The resource with these attributes, nothing where they are no part of an identity.
+/// The resource with these attributes. `None` if no identity may have them.
 pub fn resource_in<'a>(attributes: Option<&'a AttrSet>) -> Option<Resource<'a>>
     ensures { option_map resource_data result ≡ option_map (λ s. s.now) attributes.entry }
 {
@@ -66,8 +66,8 @@ pub fn resource_in<'a>(attributes: Option<&'a AttrSet>) -> Option<Resource<'a>>
     Some(Resource { attributes, digest })
 }
 
-/// The scope below a resource's attributes, with its own; nothing where one of
-/// its parts is no part of an identity.
+/// The scope of a resource, with its own attributes. `None` if one of its parts may be in no
+/// identity; then all its points are foreign.
 #[tactic(auto, unfolding(crate::specs::Streams::scope_in))]
 pub fn scope_in<'a>(
     resource: Option<Resource<'a>>,
@@ -93,7 +93,7 @@ pub fn scope_in<'a>(
     })
 }
 
-/// The metric below its scope, where its data are delta.
+/// The metric of a scope, if the temporality of its data is delta.
 #[tactic(auto, unfolding(crate::specs::Streams::stream_in))]
 pub fn stream_in<'a>(
     scope: Option<Scope<'a>>,
@@ -120,7 +120,7 @@ pub fn stream_in<'a>(
     }
 }
 
-/// The metric below its scope, where its sum is delta.
+/// The metric of a scope, if the temporality of its sum is delta.
 #[tactic(auto, unfolding(crate::specs::Streams::sum_stream_in))]
 pub fn sum_stream_in<'a>(
     scope: Option<Scope<'a>>,
@@ -134,8 +134,8 @@ pub fn sum_stream_in<'a>(
     Some(SumStream { stream, monotonic })
 }
 
-/// The series of a kind and of an attribute list in a stream, shared with what the memo holds of
-/// it; nothing where it is none.
+/// The series of a stream with this kind and these attributes, shared with the memo if it has it.
+/// `None` if the attributes are none that a series may have.
 #[tactic(auto, unfolding(crate::specs::Streams::series_of))]
 pub fn series_of(
     alloc: Global,
@@ -146,7 +146,7 @@ pub fn series_of(
 ) -> Result<Option<SharedId>, AllocError>
     ensures { IfOk result (λ o. o ≡ series_of (stream_data stream.entry) kind (option_map (λ v. view v.now) found.entry)) }
 {
-    if let Some(series) = known_series(memo, stream, &kind, found) {
+    if let Some(series) = look_up(memo, stream, &kind, found) {
         return Ok(Some(series));
     }
     let Some(attributes) = attributes_in(alloc, found)? else {
@@ -161,7 +161,7 @@ pub fn series_of(
     Ok(Some(memo.shared(alloc, digest, series)?))
 }
 
-/// The series of a kind and of attributes in a stream.
+/// The series of a stream with this kind and these attributes.
 #[tactic(auto, unfolding(crate::specs::Streams::series_in))]
 fn series_in(
     alloc: Global,
@@ -193,6 +193,7 @@ fn series_in(
     }
 }
 
+/// A copy of a text.
 fn text(alloc: Global, text: &str) -> Result<Text, AllocError>
     ensures { IfOk result (λ t. t ≡ text.now) }
 {

@@ -1,4 +1,5 @@
-//! Points of sums.
+//! Reads the points of sums (`NumberDataPoint` of
+//! `opentelemetry/proto/metrics/v1/metrics.proto`).
 
 ghost use Rattle.std.specs.Prelude.{◌≡◌, ◌&&◌, codes, is_some, not, option_map, IfOk, IfSome};
 ghost use Rattle.serde_json.specs.Data.{object};
@@ -18,8 +19,7 @@ use serde_json::{Map, Value};
 use series_id::Kind;
 use std::alloc::{AllocError, Global};
 
-/// The fields of a sum's point that are there (`NumberDataPoint` of
-/// `opentelemetry/proto/metrics/v1/metrics.proto`).
+/// The fields of a sum's point that are present.
 #[derive(Clone, Copy)]
 struct SumMembers<'v> {
     start: Option<&'v Value>,
@@ -30,7 +30,8 @@ struct SumMembers<'v> {
     attributes: Option<&'v Value>,
 }
 
-/// Start, end and value of a sum's point, and the field of its attributes.
+/// Start and end (nanoseconds) and value of a sum's point, and the field of its attributes, which
+/// is read later.
 #[derive(Clone, Copy)]
 struct SumFields<'v> {
     start: u64,
@@ -39,7 +40,7 @@ struct SumFields<'v> {
     attributes: Option<&'v Value>,
 }
 
-/// The fields of a point, of which each member is looked at once.
+/// The fields of a point, in one pass over its members.
 fn sum_members<'v>(members: &'v Map<String, Value>) -> SumMembers<'v>
     ensures start { option_map (λ v. view v.now) result.start ≡ field (codes "startTimeUnixNano") (object (members_view members.now.entries)) }
     ensures end { option_map (λ v. view v.now) result.end ≡ field (codes "timeUnixNano") (object (members_view members.now.entries)) }
@@ -73,6 +74,7 @@ fn sum_members<'v>(members: &'v Map<String, Value>) -> SumMembers<'v>
     }
 }
 
+/// The value, a whole number of 64 bits.
 #[tactic(auto, unfolding(crate::specs::Sums::number_in))]
 fn number_in(found: Option<&Value>) -> Option<i64>
     ensures { result ≡ number_in (option_map (λ v. view v.now) found.entry) }
@@ -80,12 +82,14 @@ fn number_in(found: Option<&Value>) -> Option<i64>
     signed_64(found?)
 }
 
+/// Whether the point has a recorded value that is no double.
 fn is_whole_value(members: SumMembers<'_>) -> bool
     ensures { result ≡ (flags_fit (option_map (λ v. view v.now) members.entry.flags) && not (is_some (option_map (λ v. view v.now) members.entry.double))) }
 {
     flags_fit(members.flags) && members.double.is_none()
 }
 
+/// The fields of a point; `None` if the point is foreign for one of them.
 #[tactic(auto, unfolding(crate::specs::Sums::sum_fields))]
 fn sum_fields<'v>(value: &'v Value) -> Option<SumFields<'v>>
     ensures fields { option_map sum_fields_data result ≡ sum_fields (view value.now) }
@@ -107,7 +111,7 @@ fn sum_fields<'v>(value: &'v Value) -> Option<SumFields<'v>>
     }
 }
 
-/// The point that a data point of a sum is, or nothing where it is foreign.
+/// Reads a point of a sum; `None` if it is foreign, as it is in no stream.
 pub fn sum_point_in(
     alloc: Global,
     memo: &mut Memo,
@@ -122,6 +126,7 @@ pub fn sum_point_in(
     }
 }
 
+/// Reads a point of a sum in a stream; `None` if it is foreign.
 #[tactic(auto, unfolding(crate::specs::Sums::sum_point))]
 fn sum_point(
     alloc: Global,

@@ -1,4 +1,5 @@
-//! Values of attributes: one scalar, or a list of scalars.
+//! Reads the values of attributes, single ones and lists (`AnyValue` of
+//! `opentelemetry/proto/common/v1/common.proto`).
 
 ghost use Rattle.std.specs.Prelude.{◌≡◌, ◌||◌, is_some, map, option_map, IfOk, IfSome, Some};
 ghost use Rattle.serde_json.specs.Data.{object};
@@ -7,30 +8,29 @@ ghost use Rattle.series_id.specs.declared.values.AttrValue.TheVariants.{One};
 ghost use Rattle.otlp_read.specs.Lists.{all_of};
 ghost use Rattle.otlp_read.specs.Values.{fields_of, scalar_of, scalar_in, scalars_of, many_of, value_of, value_in};
 ghost use Rattle.otlp_read.specs.ValueViews.{fields_data};
-ghost use Rattle.otlp_read.specs.GivenViews.{given_data};
+ghost use Rattle.otlp_read.specs.RefViews.{scalar_data};
 
 use crate::fields::field;
-use crate::given::Given;
 use crate::lists::elements_in;
 use crate::members::take_named;
+use crate::scalar_ref::ScalarRef;
 use crate::whole::signed_64;
 use serde_json::{Map, Value};
 use series_id::{AttrValue, Scalar, Scalars};
 use std::alloc::{AllocError, Global};
 
-/// The fields of a value object that are there (`AnyValue` of
-/// `opentelemetry/proto/common/v1/common.proto`).
+/// The fields of a value that are present.
 #[derive(Clone, Copy)]
 struct ValueFields<'v> {
     text: Option<&'v Value>,
     truth: Option<&'v Value>,
     int: Option<&'v Value>,
     list: Option<&'v Value>,
-    /// Whether there is a double, a map or bytes, which no series here may hold.
+    /// Whether there is a double, a map or bytes, which no series may have.
     other: bool,
 }
 
-/// The fields of a value object, of which each member is looked at once.
+/// The fields of a value, in one pass over its members.
 fn fields_of<'v>(members: &'v Map<String, Value>) -> ValueFields<'v>
     ensures { fields_data result ≡ fields_of (object (members_view members.now.entries)) }
 {
@@ -60,15 +60,14 @@ fn fields_of<'v>(members: &'v Map<String, Value>) -> ValueFields<'v>
     }
 }
 
-/// Whether one of three fields is there.
+/// Whether one of three fields is present.
 fn has_any(one: Option<&Value>, another: Option<&Value>, third: Option<&Value>) -> bool
     ensures { result ≡ (is_some (option_map (λ v. view v.now) one.entry) || is_some (option_map (λ v. view v.now) another.entry) || is_some (option_map (λ v. view v.now) third.entry)) }
 {
     one.is_some() || another.is_some() || third.is_some()
 }
 
-/// The value of an attribute, empty where it is absent, and nothing where it
-/// is one that no series here may hold.
+/// The value of an attribute, empty if it is absent. `None` if it is one that no series may have.
 #[tactic(auto, unfolding(crate::specs::Values::value_in))]
 pub fn value_in(alloc: Global, found: Option<&Value>) -> Result<Option<AttrValue>, AllocError>
     ensures { IfOk result (λ o. o ≡ value_in (option_map (λ v. view v.now) found.entry)) }
@@ -79,6 +78,7 @@ pub fn value_in(alloc: Global, found: Option<&Value>) -> Result<Option<AttrValue
     }
 }
 
+/// The value of an object; `None` if no series may have it.
 #[tactic(auto, unfolding(crate::specs::Values::value_of))]
 fn value_of(alloc: Global, value: &Value) -> Result<Option<AttrValue>, AllocError>
     ensures { IfOk result (λ o. o ≡ value_of (view value.now)) }
@@ -93,6 +93,7 @@ fn value_of(alloc: Global, value: &Value) -> Result<Option<AttrValue>, AllocErro
     }
 }
 
+/// The single value of the fields.
 fn one_of(alloc: Global, fields: ValueFields<'_>) -> Result<Option<AttrValue>, AllocError>
     ensures { IfOk result (λ o. o ≡ option_map One (scalar_of (fields_data fields.entry))) }
 {
@@ -102,6 +103,7 @@ fn one_of(alloc: Global, fields: ValueFields<'_>) -> Result<Option<AttrValue>, A
     }
 }
 
+/// The list of the fields, if it is the only one.
 #[tactic(auto, unfolding(crate::specs::Values::many_of))]
 fn many_of(
     alloc: Global,
@@ -119,6 +121,7 @@ fn many_of(
     }
 }
 
+/// The values of an array object (`ArrayValue`).
 #[tactic(auto, unfolding(crate::specs::Values::scalars_of))]
 fn scalars_of(alloc: Global, list: &Value) -> Result<Option<Scalars>, AllocError>
     ensures { IfOk result (λ o. o ≡ scalars_of (view list.now)) }
@@ -132,6 +135,7 @@ fn scalars_of(alloc: Global, list: &Value) -> Result<Option<Scalars>, AllocError
     }
 }
 
+/// The values of a list, if each is a single one.
 fn scalars(alloc: Global, values: &[Value]) -> Result<Option<Scalars>, AllocError>
     ensures { IfOk result (λ o. o ≡ all_of scalar_in (map view values.now)) }
 {
@@ -145,6 +149,7 @@ fn scalars(alloc: Global, values: &[Value]) -> Result<Option<Scalars>, AllocErro
     Ok(Some(Scalars::new(found)))
 }
 
+/// The single value of an element of a list.
 #[tactic(auto, unfolding(crate::specs::Values::scalar_in))]
 fn scalar_in(alloc: Global, value: &Value) -> Result<Option<Scalar>, AllocError>
     ensures { IfOk result (λ o. o ≡ scalar_in (view value.now)) }
@@ -155,39 +160,40 @@ fn scalar_in(alloc: Global, value: &Value) -> Result<Option<Scalar>, AllocError>
     }
 }
 
+/// The single value of the fields, with a copy of its text.
 fn scalar_of(alloc: Global, fields: ValueFields<'_>) -> Result<Option<Scalar>, AllocError>
     ensures { IfOk result (λ o. o ≡ scalar_of (fields_data fields.entry)) }
 {
-    match given_of(fields) {
+    match scalar_ref_of(fields) {
         None => Ok(None),
-        Some(given) => Ok(Some(given.made(alloc)?)),
+        Some(scalar) => Ok(Some(scalar.to_scalar(alloc)?)),
     }
 }
 
-/// The single value that the fields of a value object are.
+/// The single value of the fields.
 #[tactic(auto, unfolding(crate::specs::Values::scalar_of))]
-fn given_of<'v>(fields: ValueFields<'v>) -> Option<Given<'v>>
-    ensures { option_map given_data result ≡ scalar_of (fields_data fields.entry) }
+fn scalar_ref_of<'v>(fields: ValueFields<'v>) -> Option<ScalarRef<'v>>
+    ensures { option_map scalar_data result ≡ scalar_of (fields_data fields.entry) }
 {
     if fields.other || fields.list.is_some() {
         return None;
     }
     match (fields.text, fields.truth, fields.int) {
-        (None, None, None) => Some(Given::Empty),
-        (Some(value), None, None) => Some(Given::Text(value.as_str()?)),
-        (None, Some(value), None) => Some(Given::Truth(value.as_bool()?)),
-        (None, None, Some(value)) => Some(Given::Int(signed_64(value)?)),
+        (None, None, None) => Some(ScalarRef::Empty),
+        (Some(value), None, None) => Some(ScalarRef::Text(value.as_str()?)),
+        (None, Some(value), None) => Some(ScalarRef::Truth(value.as_bool()?)),
+        (None, None, Some(value)) => Some(ScalarRef::Int(signed_64(value)?)),
         _ => None,
     }
 }
 
-/// The value of an attribute, where it is a single one.
+/// The value of an attribute, if it is a single one.
 #[tactic(auto, unfolding(crate::specs::Values::value_in, crate::specs::Values::value_of, crate::specs::Values::scalar_of))]
-pub fn given_in<'v>(found: Option<&'v Value>) -> Option<Given<'v>>
-    ensures { IfSome result (λ g. value_in (option_map (λ v. view v.now) found.entry) ≡ Some (One (given_data g))) }
+pub fn scalar_ref_in<'v>(found: Option<&'v Value>) -> Option<ScalarRef<'v>>
+    ensures { IfSome result (λ g. value_in (option_map (λ v. view v.now) found.entry) ≡ Some (One (scalar_data g))) }
 {
     match found {
-        None => Some(Given::Empty),
-        Some(value) => given_of(fields_of(value.as_object()?)),
+        None => Some(ScalarRef::Empty),
+        Some(value) => scalar_ref_of(fields_of(value.as_object()?)),
     }
 }

@@ -1,4 +1,4 @@
-//! The containers of a request, from the outside in.
+//! Reads a request: walks its containers from the outside in.
 
 ghost use Rattle.std.specs.Prelude.{◌≡◌, map, option_map};
 ghost use Rattle.serde_json.specs.View.{view};
@@ -21,19 +21,16 @@ use metric_events::points::Points;
 use serde_json::Value;
 use std::alloc::Global;
 
-/// Reads the body of a metrics request (`ExportMetricsServiceRequest` in
-/// OTLP's JSON encoding).
+/// Reads the body of a metrics request (`ExportMetricsServiceRequest` in OTLP's JSON encoding).
 ///
-/// `NotJson` where `serde_json` reads no value from the bytes, which are then
-/// no UTF-8, no JSON, or nested more than 127 deep. `WrongShape` names the
-/// first container of another type: the walk is depth first, each object's
-/// fields in the standard's order, an array's own type and that of all its
-/// elements before its first element. `NoMemory` where a growth was refused,
-/// which may be found before another fault is.
+/// Fails with `NotJson` if the bytes are no UTF-8, no JSON, or nested more than 127 deep, and with
+/// `WrongShape` at the first container of the wrong type. The walk is depth first, each object's
+/// fields in the standard's order; an array's type and that of all its elements come before its
+/// first element. Fails with `NoMemory` if an allocation fails, which may be before another error
+/// is found.
 ///
-/// Unknown names are ignored, `null` counts as absent, and a name that stands
-/// twice counts by its last value. A point outside the profile is counted as
-/// foreign and refuses nothing.
+/// Unknown names are ignored, `null` counts as absent, and of several members of one name the last
+/// counts. A point outside the profile is counted as foreign; it is no error.
 pub fn read_request(alloc: Global, bytes: &[u8]) -> Result<Reading, ReadFault>
     ensures { Answers bytes.now result }
 {
@@ -41,10 +38,11 @@ pub fn read_request(alloc: Global, bytes: &[u8]) -> Result<Reading, ReadFault>
     read_request_with(alloc, bytes, &mut memo)
 }
 
-/// Reads the body of a metrics request as `read_request` does, with a memo of the bodies before.
+/// Reads the body of a metrics request as `read_request` does. Points share the identities that
+/// the memo has, and new ones are added to it.
 ///
-/// The answer is the same whatever the memo holds, and each fault comes where it does there. What
-/// the memo holds afterwards is left open, after a fault too.
+/// Results and errors are those of `read_request`, whatever the memo has. What it has afterwards is
+/// left open, also after an error.
 pub fn read_request_with(alloc: Global, bytes: &[u8], memo: &mut Memo) -> Result<Reading, ReadFault>
     ensures { Answers bytes.now result }
 {
@@ -56,6 +54,7 @@ pub fn read_request_with(alloc: Global, bytes: &[u8], memo: &mut Memo) -> Result
     read_value(alloc, memo, &value)
 }
 
+/// Reads a request.
 #[tactic(auto, unfolding(crate::specs::Reading::reading))]
 fn read_value(alloc: Global, memo: &mut Memo, value: &Value) -> Result<Reading, ReadFault>
     ensures { Gives tally result (reading (view value.now)) }
@@ -72,6 +71,7 @@ fn read_value(alloc: Global, memo: &mut Memo, value: &Value) -> Result<Reading, 
     Ok(out)
 }
 
+/// Reads the body's resources, and adds them to the reading.
 #[tactic(auto, unfolding(crate::specs::Reading::body))]
 fn body(alloc: Global, memo: &mut Memo, out: &mut Reading, value: &Value) -> Result<(), ReadFault>
     ensures { Gives (λ _. tally out.new) result (body (view value.now) (tally out.old)) }
@@ -80,6 +80,7 @@ fn body(alloc: Global, memo: &mut Memo, out: &mut Reading, value: &Value) -> Res
     resources(alloc, memo, out, values)
 }
 
+/// Reads resources in order.
 fn resources(
     alloc: Global,
     memo: &mut Memo,
@@ -94,6 +95,7 @@ fn resources(
     Ok(())
 }
 
+/// Reads a resource and its scopes (`ResourceMetrics`).
 #[tactic(auto, unfolding(crate::specs::Reading::resource_metrics))]
 fn resource_metrics(
     alloc: Global,
@@ -109,6 +111,7 @@ fn resource_metrics(
     scopes(alloc, memo, out, resource_in(attributes.as_ref()), values)
 }
 
+/// Reads the scopes of a resource in order.
 fn scopes(
     alloc: Global,
     memo: &mut Memo,
@@ -124,6 +127,7 @@ fn scopes(
     Ok(())
 }
 
+/// Reads a scope and its metrics (`ScopeMetrics`).
 #[tactic(auto, unfolding(crate::specs::Reading::scope_metrics))]
 fn scope_metrics(
     alloc: Global,
@@ -146,6 +150,7 @@ fn scope_metrics(
     )
 }
 
+/// Reads the metrics of a scope in order.
 fn metrics(
     alloc: Global,
     memo: &mut Memo,

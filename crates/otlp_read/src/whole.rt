@@ -1,4 +1,4 @@
-//! Whole numbers, as JSON numbers or as decimal texts.
+//! Reads whole numbers: JSON numbers, or decimal texts (proto3 JSON mapping).
 
 ghost use Rattle.std.specs.Prelude.{◌≡◌, ◌<◌, ◌≤◌, ◌^◌};
 ghost use Rattle.serde_json.specs.View.{view};
@@ -7,7 +7,7 @@ ghost use Rattle.otlp_read.specs.Whole.{magnitude, text_whole, whole, unsigned_i
 use decimals::number_up_to;
 use serde_json::Value;
 
-/// The value of the digits, where it is below 2^64.
+/// The number of the digits, if it is below 2^64.
 #[tactic(auto, unfolding(crate::specs::Whole::magnitude))]
 fn digits_below(text: &str) -> Option<u64>
     ensures { result ≡ magnitude text.now }
@@ -15,7 +15,7 @@ fn digits_below(text: &str) -> Option<u64>
     number_up_to(text.as_bytes(), u64::MAX)
 }
 
-/// The value of an optional minus and digits.
+/// The number of a text: an optional minus, then digits.
 fn whole_text(text: &str) -> Option<i128>
     ensures { result ≡ text_whole text.now }
 {
@@ -31,8 +31,8 @@ fn whole_text(text: &str) -> Option<i128>
     }
 }
 
-/// The whole number that a value is: 64-bit integers come as numbers or as
-/// strings (proto3 JSON mapping), and nothing with a fraction or exponent is one.
+/// The whole number of a value. 64-bit integers come as numbers or as strings (proto3 JSON
+/// mapping). A number with a fraction or an exponent is none.
 fn whole(value: &Value) -> Option<i128>
     ensures { result ≡ whole (view value.now) }
 {
@@ -42,7 +42,7 @@ fn whole(value: &Value) -> Option<i128>
     }
 }
 
-/// The whole number from 0 to `most` that a value is.
+/// The number of a value, if it is a whole number from 0 to `most`.
 #[tactic(auto, unfolding(crate::specs::Whole::unsigned_in))]
 pub fn unsigned(value: &Value, most: u64) -> Option<u64>
     ensures { result ≡ unsigned_in most (view value.now) }
@@ -54,7 +54,7 @@ pub fn unsigned(value: &Value, most: u64) -> Option<u64>
     Some(found as u64)
 }
 
-/// The whole number from `-below` to `above` that a value is.
+/// The number of a value, if it is a whole number from `-below` to `above`.
 #[tactic(auto, unfolding(crate::specs::Whole::signed_in))]
 pub fn signed(value: &Value, below: u64, above: u64) -> Option<i64>
     requires low { below ≤ 2 ^ 63 }
@@ -68,14 +68,14 @@ pub fn signed(value: &Value, below: u64, above: u64) -> Option<i64>
     Some(found as i64)
 }
 
-/// The whole number of 64 bits without a sign that a value is.
+/// The number of a value, if it is a whole number of 64 bits without a sign.
 pub fn unsigned_64(value: &Value) -> Option<u64>
     ensures { result ≡ unsigned_64 (view value.now) }
 {
     unsigned(value, u64::MAX)
 }
 
-/// The whole number of 64 bits with its sign that a value is.
+/// The number of a value, if it is a whole number of 64 bits with a sign.
 pub fn signed_64(value: &Value) -> Option<i64>
     ensures { result ≡ signed_64 (view value.now) }
 {

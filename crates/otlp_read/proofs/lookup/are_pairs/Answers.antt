@@ -1,8 +1,8 @@
 use Rattle.std.proofs.Common.{arith}
 use Rattle.series_id.specs.Sorting.{pair_of as pair_in}
-use Rattle.otlp_read.specs.GivenViews.{pair_data}
-use Rattle.otlp_read.proofs.KnownLemmas.{alike_more, alike_all}
-use Rattle.otlp_read.proofs.known.are_pairs.Goals as goal
+use Rattle.otlp_read.specs.RefViews.{pair_data}
+use Rattle.otlp_read.proofs.LookupLemmas.{alike_more, alike_all}
+use Rattle.otlp_read.proofs.lookup.are_pairs.Goals as goal
 
 pub loop-i-preserved : goal.loop-i-preserved
 loop-i-preserved c =

@@ -1,9 +1,9 @@
 use Rattle.std.proofs.Common.{◌≡◌, arith, length, Some, ap, refl, sym, map, take, ◌∙◌}
 use Rattle.otlp_read.specs.Attributes.{pair_of}
-use Rattle.otlp_read.specs.GivenViews.{pair_data}
-use Rattle.otlp_read.proofs.KnownLemmas.{put_more}
+use Rattle.otlp_read.specs.RefViews.{pair_data}
+use Rattle.otlp_read.proofs.LookupLemmas.{put_more}
 use Rattle.otlp_read.proofs.ListLemmas.{all_done}
-use Rattle.otlp_read.proofs.known.put_pairs.Goals as goal
+use Rattle.otlp_read.proofs.lookup.put_pairs.Goals as goal
 
 pub loop-i-preserved : goal.loop-i-preserved
 loop-i-preserved c =

@@ -1,6 +1,6 @@
 use Rattle.std.proofs.Common.{arith}
-use Rattle.otlp_read.proofs.KnownLemmas.{same_more, same_all}
-use Rattle.otlp_read.proofs.known.are_same_pairs.Goals as goal
+use Rattle.otlp_read.proofs.LookupLemmas.{same_more, same_all}
+use Rattle.otlp_read.proofs.lookup.are_same_pairs.Goals as goal
 
 pub loop-i-preserved : goal.loop-i-preserved
 loop-i-preserved c =

@@ -2,7 +2,7 @@ use Rattle.std.proofs.Common.{◌≡◌, ap, sym, ◌∙◌}
 use Rattle.std.proofs.lemmas.Slice.Eq.{slice_eq-Decides}
 use Rattle.std.proofs.lemmas.Bool.Decides.{Decides-int_eq}
 use Rattle.series_id.specs.declared.kinds.Kind.TheVariants.{Histogram}
-use Rattle.otlp_read.proofs.known.is_same_kind.Goals as goal
+use Rattle.otlp_read.proofs.lookup.is_same_kind.Goals as goal
 
 pub returns-in-Histogram-Histogram : goal.returns-in-Histogram-Histogram
 returns-in-Histogram-Histogram c =

@@ -1,18 +1,18 @@
-//! Identities that a memo holds already, found before anything of them is made.
+//! Looks an identity up in a memo, before anything of it is made.
 
 ghost use Rattle.std.specs.Prelude.{◌≡◌, ◌≤◌, IfSome, IsPermutation, IsTrue, OnSome, Some, length, map, option_and_then, option_map, take};
 ghost use Rattle.serde_json.specs.View.{view};
 ghost use Rattle.series_id.specs.Sorting.{pair_of as pair_in};
 ghost use Rattle.otlp_read.specs.Lists.{all_of};
 ghost use Rattle.otlp_read.specs.Attributes.{pair_of, set_of};
-ghost use Rattle.otlp_read.specs.GivenViews.{pair_data};
+ghost use Rattle.otlp_read.specs.RefViews.{pair_data};
 ghost use Rattle.otlp_read.specs.Streams.{identity_in, series_in, series_of};
 ghost use Rattle.otlp_read.specs.StreamViews.{scope_data, stream_data};
 
-use crate::attributes::given_pair;
-use crate::given::{Given, Pair};
+use crate::attributes::pair_ref;
 use crate::lists::elements_in;
 use crate::memo::Memo;
+use crate::scalar_ref::{PairRef, ScalarRef};
 use crate::streams::{Scope, Stream};
 use serde_json::Value;
 use series_id::{AttrSet, AttrValue, Attribute, Kind, Scalar, SeriesId, SharedId};
@@ -20,10 +20,11 @@ use series_id::{AttrSet, AttrValue, Attribute, Kind, Scalar, SeriesId, SharedId}
 /// The most attributes of a point that is looked up.
 const MOST_PAIRS: usize = 16;
 
-/// The series of a kind and of an attribute list in a stream, where the memo holds it, and the
-/// list is of at most `MOST_PAIRS` single values, in whatever order. Takes no memory.
+/// The series of a stream with this kind and these attributes, if the memo has it. Attributes in
+/// any order are found, but only up to `MOST_PAIRS` of them, each with a single value. Allocates
+/// nothing.
 #[tactic(auto, unfolding(crate::specs::Streams::series_of))]
-pub fn known_series(
+pub fn look_up(
     memo: &Memo,
     stream: Stream<'_>,
     kind: &Kind,
@@ -38,59 +39,63 @@ pub fn known_series(
     if values.len() > MOST_PAIRS {
         return None;
     }
-    let mut room = [Pair {
+    let mut room = [PairRef {
         key: "",
-        value: Given::Empty,
+        value: ScalarRef::Empty,
     }; MOST_PAIRS];
     put_pairs(&mut room, values)?;
     let pairs = &mut room[..values.len()];
     sort_pairs(pairs);
-    known_of(memo, stream, kind, pairs)
+    look_up_pairs(memo, stream, kind, pairs)
 }
 
-/// Puts the attributes of a list into a room from its front on, nothing where one has no single
-/// value.
-fn put_pairs<'v>(room: &mut [Pair<'v>], values: &'v [Value]) -> Option<()>
+/// Puts the attributes of a list at the front of `room`; `None` if one has no single value.
+fn put_pairs<'v>(room: &mut [PairRef<'v>], values: &'v [Value]) -> Option<()>
     requires { length values.now ≤ length room.old }
     ensures { OnSome result (all_of pair_of (map view values.now) ≡ Some (map pair_data (take (length values.now) room.new))) }
 {
     for i in 0..values.len() {
-        room[i] = given_pair(&values[i])?;
+        room[i] = pair_ref(&values[i])?;
     }
     Some(())
 }
 
-/// Puts attributes in the order of their keys.
-fn sort_pairs(pairs: &mut [Pair<'_>])
+/// Sorts attributes by key.
+fn sort_pairs(pairs: &mut [PairRef<'_>])
     ensures { IsPermutation pairs.old pairs.new }
 {
     pairs.sort_unstable_by_key(|pair| pair.key);
 }
 
-/// The series of a kind and of attributes, in the order of their keys, in a stream.
-fn known_of(memo: &Memo, stream: Stream<'_>, kind: &Kind, pairs: &[Pair<'_>]) -> Option<SharedId>
+/// The series of a stream with this kind and these attributes, which are in key order.
+fn look_up_pairs(
+    memo: &Memo,
+    stream: Stream<'_>,
+    kind: &Kind,
+    pairs: &[PairRef<'_>],
+) -> Option<SharedId>
     ensures { IfSome result (λ s. option_and_then (series_in (stream_data stream.entry) kind.now) (set_of (map pair_data pairs.now)) ≡ Some s) }
 {
     let mut digest = stream.digest;
     digest.add_kind(kind);
     digest.add_pairs(pairs);
-    match known_at(memo, digest.place(), stream, kind, pairs) {
+    match share_at(memo, digest.slot(), stream, kind, pairs) {
         Some(series) => Some(series),
-        None => known_at(memo, digest.other_place(), stream, kind, pairs),
+        None => share_at(memo, digest.other_slot(), stream, kind, pairs),
     }
 }
 
-/// The series at a place, where it is that of a kind and of attributes in a stream.
-fn known_at(
+/// A share of the series in a slot, if it is that of the stream, the kind and the attributes.
+fn share_at(
     memo: &Memo,
-    place: usize,
+    slot: usize,
     stream: Stream<'_>,
     kind: &Kind,
-    pairs: &[Pair<'_>],
+    pairs: &[PairRef<'_>],
 ) -> Option<SharedId>
     ensures { IfSome result (λ s. option_and_then (series_in (stream_data stream.entry) kind.now) (set_of (map pair_data pairs.now)) ≡ Some s) }
 {
-    let kept = memo.at(place)?;
+    let kept = memo.at(slot)?;
     if is_series(kept.as_series(), stream, kind, pairs) {
         kept.share().ok()
     } else {
@@ -98,8 +103,8 @@ fn known_at(
     }
 }
 
-/// Whether a series is that of a kind and of attributes in a stream.
-fn is_series(series: &SeriesId, stream: Stream<'_>, kind: &Kind, pairs: &[Pair<'_>]) -> bool
+/// Whether a series is that of the stream, the kind and the attributes.
+fn is_series(series: &SeriesId, stream: Stream<'_>, kind: &Kind, pairs: &[PairRef<'_>]) -> bool
     ensures only { IsTrue result → option_and_then (series_in (stream_data stream.entry) kind.now) (set_of (map pair_data pairs.now)) ≡ Some series.now }
 {
     series.keeps_limits();
@@ -112,7 +117,7 @@ fn is_series(series: &SeriesId, stream: Stream<'_>, kind: &Kind, pairs: &[Pair<'
     are_pairs(pairs, series.attrs().pairs())
 }
 
-/// Whether a series stands in a stream.
+/// Whether a series is one of the stream.
 fn is_in_stream(series: &SeriesId, stream: Stream<'_>) -> bool
     ensures only { IsTrue result → identity_in (stream_data stream.entry) series.now.kind series.now.attrs ≡ series.now }
 {
@@ -121,7 +126,7 @@ fn is_in_stream(series: &SeriesId, stream: Stream<'_>) -> bool
         && is_in_scope(series, stream.scope)
 }
 
-/// Whether a series stands in a scope.
+/// Whether a series is one of the scope.
 fn is_in_scope(series: &SeriesId, scope: Scope<'_>) -> bool
     ensures only { IsTrue result → scope_data scope.entry ≡ record { resource = series.now.resource; name = series.now.scope_name; version = series.now.scope_version; attributes = series.now.scope_attrs } }
 {
@@ -131,7 +136,7 @@ fn is_in_scope(series: &SeriesId, scope: Scope<'_>) -> bool
         && is_same_set(series.resource(), scope.resource)
 }
 
-/// Whether two kinds are one.
+/// Whether two kinds are equal.
 fn is_same_kind(one: &Kind, other: &Kind) -> bool
     ensures only { IsTrue result → one.now ≡ other.now }
 {
@@ -144,7 +149,7 @@ fn is_same_kind(one: &Kind, other: &Kind) -> bool
     }
 }
 
-/// Whether two sets are one.
+/// Whether two sets are equal.
 fn is_same_set(one: &AttrSet, other: &AttrSet) -> bool
     ensures only { IsTrue result → one.now ≡ other.now }
 {
@@ -200,11 +205,11 @@ fn are_same_scalars(mine: &[Scalar], its: &[Scalar]) -> bool
 fn is_same_scalar(one: &Scalar, other: &Scalar) -> bool
     ensures only { IsTrue result → one.now ≡ other.now }
 {
-    Given::of(one).is_same(Given::of(other))
+    ScalarRef::of(one).is_same(ScalarRef::of(other))
 }
 
-/// Whether attributes are those of a set, one by one.
-fn are_pairs(pairs: &[Pair<'_>], its: &[Attribute]) -> bool
+/// Whether the attributes are those of a set, in its order.
+fn are_pairs(pairs: &[PairRef<'_>], its: &[Attribute]) -> bool
     ensures only { IsTrue result → map pair_data pairs.now ≡ map pair_in its.now }
 {
     if pairs.len() != its.len() {
@@ -218,12 +223,12 @@ fn are_pairs(pairs: &[Pair<'_>], its: &[Attribute]) -> bool
     true
 }
 
-fn is_pair(pair: &Pair<'_>, its: &Attribute) -> bool
+fn is_pair(pair: &PairRef<'_>, its: &Attribute) -> bool
     ensures only { IsTrue result → pair_data pair.now ≡ pair_in its.now }
 {
     match &its.value {
         AttrValue::One(scalar) => {
-            pair.key == its.key.as_str() && pair.value.is_same(Given::of(scalar))
+            pair.key == its.key.as_str() && pair.value.is_same(ScalarRef::of(scalar))
         }
         AttrValue::Many(_) => false,
     }
