@@ -1,4 +1,4 @@
--- Where what is the same stands together, no two groups are the same.
+-- If elements that are the same are neighbours, no two groups are the same.
 use Rattle.std.proofs.Common.{◌≡◌, Bool, true, false, cond, List, [], ◌∷◌, take, drop, refl, sym, ap, ◌∙◌, subst, inl, inr, ◌⊎◌}
 use Rattle.std.specs.List.{AllByRecursion}
 use Rattle.std.specs.Cmp.{IsTotalOrder}
@@ -40,7 +40,7 @@ abbrev Leaves : {X : Type 0} → (X → X → Bool) → X → List X → Type 0
 Leaves same x [] = Unit {0}
 Leaves same x (y ∷ ys) = same x y ≡ false → AllByRecursion (λ z. same x z ≡ false) (y ∷ ys)
 
--- what is the same stands together
+-- elements that are the same are neighbours
 abbrev IsTogether : {X : Type 0} → (X → X → Bool) → List X → Type 0
 IsTogether same [] = Unit {0}
 IsTogether same (x ∷ xs) = Leaves same x xs × IsTogether same xs
@@ -56,7 +56,7 @@ together_apart same like (x ∷ y ∷ ys) h =
     (λ other. subst (λ gs. AllByRecursion (λ k. same x k.0 ≡ false) gs) e (firsts same (λ z. same x z ≡ false) (y ∷ ys) (h.0 other)))
     (subst (AreApart same) e (together_apart same like (y ∷ ys) h.1)))
 
--- ---- what stands in an order
+-- ---- elements in an order
 
 abbrev pub NotAfter : Ordering → Type 0
 NotAfter r = (r ≡ Less) ⊎ (r ≡ Equal)

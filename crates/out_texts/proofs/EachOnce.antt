@@ -70,7 +70,7 @@ flat_in_order : (gs : List (DataPoint × List DataPoint)) → AreInOrder (flat_m
 flat_in_order [] h = tt
 flat_in_order (g ∷ gs) h = let parts = in_order_parts (members g) (flat_map members gs) h in (parts.0, flat_in_order gs parts.1)
 
--- the members of each group stand in order too
+-- the members of each group are in order too
 groups_in_order : (l : Level) (ps : List DataPoint) → AreInOrder ps → AllByRecursion (λ g. AreInOrder (members g)) (groups (same l) ps)
 groups_in_order l ps h = flat_in_order (groups (same l) ps) (subst AreInOrder (sym (groups_flat (same l) ps)) h)
 
@@ -78,7 +78,7 @@ both_all : {X : Type 0} (P Q : X → Type 0) (xs : List X) → AllByRecursion P 
 both_all P Q [] p q = tt
 both_all P Q (x ∷ xs) p q = ((p.0, q.0), both_all P Q xs p.1 q.1)
 
--- points in series order stand in the order of a level, where what they have in common makes it decide
+-- points in series order are in the order of a level, if what they share makes it decide
 ordered_by : (l : Level) (P : DataPoint → Type 0) → ((p q : DataPoint) → P p → P q → series_before p.series q.series ≡ true → NotAfter (level_cmp l p q))
     → (ps : List DataPoint) → AreInOrder ps → AllByRecursion P ps → AreOrdered (level_cmp l) ps
 ordered_by l P decides [] h r = tt

@@ -1,4 +1,4 @@
--- Reading what stands in groups is reading what stands ungrouped.
+-- Reading groups gives the same as reading their members.
 use Rattle.std.proofs.Common.{◌≡◌, ℕ, Bool, true, false, cond, List, [], ◌∷◌, ◌++◌, map, Result, Ok, Some, Option, refl, sym, ap, ◌∙◌, append_assoc}
 use Rattle.std.specs.List.{AllByRecursion, flat_map, list_all}
 use Rattle.std.proofs.lemmas.List.{append-nil, map-append}

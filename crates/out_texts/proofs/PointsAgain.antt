@@ -25,7 +25,7 @@ use Rattle.out_texts.specs.Back.{point_read, row_read}
 use Rattle.out_texts.proofs.AttributesAgain.{attributes_again}
 use Rattle.out_texts.proofs.NumbersAgain.{unsigned_again, signed_again}
 
--- what stands above the points of a series
+-- resource, scope and metric of a series
 abbrev pub scope_of : Identity → Scope
 scope_of x = record { resource = x.resource; name = x.scope_name; version = x.scope_version; attributes = x.scope_attrs }
 

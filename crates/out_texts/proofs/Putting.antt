@@ -1,4 +1,4 @@
--- What stands after a text was put at the end.
+-- A text after more was appended to it.
 use Rattle.std.proofs.Common.{◌≡◌, ℕ, ◌+◌, ◌<◌, ◌≤◌, cond, List, [], ◌∷◌, ◌++◌, length, get_or, take, Result, Ok, Err, append_assoc, sym, ap, ◌∙◌}
 use Rattle.std.proofs.lemmas.List.{take_more, take_all, flat_map_more}
 use Rattle.std.specs.List.{flat_map}
@@ -17,7 +17,7 @@ pub put_three : {T E : Type 0} (r : Result T E) (old a b c one two new : List �
 put_three (Ok x) old a b c one two new first second third = third ∙ ap (λ m. m ++ c) (second ∙ ap (λ m. m ++ b) first) ∙ simp append_assoc
 put_three (Err e) old a b c one two new first second third = tt
 
--- one more element was written: its text stands after those before it
+-- one more element was written: its text comes after those before it
 pub put_next : {X : Type 0} (write : X → List ℕ) (xs : List X) (i : ℕ) (x d : X) (start before after : List ℕ)
     → i < length xs → x ≡ get_or xs i d → after ≡ before ++ write x
     → before ≡ start ++ flat_map write (take i xs) → after ≡ start ++ flat_map write (take (i + 1) xs)

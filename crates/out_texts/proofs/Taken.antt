@@ -1,4 +1,4 @@
--- What a flush takes stands in series order.
+-- What a flush takes is in series order.
 use Rattle.std.proofs.Common.{◌≡◌, ℕ, true, List, [], ◌∷◌, map, Option, Some, None, refl, ap, ◌∙◌}
 use Rattle.std.specs.Prelude.{Bool, filter, ◌==◌}
 use Rattle.std.specs.List.{list_all}
@@ -64,7 +64,7 @@ picked_in_order E f max =
     ∙ ascending_sent (E ▸ Take f (pick E max)) f (pick E max)
     (ascending_take max (series_in_order (eligible E)) (series_ascend (eligible E)))
 
--- of what a flush takes nothing that is shared stands twice
+-- in the request for what a flush takes, nothing that is shared occurs twice
 pub taken_once : (old new : Journal) (seat max : ℕ) (flush : Flush) → IsTaken old new seat max flush → HasEachOnce flush.points.items
 taken_once old new seat max flush h =
     each_once flush.points.items

@@ -1,37 +1,37 @@
--- The short answers.
+-- The bodies of responses to senders and to flush orders.
 use Rattle.std.specs.Prelude.{ℕ, List, codes, decimal, if◌then◌else◌, ◌==◌, Option, Some, None}
 use Rattle.serde_json.specs.Data.{Data, string, object, no_members, member}
 use Rattle.serde_json.specs.Written.{compact_text}
 use Rattle.back_answers.specs.declared.answer.Act.{Act}
 use Rattle.back_answers.specs.declared.answer.Act.TheVariants.{Settle, GiveBack, DropFlush}
 
--- a refusal says why
+-- a refusal, with its reason
 unfoldable pub status_value : List ℕ → Data
 status_value message = object (member (codes "message") (string message) no_members)
 
 abbrev pub status_text : List ℕ → List ℕ
 status_text message = compact_text (status_value message)
 
--- how many of the points were left out, and why
+-- how many points were left out, and why
 abbrev pub partial_success : ℕ → Data
 partial_success foreign = object (
     member (codes "errorMessage") (string (codes "points outside the profile")) (
     member (codes "rejectedDataPoints") (string (decimal foreign)) no_members))
 
--- what was taken says nothing where nothing was left out
+-- a success; it says nothing if no point was left out
 unfoldable pub success_value : ℕ → Data
 success_value foreign = if foreign == 0 then object no_members else object (member (codes "partialSuccess") (partial_success foreign) no_members)
 
 abbrev pub success_text : ℕ → List ℕ
 success_text foreign = compact_text (success_value foreign)
 
--- what became of a flush
+-- the word for what was done with a flush
 abbrev pub act_name : Act → List ℕ
 act_name Settle = codes "settled"
 act_name DropFlush = codes "dropped"
 act_name GiveBack = codes "returned"
 
--- what became of a flush of so many points, and after how many seconds the next may come, where that is known
+-- what was done with a flush, its number, how many points it had, and the seconds to wait, if known
 unfoldable pub turn_value : ℕ → ℕ → Act → Option ℕ → Data
 turn_value flush points act None = object (
     member (codes "act") (string (act_name act)) (

@@ -9,7 +9,7 @@ use Rattle.series_id.specs.declared.values.AttrValue.{AttrValue}
 use Rattle.series_id.specs.declared.values.AttrValue.TheVariants.{One, Many}
 use Rattle.series_id.specs.declared.attributes.Attribute.{Attribute}
 
--- a single value under its sort; nothing under none
+-- a single value under the name of its type; the empty value has no member
 unfoldable pub scalar_value : Scalar → Data
 scalar_value Empty = object no_members
 scalar_value (Truth b) = object (member (codes "boolValue") (boolean b) no_members)
@@ -25,6 +25,6 @@ attr_value (Many xs) = object (member (codes "arrayValue") (object (member (code
 unfoldable pub attribute_value : Attribute → Data
 attribute_value a = object (member (codes "key") (string a.key) (member (codes "value") (attr_value a.value) no_members))
 
--- attributes in key order
+-- the attributes of a set, in key order
 unfoldable pub attributes_value : List Attribute → Data
 attributes_value set = array (items_of (map attribute_value set))

@@ -1,4 +1,4 @@
--- Texts of any bytes in reports and replies.
+-- Texts of any bytes in reports and replies, escaped.
 use Rattle.std.specs.Prelude.{ℕ, ◌+◌, ◌/◌, ◌%◌, List, [], ◌∷◌, Bool, ◌||◌, ◌&&◌, ◌==◌, nat_lt, nat_le, if◌then◌else◌}
 use Rattle.std.specs.List.{flat_map}
 
@@ -10,7 +10,7 @@ is_plain b = (nat_le 48 b && nat_le b 57) || (nat_le 65 b && nat_le b 90) || (na
 abbrev pub hex_digit : ℕ → ℕ
 hex_digit n = if nat_lt n 10 then 48 + n else 55 + n
 
--- the byte as it is where it is plain, else '%' and two digits
+-- the byte as it is, if it is plain, else '%' and two hexadecimal digits
 unfoldable pub escaped_byte : ℕ → List ℕ
 escaped_byte b = if is_plain b then b ∷ [] else 37 ∷ hex_digit (b / 16) ∷ hex_digit (b % 16) ∷ []
 

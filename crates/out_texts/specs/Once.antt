@@ -1,4 +1,4 @@
--- No resource, scope or metric stands twice.
+-- No resource, scope or metric occurs twice.
 use Rattle.std.specs.Prelude.{◌≡◌, Bool, false, List, [], ◌∷◌, ⊤}
 use Rattle.std.specs.List.{AllByRecursion}
 use Rattle.metric_events.specs.DataPoint.{DataPoint}

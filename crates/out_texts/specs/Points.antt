@@ -10,7 +10,7 @@ use Rattle.metric_events.specs.DataPoint.{DataPoint}
 use Rattle.metric_events.specs.Rows.{buckets_of}
 use Rattle.out_texts.specs.Attributes.{attributes_value}
 
--- what a sum's row adds up to: what was added less what was taken away
+-- the value of a sum's row: the positive values less the negative ones
 abbrev pub sum_of : List ℕ → ℤ
 sum_of row = pos (slice_index row 1) -ℤ pos (slice_index row 2)
 
@@ -30,11 +30,11 @@ counts_value counts = array (items_of (map (λ n. string (decimal n)) counts))
 abbrev pub bounds_value : List ℤ → Data
 bounds_value bounds = array (items_of (map (λ b. number (of_integer b)) bounds))
 
--- the sum of a histogram's row, where each of its points had one
+-- the sum of a histogram's row, if each of its points had one
 unfoldable pub total_of : List ℕ → Option ℕ
 total_of row = if slice_index row 1 == 0 then Some (slice_index row 2) else None
 
--- a histogram's point of these parts: without the sum where some point had none
+-- a histogram's point of these parts, without the sum if it is absent
 unfoldable pub histogram_data : Data → Data → List ℕ → Data → List ℕ → Option ℕ → List ℕ → Data
 histogram_data attributes counts count bounds start None end = object (
     member (codes "attributes") attributes (
@@ -52,7 +52,8 @@ histogram_data attributes counts count bounds start (Some total) end = object (
     member (codes "sum") (number (unsigned total)) (
     member (codes "timeUnixNano") (string end) no_members)))))))
 
--- a histogram's point: its attributes, its buckets, what they add up to, its bounds, its span and its sum
+-- a histogram's point: its attributes, its buckets, their sum as its count, its bounds, its span
+-- and its sum
 abbrev pub histogram_point_value : List ℤ → DataPoint → Data
 histogram_point_value bounds p = histogram_data (attributes_value p.series.attrs) (counts_value (buckets_of p.row)) (decimal (sum (buckets_of p.row))) (bounds_value bounds) (decimal p.span.start) (total_of p.row) (decimal p.span.end)
 
@@ -61,6 +62,6 @@ abbrev pub point_of_kind : Kind → DataPoint → Data
 point_of_kind (Sum monotonic) p = sum_point_value p
 point_of_kind (Histogram bounds) p = histogram_point_value bounds p
 
--- a point as its metric's dataPoints hold it
+-- a point, as an element of dataPoints
 unfoldable pub point_value : DataPoint → Data
 point_value p = point_of_kind p.series.kind p

@@ -1,4 +1,4 @@
--- The request that forwards points: neighbours that share a resource, a scope or a metric share its element.
+-- The request that forwards points. Neighbours of one resource, scope or metric share its element.
 use Rattle.std.specs.Prelude.{ℕ, List, map, codes}
 use Rattle.serde_json.specs.Data.{Data, boolean, number, unsigned, string, array, object, no_members, member}
 use Rattle.serde_json.specs.View.{items_of}

@@ -2,15 +2,15 @@
 use Rattle.std.specs.Prelude.{ℕ, List, [], ◌∷◌, ◌++◌, decimal}
 use Rattle.std.specs.List.{flat_map}
 
--- the texts of a list, with this byte between each two
+-- the texts of a list, with this byte in between
 abbrev pub joined : {X : Type 0} → ℕ → (X → List ℕ) → List X → List ℕ
 joined mark text [] = []
 joined mark text (x ∷ xs) = text x ++ flat_map (λ y. mark ∷ text y) xs
 
--- the words with commas between them
+-- words with commas in between
 unfoldable pub row_text : List ℕ → List ℕ
 row_text words = joined 44 decimal words
 
--- a place and the row that stands there
-unfoldable pub place_row : List ℕ → List ℕ → List ℕ
-place_row place row = place ++ row_text row
+-- a label and a row
+unfoldable pub labeled_row : List ℕ → List ℕ → List ℕ
+labeled_row label row = label ++ row_text row

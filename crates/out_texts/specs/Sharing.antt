@@ -6,7 +6,8 @@ use Rattle.metric_events.specs.DataPoint.{DataPoint}
 use Rattle.out_texts.specs.declared.level.Level.{Level}
 use Rattle.out_texts.specs.declared.level.Level.TheVariants.{Resource, Scope, Metric}
 
--- the same resource; the same name, version and attributes of the scope; the same name, unit and kind
+-- the same resource; the same name, version and attributes of the scope; the same name, unit and
+-- kind of the metric
 unfoldable pub shares : Level → Identity → Identity → Bool
 shares Resource x y = shares_resource x y
 shares Scope x y = shares_scope x y

@@ -1,4 +1,5 @@
-//! Attributes as JSON.
+//! Builds attributes as JSON (`KeyValue` and `AnyValue` of
+//! `opentelemetry/proto/common/v1/common.proto`).
 
 ghost use Rattle.std.specs.Prelude.{◌≡◌, map, IfOk, codes, string_bytes};
 ghost use Rattle.serde_json.specs.View.{view, items_view, items_of};
@@ -9,6 +10,7 @@ use serde_json::{Value, json};
 use series_id::{AttrSet, AttrValue, Attribute, Scalar};
 use std::alloc::{AllocError, Global};
 
+/// A single value, as an `AnyValue`.
 #[tactic(auto, unfolding(crate::specs::Attributes::scalar_value))]
 fn scalar_value(alloc: Global, scalar: &Scalar) -> Result<Value, AllocError>
     ensures { IfOk result (λ v. view v ≡ scalar_value scalar.now) }
@@ -25,6 +27,7 @@ fn scalar_value(alloc: Global, scalar: &Scalar) -> Result<Value, AllocError>
     }
 }
 
+/// Single values in order.
 fn scalar_values(alloc: Global, scalars: &[Scalar]) -> Result<Vec<Value>, AllocError>
     ensures { IfOk result (λ vs. items_view vs.items ≡ items_of (map scalar_value scalars.now)) }
 {
@@ -35,19 +38,21 @@ fn scalar_values(alloc: Global, scalars: &[Scalar]) -> Result<Vec<Value>, AllocE
     Ok(values)
 }
 
+/// A single value or a list, as an `AnyValue`.
 #[tactic(auto, unfolding(crate::specs::Attributes::attr_value))]
 fn attr_value(alloc: Global, value: &AttrValue) -> Result<Value, AllocError>
     ensures { IfOk result (λ v. view v ≡ attr_value value.now) }
 {
     match value {
-        AttrValue::One(scalar) => return scalar_value(alloc, scalar),
+        AttrValue::One(scalar) => scalar_value(alloc, scalar),
         AttrValue::Many(scalars) => {
             let values = scalar_values(alloc, scalars.as_slice())?;
-            return json!(in alloc; {"arrayValue": {"values": values}});
+            json!(in alloc; {"arrayValue": {"values": values}})
         }
     }
 }
 
+/// An attribute, as a `KeyValue`.
 #[tactic(auto, unfolding(crate::specs::Attributes::attribute_value))]
 fn attribute_value(alloc: Global, attribute: &Attribute) -> Result<Value, AllocError>
     ensures { IfOk result (λ v. view v ≡ attribute_value attribute.now) }
@@ -59,6 +64,7 @@ fn attribute_value(alloc: Global, attribute: &Attribute) -> Result<Value, AllocE
         .finish()
 }
 
+/// Attributes in order.
 fn attribute_values(alloc: Global, pairs: &[Attribute]) -> Result<Vec<Value>, AllocError>
     ensures { IfOk result (λ vs. items_view vs.items ≡ items_of (map attribute_value pairs.now)) }
 {
@@ -69,7 +75,7 @@ fn attribute_values(alloc: Global, pairs: &[Attribute]) -> Result<Vec<Value>, Al
     Ok(values)
 }
 
-/// The attributes in key order.
+/// The attributes of a set, an array in key order.
 #[tactic(auto, unfolding(crate::specs::Attributes::attributes_value))]
 pub(crate) fn attributes_value(alloc: Global, set: &AttrSet) -> Result<Value, AllocError>
     ensures { IfOk result (λ v. view v ≡ attributes_value set.now) }

@@ -1,4 +1,5 @@
-//! The points of histograms as JSON.
+//! Builds the points of histograms as JSON (`HistogramDataPoint` of
+//! `opentelemetry/proto/metrics/v1/metrics.proto`).
 
 ghost use Rattle.std.specs.Prelude.{◌≡◌, ◌≤◌, length, map, sum, decimal, string_bytes, IfOk};
 ghost use Rattle.serde_json.specs.Data.{array, number, string};
@@ -14,7 +15,7 @@ use delta_book::flush_point::FlushPoint;
 use serde_json::Value;
 use std::alloc::{AllocError, Global};
 
-/// The sum of the buckets, which are within their limit.
+/// The count of a histogram's values: the sum of its buckets, which has 64 bits.
 fn count_of(buckets: &[u64]) -> u64
     requires { sum buckets.now ≤ MAX_COUNT }
     ensures { result ≡ sum buckets.now }
@@ -48,7 +49,8 @@ fn bound_values(alloc: Global, bounds: &[i64]) -> Result<Vec<Value>, AllocError>
     Ok(values)
 }
 
-/// The sum of a histogram's row, where each of its points had one.
+/// The sum of a histogram's row, if each of its points had one. The row is the count of points, the
+/// count of points without a sum, the sum, and the buckets.
 #[tactic(auto, unfolding(crate::specs::Points::total_of))]
 fn total_of(row: &[u64]) -> Option<u64>
     requires { 3 ≤ length row.now }
@@ -57,7 +59,7 @@ fn total_of(row: &[u64]) -> Option<u64>
     if row[1] == 0 { Some(row[2]) } else { None }
 }
 
-/// The point of these parts.
+/// The point of these parts, without the sum if `total` is `None`.
 #[tactic(auto, unfolding(crate::specs::Points::histogram_data))]
 fn histogram_data(
     alloc: Global,
@@ -84,7 +86,7 @@ fn histogram_data(
     }
 }
 
-/// The point of a histogram with these bounds.
+/// A point of a histogram with these bounds.
 pub(crate) fn histogram_point_value(
     alloc: Global,
     bounds: &[i64],

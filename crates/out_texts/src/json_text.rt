@@ -1,4 +1,4 @@
-//! The text of a JSON value.
+//! Writes a JSON value as text.
 
 ghost use Rattle.std.specs.Prelude.{◌≡◌, ◌≤◌, false, IfOk};
 ghost use Rattle.serde_json.specs.Data.{depth};
@@ -10,8 +10,8 @@ ghost use Rattle.out_texts.specs.Back.{IsTextOf};
 use serde_json::Value;
 use std::alloc::{AllocError, Global};
 
-/// The compact text of a value that has no float. One that nests no deeper than `serde_json` reads
-/// is read of its text again.
+/// The compact text of a value without floats. If the value is nested no deeper than `serde_json`
+/// reads, it can be read back from the text.
 pub(crate) fn text_of(alloc: Global, value: Value) -> Result<Vec<u8>, AllocError>
     requires { has_float (view value) ≡ false }
     ensures text { IfOk result (λ text. text.items ≡ compact_text (view value)) }

@@ -1,4 +1,4 @@
-//! Laws of the definitions, each the contract of a function that does nothing.
+//! Laws of the definitions, each as the contract of a function that does nothing.
 
 ghost use Rattle.std.specs.Prelude.{ℕ};
 ghost use Rattle.delta_book.specs.Flushes.{IsTaken};
@@ -6,8 +6,8 @@ ghost use Rattle.delta_book.specs.Journal.{Journal};
 ghost use Rattle.delta_book.specs.declared.flush.Flush.{Flush};
 ghost use Rattle.out_texts.specs.Once.{HasEachOnce};
 
-/// Of what `Book::take` answers no resource stands twice in its request, in none of them a scope,
-/// in none of these a metric.
+/// In the request for a flush that `Book::take` returns, no resource occurs twice, no scope occurs
+/// twice in a resource, and no metric occurs twice in a scope.
 pub fn grouping()
     ensures once { (old new : Journal) (seat max : ℕ) (flush : Flush) → IsTaken old new seat max flush → HasEachOnce flush.points.items }
 {}

@@ -1,4 +1,4 @@
-//! Which neighbours share an element.
+//! The levels of a request, and whether two series share the element of a level.
 
 ghost use Rattle.std.specs.Prelude.{◌≡◌};
 ghost use Rattle.out_texts.specs.Sharing.{shares};

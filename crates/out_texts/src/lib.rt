@@ -1,10 +1,10 @@
-//! The texts that the gateway writes: the request that forwards a flush, the bodies that answer
-//! senders and flush orders, the report of a store, and what earlier rounds brought. Each is the
-//! bytes of its definition, and only want of memory keeps one from being written.
+//! The texts that the gateway writes: the request that forwards a flush, the bodies of responses to
+//! senders and to flush orders, the report of a store, and the totals of earlier rounds. Each text
+//! is the bytes of its definition. The only error is a failed allocation.
 #![tactic(auto)]
 
 mod attributes;
-mod escaped;
+mod escape;
 mod histogram_points;
 mod json_text;
 pub mod laws;

@@ -1,4 +1,4 @@
-//! Objects of JSON, member by member.
+//! Builds JSON objects member by member.
 
 ghost use Rattle.std.specs.Prelude.{◌≡◌, decimal, IfOk};
 ghost use Rattle.std.specs.Fmt.{signed_decimal};
@@ -9,8 +9,8 @@ ghost use Rattle.out_texts.specs.Objects.{HasMembers};
 use serde_json::{Map, Value};
 use std::alloc::{AllocError, Global};
 
-/// An object as its members are put, or none once memory was refused. A refusal shows in `finish`
-/// alone, so nothing has to be freed between two members.
+/// A JSON object under construction. After a failed allocation it has no members any more, and
+/// `finish` returns the error. So the calls can be chained, and nothing has to be freed in between.
 #[derive(Drop)]
 pub(crate) struct Object {
     alloc: Global,
@@ -18,7 +18,7 @@ pub(crate) struct Object {
 }
 
 impl Object {
-    /// The object with no member.
+    /// An object without members.
     pub(crate) fn new(alloc: Global) -> Object
         ensures { HasMembers result no_members }
     {
@@ -28,76 +28,71 @@ impl Object {
         }
     }
 
-    /// Puts a value.
+    /// An object after a failed allocation.
+    fn out_of_memory(alloc: Global) -> Object
+        ensures { (ms : Members) → HasMembers result ms }
+    {
+        Object { alloc, map: None }
+    }
+
+    /// Adds a member.
     pub(crate) fn value(self, key: &str, value: Value) -> Object
         ensures { (ms : Members) → HasMembers self ms → HasMembers result (put key.now (view value) ms) }
     {
         let Object { alloc, map } = self;
         let Some(mut map) = map else {
-            return Object { alloc, map: None };
+            return Object::out_of_memory(alloc);
         };
         match serde_json::put(&mut map, alloc, key, value) {
             Ok(()) => Object {
                 alloc,
                 map: Some(map),
             },
-            Err(_) => Object { alloc, map: None },
+            Err(_) => Object::out_of_memory(alloc),
         }
     }
 
-    /// Puts a text.
+    /// Adds a text.
     pub(crate) fn text(self, key: &str, text: &str) -> Object
         ensures { (ms : Members) → HasMembers self ms → HasMembers result (put key.now (string text.now) ms) }
     {
         match Value::try_from_str(self.alloc, text) {
             Ok(value) => self.value(key, value),
-            Err(_) => Object {
-                alloc: self.alloc,
-                map: None,
-            },
+            Err(_) => Object::out_of_memory(self.alloc),
         }
     }
 
-    /// Puts a number as a text, in decimal.
+    /// Adds a number as a decimal text.
     pub(crate) fn decimal(self, key: &str, number: u64) -> Object
         ensures { (ms : Members) → HasMembers self ms → HasMembers result (put key.now (string (decimal number)) ms) }
     {
         match number.to_string(self.alloc) {
             Ok(text) => self.value(key, Value::from(text)),
-            Err(_) => Object {
-                alloc: self.alloc,
-                map: None,
-            },
+            Err(_) => Object::out_of_memory(self.alloc),
         }
     }
 
-    /// Puts a number as a text, in decimal, with `-` before it where it is below zero.
+    /// Adds a number as a decimal text, with `-` before it if it is negative.
     pub(crate) fn signed(self, key: &str, number: i64) -> Object
         ensures { (ms : Members) → HasMembers self ms → HasMembers result (put key.now (string (signed_decimal number)) ms) }
     {
         match number.to_string(self.alloc) {
             Ok(text) => self.value(key, Value::from(text)),
-            Err(_) => Object {
-                alloc: self.alloc,
-                map: None,
-            },
+            Err(_) => Object::out_of_memory(self.alloc),
         }
     }
 
-    /// Puts an object.
+    /// Adds an object.
     pub(crate) fn object(self, key: &str, inner: Object) -> Object
         ensures { (ms more : Members) → HasMembers self ms → HasMembers inner more → HasMembers result (put key.now (object more) ms) }
     {
         match inner.finish() {
             Ok(value) => self.value(key, value),
-            Err(_) => Object {
-                alloc: self.alloc,
-                map: None,
-            },
+            Err(_) => Object::out_of_memory(self.alloc),
         }
     }
 
-    /// The object, where memory was found for it.
+    /// The object. Fails if an allocation failed since `new`.
     pub(crate) fn finish(self) -> Result<Value, AllocError>
         ensures { (ms : Members) → HasMembers self ms → IfOk result (λ v. view v ≡ object ms) }
     {

@@ -1,15 +1,16 @@
-//! What earlier rounds brought: a line for each series.
+//! Writes the totals of earlier rounds: a line for each series.
 
 ghost use Rattle.std.specs.Prelude.{◌≡◌, ◌++◌, map, IfOk, OnOk};
 ghost use Rattle.delta_book.specs.PastRows.{told};
 ghost use Rattle.out_texts.specs.Past as spec;
-ghost use Rattle.out_texts.specs.Rows.{place_row};
+ghost use Rattle.out_texts.specs.Rows.{labeled_row};
 
 use crate::series_name::{put_kind, put_series_name};
 use crate::wide_words::put_wide_row;
 use delta_book::past_totals::PastTotals;
 use std::alloc::{AllocError, Global};
 
+/// Appends what identifies the line's series: its name and kind.
 #[tactic(auto, unfolding(crate::specs::Past::past_head))]
 fn put_head(out: &mut Vec<u8>, past: &PastTotals) -> Result<(), AllocError>
     ensures { OnOk result (out.new.items ≡ out.old.items ++ spec.past_head (told past.now)) }
@@ -20,45 +21,47 @@ fn put_head(out: &mut Vec<u8>, past: &PastTotals) -> Result<(), AllocError>
     put_kind(out, past.series.as_series().kind())
 }
 
-/// Puts a place and its row.
-#[tactic(auto, unfolding(crate::specs::Rows::place_row))]
-fn put_place(out: &mut Vec<u8>, place: &[u8], row: &[u128]) -> Result<(), AllocError>
-    ensures { OnOk result (out.new.items ≡ out.old.items ++ place_row place.now row.now) }
+/// Appends a label and the words of a row.
+#[tactic(auto, unfolding(crate::specs::Rows::labeled_row))]
+fn put_labeled_row(out: &mut Vec<u8>, label: &[u8], row: &[u128]) -> Result<(), AllocError>
+    ensures { OnOk result (out.new.items ≡ out.old.items ++ labeled_row label.now row.now) }
 {
-    out.extend_from_slice(place)?;
+    out.extend_from_slice(label)?;
     put_wide_row(out, row)
 }
 
-#[tactic(auto, unfolding(crate::specs::Past::past_ended))]
-fn put_ended(out: &mut Vec<u8>, past: &PastTotals) -> Result<(), AllocError>
-    ensures { OnOk result (out.new.items ≡ out.old.items ++ spec.past_ended (told past.now)) }
+/// Appends what was acknowledged and what was dropped.
+#[tactic(auto, unfolding(crate::specs::Past::past_rows))]
+fn put_ended_rows(out: &mut Vec<u8>, past: &PastTotals) -> Result<(), AllocError>
+    ensures { OnOk result (out.new.items ≡ out.old.items ++ spec.past_rows (told past.now)) }
 {
-    put_place(out, b" acknowledged ", past.acknowledged.as_slice())?;
-    put_place(out, b" dropped ", past.dropped.as_slice())
+    put_labeled_row(out, b" acknowledged ", past.acknowledged.as_slice())?;
+    put_labeled_row(out, b" dropped ", past.dropped.as_slice())
 }
 
+/// Appends the line of a series.
 #[tactic(auto, unfolding(crate::specs::Past::past_line))]
-fn put_past_line(out: &mut Vec<u8>, past: &PastTotals) -> Result<(), AllocError>
+fn put_line(out: &mut Vec<u8>, past: &PastTotals) -> Result<(), AllocError>
     ensures { OnOk result (out.new.items ≡ out.old.items ++ spec.past_line (told past.now)) }
 {
     put_head(out, past)?;
-    put_ended(out, past)?;
+    put_ended_rows(out, past)?;
     out.extend_from_slice(b"\n")
 }
 
-/// Puts a line for each series, and `end`.
+/// Appends a line for each series, in the order of the rows, and a line `end`.
 #[tactic(auto, unfolding(crate::specs::Past::past_text))]
 pub fn put_past(out: &mut Vec<u8>, rows: &[PastTotals]) -> Result<(), AllocError>
     ensures { OnOk result (out.new.items ≡ out.old.items ++ spec.past_text (map told rows.now)) }
 {
     for past in rows {
-        put_past_line(out, past)?;
+        put_line(out, past)?;
     }
     out.extend_from_slice(b"end\n")
 }
 
-/// What earlier rounds brought: a line for each series, in this order, and `end`, each ended by a
-/// line feed.
+/// The totals of earlier rounds: a line for each series, in the order of the rows, and a line
+/// `end`. Each line ends with a line feed. Words have 128 bits here.
 pub fn past_text(alloc: Global, rows: &[PastTotals]) -> Result<Vec<u8>, AllocError>
     ensures { IfOk result (λ text. text.items ≡ spec.past_text (map told rows.now)) }
 {

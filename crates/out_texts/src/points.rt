@@ -1,4 +1,4 @@
-//! Points as JSON.
+//! Builds the points of a flush as JSON.
 
 ghost use Rattle.std.specs.Prelude.{◌≡◌, map, IfOk};
 ghost use Rattle.std.specs.List.{AllByRecursion};
@@ -13,13 +13,14 @@ use serde_json::Value;
 use series_id::Kind;
 use std::alloc::{AllocError, Global};
 
+/// A point of a sum or of a histogram.
 #[tactic(auto, unfolding(crate::specs::Points::point_value))]
 fn point_value(alloc: Global, point: &FlushPoint) -> Result<Value, AllocError>
     ensures { IfOk result (λ v. view v ≡ spec.point_value point.now) }
 {
     match point.series().kind() {
-        Kind::Sum { .. } => return sum_point_value(alloc, point),
-        Kind::Histogram { bounds } => return histogram_point_value(alloc, bounds.as_slice(), point),
+        Kind::Sum { .. } => sum_point_value(alloc, point),
+        Kind::Histogram { bounds } => histogram_point_value(alloc, bounds.as_slice(), point),
     }
 }
 
@@ -34,7 +35,8 @@ pub(crate) fn point_values(alloc: Global, points: &[FlushPoint]) -> Result<Vec<V
     Ok(values)
 }
 
-/// Does nothing: its contract tells that each point is a merged one, as its type has it.
+/// Does nothing. Its contract says of a list what the type says of each point: that its row has the
+/// length and the limits of its series.
 pub(crate) fn keep_limits(points: &[FlushPoint])
     ensures { AllByRecursion IsMerged points.now }
 {

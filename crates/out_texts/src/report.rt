@@ -1,8 +1,8 @@
-//! The report: a line for each series.
+//! Writes the report of a store: a line for each series.
 
 ghost use Rattle.std.specs.Prelude.{◌≡◌, ◌++◌, IfOk, OnOk};
 ghost use Rattle.out_texts.specs.Report as spec;
-ghost use Rattle.out_texts.specs.Rows.{place_row};
+ghost use Rattle.out_texts.specs.Rows.{labeled_row};
 
 use crate::series_name::{put_kind, put_series_name};
 use crate::words::{put_number, put_row};
@@ -10,6 +10,7 @@ use delta_book::totals::SeriesTotals;
 use metric_events::row::Row;
 use std::alloc::{AllocError, Global};
 
+/// Appends what identifies the line's series, its owner and its frontier (nanoseconds).
 #[tactic(auto, unfolding(crate::specs::Report::series_head))]
 fn put_head(out: &mut Vec<u8>, totals: &SeriesTotals) -> Result<(), AllocError>
     ensures { OnOk result (out.new.items ≡ out.old.items ++ spec.series_head totals.now) }
@@ -24,55 +25,59 @@ fn put_head(out: &mut Vec<u8>, totals: &SeriesTotals) -> Result<(), AllocError>
     put_number(out, totals.frontier)
 }
 
-/// Puts a place and its row.
-#[tactic(auto, unfolding(crate::specs::Rows::place_row))]
-fn put_place(out: &mut Vec<u8>, place: &[u8], row: &Row) -> Result<(), AllocError>
-    ensures { OnOk result (out.new.items ≡ out.old.items ++ place_row place.now row.now) }
+/// Appends a label and the words of a row.
+#[tactic(auto, unfolding(crate::specs::Rows::labeled_row))]
+fn put_labeled_row(out: &mut Vec<u8>, label: &[u8], row: &Row) -> Result<(), AllocError>
+    ensures { OnOk result (out.new.items ≡ out.old.items ++ labeled_row label.now row.now) }
 {
-    out.extend_from_slice(place)?;
+    out.extend_from_slice(label)?;
     put_row(out, row.as_slice())
 }
 
+/// Appends what was accepted, and what of it was acknowledged and dropped.
 #[tactic(auto, unfolding(crate::specs::Report::ended_rows))]
-fn put_ended(out: &mut Vec<u8>, totals: &SeriesTotals) -> Result<(), AllocError>
+fn put_ended_rows(out: &mut Vec<u8>, totals: &SeriesTotals) -> Result<(), AllocError>
     ensures { OnOk result (out.new.items ≡ out.old.items ++ spec.ended_rows totals.now) }
 {
-    put_place(out, b" accepted ", &totals.accepted)?;
-    put_place(out, b" acknowledged ", &totals.acknowledged)?;
-    put_place(out, b" dropped ", &totals.dropped)
+    put_labeled_row(out, b" accepted ", &totals.accepted)?;
+    put_labeled_row(out, b" acknowledged ", &totals.acknowledged)?;
+    put_labeled_row(out, b" dropped ", &totals.dropped)
 }
 
+/// Appends what is in flight, stored and quarantined.
 #[tactic(auto, unfolding(crate::specs::Report::kept_rows))]
-fn put_kept(out: &mut Vec<u8>, totals: &SeriesTotals) -> Result<(), AllocError>
+fn put_kept_rows(out: &mut Vec<u8>, totals: &SeriesTotals) -> Result<(), AllocError>
     ensures { OnOk result (out.new.items ≡ out.old.items ++ spec.kept_rows totals.now) }
 {
-    put_place(out, b" in-flight ", &totals.in_flight)?;
-    put_place(out, b" stored ", &totals.stored)?;
-    put_place(out, b" quarantined ", &totals.quarantined)
+    put_labeled_row(out, b" in-flight ", &totals.in_flight)?;
+    put_labeled_row(out, b" stored ", &totals.stored)?;
+    put_labeled_row(out, b" quarantined ", &totals.quarantined)
 }
 
+/// Appends the line of a series.
 #[tactic(auto, unfolding(crate::specs::Report::series_line))]
-fn put_series(out: &mut Vec<u8>, totals: &SeriesTotals) -> Result<(), AllocError>
+fn put_line(out: &mut Vec<u8>, totals: &SeriesTotals) -> Result<(), AllocError>
     ensures { OnOk result (out.new.items ≡ out.old.items ++ spec.series_line totals.now) }
 {
     put_head(out, totals)?;
-    put_ended(out, totals)?;
-    put_kept(out, totals)?;
+    put_ended_rows(out, totals)?;
+    put_kept_rows(out, totals)?;
     out.extend_from_slice(b"\n")
 }
 
-/// Puts a line for each series, and `end`.
+/// Appends a line for each series, in the order of the rows, and a line `end`.
 #[tactic(auto, unfolding(crate::specs::Report::report_text))]
 pub fn put_report(out: &mut Vec<u8>, rows: &[SeriesTotals]) -> Result<(), AllocError>
     ensures { OnOk result (out.new.items ≡ out.old.items ++ spec.report_text rows.now) }
 {
     for totals in rows {
-        put_series(out, totals)?;
+        put_line(out, totals)?;
     }
     out.extend_from_slice(b"end\n")
 }
 
-/// The report: a line for each series, in this order, and `end`, each ended by a line feed.
+/// The report: a line for each series, in the order of the rows, and a line `end`. Each line ends
+/// with a line feed.
 pub fn report_text(alloc: Global, rows: &[SeriesTotals]) -> Result<Vec<u8>, AllocError>
     ensures { IfOk result (λ text. text.items ≡ spec.report_text rows.now) }
 {

@@ -1,4 +1,4 @@
-//! The request that forwards the points of a flush.
+//! Builds and writes the request that forwards the points of a flush.
 
 ghost use Rattle.std.specs.Prelude.{◌≡◌, map, true, IfOk};
 ghost use Rattle.serde_json.specs.View.{view, items_view, items_of};
@@ -47,7 +47,7 @@ fn metric_value(
     }
 }
 
-/// The metrics of these points, neighbours of one metric together.
+/// The metrics of these points. Neighbours of one metric share it.
 fn metric_values(alloc: Global, points: &[FlushPoint]) -> Result<Vec<Value>, AllocError>
     ensures { IfOk result (λ vs. items_view vs.items ≡ items_of (map (λ g. spec.metric_value g.0.series (members g)) (groups (same level.Metric) points.now))) }
 {
@@ -79,7 +79,7 @@ fn scope_value(alloc: Global, series: &SeriesId, points: &[FlushPoint]) -> Resul
         .finish()
 }
 
-/// The scopes of these points, neighbours of one scope together.
+/// The scopes of these points. Neighbours of one scope share it.
 fn scope_values(alloc: Global, points: &[FlushPoint]) -> Result<Vec<Value>, AllocError>
     ensures { IfOk result (λ vs. items_view vs.items ≡ items_of (map (λ g. spec.scope_value g.0.series (members g)) (groups (same level.Scope) points.now))) }
 {
@@ -112,7 +112,7 @@ fn resource_value(
         .finish()
 }
 
-/// The resources of these points, neighbours of one resource together.
+/// The resources of these points. Neighbours of one resource share it.
 fn resource_values(alloc: Global, points: &[FlushPoint]) -> Result<Vec<Value>, AllocError>
     ensures { IfOk result (λ vs. items_view vs.items ≡ items_of (map (λ g. spec.resource_value g.0.series (members g)) (groups (same level.Resource) points.now))) }
 {
@@ -127,7 +127,7 @@ fn resource_values(alloc: Global, points: &[FlushPoint]) -> Result<Vec<Value>, A
     Ok(values)
 }
 
-/// The resources of these points.
+/// The request with these points.
 #[tactic(auto, unfolding(crate::specs::Request::request_value))]
 fn request_value(alloc: Global, points: &[FlushPoint]) -> Result<Value, AllocError>
     ensures { IfOk result (λ v. view v ≡ spec.request_value points.now) }
@@ -137,13 +137,15 @@ fn request_value(alloc: Global, points: &[FlushPoint]) -> Result<Value, AllocErr
 }
 
 /// The body that forwards the points of a flush (OTLP metrics, `ExportMetricsServiceRequest`).
-/// Neighbours of one resource stand in one element of `resourceMetrics`, of these neighbours of one
-/// scope in one of `scopeMetrics`, and of these neighbours of one name, unit and kind in one metric.
+/// Neighbours with the same resource share an element of `resourceMetrics`. Within it, neighbours
+/// with the same scope share an element of `scopeMetrics`. Within that, neighbours with the same
+/// name, unit and kind share a metric.
 ///
-/// Read again, the text says for each point, in order, its series, its span and its value, or its
-/// buckets and its sum where each merged point had one, and nothing foreign.
+/// Read back, the text has each point, in order, with its series, its span and its value, or its
+/// buckets and, if each merged point had one, its sum. It has no foreign point.
 ///
-/// Of points in series order no resource stands twice, in none a scope, in none of these a metric.
+/// If the points are in series order, no resource occurs twice, no scope occurs twice in a
+/// resource, and no metric occurs twice in a scope.
 #[tactic(auto, unfolding(crate::specs::Request::request_text))]
 pub fn request_text(alloc: Global, flush: &Flush) -> Result<Vec<u8>, AllocError>
     ensures text { IfOk result (λ text. text.items ≡ spec.request_text flush.now.points.items) }

@@ -1,4 +1,4 @@
-//! Runs of points that share an element.
+//! Finds runs of points that share an element.
 
 ghost use Rattle.std.specs.Prelude.{◌≡◌, ◌≤◌, length};
 ghost use Rattle.out_texts.specs.Groups.{run};
@@ -7,7 +7,8 @@ ghost use Rattle.out_texts.specs.Sharing.{same};
 use crate::level::Level;
 use delta_book::flush_point::FlushPoint;
 
-/// How many of the others go on with the element that the first point begins.
+/// How many of the other points share the element of the first one, counted up to the first that
+/// does not.
 pub(crate) fn run(level: Level, first: &FlushPoint, others: &[FlushPoint]) -> usize
     ensures few { result ≤ length others.now }
     ensures value { result ≡ run (same level) first.now others.now }

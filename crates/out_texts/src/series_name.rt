@@ -1,15 +1,16 @@
-//! How a series is named in reports and replies.
+//! Writes the name and the kind of a series, for reports and replies.
 
 ghost use Rattle.std.specs.Prelude.{◌≡◌, ◌++◌, ◌∷◌, OnOk};
 ghost use Rattle.std.specs.Fmt.{signed_decimal};
 ghost use Rattle.std.specs.List.{flat_map};
 ghost use Rattle.out_texts.specs.SeriesNames as spec;
 
-use crate::escaped::put_escaped;
+use crate::escape::put_escaped;
 use crate::words::put_signed;
 use series_id::{AttrValue, Attribute, Kind, Scalar, SeriesId};
 use std::alloc::AllocError;
 
+/// Appends a single value: a text in quotes, a number, a boolean, or nothing.
 #[tactic(auto, unfolding(crate::specs::SeriesNames::scalar_text))]
 fn put_scalar(out: &mut Vec<u8>, scalar: &Scalar) -> Result<(), AllocError>
     ensures { OnOk result (out.new.items ≡ out.old.items ++ spec.scalar_text scalar.now) }
@@ -27,6 +28,7 @@ fn put_scalar(out: &mut Vec<u8>, scalar: &Scalar) -> Result<(), AllocError>
     }
 }
 
+/// Appends values, with a semicolon before each.
 fn put_more_scalars(out: &mut Vec<u8>, scalars: &[Scalar]) -> Result<(), AllocError>
     ensures { OnOk result (out.new.items ≡ out.old.items ++ flat_map (λ s. 59 ∷ spec.scalar_text s) scalars.now) }
 {
@@ -37,6 +39,7 @@ fn put_more_scalars(out: &mut Vec<u8>, scalars: &[Scalar]) -> Result<(), AllocEr
     Ok(())
 }
 
+/// Appends values, with semicolons in between.
 #[tactic(auto, unfolding(crate::specs::SeriesNames::scalars_text))]
 fn put_scalars(out: &mut Vec<u8>, scalars: &[Scalar]) -> Result<(), AllocError>
     ensures { OnOk result (out.new.items ≡ out.old.items ++ spec.scalars_text scalars.now) }
@@ -48,6 +51,7 @@ fn put_scalars(out: &mut Vec<u8>, scalars: &[Scalar]) -> Result<(), AllocError>
     put_more_scalars(out, more)
 }
 
+/// Appends a single value, or a list in brackets.
 #[tactic(auto, unfolding(crate::specs::SeriesNames::value_text))]
 fn put_value(out: &mut Vec<u8>, value: &AttrValue) -> Result<(), AllocError>
     ensures { OnOk result (out.new.items ≡ out.old.items ++ spec.value_text value.now) }
@@ -62,7 +66,7 @@ fn put_value(out: &mut Vec<u8>, value: &AttrValue) -> Result<(), AllocError>
     }
 }
 
-/// Puts an attribute: its key, escaped, and its value.
+/// Appends an attribute: its key, escaped, `=` and its value.
 #[tactic(auto, unfolding(crate::specs::SeriesNames::attribute_text))]
 pub fn put_attribute(out: &mut Vec<u8>, attribute: &Attribute) -> Result<(), AllocError>
     ensures { OnOk result (out.new.items ≡ out.old.items ++ spec.attribute_text attribute.now) }
@@ -72,6 +76,7 @@ pub fn put_attribute(out: &mut Vec<u8>, attribute: &Attribute) -> Result<(), All
     put_value(out, &attribute.value)
 }
 
+/// Appends attributes, with a comma before each.
 fn put_more_attributes(out: &mut Vec<u8>, attributes: &[Attribute]) -> Result<(), AllocError>
     ensures { OnOk result (out.new.items ≡ out.old.items ++ flat_map (λ a. 44 ∷ spec.attribute_text a) attributes.now) }
 {
@@ -82,6 +87,7 @@ fn put_more_attributes(out: &mut Vec<u8>, attributes: &[Attribute]) -> Result<()
     Ok(())
 }
 
+/// Appends attributes in braces, with commas in between; nothing if there are none.
 #[tactic(auto, unfolding(crate::specs::SeriesNames::attributes_text, crate::specs::SeriesNames::braced))]
 fn put_braced(out: &mut Vec<u8>, attributes: &[Attribute]) -> Result<(), AllocError>
     ensures { OnOk result (out.new.items ≡ out.old.items ++ spec.braced attributes.now) }
@@ -95,7 +101,7 @@ fn put_braced(out: &mut Vec<u8>, attributes: &[Attribute]) -> Result<(), AllocEr
     out.extend_from_slice(b"}")
 }
 
-/// Puts the series' name: the metric's, and in braces the attributes of its points.
+/// Appends the name of a series: the metric's name, escaped, and in braces the point attributes.
 #[tactic(auto, unfolding(crate::specs::SeriesNames::series_name))]
 pub fn put_series_name(out: &mut Vec<u8>, series: &SeriesId) -> Result<(), AllocError>
     ensures { OnOk result (out.new.items ≡ out.old.items ++ spec.series_name series.now) }
@@ -104,6 +110,7 @@ pub fn put_series_name(out: &mut Vec<u8>, series: &SeriesId) -> Result<(), Alloc
     put_braced(out, series.attrs().pairs())
 }
 
+/// Appends bounds, with a semicolon before each.
 fn put_more_bounds(out: &mut Vec<u8>, bounds: &[i64]) -> Result<(), AllocError>
     ensures { OnOk result (out.new.items ≡ out.old.items ++ flat_map (λ n. 59 ∷ signed_decimal n) bounds.now) }
 {
@@ -114,6 +121,7 @@ fn put_more_bounds(out: &mut Vec<u8>, bounds: &[i64]) -> Result<(), AllocError>
     Ok(())
 }
 
+/// Appends bounds, with semicolons in between.
 #[tactic(auto, unfolding(crate::specs::SeriesNames::bounds_text))]
 fn put_bounds(out: &mut Vec<u8>, bounds: &[i64]) -> Result<(), AllocError>
     ensures { OnOk result (out.new.items ≡ out.old.items ++ spec.bounds_text bounds.now) }
@@ -125,7 +133,7 @@ fn put_bounds(out: &mut Vec<u8>, bounds: &[i64]) -> Result<(), AllocError>
     put_more_bounds(out, more)
 }
 
-/// Puts the kind: `sum`, `monotonic`, or `histogram` with its bounds.
+/// Appends a kind: `sum`, `monotonic`, or `histogram` with its bounds in brackets.
 #[tactic(auto, unfolding(crate::specs::SeriesNames::kind_text))]
 pub fn put_kind(out: &mut Vec<u8>, kind: &Kind) -> Result<(), AllocError>
     ensures { OnOk result (out.new.items ≡ out.old.items ++ spec.kind_text kind.now) }

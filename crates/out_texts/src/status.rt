@@ -1,4 +1,4 @@
-//! The body of a refusal.
+//! Writes the body of a refusal.
 
 ghost use Rattle.std.specs.Prelude.{◌≡◌, codes, IfOk};
 ghost use Rattle.serde_json.specs.View.{view};
@@ -8,9 +8,10 @@ use crate::json_text::text_of;
 use serde_json::{Value, json};
 use std::alloc::{AllocError, Global};
 
-/// The body that says that no memory was found. It is there before it is needed.
+/// The body for being out of memory. It is a constant, since nothing can be allocated then.
 const NO_MEMORY: &str = r#"{"message":"no memory"}"#;
 
+/// The body of a refusal, as JSON.
 #[tactic(auto, unfolding(crate::specs::Answers::status_value))]
 fn status_value(alloc: Global, message: &str) -> Result<Value, AllocError>
     ensures { IfOk result (λ v. view v ≡ spec.status_value message.now) }
@@ -18,7 +19,7 @@ fn status_value(alloc: Global, message: &str) -> Result<Value, AllocError>
     json!(in alloc; {"message": message})
 }
 
-/// The body of a refusal, which says why in words (google.rpc.Status, `message`).
+/// The body of a refusal, which gives the reason in words (`google.rpc.Status`, `message`).
 pub fn status_text(alloc: Global, message: &str) -> Result<Vec<u8>, AllocError>
     ensures { IfOk result (λ text. text.items ≡ spec.status_text message.now) }
 {
@@ -26,8 +27,8 @@ pub fn status_text(alloc: Global, message: &str) -> Result<Vec<u8>, AllocError>
     text_of(alloc, value)
 }
 
-/// The body of a refusal for want of memory: what `status_text` says of `no memory`. Takes no
-/// memory.
+/// The body of the refusal for being out of memory: `status_text` of `no memory`. Allocates
+/// nothing.
 pub fn no_memory_text() -> &'static [u8]
     ensures { result.now ≡ spec.status_text (codes "no memory") }
 {

@@ -1,4 +1,4 @@
-//! The body of an answer to points that were taken.
+//! Writes the body of a success response to a sender.
 
 ghost use Rattle.std.specs.Prelude.{◌≡◌, IfOk};
 ghost use Rattle.serde_json.specs.View.{view};
@@ -9,6 +9,7 @@ use crate::objects::Object;
 use serde_json::Value;
 use std::alloc::{AllocError, Global};
 
+/// The body of a success response, as JSON.
 #[tactic(auto, unfolding(crate::specs::Answers::success_value))]
 fn success_value(alloc: Global, foreign: u64) -> Result<Value, AllocError>
     ensures { IfOk result (λ v. view v ≡ spec.success_value foreign) }
@@ -24,8 +25,8 @@ fn success_value(alloc: Global, foreign: u64) -> Result<Value, AllocError>
         .finish()
 }
 
-/// The body of an answer to a request that was taken, but for so many points outside the profile
-/// (OTLP/HTTP, "Full Success" and "Partial Success").
+/// The body of the response to an accepted request. `foreign` is the number of its points outside
+/// the profile, which were left out (OTLP/HTTP, "Full Success" and "Partial Success").
 pub fn success_text(alloc: Global, foreign: u64) -> Result<Vec<u8>, AllocError>
     ensures { IfOk result (λ text. text.items ≡ spec.success_text foreign) }
 {

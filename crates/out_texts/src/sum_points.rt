@@ -1,4 +1,5 @@
-//! The points of sums as JSON.
+//! Builds the points of sums as JSON (`NumberDataPoint` of
+//! `opentelemetry/proto/metrics/v1/metrics.proto`).
 
 ghost use Rattle.std.specs.Prelude.{◌≡◌, ◌≤◌, length, slice_index, IfOk};
 ghost use Rattle.serde_json.specs.View.{view};
@@ -12,7 +13,8 @@ use delta_book::flush_point::FlushPoint;
 use serde_json::Value;
 use std::alloc::{AllocError, Global};
 
-/// What a sum's row adds up to: what was added less what was taken away.
+/// The value of a sum's row, which is the count of points, the sum of the positive values, and that
+/// of the negative ones without their sign.
 fn sum_of(row: &[u64]) -> i64
     requires up { slice_index row.now 1 ≤ MAX_AMOUNT }
     requires down { slice_index row.now 2 ≤ MAX_AMOUNT }
@@ -22,7 +24,7 @@ fn sum_of(row: &[u64]) -> i64
     row[1] as i64 - row[2] as i64
 }
 
-/// The point of a sum.
+/// A point of a sum.
 pub(crate) fn sum_point_value(alloc: Global, point: &FlushPoint) -> Result<Value, AllocError>
     requires { IsSum point.now.series.kind }
     ensures { IfOk result (λ v. view v ≡ spec.sum_point_value point.now) }

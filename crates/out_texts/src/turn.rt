@@ -1,4 +1,4 @@
-//! The body of an answer to a flush order.
+//! Writes the body of the response to a flush order.
 
 ghost use Rattle.std.specs.Prelude.{◌≡◌, codes, IfOk};
 ghost use Rattle.serde_json.specs.View.{view};
@@ -10,6 +10,7 @@ use back_answers::Act;
 use serde_json::Value;
 use std::alloc::{AllocError, Global};
 
+/// The word for what was done with a flush.
 fn act_name(act: Act) -> &'static str
     ensures { result.now ≡ spec.act_name act }
 {
@@ -20,6 +21,7 @@ fn act_name(act: Act) -> &'static str
     }
 }
 
+/// The body of the response to a flush order, as JSON.
 #[tactic(auto, unfolding(crate::specs::Answers::turn_value))]
 fn turn_value(
     alloc: Global,
@@ -30,18 +32,18 @@ fn turn_value(
 ) -> Result<Value, AllocError>
     ensures { IfOk result (λ v. view v ≡ spec.turn_value flush points act after) }
 {
-    let told = Object::new(alloc)
+    let turn = Object::new(alloc)
         .text("act", act_name(act))
         .decimal("flush", flush)
         .decimal("points", points);
     match after {
-        None => told.finish(),
-        Some(seconds) => told.decimal("retryAfter", seconds).finish(),
+        None => turn.finish(),
+        Some(seconds) => turn.decimal("retryAfter", seconds).finish(),
     }
 }
 
-/// The body of an answer to a flush order: what became of the flush of this number, which had so
-/// many points, and after how many seconds the next may come, where the back end said so.
+/// The body of the response to a flush order: what was done with the flush of this number, how many
+/// points it had, and the seconds to wait before the next order, if the back end named them.
 pub fn turn_text(
     alloc: Global,
     flush: u64,

@@ -1,4 +1,4 @@
-//! Rows of words of 128 bits, put after a text.
+//! Appends rows of words of 128 bits.
 
 ghost use Rattle.std.specs.Prelude.{◌≡◌, ◌++◌, ◌∷◌, decimal, OnOk};
 ghost use Rattle.std.specs.List.{flat_map};
@@ -6,6 +6,7 @@ ghost use Rattle.out_texts.specs.Rows.{row_text};
 
 use std::alloc::AllocError;
 
+/// Appends a number in decimal.
 fn put_wide(out: &mut Vec<u8>, number: u128) -> Result<(), AllocError>
     ensures { OnOk result (out.new.items ≡ out.old.items ++ decimal number) }
 {
@@ -13,6 +14,7 @@ fn put_wide(out: &mut Vec<u8>, number: u128) -> Result<(), AllocError>
     out.extend_from_slice(buffer.format(number).as_bytes())
 }
 
+/// Appends words in decimal, with a comma before each.
 fn put_more_words(out: &mut Vec<u8>, words: &[u128]) -> Result<(), AllocError>
     ensures { OnOk result (out.new.items ≡ out.old.items ++ flat_map (λ n. 44 ∷ decimal n) words.now) }
 {
@@ -23,7 +25,7 @@ fn put_more_words(out: &mut Vec<u8>, words: &[u128]) -> Result<(), AllocError>
     Ok(())
 }
 
-/// Puts the words in decimal with commas between them.
+/// Appends the words in decimal, with commas in between.
 #[tactic(auto, unfolding(crate::specs::Rows::row_text))]
 pub(crate) fn put_wide_row(out: &mut Vec<u8>, words: &[u128]) -> Result<(), AllocError>
     ensures { OnOk result (out.new.items ≡ out.old.items ++ row_text words.now) }

@@ -1,4 +1,4 @@
-//! Numbers and rows of words, put after a text.
+//! Appends numbers, and rows of words of 64 bits.
 
 ghost use Rattle.std.specs.Prelude.{◌≡◌, ◌++◌, ◌∷◌, decimal, OnOk};
 ghost use Rattle.std.specs.Fmt.{signed_decimal};
@@ -7,7 +7,7 @@ ghost use Rattle.out_texts.specs.Rows.{row_text};
 
 use std::alloc::AllocError;
 
-/// Puts the number in decimal.
+/// Appends a number in decimal.
 pub fn put_number(out: &mut Vec<u8>, number: u64) -> Result<(), AllocError>
     ensures { OnOk result (out.new.items ≡ out.old.items ++ decimal number) }
 {
@@ -15,7 +15,7 @@ pub fn put_number(out: &mut Vec<u8>, number: u64) -> Result<(), AllocError>
     out.extend_from_slice(buffer.format(number).as_bytes())
 }
 
-/// Puts the number in decimal, with `-` before it where it is below zero.
+/// Appends a number in decimal, with `-` before it if it is negative.
 pub(crate) fn put_signed(out: &mut Vec<u8>, number: i64) -> Result<(), AllocError>
     ensures { OnOk result (out.new.items ≡ out.old.items ++ signed_decimal number) }
 {
@@ -23,6 +23,7 @@ pub(crate) fn put_signed(out: &mut Vec<u8>, number: i64) -> Result<(), AllocErro
     out.extend_from_slice(buffer.format(number).as_bytes())
 }
 
+/// Appends words in decimal, with a comma before each.
 fn put_more_words(out: &mut Vec<u8>, words: &[u64]) -> Result<(), AllocError>
     ensures { OnOk result (out.new.items ≡ out.old.items ++ flat_map (λ n. 44 ∷ decimal n) words.now) }
 {
@@ -33,7 +34,7 @@ fn put_more_words(out: &mut Vec<u8>, words: &[u64]) -> Result<(), AllocError>
     Ok(())
 }
 
-/// Puts the words in decimal with commas between them.
+/// Appends the words in decimal, with commas in between.
 #[tactic(auto, unfolding(crate::specs::Rows::row_text))]
 pub fn put_row(out: &mut Vec<u8>, words: &[u64]) -> Result<(), AllocError>
     ensures { OnOk result (out.new.items ≡ out.old.items ++ row_text words.now) }
