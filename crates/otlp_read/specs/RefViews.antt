@@ -1,5 +1,9 @@
--- Attributes and single values of them, without the references.
-use Rattle.std.specs.Prelude.{ℕ, List}
+-- Fields, attributes and single values of them, without the references.
+use Rattle.std.specs.Prelude.{ℕ, List, Option, option_map}
+use Rattle.std.specs.Borrow.{Bor}
+use Rattle.serde_json.specs.Data.{Data}
+use Rattle.serde_json.specs.declared.value.Value.{Value}
+use Rattle.serde_json.specs.View.{view}
 use Rattle.series_id.specs.declared.scalars.Scalar.{Scalar}
 use Rattle.series_id.specs.declared.scalars.Scalar.TheVariants as scalars
 use Rattle.series_id.specs.declared.values.AttrValue.{AttrValue}
@@ -8,11 +12,17 @@ use Rattle.otlp_read.specs.declared.scalar_ref.ScalarRef.{ScalarRef}
 use Rattle.otlp_read.specs.declared.scalar_ref.ScalarRef.TheVariants.{Empty, Truth, Int, Text}
 use Rattle.otlp_read.specs.declared.scalar_ref.PairRef.{PairRef}
 
+-- a field that may be absent
+abbrev pub found_data : Option (Bor Value) → Option Data
+found_data found = option_map (λ v. view v.now) found
+
+-- a single value
 abbrev pub scalar_data : ScalarRef → Scalar
 scalar_data Empty = scalars.Empty
 scalar_data (Truth b) = scalars.Truth b
 scalar_data (Int n) = scalars.Int n
 scalar_data (Text t) = scalars.Text t.now
 
+-- an attribute with a single value
 abbrev pub pair_data : PairRef → (List ℕ × AttrValue)
 pair_data p = (p.key.now, One (scalar_data p.value))

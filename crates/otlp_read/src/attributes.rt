@@ -7,7 +7,7 @@ ghost use Rattle.serde_json.specs.View.{view, members_view};
 ghost use Rattle.otlp_read.specs.Fields.{field};
 ghost use Rattle.otlp_read.specs.Lists.{all_of};
 ghost use Rattle.otlp_read.specs.Attributes.{key_and_value, pair_of, set_of, attributes_in};
-ghost use Rattle.otlp_read.specs.RefViews.{pair_data};
+ghost use Rattle.otlp_read.specs.RefViews.{found_data, pair_data};
 
 use crate::fields::text_in;
 use crate::lists::elements_in;
@@ -27,8 +27,8 @@ struct PairFields<'v> {
 
 /// The fields of an attribute, in one pass over its members.
 fn pair_fields<'v>(members: &'v Map<String, Value>) -> PairFields<'v>
-    ensures key { option_map (λ v. view v.now) result.key ≡ field (codes "key") (object (members_view members.now.entries)) }
-    ensures value { option_map (λ v. view v.now) result.value ≡ field (codes "value") (object (members_view members.now.entries)) }
+    ensures key { found_data result.key ≡ field (codes "key") (object (members_view members.now.entries)) }
+    ensures value { found_data result.value ≡ field (codes "value") (object (members_view members.now.entries)) }
 {
     let mut key = None;
     let mut value = None;
@@ -44,7 +44,7 @@ fn pair_fields<'v>(members: &'v Map<String, Value>) -> PairFields<'v>
 /// or one that no series may have.
 #[tactic(auto, unfolding(crate::specs::Attributes::attributes_in))]
 pub fn attributes_in(alloc: Global, found: Option<&Value>) -> Result<Option<AttrSet>, AllocError>
-    ensures { IfOk result (λ o. o ≡ attributes_in (option_map (λ v. view v.now) found.entry)) }
+    ensures { IfOk result (λ o. o ≡ attributes_in (found_data found.entry)) }
 {
     let Some(values) = elements_in(found) else {
         return Ok(None);

@@ -1,9 +1,10 @@
 //! Reads containers: objects, and arrays of objects.
 
-ghost use Rattle.std.specs.Prelude.{◌≡◌, map, option_map};
+ghost use Rattle.std.specs.Prelude.{◌≡◌, map};
 ghost use Rattle.std.specs.List.{list_all};
 ghost use Rattle.serde_json.specs.View.{view};
 ghost use Rattle.otlp_read.specs.Containers.{Gives, is_object, objects, object_in};
+ghost use Rattle.otlp_read.specs.RefViews.{found_data};
 
 use crate::fault::ReadFault;
 use crate::place::Place;
@@ -13,7 +14,7 @@ use serde_json::Value;
 /// field is no array, or if an element is no object.
 #[tactic(auto, using(crate::proofs::ContainerLemmas::elements_view), unfolding(crate::specs::Containers::objects))]
 pub fn objects<'v>(found: Option<&'v Value>, place: Place) -> Result<&'v [Value], ReadFault>
-    ensures { Gives (λ vs. map view vs.now) result (objects place (option_map (λ v. view v.now) found.entry)) }
+    ensures { Gives (λ vs. map view vs.now) result (objects place (found_data found.entry)) }
 {
     let Some(found) = found else {
         return Ok(&[]);
@@ -43,7 +44,7 @@ fn are_objects(list: &[Value]) -> bool
 /// The object of a field, if the field is present. Fails with `WrongShape` if it is no object.
 #[tactic(auto, unfolding(crate::specs::Containers::object_in))]
 pub fn object_in<'v>(found: Option<&'v Value>, place: Place) -> Result<Option<&'v Value>, ReadFault>
-    ensures { Gives (λ o. option_map (λ v. view v.now) o) result (object_in place (option_map (λ v. view v.now) found.entry)) }
+    ensures { Gives (λ o. found_data o) result (object_in place (found_data found.entry)) }
 {
     match found {
         None => Ok(None),

@@ -3,6 +3,7 @@
 ghost use Rattle.std.specs.Prelude.{◌≡◌, option_map};
 ghost use Rattle.serde_json.specs.View.{view};
 ghost use Rattle.otlp_read.specs.Fields.{field, flags_fit, text_in, truth_in, is_delta, nanos_in};
+ghost use Rattle.otlp_read.specs.RefViews.{found_data};
 
 use crate::whole::{unsigned, unsigned_64};
 use serde_json::Value;
@@ -11,7 +12,7 @@ use series_id::limits::MAX_TEXT;
 /// The member of this name, if it is present and not null.
 #[tactic(auto, unfolding(crate::specs::Fields::field))]
 pub fn field<'v>(value: &'v Value, name: &str) -> Option<&'v Value>
-    ensures { option_map (λ v. view v.now) result ≡ field name.now (view value.now) }
+    ensures { found_data result ≡ field name.now (view value.now) }
 {
     let found = value.get(name)?;
     if found.is_null() { None } else { Some(found) }
@@ -21,7 +22,7 @@ pub fn field<'v>(value: &'v Value, name: &str) -> Option<&'v Value>
 /// (`DataPointFlags` of `opentelemetry/proto/metrics/v1/metrics.proto`).
 #[tactic(auto, unfolding(crate::specs::Fields::flags_fit))]
 pub fn flags_fit(found: Option<&Value>) -> bool
-    ensures { result ≡ flags_fit (option_map (λ v. view v.now) found.entry) }
+    ensures { result ≡ flags_fit (found_data found.entry) }
 {
     match found {
         None => true,
@@ -35,7 +36,7 @@ pub fn flags_fit(found: Option<&Value>) -> bool
 /// A text of at most `MAX_TEXT` bytes, empty if it is absent.
 #[tactic(auto, unfolding(crate::specs::Fields::text_in))]
 pub fn text_in<'v>(found: Option<&'v Value>) -> Option<&'v str>
-    ensures { option_map (λ s. s.now) result ≡ text_in (option_map (λ v. view v.now) found.entry) }
+    ensures { option_map (λ s. s.now) result ≡ text_in (found_data found.entry) }
 {
     let Some(value) = found else {
         return Some("");
@@ -51,7 +52,7 @@ pub fn text_in<'v>(found: Option<&'v Value>) -> Option<&'v str>
 /// A boolean, false if it is absent.
 #[tactic(auto, unfolding(crate::specs::Fields::truth_in))]
 pub fn truth_in(found: Option<&Value>) -> Option<bool>
-    ensures { result ≡ truth_in (option_map (λ v. view v.now) found.entry) }
+    ensures { result ≡ truth_in (found_data found.entry) }
 {
     match found {
         None => Some(false),
@@ -62,7 +63,7 @@ pub fn truth_in(found: Option<&Value>) -> Option<bool>
 /// Whether the temporality is delta: the number 1.
 #[tactic(auto, unfolding(crate::specs::Fields::is_delta))]
 pub fn is_delta(found: Option<&Value>) -> bool
-    ensures { result ≡ is_delta (option_map (λ v. view v.now) found.entry) }
+    ensures { result ≡ is_delta (found_data found.entry) }
 {
     match found {
         None => false,
@@ -76,7 +77,7 @@ pub fn is_delta(found: Option<&Value>) -> bool
 /// A time in nanoseconds since the epoch, if it is present.
 #[tactic(auto, unfolding(crate::specs::Fields::nanos_in))]
 pub fn nanos_in(found: Option<&Value>) -> Option<u64>
-    ensures { result ≡ nanos_in (option_map (λ v. view v.now) found.entry) }
+    ensures { result ≡ nanos_in (found_data found.entry) }
 {
     unsigned_64(found?)
 }

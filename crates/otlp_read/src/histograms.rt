@@ -13,6 +13,7 @@ ghost use Rattle.otlp_read.specs.Fields.{field};
 ghost use Rattle.otlp_read.specs.Histograms.{count_in, total_in, histogram_fields, histogram_point, histogram_point_in};
 ghost use Rattle.otlp_read.specs.PointViews.{histogram_fields_data};
 ghost use Rattle.otlp_read.specs.StreamViews.{stream_data};
+ghost use Rattle.otlp_read.specs.RefViews.{found_data};
 
 use crate::fields::{flags_fit, nanos_in};
 use crate::lists::{signed_list, unsigned_list};
@@ -54,14 +55,14 @@ struct HistogramFields<'v> {
 
 /// The fields of a point, in one pass over its members.
 fn histogram_members<'v>(members: &'v Map<String, Value>) -> HistogramMembers<'v>
-    ensures start { option_map (λ v. view v.now) result.start ≡ field (codes "startTimeUnixNano") (object (members_view members.now.entries)) }
-    ensures end { option_map (λ v. view v.now) result.end ≡ field (codes "timeUnixNano") (object (members_view members.now.entries)) }
-    ensures count { option_map (λ v. view v.now) result.count ≡ field (codes "count") (object (members_view members.now.entries)) }
-    ensures total { option_map (λ v. view v.now) result.total ≡ field (codes "sum") (object (members_view members.now.entries)) }
-    ensures flags { option_map (λ v. view v.now) result.flags ≡ field (codes "flags") (object (members_view members.now.entries)) }
-    ensures buckets { option_map (λ v. view v.now) result.buckets ≡ field (codes "bucketCounts") (object (members_view members.now.entries)) }
-    ensures bounds { option_map (λ v. view v.now) result.bounds ≡ field (codes "explicitBounds") (object (members_view members.now.entries)) }
-    ensures attributes { option_map (λ v. view v.now) result.attributes ≡ field (codes "attributes") (object (members_view members.now.entries)) }
+    ensures start { found_data result.start ≡ field (codes "startTimeUnixNano") (object (members_view members.now.entries)) }
+    ensures end { found_data result.end ≡ field (codes "timeUnixNano") (object (members_view members.now.entries)) }
+    ensures count { found_data result.count ≡ field (codes "count") (object (members_view members.now.entries)) }
+    ensures total { found_data result.total ≡ field (codes "sum") (object (members_view members.now.entries)) }
+    ensures flags { found_data result.flags ≡ field (codes "flags") (object (members_view members.now.entries)) }
+    ensures buckets { found_data result.buckets ≡ field (codes "bucketCounts") (object (members_view members.now.entries)) }
+    ensures bounds { found_data result.bounds ≡ field (codes "explicitBounds") (object (members_view members.now.entries)) }
+    ensures attributes { found_data result.attributes ≡ field (codes "attributes") (object (members_view members.now.entries)) }
 {
     let mut start = None;
     let mut end = None;
@@ -97,7 +98,7 @@ fn histogram_members<'v>(members: &'v Map<String, Value>) -> HistogramMembers<'v
 /// The count of values, 0 if it is absent.
 #[tactic(auto, unfolding(crate::specs::Histograms::count_in))]
 fn count_in(found: Option<&Value>) -> Option<u64>
-    ensures { result ≡ count_in (option_map (λ v. view v.now) found.entry) }
+    ensures { result ≡ count_in (found_data found.entry) }
 {
     match found {
         None => Some(0),
@@ -108,7 +109,7 @@ fn count_in(found: Option<&Value>) -> Option<u64>
 /// The sum of the values, which may be absent.
 #[tactic(auto, unfolding(crate::specs::Histograms::total_in))]
 fn total_in(found: Option<&Value>) -> Option<Option<u64>>
-    ensures { result ≡ total_in (option_map (λ v. view v.now) found.entry) }
+    ensures { result ≡ total_in (found_data found.entry) }
 {
     match found {
         None => Some(None),
@@ -120,9 +121,9 @@ fn total_in(found: Option<&Value>) -> Option<Option<u64>>
 #[tactic(auto, unfolding(crate::specs::Histograms::histogram_fields))]
 fn histogram_fields<'v>(value: &'v Value) -> Option<HistogramFields<'v>>
     ensures fields { option_map histogram_fields_data result ≡ histogram_fields (view value.now) }
-    ensures buckets { IfSome result (λ f. option_map (λ v. view v.now) f.buckets ≡ field (codes "bucketCounts") (view value.now)) }
-    ensures bounds { IfSome result (λ f. option_map (λ v. view v.now) f.bounds ≡ field (codes "explicitBounds") (view value.now)) }
-    ensures attributes { IfSome result (λ f. option_map (λ v. view v.now) f.attributes ≡ field (codes "attributes") (view value.now)) }
+    ensures buckets { IfSome result (λ f. found_data f.buckets ≡ field (codes "bucketCounts") (view value.now)) }
+    ensures bounds { IfSome result (λ f. found_data f.bounds ≡ field (codes "explicitBounds") (view value.now)) }
+    ensures attributes { IfSome result (λ f. found_data f.attributes ≡ field (codes "attributes") (view value.now)) }
 {
     let members = histogram_members(value.as_object()?);
     let start = nanos_in(members.start)?;
@@ -146,7 +147,7 @@ fn histogram_fields<'v>(value: &'v Value) -> Option<HistogramFields<'v>>
 
 /// The kind of a histogram with these bounds; `None` if they are no bounds.
 fn kind_of(alloc: Global, bounds: Option<&Value>) -> Result<Option<Kind>, AllocError>
-    ensures { IfOk result (λ o. o ≡ option_and_then (λ found. result_ok (histogram_of found)) (list_in (signed_in MAX_BOUND MAX_BOUND) (option_map (λ v. view v.now) bounds.entry))) }
+    ensures { IfOk result (λ o. o ≡ option_and_then (λ found. result_ok (histogram_of found)) (list_in (signed_in MAX_BOUND MAX_BOUND) (found_data bounds.entry))) }
 {
     let Some(found) = signed_list(alloc, bounds, MAX_BOUND)? else {
         return Ok(None);

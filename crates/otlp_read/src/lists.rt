@@ -4,6 +4,7 @@ ghost use Rattle.std.specs.Prelude.{◌≡◌, ◌<◌, ◌^◌, map, option_map
 ghost use Rattle.serde_json.specs.View.{view};
 ghost use Rattle.otlp_read.specs.Whole.{unsigned_in, signed_in};
 ghost use Rattle.otlp_read.specs.Lists.{all_of, elements_in, list_in};
+ghost use Rattle.otlp_read.specs.RefViews.{found_data};
 
 use crate::whole::{signed, unsigned};
 use serde_json::Value;
@@ -12,7 +13,7 @@ use std::alloc::{AllocError, Global};
 /// The elements of an array, none if the field is absent. `None` if the field is no array.
 #[tactic(auto, using(crate::proofs::ContainerLemmas::elements_view), unfolding(crate::specs::Lists::elements_in))]
 pub fn elements_in<'v>(found: Option<&'v Value>) -> Option<&'v [Value]>
-    ensures { option_map (λ vs. map view vs.now) result ≡ elements_in (option_map (λ v. view v.now) found.entry) }
+    ensures { option_map (λ vs. map view vs.now) result ≡ elements_in (found_data found.entry) }
 {
     let Some(found) = found else {
         return Some(&[]);
@@ -28,7 +29,7 @@ pub fn unsigned_list(
     found: Option<&Value>,
     most: u64,
 ) -> Result<Option<Vec<u64>>, AllocError>
-    ensures { IfOk result (λ o. option_map (λ v. v.items) o ≡ list_in (unsigned_in most) (option_map (λ v. view v.now) found.entry)) }
+    ensures { IfOk result (λ o. option_map (λ v. v.items) o ≡ list_in (unsigned_in most) (found_data found.entry)) }
 {
     match elements_in(found) {
         None => Ok(None),
@@ -44,7 +45,7 @@ pub fn signed_list(
     size: u64,
 ) -> Result<Option<Vec<i64>>, AllocError>
     requires { size < 2 ^ 63 }
-    ensures { IfOk result (λ o. option_map (λ v. v.items) o ≡ list_in (signed_in size size) (option_map (λ v. view v.now) found.entry)) }
+    ensures { IfOk result (λ o. option_map (λ v. v.items) o ≡ list_in (signed_in size size) (found_data found.entry)) }
 {
     match elements_in(found) {
         None => Ok(None),

@@ -1,11 +1,11 @@
 //! Looks an identity up in a memo, before anything of it is made.
 
-ghost use Rattle.std.specs.Prelude.{◌≡◌, ◌≤◌, IfSome, IsPermutation, IsTrue, OnSome, Some, length, map, option_and_then, option_map, take};
+ghost use Rattle.std.specs.Prelude.{◌≡◌, ◌≤◌, IfSome, IsPermutation, IsTrue, OnSome, Some, length, map, option_and_then, take};
 ghost use Rattle.serde_json.specs.View.{view};
 ghost use Rattle.series_id.specs.Sorting.{pair_of as pair_in};
 ghost use Rattle.otlp_read.specs.Lists.{all_of};
 ghost use Rattle.otlp_read.specs.Attributes.{pair_of, set_of};
-ghost use Rattle.otlp_read.specs.RefViews.{pair_data};
+ghost use Rattle.otlp_read.specs.RefViews.{found_data, pair_data};
 ghost use Rattle.otlp_read.specs.Streams.{identity_in, series_in, series_of};
 ghost use Rattle.otlp_read.specs.StreamViews.{scope_data, stream_data};
 
@@ -30,7 +30,7 @@ pub fn look_up(
     kind: &Kind,
     found: Option<&Value>,
 ) -> Option<SharedId>
-    ensures { IfSome result (λ s. series_of (stream_data stream.entry) kind.now (option_map (λ v. view v.now) found.entry) ≡ Some s) }
+    ensures { IfSome result (λ s. series_of (stream_data stream.entry) kind.now (found_data found.entry) ≡ Some s) }
 {
     if memo.is_empty() {
         return None;

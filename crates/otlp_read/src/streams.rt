@@ -5,6 +5,7 @@ ghost use Rattle.std.specs.Prelude.{◌≡◌, option_map, IfOk};
 ghost use Rattle.serde_json.specs.View.{view};
 ghost use Rattle.otlp_read.specs.Streams.{inner, scope_in, stream_in, sum_stream_in, series_in, series_of};
 ghost use Rattle.otlp_read.specs.StreamViews.{resource_data, scope_data, stream_data, sum_stream_data};
+ghost use Rattle.otlp_read.specs.RefViews.{found_data};
 
 use crate::attributes::attributes_in;
 use crate::digest::Digest;
@@ -51,7 +52,7 @@ pub struct SumStream<'a> {
 /// The field of this name in an object that may be absent.
 #[tactic(auto, unfolding(crate::specs::Streams::inner))]
 pub fn inner<'v>(found: Option<&'v Value>, name: &str) -> Option<&'v Value>
-    ensures { option_map (λ v. view v.now) result ≡ inner name.now (option_map (λ v. view v.now) found.entry) }
+    ensures { found_data result ≡ inner name.now (found_data found.entry) }
 {
     field(found?, name)
 }
@@ -74,7 +75,7 @@ pub fn scope_in<'a>(
     scope: Option<&'a Value>,
     attributes: Option<&'a AttrSet>,
 ) -> Option<Scope<'a>>
-    ensures { option_map scope_data result ≡ scope_in (option_map resource_data resource.entry) (option_map (λ v. view v.now) scope.entry) (option_map (λ s. s.now) attributes.entry) }
+    ensures { option_map scope_data result ≡ scope_in (option_map resource_data resource.entry) (found_data scope.entry) (option_map (λ s. s.now) attributes.entry) }
 {
     let resource = resource?;
     let name = text_in(inner(scope, "name"))?;
@@ -144,7 +145,7 @@ pub fn series_of(
     kind: Kind,
     found: Option<&Value>,
 ) -> Result<Option<SharedId>, AllocError>
-    ensures { IfOk result (λ o. o ≡ series_of (stream_data stream.entry) kind (option_map (λ v. view v.now) found.entry)) }
+    ensures { IfOk result (λ o. o ≡ series_of (stream_data stream.entry) kind (found_data found.entry)) }
 {
     if let Some(series) = look_up(memo, stream, &kind, found) {
         return Ok(Some(series));

@@ -8,6 +8,7 @@ ghost use Rattle.otlp_read.specs.Fields.{field, flags_fit};
 ghost use Rattle.otlp_read.specs.Sums.{number_in, sum_fields, sum_point, sum_point_in};
 ghost use Rattle.otlp_read.specs.PointViews.{sum_fields_data};
 ghost use Rattle.otlp_read.specs.StreamViews.{sum_stream_data};
+ghost use Rattle.otlp_read.specs.RefViews.{found_data};
 
 use crate::fields::{flags_fit, nanos_in};
 use crate::members::take_named;
@@ -42,12 +43,12 @@ struct SumFields<'v> {
 
 /// The fields of a point, in one pass over its members.
 fn sum_members<'v>(members: &'v Map<String, Value>) -> SumMembers<'v>
-    ensures start { option_map (λ v. view v.now) result.start ≡ field (codes "startTimeUnixNano") (object (members_view members.now.entries)) }
-    ensures end { option_map (λ v. view v.now) result.end ≡ field (codes "timeUnixNano") (object (members_view members.now.entries)) }
-    ensures number { option_map (λ v. view v.now) result.number ≡ field (codes "asInt") (object (members_view members.now.entries)) }
-    ensures double { option_map (λ v. view v.now) result.double ≡ field (codes "asDouble") (object (members_view members.now.entries)) }
-    ensures flags { option_map (λ v. view v.now) result.flags ≡ field (codes "flags") (object (members_view members.now.entries)) }
-    ensures attributes { option_map (λ v. view v.now) result.attributes ≡ field (codes "attributes") (object (members_view members.now.entries)) }
+    ensures start { found_data result.start ≡ field (codes "startTimeUnixNano") (object (members_view members.now.entries)) }
+    ensures end { found_data result.end ≡ field (codes "timeUnixNano") (object (members_view members.now.entries)) }
+    ensures number { found_data result.number ≡ field (codes "asInt") (object (members_view members.now.entries)) }
+    ensures double { found_data result.double ≡ field (codes "asDouble") (object (members_view members.now.entries)) }
+    ensures flags { found_data result.flags ≡ field (codes "flags") (object (members_view members.now.entries)) }
+    ensures attributes { found_data result.attributes ≡ field (codes "attributes") (object (members_view members.now.entries)) }
 {
     let mut start = None;
     let mut end = None;
@@ -77,14 +78,14 @@ fn sum_members<'v>(members: &'v Map<String, Value>) -> SumMembers<'v>
 /// The value, a whole number of 64 bits.
 #[tactic(auto, unfolding(crate::specs::Sums::number_in))]
 fn number_in(found: Option<&Value>) -> Option<i64>
-    ensures { result ≡ number_in (option_map (λ v. view v.now) found.entry) }
+    ensures { result ≡ number_in (found_data found.entry) }
 {
     signed_64(found?)
 }
 
 /// Whether the point has a recorded value that is no double.
 fn is_whole_value(members: SumMembers<'_>) -> bool
-    ensures { result ≡ (flags_fit (option_map (λ v. view v.now) members.entry.flags) && not (is_some (option_map (λ v. view v.now) members.entry.double))) }
+    ensures { result ≡ (flags_fit (found_data members.entry.flags) && not (is_some (found_data members.entry.double))) }
 {
     flags_fit(members.flags) && members.double.is_none()
 }
@@ -93,7 +94,7 @@ fn is_whole_value(members: SumMembers<'_>) -> bool
 #[tactic(auto, unfolding(crate::specs::Sums::sum_fields))]
 fn sum_fields<'v>(value: &'v Value) -> Option<SumFields<'v>>
     ensures fields { option_map sum_fields_data result ≡ sum_fields (view value.now) }
-    ensures attributes { IfSome result (λ f. option_map (λ v. view v.now) f.attributes ≡ field (codes "attributes") (view value.now)) }
+    ensures attributes { IfSome result (λ f. found_data f.attributes ≡ field (codes "attributes") (view value.now)) }
 {
     let members = sum_members(value.as_object()?);
     let start = nanos_in(members.start)?;

@@ -8,7 +8,7 @@ ghost use Rattle.series_id.specs.declared.values.AttrValue.TheVariants.{One};
 ghost use Rattle.otlp_read.specs.Lists.{all_of};
 ghost use Rattle.otlp_read.specs.Values.{fields_of, scalar_of, scalar_in, scalars_of, many_of, value_of, value_in};
 ghost use Rattle.otlp_read.specs.ValueViews.{fields_data};
-ghost use Rattle.otlp_read.specs.RefViews.{scalar_data};
+ghost use Rattle.otlp_read.specs.RefViews.{found_data, scalar_data};
 
 use crate::fields::field;
 use crate::lists::elements_in;
@@ -62,7 +62,7 @@ fn fields_of<'v>(members: &'v Map<String, Value>) -> ValueFields<'v>
 
 /// Whether one of three fields is present.
 fn has_any(one: Option<&Value>, another: Option<&Value>, third: Option<&Value>) -> bool
-    ensures { result ≡ (is_some (option_map (λ v. view v.now) one.entry) || is_some (option_map (λ v. view v.now) another.entry) || is_some (option_map (λ v. view v.now) third.entry)) }
+    ensures { result ≡ (is_some (found_data one.entry) || is_some (found_data another.entry) || is_some (found_data third.entry)) }
 {
     one.is_some() || another.is_some() || third.is_some()
 }
@@ -70,7 +70,7 @@ fn has_any(one: Option<&Value>, another: Option<&Value>, third: Option<&Value>) 
 /// The value of an attribute, empty if it is absent. `None` if it is one that no series may have.
 #[tactic(auto, unfolding(crate::specs::Values::value_in))]
 pub fn value_in(alloc: Global, found: Option<&Value>) -> Result<Option<AttrValue>, AllocError>
-    ensures { IfOk result (λ o. o ≡ value_in (option_map (λ v. view v.now) found.entry)) }
+    ensures { IfOk result (λ o. o ≡ value_in (found_data found.entry)) }
 {
     match found {
         None => Ok(Some(AttrValue::One(Scalar::Empty))),
@@ -190,7 +190,7 @@ fn scalar_ref_of<'v>(fields: ValueFields<'v>) -> Option<ScalarRef<'v>>
 /// The value of an attribute, if it is a single one.
 #[tactic(auto, unfolding(crate::specs::Values::value_in, crate::specs::Values::value_of, crate::specs::Values::scalar_of))]
 pub fn scalar_ref_in<'v>(found: Option<&'v Value>) -> Option<ScalarRef<'v>>
-    ensures { IfSome result (λ g. value_in (option_map (λ v. view v.now) found.entry) ≡ Some (One (scalar_data g))) }
+    ensures { IfSome result (λ g. value_in (found_data found.entry) ≡ Some (One (scalar_data g))) }
 {
     match found {
         None => Some(ScalarRef::Empty),
