@@ -19,8 +19,8 @@ const GATEWAY_TIMEOUT: u16 = 504;
 /// The meaning of an answer with this status (OTLP/HTTP, "Failures" and "Throttling").
 /// `retry_after` is the value of its `Retry-After`, if it has one (RFC 9110, section 10.2.3).
 ///
-/// Of the errors, 429, 502, 503 and 504 are retryable, and only 429 and 503 have seconds to wait. If
-/// the value is not a number of seconds below 2^64, the answer is retryable without seconds.
+/// Of the errors, 429, 502, 503 and 504 are retryable, and only 429 and 503 have seconds to wait.
+/// If the value is not a number of seconds below 2^64, the answer is retryable without seconds.
 #[tactic(auto, unfolding(crate::specs::Answers::answer_of))]
 pub fn classify(status: u16, retry_after: Option<&[u8]>) -> Answer
     ensures answer { result ≡ answer_of status (option_copied retry_after.entry) }
