@@ -1,6 +1,6 @@
 //! An attribute (a key and its value), and attribute sets.
 
-ghost use Rattle.std.specs.Prelude.{◌≡◌, ◌<◌, IfErr, IfOk, None, OnOk, []};
+ghost use Rattle.std.specs.Prelude.{◌≡◌, ◌↔◌, ◌<◌, IfErr, IfOk, IsTrue, None, OnOk, []};
 ghost use Rattle.std.specs.Option.{unwrap_or};
 ghost use Rattle.series_id.specs.Attributes.{IsAttrSet, attribute_cmp, attrs_cmp};
 ghost use Rattle.series_id.specs.Pairs.{attr_refusal};
@@ -133,6 +133,13 @@ impl AttrSet {
         ensures { IsAttrSet self.now }
     {
         let _ = &self.pairs;
+    }
+
+    /// Whether both sets have the same attributes.
+    pub fn is_same(&self, other: &AttrSet) -> bool
+        ensures { IsTrue result ↔ (self.now ≡ other.now) }
+    {
+        self.compare(other).is_eq()
     }
 
     /// Which of two sets comes first: the first pair that differs decides, and a proper prefix
