@@ -86,15 +86,3 @@ alike_more f g xs ys i d y within also this same so_far rest =
 pub alike_all : {A B C : Type 0} (f : A → C) (g : B → C) (xs : List A) (ys : List B) (i : ℕ) → length xs ≤ i → length ys ≤ i
     → (map f (drop i xs) ≡ map g (drop i ys) → map f xs ≡ map g ys) → map f xs ≡ map g ys
 alike_all f g xs ys i past also so_far = so_far (at_drop_all (map f) xs i past ∙ sym (at_drop_all (map g) ys i also))
-
--- the same of lists that are equal
-pub same_more : {A : Type 0} (xs ys : List A) (i : ℕ) (x y : A)
-    → i < length xs → i < length ys → x ≡ get_or xs i x → y ≡ get_or ys i y → x ≡ y
-    → (drop i xs ≡ drop i ys → xs ≡ ys) → drop (i + 1) xs ≡ drop (i + 1) ys → xs ≡ ys
-same_more xs ys i x y within also is this same so_far rest =
-    let xs_here : drop i xs ≡ x ∷ drop (i + 1) xs = drop_more xs i x within ∙ ap (λ w. w ∷ drop (i + 1) xs) (sym is) in
-    let ys_here : drop i ys ≡ y ∷ drop (i + 1) ys = drop_more ys i y also ∙ ap (λ w. w ∷ drop (i + 1) ys) (sym this) in
-    so_far (xs_here ∙ ap (λ w. w ∷ drop (i + 1) xs) same ∙ ap (λ ws. y ∷ ws) rest ∙ sym ys_here)
-
-pub same_all : {A : Type 0} (xs ys : List A) (i : ℕ) → length xs ≤ i → length ys ≤ i → (drop i xs ≡ drop i ys → xs ≡ ys) → xs ≡ ys
-same_all xs ys i past also so_far = so_far (at_drop_all (λ ws. ws) xs i past ∙ sym (at_drop_all (λ ws. ws) ys i also))

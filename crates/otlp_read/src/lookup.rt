@@ -15,7 +15,7 @@ use crate::memo::Memo;
 use crate::scalar_ref::{PairRef, ScalarRef};
 use crate::streams::{Scope, Stream};
 use serde_json::Value;
-use series_id::{AttrSet, AttrValue, Attribute, Kind, Scalar, SeriesId, SharedId};
+use series_id::{AttrValue, Attribute, Kind, SeriesId, SharedId};
 
 /// The most attributes of a point that is looked up.
 const MOST_PAIRS: usize = 16;
@@ -111,7 +111,7 @@ fn is_series(series: &SeriesId, stream: Stream<'_>, kind: &Kind, pairs: &[PairRe
     if !is_in_stream(series, stream) {
         return false;
     }
-    if !is_same_kind(series.kind(), kind) {
+    if !series.kind().is_same(kind) {
         return false;
     }
     are_pairs(pairs, series.attrs().pairs())
@@ -132,80 +132,8 @@ fn is_in_scope(series: &SeriesId, scope: Scope<'_>) -> bool
 {
     series.scope_name().as_str() == scope.name
         && series.scope_version().as_str() == scope.version
-        && is_same_set(series.scope_attrs(), scope.attributes)
-        && is_same_set(series.resource(), scope.resource)
-}
-
-/// Whether two kinds are equal.
-fn is_same_kind(one: &Kind, other: &Kind) -> bool
-    ensures only { IsTrue result → one.now ≡ other.now }
-{
-    match (one, other) {
-        (Kind::Sum { monotonic: mine }, Kind::Sum { monotonic: its }) => *mine == *its,
-        (Kind::Histogram { bounds: mine }, Kind::Histogram { bounds: its }) => {
-            mine.as_slice() == its.as_slice()
-        }
-        _ => false,
-    }
-}
-
-/// Whether two sets are equal.
-fn is_same_set(one: &AttrSet, other: &AttrSet) -> bool
-    ensures only { IsTrue result → one.now ≡ other.now }
-{
-    are_same_pairs(one.pairs(), other.pairs())
-}
-
-fn are_same_pairs(mine: &[Attribute], its: &[Attribute]) -> bool
-    ensures only { IsTrue result → mine.now ≡ its.now }
-{
-    if mine.len() != its.len() {
-        return false;
-    }
-    for i in 0..mine.len() {
-        if !is_same_pair(&mine[i], &its[i]) {
-            return false;
-        }
-    }
-    true
-}
-
-fn is_same_pair(one: &Attribute, other: &Attribute) -> bool
-    ensures only { IsTrue result → one.now ≡ other.now }
-{
-    one.key.as_str() == other.key.as_str() && is_same_value(&one.value, &other.value)
-}
-
-fn is_same_value(one: &AttrValue, other: &AttrValue) -> bool
-    ensures only { IsTrue result → one.now ≡ other.now }
-{
-    match (one, other) {
-        (AttrValue::One(mine), AttrValue::One(its)) => is_same_scalar(mine, its),
-        (AttrValue::Many(mine), AttrValue::Many(its)) => {
-            are_same_scalars(mine.as_slice(), its.as_slice())
-        }
-        _ => false,
-    }
-}
-
-fn are_same_scalars(mine: &[Scalar], its: &[Scalar]) -> bool
-    ensures only { IsTrue result → mine.now ≡ its.now }
-{
-    if mine.len() != its.len() {
-        return false;
-    }
-    for i in 0..mine.len() {
-        if !is_same_scalar(&mine[i], &its[i]) {
-            return false;
-        }
-    }
-    true
-}
-
-fn is_same_scalar(one: &Scalar, other: &Scalar) -> bool
-    ensures only { IsTrue result → one.now ≡ other.now }
-{
-    ScalarRef::of(one).is_same(ScalarRef::of(other))
+        && series.scope_attrs().is_same(scope.attributes)
+        && series.resource().is_same(scope.resource)
 }
 
 /// Whether the attributes are those of a set, in its order.
