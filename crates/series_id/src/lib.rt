@@ -7,13 +7,13 @@
 mod attributes;
 mod checks;
 mod faults;
-mod kept;
 mod kinds;
 pub mod laws;
 pub mod limits;
 mod scalars;
 mod series;
 mod shared;
+mod shared_parts;
 mod sorting;
 mod texts;
 mod values;

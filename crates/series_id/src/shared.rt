@@ -3,8 +3,8 @@
 ghost use Rattle.std.specs.Prelude.{◌≡◌, ◌↔◌, ◌<◌, IfErr, IfOk, IsTrue};
 ghost use Rattle.series_id.specs.Order.{same_series};
 
-use crate::kept::Kept;
 use crate::series::SeriesId;
+use crate::shared_parts::SharedParts;
 use std::alloc::{AllocError, AllocFailed, Global};
 use std::marker::Model;
 use std::sync::Arc;
@@ -13,7 +13,7 @@ use std::sync::atomic::Ordering::Relaxed;
 
 /// An identity behind a count of its owners, one word wide. Contracts see it as an `Identity`.
 pub struct SharedId {
-    kept: Arc<Kept, Global>,
+    kept: Arc<SharedParts, Global>,
 }
 
 impl Model for SharedId {
@@ -39,7 +39,7 @@ impl SharedId {
         ensures back { IfErr result (λ refused. refused.value ≡ series) }
     {
         let place = AtomicUsize::new(0);
-        match Arc::new(alloc, Kept { series, place }) {
+        match Arc::new(alloc, SharedParts { series, place }) {
             Ok(kept) => Ok(SharedId { kept }),
             Err(refused) => Err(AllocFailed {
                 value: refused.value.series,

@@ -5,7 +5,7 @@ use std::sync::atomic::AtomicUsize;
 
 /// An identity, and the position at which it was last found in a list.
 #[derive(Drop)]
-pub(crate) struct Kept {
+pub(crate) struct SharedParts {
     pub(crate) series: SeriesId,
     pub(crate) place: AtomicUsize,
 }
