@@ -15,7 +15,7 @@ use Rattle.metric_events.specs.declared.place.Place.TheVariants.{Home, InFlight,
 use Rattle.metric_events.specs.declared.accepted.Accepted.{Accepted}
 use Rattle.metric_events.proofs.Lists.{filter_keeps}
 use Rattle.series_cell.specs.Cells.{CellView, Stands, AllOwn, greatest_end, is_landed, end_of}
-use Rattle.series_cell.specs.Reading.{Tells}
+use Rattle.series_cell.specs.Reading.{IsTotalOf}
 use Rattle.series_cell.specs.Spans.{span_of, hull_of}
 use Rattle.series_cell.proofs.Carrying.{spans_hull, hull_at_home}
 use Rattle.series_id.proofs.Order.{same_series-refl}
@@ -156,7 +156,7 @@ stored_is c qs h =
         cases false true a b = absurd (omega (arith, ltb-false k n a, ltb-true 0 m b, e))
 
 -- what a cell says of its points
-pub tells : (c : CellView) (qs : List Accepted) → Stands c qs → Tells c qs
+pub tells : (c : CellView) (qs : List Accepted) → Stands c qs → IsTotalOf c qs
 tells c qs h = record {
   accepted = h.accepted;
   acknowledged = h.acknowledged ∙ ap (row_sum (row_length c.id.kind)) (sym (acknowledged_points c qs h));

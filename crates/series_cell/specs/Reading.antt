@@ -9,7 +9,7 @@ use Rattle.metric_events.specs.declared.accepted.Accepted.{Accepted}
 use Rattle.series_cell.specs.Cells.{CellView, end_of, home_hull, flight_hull}
 
 -- the rows and covering spans are those of its points by state, and so is the frontier
-pub record Tells (c : CellView) (qs : List Accepted) : Type 0 where
+pub record IsTotalOf (c : CellView) (qs : List Accepted) : Type 0 where
   pub accepted : c.accepted ≡ row_sum (row_length c.id.kind) qs
   pub stored : c.stored ≡ row_sum (row_length c.id.kind) (filter (stands is_home) qs)
   pub in_flight : c.in_flight ≡ row_sum (row_length c.id.kind) (filter (stands is_flying) qs)

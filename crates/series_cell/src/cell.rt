@@ -12,7 +12,7 @@ ghost use Rattle.series_cell.specs.Cells.{Stands, IsCell, IsOfSame, HasHome, Han
 use crate::batch_span::{
     BatchSpan, drop_first, end_or, find_start, has_batch, hull, join_all, spans_from, spans_to,
 };
-use crate::kept::Kept;
+use crate::cell_parts::CellParts;
 use crate::rows::{keeps_words, zero_row};
 use bucket_lanes::{add_into, clear, move_into, sub_from};
 use metric_events::point::Point;
@@ -28,7 +28,7 @@ use std::marker::Model;
 /// word, which a list of cells moves cheaply.
 #[derive(Drop)]
 pub struct Cell {
-    kept: Box<Kept>,
+    kept: Box<CellParts>,
 }
 
 impl Model for Cell {
@@ -36,7 +36,7 @@ impl Model for Cell {
 
     ghost Value = { CellView };
 
-    ghost use Rattle.series_cell.specs.Kept.{view_of};
+    ghost use Rattle.series_cell.specs.CellParts.{view_of};
 
     ghost view = { λ c. view_of c.kept.value };
 
@@ -65,7 +65,7 @@ impl Cell {
         let in_flight = zero_row(alloc, n)?;
         let acknowledged = zero_row(alloc, n)?;
         let dropped = zero_row(alloc, n)?;
-        let kept = Kept {
+        let kept = CellParts {
             owner,
             id,
             accepted,

@@ -5,6 +5,6 @@
 
 pub mod batch_span;
 pub mod cell;
-mod kept;
+mod cell_parts;
 pub mod laws;
 mod rows;

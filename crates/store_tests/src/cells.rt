@@ -12,7 +12,7 @@ use metric_events::point::Point;
 use metric_events::sender_name::SenderName;
 use metric_events::span::Span;
 use series_cell::cell::Cell;
-use series_cell::laws::telling;
+use series_cell::laws::reading;
 use series_id::{AttrSet, Kind, SeriesId, Text};
 use std::alloc::Global;
 use std::process::Abort;
@@ -144,7 +144,7 @@ fn give_back_and_undo(rt: &impl Abort, cell: &mut Cell, first: &Point, second: &
 #[test]
 fn a_flush_comes_back_and_a_batch_is_undone(rt: HostRuntime) -> Result<(), Fail> {
     let alloc = rt.alloc();
-    telling();
+    reading();
     let first = sum_point(alloc, 10, 20, 5)?;
     let second = sum_point(alloc, 20, 30, 7)?;
     let mut cell = empty_cell(alloc, series(alloc, Kind::Sum { monotonic: false })?)?;

@@ -1,10 +1,10 @@
 -- The contents of a cell, as contracts see it.
 use Rattle.std.specs.Prelude.{◌-◌, vec_capacity, vec_len}
 use Rattle.series_cell.specs.Cells.{CellView}
-use Rattle.series_cell.specs.declared.kept.Kept.{Kept}
+use Rattle.series_cell.specs.declared.cell_parts.CellParts.{CellParts}
 
 -- rows and spans as lists; spare is the room that is left for spans
-abbrev pub view_of : Kept → CellView
+abbrev pub view_of : CellParts → CellView
 view_of k = record {
   owner = k.owner;
   id = k.id;

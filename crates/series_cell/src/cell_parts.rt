@@ -4,7 +4,7 @@ use series_id::SharedId;
 
 /// The contents of a cell.
 #[derive(Drop)]
-pub(crate) struct Kept {
+pub(crate) struct CellParts {
     pub(crate) owner: SenderName,
     pub(crate) id: SharedId,
     pub(crate) accepted: Vec<u64>,

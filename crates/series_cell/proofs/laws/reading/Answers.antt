@@ -1,5 +1,5 @@
 use Rattle.series_cell.proofs.Reading.{tells}
-use Rattle.series_cell.proofs.laws.telling.Goals as goal
+use Rattle.series_cell.proofs.laws.reading.Goals as goal
 
 pub returns : goal.returns
 returns c = tells
