@@ -7,7 +7,7 @@ ghost use Rattle.out_texts.specs.Rows.{labeled_row};
 
 use crate::series_name::{put_kind, put_series_name};
 use crate::wide_words::put_wide_row;
-use delta_book::past_totals::PastTotals;
+use delta_book::totals::PastTotals;
 use std::alloc::{AllocError, Global};
 
 /// Appends what identifies the line's series: its name and kind.

@@ -8,7 +8,7 @@ ghost use Rattle.out_texts.specs.Points as spec;
 
 use crate::histogram_points::histogram_point_value;
 use crate::sum_points::sum_point_value;
-use delta_book::flush_point::FlushPoint;
+use delta_book::flush::FlushPoint;
 use serde_json::Value;
 use series_id::Kind;
 use std::alloc::{AllocError, Global};

@@ -5,7 +5,7 @@ ghost use Rattle.out_texts.specs.Groups.{run};
 ghost use Rattle.out_texts.specs.Sharing.{same};
 
 use crate::level::Level;
-use delta_book::flush_point::FlushPoint;
+use delta_book::flush::FlushPoint;
 
 /// How many of the other points share the element of the first one, counted up to the first that
 /// does not.

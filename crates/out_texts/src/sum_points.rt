@@ -9,7 +9,7 @@ ghost use Rattle.out_texts.specs.Points as spec;
 
 use crate::attributes::attributes_value;
 use crate::objects::Object;
-use delta_book::flush_point::FlushPoint;
+use delta_book::flush::FlushPoint;
 use serde_json::Value;
 use std::alloc::{AllocError, Global};
 

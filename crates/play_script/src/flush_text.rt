@@ -3,8 +3,7 @@
 ghost use Rattle.std.specs.Prelude.{◌≡◌, ◌++◌, OnOk};
 ghost use Rattle.play_script.specs.Replies as spec;
 
-use delta_book::flush::Flush;
-use delta_book::flush_point::FlushPoint;
+use delta_book::flush::{Flush, FlushPoint};
 use metric_events::span::Span;
 use out_texts::{put_number, put_row, put_series_name};
 use std::alloc::AllocError;

@@ -8,8 +8,7 @@ ghost use Rattle.play_script.specs.Replies.{said, batch_and_foreign, wired_text,
 use crate::flush_text::put_flush;
 use crate::refusal::{Refusal, put_refusal};
 use delta_book::flush::Flush;
-use delta_book::past_totals::PastTotals;
-use delta_book::totals::SeriesTotals;
+use delta_book::totals::{PastTotals, SeriesTotals};
 use out_texts::{put_number, put_past, put_report};
 use std::alloc::AllocError;
 

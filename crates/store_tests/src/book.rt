@@ -15,10 +15,8 @@ use delta_book::book::Book;
 use delta_book::faults::{
     AdmitFault, NotLive, NotOpen, NotQuarantined, QuarantineFault, RoundFault, TakeFault, UndoFault,
 };
-use delta_book::flush::Flush;
-use delta_book::flush_point::FlushPoint;
-use delta_book::past_totals::PastTotals;
-use delta_book::totals::SeriesTotals;
+use delta_book::flush::{Flush, FlushPoint};
+use delta_book::totals::{PastTotals, SeriesTotals};
 use metric_events::batch::Batch;
 use metric_events::limits::{MAX_ENTRIES, MAX_HELD, MAX_LIVE, MAX_OPEN, MAX_SERIES, MAX_TAKEN};
 use metric_events::row::Row;

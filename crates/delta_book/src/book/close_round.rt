@@ -10,7 +10,7 @@ ghost use Rattle.delta_book.specs.Rounds.{round_refusal, closed};
 use crate::book::Book;
 use crate::faults::RoundFault;
 use crate::opening::{LAST_ROUND, carry_all, next_opening};
-use crate::past_totals::PastTotals;
+use crate::totals::PastTotals;
 use metric_events::opened_series::OpenedSeries;
 use std::alloc::{AllocError, Global};
 
