@@ -6,8 +6,9 @@ use Rattle.metric_events.specs.History.{History, ◌▸◌}
 use Rattle.metric_events.specs.Choice.{pick, flush_points}
 use Rattle.metric_events.specs.declared.event.Event.{Event}
 use Rattle.metric_events.specs.declared.event.Event.TheVariants.{Take, GiveBack}
-use Rattle.delta_book.specs.Journal.{Journal, history, takes}
+use Rattle.delta_book.specs.Journal.{Journal, Appends, history, takes}
 use Rattle.delta_book.specs.Flushes.{IsTaken, take_refusal}
+use Rattle.delta_book.proofs.Journaled.{grows}
 use Rattle.delta_book.specs.declared.flush.Flush.{Flush}
 use Rattle.delta_book.specs.declared.faults.TakeFault.{TakeFault}
 use Rattle.metric_events.specs.declared.point.PointFault.{PointFault}
@@ -37,14 +38,14 @@ use Rattle.play_script.specs.declared.refusal.Refusal.{Refusal}
 use Rattle.play_script.specs.declared.refusal.Refusal.TheVariants.{NotJson, WrongShape, NoMemory}
 
 -- the event happened
-pub happened : (asked : Asked) (old new : Journal) (event : Event) (text : List ℕ) → history new ≡ history old ▸ event
+pub happened : (asked : Asked) (old new : Journal) (seat : ℕ) (event : Event) (text : List ℕ) → Appends old new seat event
     → answer (history old) asked ≡ happens (history old) event text → IsReply (history old) asked text (history new)
-happened asked old new event text h is = (
+happened asked old new seat event text h is = (
   Found,
   record {
     allowed = refl;
     text_is = ap (λ a. a.text) (sym is);
-    after_is = h ∙ ap (λ a. a.after) (sym is);
+    after_is = grows old new seat event h ∙ ap (λ a. a.after) (sym is);
   },
 )
 
@@ -139,12 +140,12 @@ batch_refused sender points old new fault made h is =
     (λ f e. rw (made, e) refl)
 
 -- the book admitted the batch
-pub batch_admitted : (sender : List ℕ) (points : List PointWords) (old new : Journal) (batch : ℕ) → first_fault points ≡ None
-    → batch ≡ admits (history old) + 1 → history new ≡ history old ▸ Admit batch (body_of sender points)
+pub batch_admitted : (sender : List ℕ) (points : List PointWords) (old new : Journal) (seat batch : ℕ) → first_fault points ≡ None
+    → batch ≡ admits (history old) + 1 → Appends old new seat (Admit batch (body_of sender points))
     → admit_refusal (history old) (body_of sender points) ≡ None
     → IsReply (history old) (AdmitLine sender points) (said (codes "batch ") (decimal batch)) (history new)
-batch_admitted sender points old new batch made number entry none =
-    happened (AdmitLine sender points) old new (Admit batch (body_of sender points)) (said (codes "batch ") (decimal batch)) entry (rw (made, none, number) refl)
+batch_admitted sender points old new seat batch made number entry none =
+    happened (AdmitLine sender points) old new seat (Admit batch (body_of sender points)) (said (codes "batch ") (decimal batch)) entry (rw (made, none, number) refl)
 
 -- a body could not be read
 pub body_refused : (sender body : List ℕ) (old : Journal) (fault : ReadFault) → Reads body (Err fault)
@@ -180,12 +181,12 @@ post_refused sender body old new t fault h some same is =
     (λ f e. answer_posted (history old) sender body t h some ∙ rw e refl)
 
 -- the book admitted them
-pub post_admitted : (sender body : List ℕ) (old new : Journal) (t : Tally) (batch : ℕ) → text_reading body ≡ Some (Ok t) → t.points ≢ []
-    → batch ≡ admits (history old) + 1 → history new ≡ history old ▸ Admit batch (posted_batch sender t.points)
+pub post_admitted : (sender body : List ℕ) (old new : Journal) (t : Tally) (seat batch : ℕ) → text_reading body ≡ Some (Ok t) → t.points ≢ []
+    → batch ≡ admits (history old) + 1 → Appends old new seat (Admit batch (posted_batch sender t.points))
     → admit_refusal (history old) (posted_batch sender t.points) ≡ None
     → IsReply (history old) (PostLine sender body) (said (codes "batch ") (batch_and_foreign batch t.foreign)) (history new)
-post_admitted sender body old new t batch h some number entry none =
-    happened (PostLine sender body) old new (Admit batch (posted_batch sender t.points)) (said (codes "batch ") (batch_and_foreign batch t.foreign)) entry
+post_admitted sender body old new t seat batch h some number entry none =
+    happened (PostLine sender body) old new seat (Admit batch (posted_batch sender t.points)) (said (codes "batch ") (batch_and_foreign batch t.foreign)) entry
     (answer_posted (history old) sender body t h some ∙ rw (none, number) refl)
 
 returned_some : (E : History) (max : ℕ) → pick E max ≢ [] → take_refusal E ≡ None
@@ -223,5 +224,12 @@ flush_wired old new seat max flush F text h (inr (said_is, home)) =
 -- the flush ended as the back end's answer says
 pub flush_answered : (old new : Journal) (f : ℕ) (back : BackAnswer) → flush_refusal (history old) f ≡ None → history new ≡ history old ▸ book.event_of (act_of back) f
     → IsReply (history old) (AnswerLine f back) (act_text (act_of back) (asked_wait back) f) (history new)
-flush_answered old new f back none grows =
-    happened (AnswerLine f back) old new (book.event_of (act_of back) f) (act_text (act_of back) (asked_wait back) f) grows (rw none refl)
+flush_answered old new f back none after =
+    let is : answer (history old) (AnswerLine f back) ≡ happens (history old) (book.event_of (act_of back) f) (act_text (act_of back) (asked_wait back) f) = rw none refl in (
+      Found,
+      record {
+        allowed = refl;
+        text_is = ap (λ a. a.text) (sym is);
+        after_is = after ∙ ap (λ a. a.after) (sym is);
+      },
+    )

@@ -1,6 +1,5 @@
 //! A batch comes in.
 ghost use Rattle.std.specs.Prelude.{◌≡◌, ◌+◌, ◌<◌, length, IfOk, IfErr, OnOk, OnErr, unwrap_or};
-ghost use Rattle.metric_events.specs.History.{◌▸◌};
 
 use crate::book::Book;
 use crate::cells::share_known;
@@ -39,7 +38,6 @@ impl Book {
         requires { 0 < length body.points }
         ensures number { IfOk result (λ n. n ≡ admits (history self.old) + 1) }
         ensures ok { IfOk result (λ n. Appends self.old self.new seat (Event.Admit n body)) }
-        ensures grows { IfOk result (λ n. history self.new ≡ history self.old ▸ Event.Admit n body) }
         ensures none { OnOk result (admit_refusal (history self.old) body ≡ None) }
         ensures fault { IfErr result (λ e. e.0 ≡ unwrap_or (admit_refusal (history self.old) body) AdmitFault.NoMemory) }
         ensures returned { IfErr result (λ e. e.1 ≡ body) }

@@ -2,7 +2,6 @@
 //! their entries is there since the book was made.
 ghost use Rattle.std.specs.Prelude.{◌≡◌, ◌<◌, ℕ, true, IfErr, OnOk, OnErr, None, Some};
 ghost use Rattle.series_id.specs.Identity.{Identity};
-ghost use Rattle.metric_events.specs.History.{◌▸◌};
 ghost use Rattle.metric_events.specs.Settled.{SendsBefore, is_settled_in, is_taken_before};
 ghost use Rattle.metric_events.specs.Strike.{CanBeStruck, is_reversal};
 ghost use Rattle.delta_book.specs.Flushes.{EndsFlush};
@@ -28,7 +27,6 @@ impl Book {
     ) -> Result<(), NotLive>
         requires { EndsFlush flush place event }
         ensures ok { OnOk result (Appends self.old self.new seat event) }
-        ensures grows { OnOk result (history self.new ≡ history self.old ▸ event) }
         ensures none { OnOk result (flush_refusal (history self.old) flush ≡ None) }
         ensures fault { IfErr result (λ e. flush_refusal (history self.old) flush ≡ Some e) }
         ensures err { OnErr result (self.new ≡ self.old) }
@@ -48,7 +46,6 @@ impl Book {
     /// memory.
     pub fn settle(&mut self, seat: u16, flush: u64) -> Result<(), NotLive>
         ensures ok { OnOk result (Appends self.old self.new seat (Event.Settle flush)) }
-        ensures grows { OnOk result (history self.new ≡ history self.old ▸ Event.Settle flush) }
         ensures none { OnOk result (flush_refusal (history self.old) flush ≡ None) }
         ensures fault { IfErr result (λ e. flush_refusal (history self.old) flush ≡ Some e) }
         ensures err { OnErr result (self.new ≡ self.old) }
@@ -62,7 +59,6 @@ impl Book {
     /// such. Takes no memory.
     pub fn drop_flush(&mut self, seat: u16, flush: u64) -> Result<(), NotLive>
         ensures ok { OnOk result (Appends self.old self.new seat (Event.Drop flush)) }
-        ensures grows { OnOk result (history self.new ≡ history self.old ▸ Event.Drop flush) }
         ensures none { OnOk result (flush_refusal (history self.old) flush ≡ None) }
         ensures fault { IfErr result (λ e. flush_refusal (history self.old) flush ≡ Some e) }
         ensures err { OnErr result (self.new ≡ self.old) }
@@ -74,7 +70,6 @@ impl Book {
     /// flush had never been taken. Takes no memory.
     pub fn give_back(&mut self, seat: u16, flush: u64) -> Result<(), NotLive>
         ensures ok { OnOk result (Appends self.old self.new seat (Event.GiveBack flush)) }
-        ensures grows { OnOk result (history self.new ≡ history self.old ▸ Event.GiveBack flush) }
         ensures none { OnOk result (flush_refusal (history self.old) flush ≡ None) }
         ensures fault { IfErr result (λ e. flush_refusal (history self.old) flush ≡ Some e) }
         ensures err { OnErr result (self.new ≡ self.old) }
@@ -87,7 +82,6 @@ impl Book {
     /// `NotOpen`, `Taken`. Takes no memory.
     pub fn undo(&mut self, seat: u16, batch: u64) -> Result<(), UndoFault>
         ensures ok { OnOk result (Appends self.old self.new seat (Event.Undo batch)) }
-        ensures grows { OnOk result (history self.new ≡ history self.old ▸ Event.Undo batch) }
         ensures none { OnOk result (undo_refusal (history self.old) batch ≡ None) }
         ensures fault { IfErr result (λ e. undo_refusal (history self.old) batch ≡ Some e) }
         ensures err { OnErr result (self.new ≡ self.old) }
@@ -111,7 +105,6 @@ impl Book {
     /// Keeps an open batch for good. Takes no memory.
     pub fn confirm(&mut self, seat: u16, batch: u64) -> Result<(), NotOpen>
         ensures ok { OnOk result (Appends self.old self.new seat (Event.Confirm batch)) }
-        ensures grows { OnOk result (history self.new ≡ history self.old ▸ Event.Confirm batch) }
         ensures none { OnOk result (confirm_refusal (history self.old) batch ≡ None) }
         ensures fault { IfErr result (λ e. confirm_refusal (history self.old) batch ≡ Some e) }
         ensures err { OnErr result (self.new ≡ self.old) }

@@ -1,7 +1,6 @@
 //! A sender is held, or let go. Letting go takes no memory: the room for its entry is there since
 //! the book was made.
 ghost use Rattle.std.specs.Prelude.{◌≡◌, ◌↔◌, ◌<◌, true, [], length, get_or, IfSome, IfErr, OnOk, OnErr, IsSome, IsTrue, unwrap_or, None, Some};
-ghost use Rattle.metric_events.specs.History.{◌▸◌};
 ghost use Rattle.metric_events.specs.Legal.{is_held};
 ghost use Rattle.metric_events.specs.Senders.{same_sender};
 ghost use Rattle.metric_events.specs.Strike.{CanBeStruck};
@@ -34,7 +33,6 @@ impl Book {
     /// this order: `Already`, `Full`, `NoMemory`.
     pub fn quarantine(&mut self, seat: u16, sender: SenderName) -> Result<(), QuarantineFault>
         ensures ok { OnOk result (Appends self.old self.new seat (Event.Quarantine sender)) }
-        ensures grows { OnOk result (history self.new ≡ history self.old ▸ Event.Quarantine sender) }
         ensures none { OnOk result (quarantine_refusal (history self.old) sender ≡ None) }
         ensures fault { IfErr result (λ e. e ≡ unwrap_or (quarantine_refusal (history self.old) sender) QuarantineFault.NoMemory) }
         ensures err { OnErr result (self.new ≡ self.old) }
@@ -59,7 +57,6 @@ impl Book {
     /// Lets a held sender go on, as if it had never been held. Takes no memory.
     pub fn lift(&mut self, seat: u16, sender: &SenderName) -> Result<(), NotQuarantined>
         ensures ok { OnOk result (Appends self.old self.new seat (Event.Lift sender.now)) }
-        ensures grows { OnOk result (history self.new ≡ history self.old ▸ Event.Lift sender.now) }
         ensures none { OnOk result (lift_refusal (history self.old) sender.now ≡ None) }
         ensures fault { IfErr result (λ e. lift_refusal (history self.old) sender.now ≡ Some e) }
         ensures err { OnErr result (self.new ≡ self.old) }
