@@ -12,6 +12,7 @@ use Rattle.back_answers.specs.declared.answer.Answer.TheVariants.{Unknown}
 use Rattle.back_answers.specs.declared.answer.Act.{Act}
 use Rattle.back_answers.specs.declared.answer.Act.TheVariants.{Settle, GiveBack, DropFlush}
 use Rattle.delta_book.specs.Journal.{Journal, journal_of, history, takes, Appends}
+use Rattle.delta_book.proofs.Journaled.{grows}
 use Rattle.delta_book.specs.Flushes.{is_full, take_refusal, IsTaken}
 use Rattle.delta_book.specs.declared.flush.Flush.{Flush}
 use Rattle.delta_book.specs.declared.faults.NotLive.{NotLive}
@@ -106,7 +107,7 @@ returned_turn sends seat max J M J' u u' flush r h e same_uplink =
 sent_points : (seat max : ℕ) (J M : Journal) (flush : Flush) → IsTaken J M seat max flush
     → flush.points.items ≡ flush_points (history J ▸ Take (takes (history J) + 1) (pick (history J) max)) (takes (history J) + 1)
 sent_points seat max J M flush h =
-    h.points ∙ ap (λ E. flush_points E flush.number) h.grows ∙ ap (λ n. flush_points (history J ▸ Take n (pick (history J) max)) n) h.number
+    h.points ∙ ap (λ E. flush_points E flush.number) (grows J M seat _ h.entry) ∙ ap (λ n. flush_points (history J ▸ Take n (pick (history J) max)) n) h.number
 
 -- a flush was sent and ended
 sent_turn : {U : Type 0} (sends : U → List ℕ → Answer → U → Type 0) (seat max : ℕ) (J M J' : Journal) (u u' : U) (flush : Flush) (answer : Answer) (r : Result (Unit {0}) NotLive)

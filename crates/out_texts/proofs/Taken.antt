@@ -16,6 +16,7 @@ use Rattle.metric_events.specs.declared.event.Event.TheVariants.{Take}
 use Rattle.metric_events.proofs.InOrder.{series_ascend, ascending_take}
 use Rattle.delta_book.specs.declared.flush.Flush.{Flush}
 use Rattle.delta_book.specs.Journal.{Journal, history}
+use Rattle.delta_book.proofs.Journaled.{grows}
 use Rattle.delta_book.specs.Flushes.{IsTaken}
 use Rattle.out_texts.specs.Once.{HasEachOnce}
 use Rattle.out_texts.proofs.EachOnce.{each_once}
@@ -68,4 +69,4 @@ picked_in_order E f max =
 pub taken_once : (old new : Journal) (seat max : ℕ) (flush : Flush) → IsTaken old new seat max flush → HasEachOnce flush.points.items
 taken_once old new seat max flush h =
     each_once flush.points.items
-    (ap (λ (ps : List DataPoint). is_ascending (series_of ps)) (h.points ∙ ap (λ (E : History). flush_points E flush.number) h.grows) ∙ picked_in_order (history old) flush.number max)
+    (ap (λ (ps : List DataPoint). is_ascending (series_of ps)) (h.points ∙ ap (λ (E : History). flush_points E flush.number) (grows old new seat _ h.entry)) ∙ picked_in_order (history old) flush.number max)

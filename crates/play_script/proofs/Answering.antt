@@ -115,7 +115,7 @@ pub flush_taken : (old new : Journal) (seat max : ℕ) (flush : Flush) → IsTak
 flush_taken old new seat max flush h =
     let E = history old in
     let is = take_answer E max (event_text E) h.some h.refused in
-    let grown : history new ≡ E ▸ Take flush.number (pick E max) = h.grows in
+    let grown : history new ≡ E ▸ Take flush.number (pick E max) = grows old new seat _ h.entry in
     let after : history new ≡ E ▸ Take (takes E + 1) (pick E max) = grown ∙ ap (λ n. E ▸ Take n (pick E max)) h.number in (
       Found,
       record {
@@ -199,7 +199,7 @@ pub flush_wired : (old new : Journal) (seat max : ℕ) (flush : Flush) (F : Hist
 flush_wired old new seat max flush F text h (inl (said_is, same)) =
     let E = history old in
     let is = take_answer E max (request_after E (takes E + 1)) h.some h.refused in
-    let grown : history new ≡ E ▸ Take flush.number (pick E max) = h.grows in
+    let grown : history new ≡ E ▸ Take flush.number (pick E max) = grows old new seat _ h.entry in
     let after : history new ≡ E ▸ Take (takes E + 1) (pick E max) = grown ∙ ap (λ n. E ▸ Take n (pick E max)) h.number in (
       Found,
       record {
@@ -211,7 +211,7 @@ flush_wired old new seat max flush F text h (inl (said_is, same)) =
 flush_wired old new seat max flush F text h (inr (said_is, home)) =
     let E = history old in
     let is = returned_some E max h.some h.refused in
-    let grown : history new ≡ E ▸ Take flush.number (pick E max) = h.grows in
+    let grown : history new ≡ E ▸ Take flush.number (pick E max) = grows old new seat _ h.entry in
     let after : history new ≡ E ▸ Take (takes E + 1) (pick E max) = grown ∙ ap (λ n. E ▸ Take n (pick E max)) h.number in (
       MissedText,
       record {
