@@ -15,7 +15,7 @@ use Rattle.delta_book.specs.Tables.{AreCells, IdAt, id_of}
 use Rattle.delta_book.specs.Refusals.{has_other_writer}
 use Rattle.delta_book.specs.Batches.{word_of}
 use Rattle.delta_book.proofs.Tables.{stands_at, at_id}
-use Rattle.delta_book.proofs.ToldCells.{point_at, frontier_of}
+use Rattle.delta_book.proofs.CellTotals.{point_at, frontier_of}
 use Rattle.delta_book.proofs.Words.{word-sum}
 
 -- no cell is of the series

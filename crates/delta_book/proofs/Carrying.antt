@@ -40,7 +40,7 @@ use Rattle.delta_book.proofs.Adding.{written_back}
 use Rattle.delta_book.proofs.Choosing.{AreTied}
 use Rattle.delta_book.proofs.Closes.{may_close, next_opened}
 use Rattle.delta_book.proofs.Sweeping.{is_some_cell, empty_cell, none_of_empty}
-use Rattle.delta_book.proofs.ToldCells.{owner_is, frontier_of, has_points}
+use Rattle.delta_book.proofs.CellTotals.{owner_is, frontier_of, has_points}
 
 -- cell by cell
 

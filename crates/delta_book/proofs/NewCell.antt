@@ -22,7 +22,7 @@ use Rattle.delta_book.proofs.Asked.{none_of, writer_none, end_none, word_none}
 use Rattle.delta_book.proofs.PutIn.{cells_of_table, of_more, of_own}
 use Rattle.delta_book.proofs.Removing.{table_of}
 use Rattle.delta_book.proofs.Tables.{others_stand}
-use Rattle.delta_book.proofs.ToldCells.{has_points}
+use Rattle.delta_book.proofs.CellTotals.{has_points}
 
 -- a series that goes there is not among them
 

@@ -36,7 +36,7 @@ use Rattle.delta_book.proofs.Refused.{none_then}
 use Rattle.delta_book.proofs.Removing.{table_of}
 use Rattle.delta_book.proofs.Sweeping.{covered_by}
 use Rattle.delta_book.proofs.Tables.{stands_at, at_id, among_at, ids_distinct, set_ids, set_stand}
-use Rattle.delta_book.proofs.ToldCells.{has_points}
+use Rattle.delta_book.proofs.CellTotals.{has_points}
 
 -- a table whose series all have a point
 pub cells_of_table : (cs : List CellView) (qs : List Accepted) → IsTable cs qs → ((x : Identity) → is_among x (map id_of cs) ≡ true → list_any (is_of x) qs ≡ true) → AreCells cs qs

@@ -1,7 +1,7 @@
 //! Writes the totals of earlier rounds: a line for each series.
 
 ghost use Rattle.std.specs.Prelude.{◌≡◌, ◌++◌, map, IfOk, OnOk};
-ghost use Rattle.delta_book.specs.PastRows.{told};
+ghost use Rattle.delta_book.specs.PastRows.{past_row};
 ghost use Rattle.out_texts.specs.Past as spec;
 ghost use Rattle.out_texts.specs.Rows.{labeled_row};
 
@@ -13,7 +13,7 @@ use std::alloc::{AllocError, Global};
 /// Appends what identifies the line's series: its name and kind.
 #[tactic(auto, unfolding(crate::specs::Past::past_head))]
 fn put_head(out: &mut Vec<u8>, past: &PastTotals) -> Result<(), AllocError>
-    ensures { OnOk result (out.new.items ≡ out.old.items ++ spec.past_head (told past.now)) }
+    ensures { OnOk result (out.new.items ≡ out.old.items ++ spec.past_head (past_row past.now)) }
 {
     out.extend_from_slice(b"past ")?;
     put_series_name(out, past.series.as_series())?;
@@ -33,7 +33,7 @@ fn put_labeled_row(out: &mut Vec<u8>, label: &[u8], row: &[u128]) -> Result<(), 
 /// Appends what was acknowledged and what was dropped.
 #[tactic(auto, unfolding(crate::specs::Past::past_rows))]
 fn put_ended_rows(out: &mut Vec<u8>, past: &PastTotals) -> Result<(), AllocError>
-    ensures { OnOk result (out.new.items ≡ out.old.items ++ spec.past_rows (told past.now)) }
+    ensures { OnOk result (out.new.items ≡ out.old.items ++ spec.past_rows (past_row past.now)) }
 {
     put_labeled_row(out, b" acknowledged ", past.acknowledged.as_slice())?;
     put_labeled_row(out, b" dropped ", past.dropped.as_slice())
@@ -42,7 +42,7 @@ fn put_ended_rows(out: &mut Vec<u8>, past: &PastTotals) -> Result<(), AllocError
 /// Appends the line of a series.
 #[tactic(auto, unfolding(crate::specs::Past::past_line))]
 fn put_line(out: &mut Vec<u8>, past: &PastTotals) -> Result<(), AllocError>
-    ensures { OnOk result (out.new.items ≡ out.old.items ++ spec.past_line (told past.now)) }
+    ensures { OnOk result (out.new.items ≡ out.old.items ++ spec.past_line (past_row past.now)) }
 {
     put_head(out, past)?;
     put_ended_rows(out, past)?;
@@ -52,7 +52,7 @@ fn put_line(out: &mut Vec<u8>, past: &PastTotals) -> Result<(), AllocError>
 /// Appends a line for each series, in the order of the rows, and a line `end`.
 #[tactic(auto, unfolding(crate::specs::Past::past_text))]
 pub fn put_past(out: &mut Vec<u8>, rows: &[PastTotals]) -> Result<(), AllocError>
-    ensures { OnOk result (out.new.items ≡ out.old.items ++ spec.past_text (map told rows.now)) }
+    ensures { OnOk result (out.new.items ≡ out.old.items ++ spec.past_text (map past_row rows.now)) }
 {
     for past in rows {
         put_line(out, past)?;
@@ -63,7 +63,7 @@ pub fn put_past(out: &mut Vec<u8>, rows: &[PastTotals]) -> Result<(), AllocError
 /// The totals of earlier rounds: a line for each series, in the order of the rows, and a line
 /// `end`. Each line ends with a line feed. Words have 128 bits here.
 pub fn past_text(alloc: Global, rows: &[PastTotals]) -> Result<Vec<u8>, AllocError>
-    ensures { IfOk result (λ text. text.items ≡ spec.past_text (map told rows.now)) }
+    ensures { IfOk result (λ text. text.items ≡ spec.past_text (map past_row rows.now)) }
 {
     let mut out = Vec::new(alloc);
     put_past(&mut out, rows)?;

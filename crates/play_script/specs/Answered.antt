@@ -1,7 +1,7 @@
 -- The texts of the program's replies, and which reply a line may get.
 use Rattle.std.specs.Prelude.{◌≡◌, ℕ, true, List, map, codes, decimal}
 use Rattle.metric_events.specs.History.{History}
-use Rattle.delta_book.specs.PastRows.{told as past_told}
+use Rattle.delta_book.specs.PastRows.{past_row}
 use Rattle.play_script.specs.Commands.{Asked}
 use Rattle.play_script.specs.Refused.{refusal_text}
 use Rattle.play_script.specs.Replies.{said, batch_and_foreign, flush_text, wired_text, flush_and_wait}
@@ -29,7 +29,7 @@ reply_text (Quarantined s) = said (codes "held ") s.now
 reply_text (Lifted s) = said (codes "lifted ") s.now
 reply_text (Report rows) = report_text rows.items
 reply_text (Round n) = said (codes "round ") (decimal n)
-reply_text (Past rows) = past_text (map past_told rows.items)
+reply_text (Past rows) = past_text (map past_row rows.items)
 reply_text (Wired f request) = wired_text f request.items
 reply_text (Waits f seconds) = said (codes "returned ") (flush_and_wait f seconds)
 

@@ -4,7 +4,7 @@ ghost use Rattle.metric_events.specs.Standing.{standing};
 ghost use Rattle.metric_events.specs.Close.{close, renewed_standing};
 ghost use Rattle.delta_book.specs.Journal.{history};
 ghost use Rattle.metric_events.specs.History.{opening};
-ghost use Rattle.delta_book.specs.PastRows.{told, past_of, past_rows};
+ghost use Rattle.delta_book.specs.PastRows.{past_row, past_of, past_rows};
 ghost use Rattle.delta_book.specs.Rounds.{round_refusal, closed};
 
 use crate::book::Book;
@@ -15,7 +15,7 @@ use metric_events::opened_series::OpenedSeries;
 use std::alloc::{AllocError, Global};
 
 fn past_totals(alloc: Global, s: &OpenedSeries) -> Result<PastTotals, AllocError>
-    ensures { IfOk result (λ p. told p ≡ past_of s.now) }
+    ensures { IfOk result (λ p. past_row p ≡ past_of s.now) }
 {
     let acknowledged = s.acknowledged.as_slice().to_vec(alloc)?;
     let dropped = s.dropped.as_slice().to_vec(alloc)?;
@@ -27,7 +27,7 @@ fn past_totals(alloc: Global, s: &OpenedSeries) -> Result<PastTotals, AllocError
 }
 
 fn all_past(alloc: Global, series: &[OpenedSeries]) -> Result<Vec<PastTotals>, AllocError>
-    ensures { IfOk result (λ v. map told v.items ≡ map past_of series.now) }
+    ensures { IfOk result (λ v. map past_row v.items ≡ map past_of series.now) }
 {
     let mut all = Vec::new(alloc);
     for s in series {
@@ -46,7 +46,7 @@ impl Book {
 
     /// What earlier rounds brought, in series order, of each series of the opening.
     pub fn past(&self) -> Result<Vec<PastTotals>, AllocError>
-        ensures { IfOk result (λ v. map told v.items ≡ past_rows (history self.now)) }
+        ensures { IfOk result (λ v. map past_row v.items ≡ past_rows (history self.now)) }
     {
         all_past(self.alloc, self.opening.series.as_slice())
     }

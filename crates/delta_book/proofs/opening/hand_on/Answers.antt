@@ -8,7 +8,7 @@ use Rattle.metric_events.proofs.Closing.{home_row}
 use Rattle.series_cell.proofs.Reading.{tells}
 use Rattle.series_cell.proofs.Sizes.{sized}
 use Rattle.delta_book.proofs.Handing.{same_entry}
-use Rattle.delta_book.proofs.ToldCells.{owner_is, frontier_of}
+use Rattle.delta_book.proofs.CellTotals.{owner_is, frontier_of}
 use Rattle.delta_book.proofs.opening.hand_on.Goals as goal
 
 pub with_past-requires-clause-acknowledged : goal.with_past-requires-clause-acknowledged

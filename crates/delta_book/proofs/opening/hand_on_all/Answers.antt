@@ -8,7 +8,7 @@ use Rattle.metric_events.specs.Close.{handed_on}
 use Rattle.series_cell.specs.Cells.{CellView}
 use Rattle.delta_book.specs.Tables.{id_of}
 use Rattle.delta_book.proofs.Tables.{stands_at}
-use Rattle.delta_book.proofs.ToldCells.{point_at}
+use Rattle.delta_book.proofs.CellTotals.{point_at}
 use Rattle.delta_book.proofs.Handing.{map-each}
 use Rattle.delta_book.proofs.opening.hand_on_all.Goals as goal
 

@@ -23,7 +23,7 @@ use Rattle.std.proofs.lemmas.List.{map_more}
 use Rattle.delta_book.specs.Totals.{totals_of}
 use Rattle.delta_book.specs.declared.totals.SeriesTotals.{SeriesTotals}
 use Rattle.delta_book.proofs.Totalling.{rows_are}
-use Rattle.delta_book.specs.Told.{CellTotals, told_cell, told_standing}
+use Rattle.delta_book.specs.CellTotals.{CellTotals, cell_totals, standing_totals}
 
 pub owner_is : (s : List ℕ) (x : Identity) (qs : List Accepted) → AllOwn s x (of_series x qs) → list_any (is_of x) qs ≡ true → owner x qs ≡ s
 owner_is s x [] h m = absurd (let q : false ≡ true = m in cc)
@@ -42,17 +42,17 @@ frontier_of x (a ∷ qs) = both (is_of x a) refl (frontier_of x qs)
     both true e r = rw (e, e) (ap (λ n. max a.point.span.end n) r)
     both false e r = rw e r
 
-same_told : (x x' : Identity) (o o' : List ℕ) (f f' : ℕ) (a a' k k' d d' i i' s s' : List ℕ) (h h' g g' : Option Interval) → x ≡ x' → o ≡ o' → f ≡ f' → a ≡ a' → k ≡ k' → d ≡ d' → i ≡ i' → s ≡ s' → h ≡ h' → g ≡ g' → (let t : CellTotals = record { id = x; owner = o; frontier = f; accepted = a; acknowledged = k; dropped = d; in_flight = i; stored = s; stored_span = h; flight_span = g } in let u : CellTotals = record { id = x'; owner = o'; frontier = f'; accepted = a'; acknowledged = k'; dropped = d'; in_flight = i'; stored = s'; stored_span = h'; flight_span = g' } in t ≡ u)
-same_told x x' o o' f f' a a' k k' d d' i i' s s' h h' g g' ex eo ef ea ek ed ei es eh eg = rw (ex, eo, ef, ea, ek, ed, ei, es, eh, eg) refl
+same_totals : (x x' : Identity) (o o' : List ℕ) (f f' : ℕ) (a a' k k' d d' i i' s s' : List ℕ) (h h' g g' : Option Interval) → x ≡ x' → o ≡ o' → f ≡ f' → a ≡ a' → k ≡ k' → d ≡ d' → i ≡ i' → s ≡ s' → h ≡ h' → g ≡ g' → (let t : CellTotals = record { id = x; owner = o; frontier = f; accepted = a; acknowledged = k; dropped = d; in_flight = i; stored = s; stored_span = h; flight_span = g } in let u : CellTotals = record { id = x'; owner = o'; frontier = f'; accepted = a'; acknowledged = k'; dropped = d'; in_flight = i'; stored = s'; stored_span = h'; flight_span = g' } in t ≡ u)
+same_totals x x' o o' f f' a a' k k' d d' i i' s s' h h' g g' ex eo ef ea ek ed ei es eh eg = rw (ex, eo, ef, ea, ek, ed, ei, es, eh, eg) refl
 
 home_both : (x : Identity) (v : Bool) (rs : List Accepted) → row_sum (row_length x.kind) rs ≡ add_rows (if v then nothing_of x else row_sum (row_length x.kind) rs) (if v then row_sum (row_length x.kind) rs else nothing_of x)
 home_both x true rs = sym (add_rows-zeros (row_length x.kind) (row_sum (row_length x.kind) rs) (row_sum_long (row_length x.kind) rs))
 home_both x false rs = sym (add_rows-comm (row_sum (row_length x.kind) rs) (nothing_of x) ∙ add_rows-zeros (row_length x.kind) (row_sum (row_length x.kind) rs) (row_sum_long (row_length x.kind) rs))
 
-pub told_is : (c : CellView) (qs : List Accepted) (held : List (List ℕ)) → Stands c (of_series c.id qs) → HasPoint c.id qs → told_cell c ≡ told_standing (series_standing qs held c.id)
-told_is c qs held h m =
+pub totals_are : (c : CellView) (qs : List Accepted) (held : List (List ℕ)) → Stands c (of_series c.id qs) → HasPoint c.id qs → cell_totals c ≡ standing_totals (series_standing qs held c.id)
+totals_are c qs held h m =
     let r = tells c (of_series c.id qs) h in
-    same_told c.id c.id c.owner (owner c.id qs) (end_of c) (frontier c.id qs) c.accepted (sum_of c.id qs) c.acknowledged (sum_where is_acknowledged c.id qs) c.dropped (sum_where is_dropped c.id qs) c.in_flight (sum_where is_flying c.id qs) c.stored _ (home_hull c) (hull (filter (stands is_home) (of_series c.id qs))) (flight_hull c) (hull (filter (stands is_flying) (of_series c.id qs)))
+    same_totals c.id c.id c.owner (owner c.id qs) (end_of c) (frontier c.id qs) c.accepted (sum_of c.id qs) c.acknowledged (sum_where is_acknowledged c.id qs) c.dropped (sum_where is_dropped c.id qs) c.in_flight (sum_where is_flying c.id qs) c.stored _ (home_hull c) (hull (filter (stands is_home) (of_series c.id qs))) (flight_hull c) (hull (filter (stands is_flying) (of_series c.id qs)))
     refl (sym (owner_is c.owner c.id qs h.own m)) (r.frontier ∙ frontier_of c.id qs) r.accepted r.acknowledged r.dropped r.in_flight
     (r.stored ∙ home_both c.id (is_held (owner c.id qs) held) (filter (stands is_home) (of_series c.id qs)))
     r.home_span r.flight_span
@@ -62,14 +62,14 @@ told_is c qs held h m =
 pub has_points : (cs : List CellView) (qs : List Accepted) → AreCells cs qs → (x : Identity) → is_among x (map id_of cs) ≡ true → HasPoint x qs
 has_points cs qs h x m = sym (among_in_order x qs) ∙ (sym (ap (is_among x) h.ids) ∙ m)
 
-told_each : (cs : List CellView) (qs : List Accepted) (held : List (List ℕ)) → AllStand cs qs → ((x : Identity) → is_among x (map id_of cs) ≡ true → HasPoint x qs) → map told_cell cs ≡ map told_standing (map (series_standing qs held) (map id_of cs))
-told_each [] qs held h k = refl
-told_each (c ∷ cs) qs held h k =
-    ap (λ t. t ∷ map told_cell cs) (told_is c qs held h.0 (k c.id (or_left (same_series c.id c.id) (is_among c.id (map id_of cs)) (same_series-refl c.id))))
-    ∙ ap (λ ts. told_standing (series_standing qs held c.id) ∷ ts) (told_each cs qs held h.1 (λ x m. k x (or_right (same_series x c.id) (is_among x (map id_of cs)) m)))
+totals_of_each : (cs : List CellView) (qs : List Accepted) (held : List (List ℕ)) → AllStand cs qs → ((x : Identity) → is_among x (map id_of cs) ≡ true → HasPoint x qs) → map cell_totals cs ≡ map standing_totals (map (series_standing qs held) (map id_of cs))
+totals_of_each [] qs held h k = refl
+totals_of_each (c ∷ cs) qs held h k =
+    ap (λ t. t ∷ map cell_totals cs) (totals_are c qs held h.0 (k c.id (or_left (same_series c.id c.id) (is_among c.id (map id_of cs)) (same_series-refl c.id))))
+    ∙ ap (λ ts. standing_totals (series_standing qs held c.id) ∷ ts) (totals_of_each cs qs held h.1 (λ x m. k x (or_right (same_series x c.id) (is_among x (map id_of cs)) m)))
 
-pub told_all : (cs : List CellView) (qs : List Accepted) (held : List (List ℕ)) → AreCells cs qs → map told_cell cs ≡ map told_standing (all_series qs held)
-told_all cs qs held h = told_each cs qs held h.stand (has_points cs qs h) ∙ ap (λ xs. map told_standing (map (series_standing qs held) xs)) h.ids
+pub totals_of_all : (cs : List CellView) (qs : List Accepted) (held : List (List ℕ)) → AreCells cs qs → map cell_totals cs ≡ map standing_totals (all_series qs held)
+totals_of_all cs qs held h = totals_of_each cs qs held h.stand (has_points cs qs h) ∙ ap (λ xs. map standing_totals (map (series_standing qs held) xs)) h.ids
 
 -- a cell among these has a point
 pub point_at : (cs : List CellView) (qs : List Accepted) (i : ℕ) (c : CellView) → i < length cs → c ≡ get_or cs i c → AreCells cs qs → HasPoint c.id qs
