@@ -1,4 +1,4 @@
--- What is at home of a series.
+-- The pending points of a series.
 use Rattle.std.specs.Prelude.{◌≡◌, Bool, ◌&&◌, List, filter}
 use Rattle.std.specs.declared.option.Option.{Option}
 use Rattle.series_id.specs.Identity.{Identity}
@@ -9,18 +9,18 @@ use Rattle.metric_events.specs.Series.{is_of, merged}
 use Rattle.metric_events.specs.Legal.{IsLegal}
 use Rattle.metric_events.specs.declared.accepted.Accepted.{Accepted}
 
--- a point of the series, and at home
+-- a pending point of the series
 abbrev pub is_home_point : Identity → Accepted → Bool
 is_home_point x a = is_of x a && is_home a.place
 
--- the points of series x that are at home
+-- the pending points of series x
 abbrev pub home_points : Identity → List Accepted → List Accepted
 home_points x qs = filter (is_home_point x) qs
 
--- the point that stands for them
+-- these points as one
 abbrev pub home_point : List Accepted → Identity → Option DataPoint
 home_point qs x = merged x (home_points x qs)
 
--- the accepted points of some history
+-- the accepted points of some legal history
 abbrev pub AreAccepted : List Accepted → Type 0
 AreAccepted qs = (E : History) × (IsLegal E × (qs ≡ points E))

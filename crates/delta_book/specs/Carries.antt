@@ -12,18 +12,19 @@ abbrev pub AllCarry : List CellView → Type 0
 AllCarry [] = Unit {0}
 AllCarry (c ∷ cs) = Carries c × AllCarry cs
 
--- each cell hands on one of these
+-- each cell hands on one of these series
 abbrev pub AllHandOn : List CellView → List OpenedSeries → Type 0
 AllHandOn [] [] = Unit {0}
 AllHandOn [] (s ∷ ss) = ⊥
 AllHandOn (c ∷ cs) [] = ⊥
 AllHandOn (c ∷ cs) (s ∷ ss) = HandsOn c s × AllHandOn cs ss
 
--- each cell stands for what the next round begins with of one of these
+-- the cell represents what the next round begins with of a series
 pub record BeginsWith (c : CellView) (s : OpenedSeries) : Type 0 where
   pub stands : Stands c (opened_with s)
   pub id : c.id ≡ s.series
 
+-- each cell, of one of these series
 abbrev pub AllOpened : List CellView → List OpenedSeries → Type 0
 AllOpened [] [] = Unit {0}
 AllOpened [] (s ∷ ss) = ⊥

@@ -1,4 +1,4 @@
--- What earlier rounds brought of one series.
+-- What was acknowledged and dropped of one series in earlier rounds.
 use Rattle.std.specs.Prelude.{◌≡◌, ℕ, List}
 use Rattle.series_id.specs.Identity.{Identity, row_length}
 use Rattle.metric_events.specs.Rows.{add_rows, zeros}
@@ -17,7 +17,7 @@ pub record HasPast (O : Opening) (x : Identity) (s : OpenedSeries) : Type 0 wher
 abbrev pub HasNoPast : Opening → Identity → Type 0
 HasNoPast O x = (f : OpenedSeries → List ℕ) → past f x O.series ≡ zeros (row_length x.kind)
 
--- two rows of a series, each with what is past
+-- two rows of a series, each with the words of earlier rounds added
 pub record AddsPast (before : List OpenedSeries) (x : Identity) (a d all_a all_d : List ℕ) : Type 0 where
   pub acknowledged : all_a ≡ add_rows a (past (λ o. o.acknowledged) x before)
   pub dropped : all_d ≡ add_rows d (past (λ o. o.dropped) x before)

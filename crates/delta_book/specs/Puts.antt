@@ -15,34 +15,35 @@ use Rattle.delta_book.specs.declared.faults.AdmitFault.TheVariants.{OtherWriter,
 use Rattle.delta_book.specs.declared.put.Stop.{Stop}
 use Rattle.delta_book.specs.declared.put.Stop.TheVariants.{Fault, NoMemory}
 
--- a series goes in before cell i: after those that come before it
+-- series x belongs before cell i, after the series that come before it
 abbrev pub IsGap : List CellView → ℕ → Identity → Type 0
 IsGap [] i x = i ≡ 0
 IsGap (c ∷ cs) zero x = series_before x c.id ≡ true
 IsGap (c ∷ cs) (suc i) x = (series_before c.id x ≡ true) × IsGap cs i x
 
--- what a cell says against a point of its series at place i of a batch: the sender is another's, or it starts too early
+-- why a cell refuses a point of its series at position i of a batch: the series has another sender,
+-- or the point starts before the frontier
 abbrev pub fault_at : CellView → List ℕ → ℕ → DataPoint → Option AdmitFault
 fault_at c s i p =
     if not (same_sender c.owner s) then Some (OtherWriter i)
     else (if nat_lt p.span.start (end_of c) then Some (OutOfOrder i (end_of c)) else None)
 
--- what keeps the point at place i of a batch from coming after these
+-- why the point at position i of a batch may not follow these points
 abbrev pub next_fault : List Accepted → List ℕ → ℕ → DataPoint → Option AdmitFault
 next_fault qs s i p =
     if has_other_writer qs p.series s then Some (OtherWriter i)
     else (if nat_lt p.span.start (frontier p.series qs) then Some (OutOfOrder i (frontier p.series qs)) else None)
 
--- a word of the sum with the point would be past 64 bits
+-- with the point, a word of its series' sum would be over 64 bits
 abbrev pub IsWide : List Accepted → DataPoint → Type 0
 IsWide qs p = ((k : ℕ) → word_of p.series k qs + slice_index p.row k < 2 ^ 64) → ⊥
 
--- what stops the point at place i of a batch after these: its fault, or want of memory
+-- what stops the point at position i of a batch after these points: its refusal, or a failed allocation
 abbrev pub StopsAt : Stop → List Accepted → List ℕ → ℕ → DataPoint → Type 0
 StopsAt (Fault f) qs s i p = next_fault qs s i p ≡ Some f
 StopsAt NoMemory qs s i p = Unit {0}
 
--- what stops a batch after these: its refusal, or want of memory
+-- what stops a batch after these points: its refusal, or a failed allocation
 abbrev pub Stops : Stop → List Accepted → List ℕ → List DataPoint → Type 0
 Stops (Fault f) qs s ps = batch_fault qs s ps ≡ Some f
 Stops NoMemory qs s ps = Unit {0}

@@ -22,7 +22,7 @@ use Rattle.delta_book.specs.declared.open.Open.{Open}
 abbrev pub id_of : CellView → Identity
 id_of c = c.id
 
--- each cell stands for the points of its series
+-- each cell represents the points of its series
 abbrev pub AllStand : List CellView → List Accepted → Type 0
 AllStand [] qs = Unit {0}
 AllStand (c ∷ cs) qs = Stands c (of_series c.id qs) × AllStand cs qs
@@ -46,26 +46,27 @@ IdAt [] i x = ⊥
 IdAt (c ∷ cs) zero x = c.id ≡ x
 IdAt (c ∷ cs) (suc i) x = IdAt cs i x
 
--- entry i tells this event
+-- entry i has this event
 abbrev pub At : List Entry → ℕ → Event → Type 0
 At [] i e = ⊥
 At (x ∷ xs) zero e = x.event ≡ e
 At (x ∷ xs) (suc i) e = At xs i e
 
--- what was opened: by its number and the place of its entry
+-- what is live is kept by its number and the position of its entry
 abbrev pub AreFlights : List Entry → List Open → List Flight → Type 0
 AreFlights es [] [] = Unit {0}
 AreFlights es [] (l ∷ ls) = ⊥
 AreFlights es (o ∷ os) [] = ⊥
 AreFlights es (o ∷ os) (l ∷ ls) = (o.number ≡ l.number) × (At es o.entry (Take l.number l.series)) × AreFlights es os ls
 
+-- what is open, likewise
 abbrev pub AreOpen : List Entry → List Open → List ℕ → Type 0
 AreOpen es [] [] = Unit {0}
 AreOpen es [] (b ∷ bs) = ⊥
 AreOpen es (o ∷ os) [] = ⊥
 AreOpen es (o ∷ os) (b ∷ bs) = (o.number ≡ b) × ((body : Batch) × At es o.entry (Admit b body)) × AreOpen es os bs
 
--- the place of the entry of what has this number
+-- the position of the entry of what has this number
 abbrev pub entry_of : ℕ → List Open → Option ℕ
 entry_of n [] = None
 entry_of n (o ∷ os) = if o.number == n then Some o.entry else entry_of n os
@@ -107,20 +108,21 @@ points_named [] i = []
 points_named (x ∷ xs) zero = points_of_event x.event
 points_named (x ∷ xs) (suc i) = points_named xs i
 
--- cells of these points, among which may be cells of no point
+-- cells in series order that represent these points; some may represent no point
 pub record IsTable (cs : List CellView) (qs : List Accepted) : Type 0 where
   pub ascending : is_ascending (map id_of cs) ≡ true
   pub stand : AllStand cs qs
   pub covered : list_all (λ a. is_among a.point.series (map id_of cs)) qs ≡ true
 
--- the point is one of those of the batch that are at home
+-- the point is a pending point of the batch
 abbrev pub RemovesFrom : List CellView → ℕ → DataPoint → Type 0
 RemovesFrom cs b p = (s : List ℕ) × ((before : List Accepted) × ((after : List Accepted) × AreCells cs (before ++ admitted b s p ∷ after)))
 
+-- so are these points
 abbrev pub RemovesAll : List CellView → ℕ → List DataPoint → Type 0
 RemovesAll cs b ps = (s : List ℕ) × ((before : List Accepted) × ((after : List Accepted) × AreCells cs (before ++ (map (admitted b s) ps ++ after))))
 
--- these points are what the batch brought; in each series they are all at home, or none is
+-- these are the batch's points; in each series they are all pending, or none is
 pub record IsEntered (qs : List Accepted) (b : ℕ) (ps : List DataPoint) : Type 0 where
   pub its : (x : Identity) → list_any (is_of_batch b) (of_series x qs) ≡ list_any (is_point_of x) ps
   pub together : (x : Identity) → AreTogether b (of_series x qs)

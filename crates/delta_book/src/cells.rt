@@ -19,16 +19,17 @@ use metric_events::points::Points;
 use series_cell::cell::Cell;
 use series_id::{SeriesId, SharedId};
 
-/// What of a point stands in its cell.
+/// What a cell has of a point.
 #[derive(Clone, Copy)]
 pub enum Part {
     /// The point with its words.
     Whole,
-    /// Its span alone: the sums of its series are without its words.
+    /// Its span alone: the sums of its series lack its words.
     Span,
 }
 
-/// What is put of the point at a place of a batch, of which the first points have their words.
+/// What is put of the point at this position of a batch, whose first `whole` points have their
+/// words.
 pub fn part_at(whole: usize, place: usize) -> Part
     ensures { result ≡ parts.part_at whole place }
 {
@@ -39,7 +40,7 @@ pub fn part_at(whole: usize, place: usize) -> Part
     }
 }
 
-/// Where the cell of a series is, or where it goes, by a search.
+/// The position of a series' cell, or the position where it belongs, by binary search.
 fn search_place(cells: &[Cell], series: &SeriesId) -> Result<usize, usize>
     ensures { MatchResult result (λ i. (i < length cells.now) × IdAt cells.now i series.now) (λ i. (i ≤ length cells.now) × (is_ascending (map id_of cells.now) ≡ true → IsGap cells.now i series.now)) }
 {
@@ -59,8 +60,8 @@ fn search_place(cells: &[Cell], series: &SeriesId) -> Result<usize, usize>
     Err(low)
 }
 
-/// Where the cell of a series is, or where it goes. It is looked for first where this identity
-/// stood before; where it stands now is noted.
+/// The position of a series' cell, or the position where it belongs. The position that the
+/// identity has noted is tried first; the one that is found is noted.
 pub fn find_place(cells: &[Cell], series: &SharedId) -> Result<usize, usize>
     ensures { MatchResult result (λ i. (i < length cells.now) × IdAt cells.now i series.now) (λ i. (i ≤ length cells.now) × (is_ascending (map id_of cells.now) ≡ true → IsGap cells.now i series.now)) }
 {
@@ -75,7 +76,7 @@ pub fn find_place(cells: &[Cell], series: &SharedId) -> Result<usize, usize>
     found
 }
 
-/// Where the cell of a series stands.
+/// The position of a series' cell.
 pub fn find_cell(cells: &[Cell], series: &SharedId) -> Option<usize>
     ensures { MatchOption result (is_ascending (map id_of cells.now) ≡ true → is_among series.now (map id_of cells.now) ≡ false) (λ i. (i < length cells.now) × IdAt cells.now i series.now) }
 {
@@ -102,7 +103,7 @@ fn lift_series(cells: &mut [Cell], flush: u64, series: &SharedId)
     }
 }
 
-/// Sends what is at home of these series away with a flush.
+/// The pending points of these series are in flight with the flush.
 pub fn take_off(cells: &mut [Cell], flush: u64, series: &[SharedId])
     ensures { (qs : List Accepted) → AreCells cells.old qs → are_distinct series.now ≡ true → list_all (λ x. not (list_any (stands is_flying) (of_series x qs))) series.now ≡ true → AreCells cells.new (map (on_series (lifted flush) series.now) qs) }
 {
@@ -131,7 +132,7 @@ fn land_series(cells: &mut [Cell], place: Place, series: &SharedId)
     }
 }
 
-/// Moves what is in flight of these series.
+/// What is in flight of these series gets this state.
 pub fn land(cells: &mut [Cell], place: Place, series: &[SharedId])
     ensures { (f : ℕ) (qs : List Accepted) → AreCells cells.old qs → are_distinct series.now ≡ true → list_all (λ x. list_any (stands (is_in_flight f)) (of_series x qs)) series.now ≡ true → is_flying place ≡ false → AreCells cells.new (map (on_series (landed f place) series.now) qs) }
 {
@@ -149,7 +150,7 @@ fn is_home_in(cells: &[Cell], series: &SharedId, number: u64) -> bool
     }
 }
 
-/// Each point of the batch is at home.
+/// Each point of the batch is pending.
 pub fn is_all_home(cells: &[Cell], batch: &[Point], number: u64) -> bool
     ensures { (qs : List Accepted) → AreCells cells.now qs → IsEntered qs number batch.now → result ≡ is_batch_home number qs }
 {
@@ -161,7 +162,7 @@ pub fn is_all_home(cells: &[Cell], batch: &[Point], number: u64) -> bool
     true
 }
 
-/// Takes what there is of a point out of its cell again.
+/// Removes what a cell has of a point.
 fn remove_part(cell: &mut Cell, point: &Point, part: Part, number: u64)
     requires { HasHome cell.old number (part_of part point.now) }
     ensures stands { (before after : List Accepted) → Stands cell.old (before ++ admitted number cell.old.owner (part_of part point.now) ∷ after) → Stands cell.new (before ++ after) }
@@ -173,7 +174,7 @@ fn remove_part(cell: &mut Cell, point: &Point, part: Part, number: u64)
     }
 }
 
-/// Takes what there is of a point out again, and its cell with the last one.
+/// Removes what there is of a point, and its cell with the cell's last point.
 fn remove_one(cells: &mut Vec<Cell>, point: &Point, part: Part, number: u64)
     requires { RemovesFrom cells.old.items number (part_of part point.now) }
     ensures { (s : List ℕ) (before after : List Accepted) → AreCells cells.old.items (before ++ admitted number s (part_of part point.now) ∷ after) → AreCells cells.new.items (before ++ after) }
@@ -186,8 +187,8 @@ fn remove_one(cells: &mut Vec<Cell>, point: &Point, part: Part, number: u64)
     }
 }
 
-/// Takes the points of a batch out again, of which the first ones have their words. The last
-/// one goes first: cells that it opened in series order then go from the end, and move no other.
+/// Removes the points of a batch, whose first `whole` points have their words. The last one goes
+/// first: new cells that came in series order then go from the end, and move no other.
 pub fn remove_points(cells: &mut Vec<Cell>, batch: &[Point], whole: usize, number: u64)
     requires { RemovesAll cells.old.items number (worded whole batch.now) }
     ensures { (s : List ℕ) (before after : List Accepted) → AreCells cells.old.items (before ++ (map (admitted number s) (worded whole batch.now) ++ after)) → AreCells cells.new.items (before ++ after) }
@@ -198,7 +199,7 @@ pub fn remove_points(cells: &mut Vec<Cell>, batch: &[Point], whole: usize, numbe
     }
 }
 
-/// Takes the points of a batch out again, each with its words.
+/// Removes the points of a batch, each with its words.
 pub fn remove_batch(cells: &mut Vec<Cell>, batch: &[Point], number: u64)
     requires { RemovesAll cells.old.items number batch.now }
     ensures { (s : List ℕ) (before after : List Accepted) → AreCells cells.old.items (before ++ (map (admitted number s) batch.now ++ after)) → AreCells cells.new.items (before ++ after) }
@@ -217,7 +218,7 @@ fn share_point(batch: &mut Points, place: usize, cells: &[Cell])
 }
 
 /// The points of a batch share the identities of their cells, so that an identity is kept once.
-/// Takes no memory. Nothing that can be seen of the batch changes.
+/// Allocates nothing. No contract sees a difference.
 fn share_points(batch: &mut Points, cells: &[Cell])
     ensures { batch.new ≡ batch.old }
 {
@@ -226,7 +227,7 @@ fn share_points(batch: &mut Points, cells: &[Cell])
     }
 }
 
-/// The batch, whose points share the identities of their cells.
+/// The batch, its points sharing the identities of their cells.
 pub fn share_known(body: Batch, cells: &[Cell]) -> Batch
     ensures { result ≡ body }
 {

@@ -1,6 +1,6 @@
-//! The limits that a batch may pass: how many series there are, and how large their sums. They
-//! are read off the cells once the batch has been put. Where memory is wanting they are found
-//! without putting any of it: no test takes memory, so each word of a sum is added up by itself.
+//! Tests the limits of a batch: how many series there are, and how large their sums. They are
+//! read off the cells after the batch was put. After a failed allocation they are found without
+//! putting any of it. That allocates nothing either: each word of a sum is added up by itself.
 ghost use Rattle.std.specs.Prelude.{◌≡◌, ℕ, ◌++◌, List, not, true, map, length, nat_lt, if◌then◌else◌, ◌+◌, ◌*◌, ◌^◌, ◌-◌, ◌<◌, ◌≤◌};
 ghost use Rattle.std.specs.List.{list_any, All};
 ghost use Rattle.metric_events.specs.Rows as rows;
@@ -69,7 +69,7 @@ fn is_sum_over(cells: &[Cell], point: &Point) -> bool
     }
 }
 
-/// The sum of a series of the batch is over a limit.
+/// The sum of one of the batch's series is over a limit.
 fn has_sum_over(cells: &[Cell], batch: &[Point]) -> bool
     ensures { (b : ℕ) (s : List ℕ) (qs : List Accepted) → AreCells cells.now (qs ++ map (admitted b s) batch.now) → result ≡ is_too_large (qs ++ map (admitted b s) batch.now) batch.now }
 {
@@ -81,7 +81,7 @@ fn has_sum_over(cells: &[Cell], batch: &[Point]) -> bool
     false
 }
 
-/// The limit that is passed with the batch among the cells.
+/// The first limit that is exceeded, the batch being in the cells.
 pub fn find_passed(cells: &[Cell], batch: &[Point]) -> Option<AdmitFault>
     ensures { (b : ℕ) (s : List ℕ) (qs : List Accepted) → AreCells cells.now (qs ++ map (admitted b s) batch.now) → result ≡ limit_fault (qs ++ map (admitted b s) batch.now) batch.now }
 {
@@ -94,7 +94,7 @@ pub fn find_passed(cells: &[Cell], batch: &[Point]) -> Option<AdmitFault>
     None
 }
 
-/// The limit that is passed with a batch of a too large sum among the cells.
+/// The first limit that is exceeded, the spans of a batch with a too large sum being in the cells.
 pub fn limit_of_large(cells: &[Cell]) -> AdmitFault
     ensures { (qs : List Accepted) → AreCells cells.now qs → result ≡ (if nat_lt MAX_SERIES (series_count qs) then TooManySeries else TooLarge) }
 {
@@ -128,7 +128,7 @@ fn batch_word(batch: &[Point], series: &SharedId, k: usize) -> u128
     total
 }
 
-/// A word of the sum of a series with the batch's points.
+/// Word `k` of the sum of a series with the batch's points.
 fn word_total(cells: &[Cell], batch: &[Point], series: &SharedId, k: usize) -> u128
     ensures value { (qs : List Accepted) → AreCells cells.now qs → result ≡ word_with series.now qs batch.now k }
     ensures few { result ≤ (1 + length batch.now) * 2 ^ 64 }
@@ -136,14 +136,14 @@ fn word_total(cells: &[Cell], batch: &[Point], series: &SharedId, k: usize) -> u
     accepted_word(cells, series, k) + batch_word(batch, series, k)
 }
 
-/// A word of the sum is over its limit.
+/// Word `k` of the sum is over its limit.
 fn is_word_large(cells: &[Cell], batch: &[Point], series: &SharedId, k: usize) -> bool
     ensures { (qs : List Accepted) → AreCells cells.now qs → result ≡ nat_lt (rows.word_limit series.now.kind k) (word_with series.now qs batch.now k) }
 {
     u128::from(word_limit(series.as_series().kind(), k)) < word_total(cells, batch, series, k)
 }
 
-/// One of the first words is over its limit.
+/// One of the first `n` words is over its limit.
 fn has_large_word(cells: &[Cell], batch: &[Point], series: &SharedId, n: usize) -> bool
     ensures { (qs : List Accepted) → AreCells cells.now qs → result ≡ has_large (rows.word_limit series.now.kind) (word_with series.now qs batch.now) n }
 {
@@ -155,7 +155,7 @@ fn has_large_word(cells: &[Cell], batch: &[Point], series: &SharedId, n: usize) 
     false
 }
 
-/// The words after the third are over their limit together.
+/// The words from the fourth on are over their limit together.
 fn has_many_counts(cells: &[Cell], batch: &[Point], series: &SharedId, n: usize) -> bool
     requires { 3 ≤ n }
     ensures { (qs : List Accepted) → AreCells cells.now qs → result ≡ counts_over (word_with series.now qs batch.now) (n - 3) }
@@ -170,7 +170,7 @@ fn has_many_counts(cells: &[Cell], batch: &[Point], series: &SharedId, n: usize)
     false
 }
 
-/// The sums of a series with the batch's points are over a limit.
+/// The sum of a series with the batch's points is over a limit.
 fn is_series_over(cells: &[Cell], batch: &[Point], series: &SharedId) -> bool
     ensures { (qs : List Accepted) → AreCells cells.now qs → result ≡ is_over_by series.now.kind (word_with series.now qs batch.now) (row_length series.now.kind) }
 {
@@ -196,7 +196,7 @@ fn is_large(cells: &[Cell], batch: &[Point]) -> bool
     false
 }
 
-/// The limit that the batch would pass.
+/// The first limit that the batch would exceed.
 pub fn slow_limit(cells: &[Cell], batch: &[Point]) -> Option<AdmitFault>
     requires few { length cells.now ≤ MAX_SERIES }
     requires accepted { AreBooked cells.now }

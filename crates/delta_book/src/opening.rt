@@ -1,4 +1,4 @@
-//! What a round leaves to the next.
+//! Makes the opening of the next round from what this round leaves.
 ghost use Rattle.std.specs.Prelude.{◌≡◌, ◌≤◌, ◌<◌, ◌^◌, ℕ, List, length, map, nat_le, true, IfOk, MatchOption};
 ghost use Rattle.std.specs.List.{list_all};
 ghost use Rattle.series_id.specs.Identity.{row_length};
@@ -33,7 +33,7 @@ use std::alloc::{AllocError, Global};
 /// The last round that a book may have.
 pub const LAST_ROUND: u64 = 4_294_967_295;
 
-/// A row with what is past.
+/// A row with the words of earlier rounds added.
 fn add_past(alloc: Global, row: &[u64], past: &[u128]) -> Result<WideRow, AllocError>
     requires long { length past.now ≡ length row.now }
     requires small { list_all (λ w. nat_le w (2 ^ 127)) past.now ≡ true }
@@ -46,7 +46,7 @@ fn add_past(alloc: Global, row: &[u64], past: &[u128]) -> Result<WideRow, AllocE
     Ok(WideRow::new(words))
 }
 
-/// A row of which nothing is past.
+/// A row of a series that is new in this round.
 fn widen(alloc: Global, row: &[u64]) -> Result<WideRow, AllocError>
     ensures { IfOk result (λ w. w ≡ row.now) }
 {
@@ -57,7 +57,7 @@ fn widen(alloc: Global, row: &[u64]) -> Result<WideRow, AllocError>
     Ok(WideRow::new(words))
 }
 
-/// What the opening has of a series. None of one that is new in this round.
+/// What the opening has of a series, by binary search. `None` of one that is new in this round.
 fn find_past<'a>(before: &'a Opening, series: &SeriesId) -> Option<&'a OpenedSeries>
     requires { IsOpening before.now }
     ensures { MatchOption result (HasNoPast before.now series.now) (λ s. HasPast before.now series.now s.now) }
@@ -81,7 +81,7 @@ fn find_past<'a>(before: &'a Opening, series: &SeriesId) -> Option<&'a OpenedSer
     None
 }
 
-/// What was acknowledged and what was dropped of a series, with what is past.
+/// What was acknowledged and what was dropped of a series, in this round and before.
 fn with_past(
     alloc: Global,
     acknowledged: &[u64],
@@ -109,7 +109,7 @@ fn with_past(
     }
 }
 
-/// What is handed on of a series, whoever is held.
+/// What the next round gets of a series.
 fn hand_on(alloc: Global, cell: &Cell, before: &Opening) -> Result<OpenedSeries, AllocError>
     requires booked { IsBookedCell cell.now }
     requires opened { IsOpening before.now }
@@ -136,7 +136,7 @@ fn hand_on(alloc: Global, cell: &Cell, before: &Opening) -> Result<OpenedSeries,
     })
 }
 
-/// What is handed on of all series, in series order.
+/// What the next round gets of all series, in series order.
 fn hand_on_all(
     alloc: Global,
     cells: &[Cell],
@@ -154,7 +154,7 @@ fn hand_on_all(
     Ok(all)
 }
 
-/// Equal names.
+/// Copies of the names.
 fn copy_names(alloc: Global, names: &[SenderName]) -> Result<Vec<SenderName>, AllocError>
     ensures { IfOk result (λ v. v.items ≡ names.now) }
 {
@@ -165,7 +165,7 @@ fn copy_names(alloc: Global, names: &[SenderName]) -> Result<Vec<SenderName>, Al
     Ok(all)
 }
 
-/// The opening that follows, of the next round.
+/// The opening of the next round.
 pub fn next_opening(
     alloc: Global,
     cells: &[Cell],
@@ -190,7 +190,7 @@ pub fn next_opening(
     })
 }
 
-/// Begins the next round in each cell. Takes no memory.
+/// Begins the next round in each cell. Allocates nothing.
 pub fn carry_all(cells: &mut [Cell])
     requires { AllCarry cells.old }
     ensures { (ss : List OpenedSeries) → AllHandOn cells.old ss → AllOpened cells.new ss }

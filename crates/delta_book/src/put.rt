@@ -1,9 +1,9 @@
-//! A batch goes into the cells, or is refused and leaves nothing.
+//! Puts a batch into the cells, or refuses it and leaves the cells as they were.
 //!
 //! The points of a batch go into the cells one after another. Where one can't, those before it
-//! are taken out again, which takes no memory; so a batch needs no search among its own points.
-//! From a sum past 64 bits on only the spans go in, since a later point may be what refuses the
-//! batch; then all of it goes again.
+//! are removed, which allocates nothing. So a batch needs no search among its own points. Once a
+//! sum overflows 64 bits, only the spans of the remaining points go in, to find which refusal
+//! comes first; then the whole batch is removed.
 ghost use Rattle.std.specs.Prelude.{◌≡◌, ℕ, ◌-◌, ◌<◌, ◌≤◌, ◌^◌, ◌++◌, ◌∷◌, [], List, length, map, true, OnOk, OnErr, IfOk, IfErr, None, unwrap_or};
 ghost use Rattle.series_id.specs.Identity.{row_length};
 ghost use Rattle.bucket_lanes.specs.ByPlace.{Fits};
@@ -43,7 +43,7 @@ pub enum Stop {
     NoMemory,
 }
 
-/// How many points have their words once the one at this place was put so.
+/// How many points have their words, after the one at this position was put.
 pub fn whole_to(whole: usize, place: usize, put: Part) -> usize
     ensures { result ≡ parts.whole_to whole place put }
 {
@@ -53,8 +53,8 @@ pub fn whole_to(whole: usize, place: usize, put: Part) -> usize
     }
 }
 
-/// What of a point is put: its span alone where that is asked for, and where a word of the sum
-/// would be past 64 bits.
+/// What of a point is put: its span alone where that is asked for, or where a word of the sum
+/// would be over 64 bits.
 fn part_for(cell: &Cell, point: &Point, part: Part) -> Part
     requires { length cell.now.accepted ≡ row_length point.now.series.kind }
     ensures asked { IsPutBy part result (Fits (2 ^ 64 - 1) cell.now.accepted point.now.row → ⊥) }
@@ -66,7 +66,7 @@ fn part_for(cell: &Cell, point: &Point, part: Part) -> Part
     }
 }
 
-/// Puts this of a point into the cell of its series, after all that is there.
+/// Puts this part of a point into the cell of its series, after all that is there.
 fn put_part(cell: &mut Cell, point: &Point, part: Part, number: u64) -> Result<(), AllocError>
     requires series { point.now.series ≡ cell.old.id }
     requires order { end_of cell.old ≤ point.now.span.start }
@@ -81,7 +81,7 @@ fn put_part(cell: &mut Cell, point: &Point, part: Part, number: u64) -> Result<(
     }
 }
 
-/// Puts a point into the cell of its series, and answers what of it was put.
+/// Puts a point into the cell of its series, and returns what of it was put.
 fn put_in(cell: &mut Cell, point: &Point, part: Part, number: u64) -> Result<Part, Stop>
     requires series { point.now.series ≡ cell.old.id }
     requires order { end_of cell.old ≤ point.now.span.start }
@@ -99,7 +99,7 @@ fn put_in(cell: &mut Cell, point: &Point, part: Part, number: u64) -> Result<Par
     Ok(put)
 }
 
-/// What a cell says against a point of its series at this place of a batch.
+/// Why a cell refuses a point of its series at this position of a batch.
 fn find_at(cell: &Cell, sender: &SenderName, point: &Point, place: usize) -> Option<AdmitFault>
     ensures { result ≡ fault_at cell.now sender.now place point.now }
 {
@@ -113,7 +113,7 @@ fn find_at(cell: &Cell, sender: &SenderName, point: &Point, place: usize) -> Opt
     None
 }
 
-/// Puts a point into the cell there.
+/// Puts a point into the cell at position `i`.
 fn put_at(
     cells: &mut [Cell],
     i: usize,
@@ -138,7 +138,7 @@ fn put_at(
     put_in(&mut cells[i], point, part, number)
 }
 
-/// A cell of no point, which shares the identity of this one.
+/// A cell without a point, which shares this point's identity.
 fn new_cell(alloc: Global, sender: &SenderName, point: &Point) -> Result<Cell, AllocError>
     ensures none { IfOk result (λ c. Stands c []) }
     ensures owner { IfOk result (λ c. c.owner ≡ sender.now) }
@@ -147,7 +147,7 @@ fn new_cell(alloc: Global, sender: &SenderName, point: &Point) -> Result<Cell, A
     Cell::of_shared(alloc, sender.copy(alloc)?, point.shared_series().share()?)
 }
 
-/// Puts a point into a cell of its own, which goes before the one there.
+/// Puts a point into a new cell at position `i`.
 fn open_at(
     alloc: Global,
     cells: &mut Vec<Cell>,
@@ -177,8 +177,8 @@ fn open_at(
     Ok(put)
 }
 
-/// Puts the point at this place of a batch, those before it being there, and answers what of it
-/// was put.
+/// Puts the point at this position of a batch, after those before it, and returns what of it was
+/// put.
 fn put_next(
     alloc: Global,
     cells: &mut Vec<Cell>,
@@ -201,10 +201,9 @@ fn put_next(
     }
 }
 
-/// Puts the points of a batch at home, or none of them: at the first that can't come, and where
-/// memory is wanting, those before it go again. Answers how many, from the first on, have their
-/// words: all, or those before a sum that is past 64 bits. The others are there by their spans,
-/// which tell whether a later point can come.
+/// Puts the points of a batch, or none of them: where one is refused or an allocation fails, those
+/// before it are removed. Returns how many, from the first on, have their words: all, or those
+/// before a sum that is over 64 bits. The others have their spans alone.
 fn put_points(
     alloc: Global,
     cells: &mut Vec<Cell>,
@@ -233,8 +232,8 @@ fn put_points(
     Ok(whole)
 }
 
-/// Puts the points of a batch at home, or none of them where one can't come, a sum is past 64
-/// bits or memory is wanting.
+/// Puts the points of a batch, or none of them where one is refused, a sum is over 64 bits or an
+/// allocation fails.
 pub fn put_all(
     alloc: Global,
     cells: &mut Vec<Cell>,
@@ -260,7 +259,7 @@ pub fn put_all(
     Ok(())
 }
 
-/// Puts a batch, or none of it where something keeps it out.
+/// Puts a batch, or none of it where it is refused or an allocation fails.
 fn put_within(
     alloc: Global,
     cells: &mut Vec<Cell>,
@@ -284,7 +283,7 @@ fn put_within(
     Ok(())
 }
 
-/// The refusal of a batch, found without putting any of it, which takes no memory.
+/// The refusal of a batch, found without putting any of it. Allocates nothing.
 fn slow_refusal(cells: &[Cell], sender: &SenderName, batch: &[Point]) -> Option<AdmitFault>
     requires few { length cells.now ≤ MAX_SERIES }
     requires accepted { AreBooked cells.now }
@@ -297,7 +296,7 @@ fn slow_refusal(cells: &[Cell], sender: &SenderName, batch: &[Point]) -> Option<
     }
 }
 
-/// The refusal of a batch that was stopped, none of which is there.
+/// The refusal of a batch that was stopped and of which nothing is in the cells.
 fn refusal(cells: &[Cell], sender: &SenderName, batch: &[Point], stop: Stop) -> AdmitFault
     requires few { length cells.now ≤ MAX_SERIES }
     requires accepted { AreBooked cells.now }
@@ -310,8 +309,8 @@ fn refusal(cells: &[Cell], sender: &SenderName, batch: &[Point], stop: Stop) -> 
     }
 }
 
-/// Puts a batch at home, or none of it with the first refusal that applies. Without memory it
-/// is `NoMemory` only where no other does; what was put goes again, which takes none.
+/// Puts a batch, or none of it and returns the first refusal that applies. After a failed
+/// allocation that is `NoMemory` only where no other refusal applies.
 pub fn put_batch(
     alloc: Global,
     cells: &mut Vec<Cell>,

@@ -1,6 +1,6 @@
-//! What keeps a batch out: its points, one after another, and the count of series, found without
-//! putting any of it. The cost grows with the square of the batch, so only a batch that was
-//! stopped for want of memory is looked at in this way.
+//! Finds what refuses a batch, its points one after another and the count of series, without
+//! putting any of it. This allocates nothing. The time grows with the square of the batch, so only
+//! a batch for which an allocation failed is examined in this way.
 ghost use Rattle.std.specs.Prelude.{ℕ, ◌||◌, if◌then◌else◌, ◌≡◌, ◌++◌, ◌≤◌, ◌<◌, List, length, map, true};
 ghost use Rattle.std.specs.List.{list_any};
 ghost use Rattle.metric_events.specs.Points.{admitted, is_among};
@@ -50,7 +50,7 @@ fn end_in(points: &[Point], series: &SharedId) -> u64
     end
 }
 
-/// The first point that can't come after those before it.
+/// The refusal of the first point that may not follow those before it.
 pub fn slow_fault(cells: &[Cell], sender: &SenderName, batch: &[Point]) -> Option<AdmitFault>
     ensures { (qs : List Accepted) → AreCells cells.now qs → result ≡ point_fault qs sender.now 0 batch.now }
 {
@@ -88,7 +88,7 @@ fn one_unless(known: bool) -> usize
     if known { 0 } else { 1 }
 }
 
-/// How many series there are with the batch's.
+/// How many series there are, the batch's included.
 pub fn count_series(cells: &[Cell], batch: &[Point]) -> usize
     requires { length cells.now ≤ MAX_SERIES }
     ensures { (b : ℕ) (s : List ℕ) (qs : List Accepted) → AreCells cells.now qs → result ≡ series_count (qs ++ map (admitted b s) batch.now) }

@@ -1,4 +1,4 @@
-//! A batch comes in.
+//! Admits a batch, or refuses it.
 ghost use Rattle.std.specs.Prelude.{◌≡◌, ◌+◌, ◌<◌, length, IfOk, IfErr, OnOk, OnErr, unwrap_or};
 
 use crate::book::Book;
@@ -17,7 +17,7 @@ impl Book {
     ghost use Rattle.delta_book.specs.Journal.{history, admits, Appends};
     ghost use Rattle.delta_book.specs.Refusals.{admit_refusal, door_refusal, undo_refusal, confirm_refusal};
 
-    /// What keeps a sender's batch from being opened, whatever its points are.
+    /// The first refusal that does not depend on the batch's points.
     fn door_fault(&self, sender: &SenderName) -> Option<AdmitFault>
         ensures { result ≡ door_refusal (history self.now) sender.now }
     {
@@ -30,10 +30,10 @@ impl Book {
         None
     }
 
-    /// Accepts all points of a batch, which is then open and can be undone, and answers its
-    /// number: batches are numbered 1, 2, .. . Or accepts none, changes nothing and gives the batch back with the
-    /// first refusal that applies: `Quarantined`, `Full`, the first point with `OtherWriter`
-    /// or `OutOfOrder`, `TooManySeries`, `TooLarge`, and `NoMemory` last.
+    /// Accepts all points of a batch and returns its number: batches are numbered 1, 2, .. . The
+    /// batch is then open and can be undone. Or accepts none and returns the batch with the first
+    /// refusal that applies, which changes nothing: `Quarantined`, `Full`, the first point with
+    /// `OtherWriter` or `OutOfOrder`, `TooManySeries`, `TooLarge`, and `NoMemory` last.
     pub fn admit(&mut self, seat: u16, body: Batch) -> Result<u64, (AdmitFault, Batch)>
         requires { 0 < length body.points }
         ensures number { IfOk result (λ n. n ≡ admits (history self.old) + 1) }

@@ -1,4 +1,4 @@
-//! A round is closed, and the next one begins.
+//! Closes a round and begins the next one.
 ghost use Rattle.std.specs.Prelude.{◌≡◌, map, IfOk, IfErr, OnOk, OnErr, unwrap_or, None};
 ghost use Rattle.metric_events.specs.Standing.{standing};
 ghost use Rattle.metric_events.specs.Close.{close, renewed_standing};
@@ -44,7 +44,8 @@ impl Book {
         self.opening.round
     }
 
-    /// What earlier rounds brought, in series order, of each series of the opening.
+    /// What was acknowledged and dropped in earlier rounds: one row a series of the opening, in
+    /// series order.
     pub fn past(&self) -> Result<Vec<PastTotals>, AllocError>
         ensures { IfOk result (λ v. map past_row v.items ≡ past_rows (history self.now)) }
     {
@@ -67,8 +68,8 @@ impl Book {
         None
     }
 
-    /// Closes the round and begins the next one, whose number it answers. Refusals in this
-    /// order: `BatchOpen`, `FlushLive`, `LastRound`, `NoMemory`; they change nothing.
+    /// Closes the round, begins the next one and returns its number. Refusals in this order:
+    /// `BatchOpen`, `FlushLive`, `LastRound`, `NoMemory`; they change nothing.
     pub fn close_round(&mut self) -> Result<u64, RoundFault>
         ensures number { IfOk result (λ n. n ≡ (close (history self.old)).round) }
         ensures ok { OnOk result (self.new ≡ closed self.old) }

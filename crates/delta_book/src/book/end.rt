@@ -1,5 +1,5 @@
-//! The calls that end what is open or live, or take it back. They take no memory: the room for
-//! their entries is there since the book was made.
+//! Ends or reverses an open batch or a live flush. These calls allocate nothing: `Book::new` has
+//! reserved the room for their entries.
 ghost use Rattle.std.specs.Prelude.{◌≡◌, ◌<◌, ℕ, true, IfErr, OnOk, OnErr, None, Some};
 ghost use Rattle.series_id.specs.Identity.{Identity};
 ghost use Rattle.metric_events.specs.Settled.{SendsBefore, is_settled_in, is_taken_before};
@@ -17,7 +17,7 @@ use metric_events::event::Event;
 use metric_events::place::Place;
 
 impl Book {
-    /// Ends a live flush by this event: what it took goes to this place.
+    /// Ends a live flush by this event: what it took gets this state.
     fn end_flush(
         &mut self,
         seat: u16,
@@ -42,8 +42,8 @@ impl Book {
         Ok(())
     }
 
-    /// The back end has taken all of a flush: its points are acknowledged for good. Takes no
-    /// memory.
+    /// The back end has taken all of a flush: its points are acknowledged for good. Allocates
+    /// nothing.
     pub fn settle(&mut self, seat: u16, flush: u64) -> Result<(), NotLive>
         ensures ok { OnOk result (Appends self.old self.new seat (Event.Settle flush)) }
         ensures none { OnOk result (flush_refusal (history self.old) flush ≡ None) }
@@ -56,7 +56,7 @@ impl Book {
     }
 
     /// The back end has refused a flush for good: its points are dropped, and counted as
-    /// such. Takes no memory.
+    /// dropped. Allocates nothing.
     pub fn drop_flush(&mut self, seat: u16, flush: u64) -> Result<(), NotLive>
         ensures ok { OnOk result (Appends self.old self.new seat (Event.Drop flush)) }
         ensures none { OnOk result (flush_refusal (history self.old) flush ≡ None) }
@@ -66,8 +66,8 @@ impl Book {
         self.end_flush(seat, flush, Place::Dropped, Event::Drop { flush })
     }
 
-    /// The back end has taken nothing of a flush: its points are at home again, as if the
-    /// flush had never been taken. Takes no memory.
+    /// The back end has taken nothing of a flush: its points are pending again, as if the
+    /// flush had never been taken. Allocates nothing.
     pub fn give_back(&mut self, seat: u16, flush: u64) -> Result<(), NotLive>
         ensures ok { OnOk result (Appends self.old self.new seat (Event.GiveBack flush)) }
         ensures none { OnOk result (flush_refusal (history self.old) flush ≡ None) }
@@ -78,8 +78,8 @@ impl Book {
         self.end_flush(seat, flush, Place::Home, Event::GiveBack { flush })
     }
 
-    /// Takes an open batch out again, as if it had never come. Refusals in this order:
-    /// `NotOpen`, `Taken`. Takes no memory.
+    /// Removes an open batch, as if it had never come. Refusals in this order: `NotOpen`,
+    /// `Taken`. Allocates nothing.
     pub fn undo(&mut self, seat: u16, batch: u64) -> Result<(), UndoFault>
         ensures ok { OnOk result (Appends self.old self.new seat (Event.Undo batch)) }
         ensures none { OnOk result (undo_refusal (history self.old) batch ≡ None) }
@@ -102,7 +102,7 @@ impl Book {
         Ok(())
     }
 
-    /// Keeps an open batch for good. Takes no memory.
+    /// Keeps an open batch for good: it can't be undone any more. Allocates nothing.
     pub fn confirm(&mut self, seat: u16, batch: u64) -> Result<(), NotOpen>
         ensures ok { OnOk result (Appends self.old self.new seat (Event.Confirm batch)) }
         ensures none { OnOk result (confirm_refusal (history self.old) batch ≡ None) }

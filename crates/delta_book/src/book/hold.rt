@@ -1,5 +1,5 @@
-//! A sender is held, or let go. Letting go takes no memory: the room for its entry is there since
-//! the book was made.
+//! Quarantines a sender, or releases it. A release allocates nothing: `Book::new` has reserved the
+//! room for its entry.
 ghost use Rattle.std.specs.Prelude.{◌≡◌, ◌↔◌, ◌<◌, true, [], length, get_or, IfSome, IfErr, OnOk, OnErr, IsSome, IsTrue, unwrap_or, None, Some};
 ghost use Rattle.metric_events.specs.Legal.{is_held};
 ghost use Rattle.metric_events.specs.Senders.{same_sender};
@@ -29,8 +29,8 @@ impl Book {
         None
     }
 
-    /// Holds a sender: nothing of it is admitted, and nothing of it is taken. Refusals in
-    /// this order: `Already`, `Full`, `NoMemory`.
+    /// Quarantines a sender: none of its batches is admitted, and none of its points is taken by
+    /// a flush. Refusals in this order, which change nothing: `Already`, `Full`, `NoMemory`.
     pub fn quarantine(&mut self, seat: u16, sender: SenderName) -> Result<(), QuarantineFault>
         ensures ok { OnOk result (Appends self.old self.new seat (Event.Quarantine sender)) }
         ensures none { OnOk result (quarantine_refusal (history self.old) sender ≡ None) }
@@ -54,7 +54,7 @@ impl Book {
         Ok(())
     }
 
-    /// Lets a held sender go on, as if it had never been held. Takes no memory.
+    /// Releases a quarantined sender, as if it had never been quarantined. Allocates nothing.
     pub fn lift(&mut self, seat: u16, sender: &SenderName) -> Result<(), NotQuarantined>
         ensures ok { OnOk result (Appends self.old self.new seat (Event.Lift sender.now)) }
         ensures none { OnOk result (lift_refusal (history self.old) sender.now ≡ None) }
@@ -74,7 +74,7 @@ impl Book {
     }
 }
 
-/// Where a name stands among these.
+/// The position of a name in a list.
 fn find_sender(held: &[SenderName], sender: &SenderName) -> Option<usize>
     ensures exact { IsSome result ↔ IsTrue (is_held sender.now held.now) }
     ensures inside { IfSome result (λ i. i < length held.now) }

@@ -1,4 +1,4 @@
-//! A flush goes out.
+//! Takes a flush.
 ghost use Rattle.std.specs.Prelude.{◌≡◌, ◌≢◌, ◌≤◌, [], List, length, nat_lt, ◌&&◌, map, IfNone, IfSome, IfOk, IfErr, OnErr, if◌then◌else◌};
 ghost use Rattle.metric_events.specs.Choice.{present};
 ghost use Rattle.metric_events.specs.declared.accepted.Accepted.{Accepted};
@@ -19,7 +19,7 @@ use metric_events::series_list::SeriesList;
 use series_cell::cell::Cell;
 use std::alloc::{AllocError, Global};
 
-/// What a flush takes: its series, and what it sends.
+/// What a flush takes: its series, and the points that it sends.
 #[derive(Drop)]
 struct Load {
     series: SeriesList,
@@ -56,7 +56,7 @@ impl Book {
         self.live.len() < MAX_LIVE
     }
 
-    /// Nothing keeps a flush from being taken.
+    /// One more flush may be taken.
     fn can_take(&self) -> bool
         ensures { result ≡ (nat_lt (length (live_flushes (history self.now))) MAX_LIVE && has_room (history self.now)) }
     {
@@ -66,7 +66,7 @@ impl Book {
         false
     }
 
-    /// Takes what may be taken.
+    /// Takes a flush where there is something to take.
     fn take_ready(&mut self, seat: u16, max: usize) -> Result<Flush, TakeFault>
         requires { pick (history self.old) max ≢ [] }
         ensures some { IfOk result (λ flush. IsTaken self.old self.new seat max flush) }
@@ -97,10 +97,11 @@ impl Book {
         Ok(Flush { number, points })
     }
 
-    /// Takes what is at home of the first `max` series that have something to send, in series
-    /// order, and answers the flush: flushes are numbered 1, 2, .. . `None`, with nothing
-    /// changed, exactly where there is nothing to send; then `Full` and `NoMemory`, in this
-    /// order, which change nothing.
+    /// Takes all pending points of the first `max` series that are free, in series order, and
+    /// returns the flush: flushes are numbered 1, 2, .. . A series is free where it has pending
+    /// points and none in flight, and its owner is not quarantined. `None`, with nothing changed,
+    /// exactly where there is nothing to take; then `Full` and `NoMemory`, in this order, which
+    /// change nothing.
     pub fn take(&mut self, seat: u16, max: usize) -> Result<Option<Flush>, TakeFault>
         requires low { 1 ≤ max }
         requires high { max ≤ MAX_TAKEN }
