@@ -1,39 +1,19 @@
 -- A batch that may be admitted goes into the cells.
-use Rattle.std.proofs.Common.{◌≡◌, ℕ, ◌+◌, ◌^◌, ◌<◌, ◌≤◌, Bool, true, false, not, List, [], ◌∷◌, ◌++◌, map, length, refl, ap, sym, ◌∙◌, subst, arith, None}
-use Rattle.std.specs.Prelude.{slice_index}
-use Rattle.std.specs.List.{list_any, All}
-use Rattle.series_id.specs.Identity.{Identity}
-use Rattle.series_id.proofs.Order.{same_series-exact}
+use Rattle.std.proofs.Common.{◌≡◌, ℕ, ◌+◌, ◌<◌, List, [], ◌∷◌, ◌++◌, length, refl, ap, sym, ◌∙◌, subst, None}
+use Rattle.std.specs.List.{All}
 use Rattle.metric_events.specs.DataPoint.{DataPoint, IsPoint}
-use Rattle.metric_events.specs.Points.{points, admitted}
-use Rattle.metric_events.specs.Rows.{fits}
-use Rattle.metric_events.specs.Series.{sum_of}
-use Rattle.metric_events.specs.Legal.{MayAdmit, is_over, is_too_large}
-use Rattle.metric_events.specs.declared.limits.TheConstants.{MAX_BUCKET}
-use Rattle.metric_events.specs.declared.accepted.Accepted.{Accepted}
+use Rattle.metric_events.specs.Points.{points}
+use Rattle.metric_events.specs.Legal.{MayAdmit}
 use Rattle.metric_events.specs.declared.batch.Batch.{Batch}
 use Rattle.metric_events.specs.declared.entry.Entry.{Entry}
 use Rattle.metric_events.specs.declared.event.Event.TheVariants.{Admit}
-use Rattle.metric_events.proofs.Lists.{any_none, both_at}
 use Rattle.delta_book.specs.Journal.{Journal, history, admits, IsNumbered}
 use Rattle.delta_book.specs.Refusals.{batch_fault, door_refusal, first_of}
 use Rattle.delta_book.proofs.Admitting.{may_admit_now}
-use Rattle.delta_book.specs.Batches.{is_point_of, word_of, word_in}
 use Rattle.delta_book.specs.Tables.{AreOpen, At}
 use Rattle.delta_book.specs.declared.open.Open.{Open}
-use Rattle.delta_book.proofs.Adding.{word_fits}
-use Rattle.delta_book.proofs.Words.{word-with}
 use Rattle.delta_book.proofs.Entries.{at_last}
 use Rattle.delta_book.proofs.Opened.{open_more, open_push}
-
-pub word_small : (b : ℕ) (s : List ℕ) (qs : List Accepted) (ps : List DataPoint) (x : Identity) (k : ℕ) → is_too_large (qs ++ map (admitted b s) ps) ps ≡ false → list_any (is_point_of x) ps ≡ true → word_of x k qs + word_in x k ps < 2 ^ 64
-word_small b s qs ps x k h m =
-    let all : List Accepted = qs ++ map (admitted b s) ps in
-    omega (arith, word-with x k b s qs ps, both_at (is_point_of x) (λ p. not (is_over all p)) (slice_index (sum_of x all) k ≤ MAX_BUCKET) (λ p e f. subst (λ y. slice_index (sum_of y all) k ≤ MAX_BUCKET) (same_series-exact p.series x e) (word_fits p.series.kind (sum_of p.series all) k (back (fits p.series.kind (sum_of p.series all)) f))) ps m (any_none (is_over all) ps h))
-  where
-    back : (v : Bool) → not (not v) ≡ true → v ≡ true
-    back true e = refl
-    back false e = e
 
 -- a batch that nothing kept out at the door or at its points may be admitted under the next number
 pub may_be_put : (xs view : Journal) (n : ℕ) (body : Batch) (ps : List DataPoint) → xs ≡ view → n ≡ admits (history xs) → IsNumbered (history xs) → 0 < length body.points → All IsPoint body.points → None ≡ door_refusal (history view) body.sender → ps ≡ body.points → batch_fault (points (history xs)) body.sender ps ≡ None → MayAdmit (history xs) (n + 1) body

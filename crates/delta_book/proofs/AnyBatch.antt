@@ -10,7 +10,6 @@ use Rattle.metric_events.specs.Series.{is_of, series_count, row_sum, sum_of}
 use Rattle.metric_events.specs.Legal.{is_over, is_too_large, is_clear, is_in_order}
 use Rattle.metric_events.specs.declared.accepted.Accepted.{Accepted}
 use Rattle.delta_book.specs.Batches.{is_point_of}
-use Rattle.delta_book.specs.Refusals.{limit_fault}
 use Rattle.delta_book.proofs.CountedSeries.{count_accepted, count_new}
 
 -- as many series
@@ -45,10 +44,6 @@ any_over qs rs (p ∷ ps) h = ap (λ w. not (fits p.series.kind w) || is_too_lar
 -- so they are over a limit under both or none
 pub same_large : (b c : ℕ) (s : List ℕ) (qs : List Accepted) (ps : List DataPoint) → is_too_large (qs ++ map (admitted b s) ps) ps ≡ is_too_large (qs ++ map (admitted c s) ps) ps
 same_large b c s qs ps = any_over (qs ++ map (admitted b s) ps) (qs ++ map (admitted c s) ps) ps (λ x. same_rows b c s x (row_length x.kind) qs ps)
-
--- and pass the same limit
-pub same_limit : (b c : ℕ) (s : List ℕ) (qs : List Accepted) (ps : List DataPoint) → limit_fault (qs ++ map (admitted b s) ps) ps ≡ limit_fault (qs ++ map (admitted c s) ps) ps
-same_limit b c s qs ps = rw (same_count b c s qs ps, same_large b c s qs ps) refl
 
 -- and in order under both or none
 same_clear : (t : Accepted → Bool) (qs rs : List Accepted) (a c : Accepted) → t a ≡ t c → list_all t (qs ++ a ∷ rs) ≡ list_all t (qs ++ c ∷ rs)

@@ -5,7 +5,7 @@ use Rattle.std.specs.List.{list_any}
 use Rattle.std.proofs.lemmas.Bool.{or_parts}
 use Rattle.series_id.specs.Identity.{Identity}
 use Rattle.metric_events.specs.Points.{is_among}
-use Rattle.metric_events.specs.Series.{is_of, of_series, frontier}
+use Rattle.metric_events.specs.Series.{is_of, of_series, frontier, sum_of}
 use Rattle.metric_events.specs.Senders.{same_sender}
 use Rattle.metric_events.specs.declared.accepted.Accepted.{Accepted}
 use Rattle.metric_events.proofs.SeriesOnce.{among_in_order}
@@ -79,6 +79,7 @@ word_none cs qs x k h n = no_word x k qs (none_of cs qs x h n)
 pub record CellOf (c : CellView) (qs : List Accepted) (x : Identity) : Type 0 where
   pub writer : (s : List ℕ) → has_other_writer qs x s ≡ not (same_sender c.owner s)
   pub end : end_of c ≡ frontier x qs
+  pub sum : c.accepted ≡ sum_of x qs
   pub word : (k : ℕ) → slice_index c.accepted k ≡ word_of x k qs
 
 pub cell_of : (cs : List CellView) (qs : List Accepted) (i : ℕ) (c : CellView) (x : Identity) → AreCells cs qs → i < length cs → c ≡ get_or cs i c → IdAt cs i x → CellOf c qs x
@@ -88,5 +89,6 @@ cell_of cs qs i c x h l e a =
     subst (CellOf c qs) (at_id cs i c x a e) (record {
       writer = λ s. writer_of c.owner c.id s qs st.own has;
       end = frontier_is c (of_series c.id qs) st ∙ frontier_of c.id qs;
+      sum = st.accepted;
       word = λ k. ap (λ r. slice_index r k) st.accepted ∙ word-sum c.id k qs;
     })

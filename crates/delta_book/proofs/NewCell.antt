@@ -1,6 +1,5 @@
 -- A cell goes in where a series has none.
 use Rattle.std.proofs.Common.{◌≡◌, ℕ, ◌≤◌, Bool, true, false, ◌||◌, List, [], ◌∷◌, ◌++◌, map, refl, ap, sym, ◌∙◌, subst, arith, zero, suc, inl, inr, ◌⊎◌, None}
-use Rattle.std.specs.Prelude.{slice_index}
 use Rattle.std.specs.List.{list_all, list_any, insert}
 use Rattle.std.proofs.lemmas.Bool.{and_parts, and_from, or_left, or_right, or_from, or_cases, le-ltb}
 use Rattle.series_id.specs.Identity.{Identity, row_length}
@@ -8,17 +7,15 @@ use Rattle.series_id.specs.Order.{same_series, series_before}
 use Rattle.series_id.proofs.Order.{before-apart, before-transitive}
 use Rattle.metric_events.specs.DataPoint.{DataPoint}
 use Rattle.metric_events.specs.Points.{admitted, is_among}
-use Rattle.metric_events.specs.Series.{is_of, of_series, frontier, is_ascending}
+use Rattle.metric_events.specs.Series.{is_of, of_series, frontier, is_ascending, row_sum, sum_of}
 use Rattle.metric_events.specs.declared.accepted.Accepted.{Accepted}
 use Rattle.metric_events.proofs.Identities.{same_of, same_series-turned}
 use Rattle.metric_events.proofs.Lists.{all_append, all_weaker, any_append_left, any_append_right, any_none, filter_none}
-use Rattle.metric_events.proofs.Sums.{zeros_at}
 use Rattle.series_cell.specs.Cells.{CellView, Stands, end_of}
 use Rattle.series_cell.proofs.Standing.{end_is}
-use Rattle.delta_book.specs.Batches.{word_of}
 use Rattle.delta_book.specs.Puts.{IsGap, next_fault}
 use Rattle.delta_book.specs.Tables.{AreCells, AllStand, id_of}
-use Rattle.delta_book.proofs.Asked.{none_of, writer_none, end_none, word_none}
+use Rattle.delta_book.proofs.Asked.{none_of, writer_none, end_none}
 use Rattle.delta_book.proofs.PutIn.{cells_of_table, of_more, of_own}
 use Rattle.delta_book.proofs.Removing.{table_of}
 use Rattle.delta_book.proofs.Tables.{others_stand}
@@ -123,10 +120,12 @@ none_new cs i qs s n p gap h =
     rw (writer_none cs qs p.series s h none, le-ltb p.span.start (frontier p.series qs) (omega (arith, end_none cs qs p.series h none))) refl
 
 -- nor has it a sum
-pub word_new : (cs : List CellView) (i : ℕ) (d : CellView) (qs : List Accepted) (p : DataPoint) → (is_ascending (map id_of cs) ≡ true → IsGap cs i p.series) → Stands d [] → AreCells cs qs → (k : ℕ) → slice_index d.accepted k ≡ word_of p.series k qs
-word_new cs i d qs p gap st h k =
+pub sum_new : (cs : List CellView) (i : ℕ) (d : CellView) (qs : List Accepted) (x : Identity) → (is_ascending (map id_of cs) ≡ true → IsGap cs i x) → d.id ≡ x → Stands d [] → AreCells cs qs → d.accepted ≡ sum_of x qs
+sum_new cs i d qs x gap e st h =
     let u = (table_of cs qs h).ascending in
-    ap (λ r. slice_index r k) st.accepted ∙ (zeros_at (row_length d.id.kind) k ∙ sym (word_none cs qs p.series k h (gap_absent cs i p.series u (gap u))))
+    st.accepted
+    ∙ (ap (λ (y : Identity). row_sum (row_length y.kind) []) e
+    ∙ ap (row_sum (row_length x.kind)) (sym (filter_none (is_of x) qs (any_none (is_of x) qs (none_of cs qs x h (gap_absent cs i x u (gap u)))))))
 
 pub end_new : (d : CellView) (start : ℕ) → Stands d [] → end_of d ≤ start
 end_new d start st = omega (arith, end_is d [] st)

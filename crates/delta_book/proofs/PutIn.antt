@@ -1,18 +1,18 @@
 -- A point goes into the cell of its series.
-use Rattle.std.proofs.Common.{◌≡◌, ℕ, ◌<◌, ◌≤◌, Bool, true, false, cond, not, List, [], ◌∷◌, ◌++◌, map, set, get_or, length, refl, ap, sym, ◌∙◌, subst, arith, Some, None}
+use Rattle.std.proofs.Common.{◌≡◌, ℕ, ◌<◌, ◌≤◌, Bool, true, false, cond, not, List, [], ◌∷◌, ◌++◌, map, set, get_or, length, refl, ap, sym, ◌∙◌, subst, Some, None}
 use Rattle.std.specs.declared.result.Result.{Result}
 use Rattle.std.specs.declared.result.Result.TheVariants.{Ok, Err}
-use Rattle.std.specs.Prelude.{OnOk, OnErr, IfOk, IfErr, slice_index, nat_lt, ◌-◌, ◌^◌}
+use Rattle.std.specs.Prelude.{OnOk, OnErr, IfErr, nat_lt}
 use Rattle.std.specs.List.{list_all, list_any}
 use Rattle.std.proofs.lemmas.Bool.{and_from, ltb-false}
 use Rattle.std.proofs.lemmas.List.{append-nil}
 use Rattle.std.proofs.lemmas.List.Elements.{filter-append}
-use Rattle.bucket_lanes.specs.ByPlace.{Fits}
 use Rattle.series_id.specs.Identity.{Identity, row_length}
 use Rattle.metric_events.specs.DataPoint.{DataPoint}
 use Rattle.metric_events.specs.Points.{admitted, is_among}
+use Rattle.metric_events.specs.Rows.{add_rows, fits}
 use Rattle.metric_events.specs.Senders.{same_sender}
-use Rattle.metric_events.specs.Series.{is_of, of_series, frontier, series_in_order, is_ascending}
+use Rattle.metric_events.specs.Series.{is_of, of_series, frontier, series_in_order, is_ascending, sum_of}
 use Rattle.metric_events.specs.declared.accepted.Accepted.{Accepted}
 use Rattle.metric_events.proofs.Identities.{same_of}
 use Rattle.metric_events.proofs.InOrder.{series_ascend}
@@ -21,15 +21,12 @@ use Rattle.metric_events.proofs.Lists.{all_append, any_append_left}
 use Rattle.metric_events.proofs.Senders.{same_sender-exact}
 use Rattle.series_cell.specs.Cells.{CellView, Stands, IsOfSame, end_of}
 use Rattle.series_cell.proofs.Sizes.{sized}
-use Rattle.delta_book.specs.Batches.{word_of}
 use Rattle.delta_book.specs.Tables.{AreCells, AreSome, IsTable, IdAt, id_of}
-use Rattle.delta_book.specs.Parts.{IsPutBy}
-use Rattle.delta_book.specs.Puts.{IsWide, StopsAt, fault_at, next_fault}
+use Rattle.delta_book.specs.Puts.{StopsAt, StopsPart, fault_at, fits_with, next_fault}
 use Rattle.delta_book.specs.declared.faults.AdmitFault.TheVariants.{OtherWriter, OutOfOrder}
 use Rattle.delta_book.specs.declared.put.Stop.{Stop}
-use Rattle.delta_book.specs.declared.put.Stop.TheVariants.{NoMemory}
+use Rattle.delta_book.specs.declared.put.Stop.TheVariants.{Fault, TooLarge, NoMemory}
 use Rattle.delta_book.specs.declared.cells.Part.{Part}
-use Rattle.delta_book.specs.declared.cells.Part.TheVariants.{Whole, Span}
 use Rattle.delta_book.proofs.Asked.{cell_of}
 use Rattle.delta_book.proofs.Choosing.{same_ascending}
 use Rattle.delta_book.proofs.Refused.{none_then}
@@ -80,19 +77,15 @@ clear c d s n p e h =
 pub row_long : (cs : List CellView) (i : ℕ) (c : CellView) → i < length cs → c ≡ get_or cs i c → AreSome cs → length c.accepted ≡ row_length c.id.kind
 row_long cs i c l e h = (sized c _ (stands_at cs h.0 i c l e h.1.stand)).accepted
 
--- a word of the cell's row would be past 64 bits
-pub wide_of : (c : CellView) (qs : List Accepted) (p : DataPoint) → ((k : ℕ) → slice_index c.accepted k ≡ word_of p.series k qs) → (Fits (2 ^ 64 - 1) c.accepted p.row → ⊥) → IsWide qs p
-wide_of c qs p w h = λ m. h (λ k l. omega (arith, m k, w k))
+-- the sum of the series with the point, as its cell has it
+pub fits_at : (c : CellView) (qs : List Accepted) (p : DataPoint) → c.accepted ≡ sum_of p.series qs → fits p.series.kind (add_rows c.accepted p.row) ≡ fits_with qs p
+fits_at c qs p e = ap (λ r. fits p.series.kind (add_rows r p.row)) e
 
-pub put_by : (asked put : Part) (V W : Type 0) → (V → W) → IsPutBy asked put V → IsPutBy asked put W
-put_by Whole Whole V W f h = tt
-put_by Whole Span V W f h = f h
-put_by Span Whole V W f h = absurd h
-put_by Span Span V W f h = tt
-
--- memory was wanting
-pub no_memory : (e : Stop) (qs : List Accepted) (s : List ℕ) (n : ℕ) (p : DataPoint) → e ≡ NoMemory → StopsAt e qs s n p
-no_memory e qs s n p k = subst (λ w. StopsAt w qs s n p) (sym k) tt
+-- what stops a part in its cell stops it after the cells' points
+pub stops_at : (e : Stop) (part : Part) (v : Bool) (qs : List Accepted) (s : List ℕ) (n : ℕ) (p : DataPoint) → v ≡ fits_with qs p → StopsPart e part v → StopsAt e part qs s n p
+stops_at (Fault f) part v qs s n p k h = absurd h
+stops_at TooLarge part v qs s n p k h = (h.0, sym k ∙ h.1)
+stops_at NoMemory part v qs s n p k h = tt
 
 -- afterwards
 
@@ -141,9 +134,9 @@ cells_without cs ds b s qs ps rs e k h = subst (AreCells ds) (append-nil qs) (k 
 
 -- clauses of an answer
 
-pub then_put : {T E : Type 0} (r : Result T E) (P Q : T → Type 0) → ((x : T) → P x → Q x) → IfOk r P → IfOk r Q
-then_put (Ok x) P Q f h = f x h
-then_put (Err e) P Q f h = tt
+pub then_ok : {T E : Type 0} (r : Result T E) (P Q : Type 0) → (P → Q) → OnOk r P → OnOk r Q
+then_ok (Ok x) P Q f h = f h
+then_ok (Err e) P Q f h = tt
 
 pub then_err : {T E : Type 0} (r : Result T E) (P Q : Type 0) → (P → Q) → OnErr r P → OnErr r Q
 then_err (Ok x) P Q f h = tt

@@ -1,5 +1,5 @@
 -- A point is taken out of a table.
-use Rattle.std.proofs.Common.{◌≡◌, ◌==◌, not, ℕ, zero, suc, Bool, true, false, List, [], ◌∷◌, ◌++◌, map, filter, take, set, remove, get_or, length, ◌+◌, ◌-◌, ◌<◌, ◌≤◌, refl, ap, sym, ◌∙◌, subst, arith}
+use Rattle.std.proofs.Common.{◌≡◌, ◌==◌, not, ℕ, zero, suc, Bool, true, false, List, [], ◌∷◌, ◌++◌, map, filter, take, set, remove, get_or, length, ◌+◌, ◌-◌, ◌<◌, refl, ap, sym, ◌∙◌, subst, arith}
 use Rattle.std.specs.Prelude.{if◌then◌else◌}
 use Rattle.std.specs.List.{list_all, list_any}
 use Rattle.std.proofs.lemmas.Bool.{and_parts, and_from, or_left, or_right, eqb-true}
@@ -17,11 +17,13 @@ use Rattle.metric_events.proofs.SeriesOnce.{among_in_order}
 use Rattle.metric_events.proofs.Lists.{all_append, all_first, all_last}
 use Rattle.series_cell.specs.Cells.{CellView, Stands, AllOwn, HasHome, end_of}
 use Rattle.series_cell.proofs.Points.{all_own_last}
-use Rattle.delta_book.specs.Parts.{part_at, part_of, worded}
+use Rattle.delta_book.specs.Parts.{part_of, parts_of}
+use Rattle.delta_book.specs.declared.cells.Part.{Part}
+use Rattle.delta_book.specs.declared.cells.Part.TheVariants.{Whole}
 use Rattle.delta_book.specs.Tables.{AreCells, AllStand, IsTable, IdAt, RemovesFrom, id_of}
 use Rattle.delta_book.proofs.Sweeping.{is_some_cell, empty_cell, none_of_empty, swept}
 use Rattle.delta_book.proofs.Tables.{stands_at, at_id, set_ids, set_stand}
-use Rattle.delta_book.proofs.Worded.{worded_all, worded_at}
+use Rattle.delta_book.proofs.Parts.{whole_parts, parts_more}
 
 split_of : (x : Identity) (before after : List Accepted) (a : Accepted) → is_of x a ≡ true → of_series x (before ++ a ∷ after) ≡ of_series x before ++ a ∷ of_series x after
 split_of x before after a e = filter-append (is_of x) before (a ∷ after) ∙ rw e refl
@@ -158,20 +160,20 @@ taken_out cs i c d b s p before after v m l e a same k h = both v m
     both false n = subst (λ ks. AreCells ks (before ++ after)) (left_set is_some_cell cs i d some n l) left
 
 -- the last point that is left of a batch
-pub last_out : (w b : ℕ) (s : List ℕ) (before after : List Accepted) (ps : List DataPoint) (k : ℕ) (p : DataPoint) → k < length ps → p ≡ get_or ps (length ps - 1 - k) p → before ++ (map (admitted b s) (worded w (take (length ps - k) ps)) ++ after) ≡ (before ++ map (admitted b s) (worded w (take (length ps - (k + 1)) ps))) ++ admitted b s (part_of (part_at w (length ps - 1 - k)) p) ∷ after
-last_out w b s before after ps k p l e =
+pub last_out : (part : Part) (b : ℕ) (s : List ℕ) (before after : List Accepted) (ps : List DataPoint) (k : ℕ) (p : DataPoint) → k < length ps → p ≡ get_or ps (length ps - 1 - k) p → before ++ (map (admitted b s) (parts_of part (take (length ps - k) ps)) ++ after) ≡ (before ++ map (admitted b s) (parts_of part (take (length ps - (k + 1)) ps))) ++ admitted b s (part_of part p) ∷ after
+last_out part b s before after ps k p l e =
     let f = admitted b s in
     let j = length ps - 1 - k in
-    let q = part_of (part_at w j) p in
+    let q = part_of part p in
     let here : length ps - k ≡ j + 1 = omega (arith, l) in
     let next : length ps - (k + 1) ≡ j = omega (arith, l) in
-    ap (λ n. before ++ (map f (worded w (take n ps)) ++ after)) here
-    ∙ (ap (λ ys. before ++ (map f ys ++ after)) (worded_at w j ps p (omega (arith, l)) e)
-    ∙ (ap (λ ys. before ++ (ys ++ after)) (map-append f (worded w (take j ps)) (q ∷ []))
-    ∙ (ap (λ ys. before ++ ys) (append_assoc (map f (worded w (take j ps))) (f q ∷ []) after)
-    ∙ (sym (append_assoc before (map f (worded w (take j ps))) (f q ∷ after))
-    ∙ ap (λ n. (before ++ map f (worded w (take n ps))) ++ f q ∷ after) (sym next)))))
+    ap (λ n. before ++ (map f (parts_of part (take n ps)) ++ after)) here
+    ∙ (ap (λ ys. before ++ (map f ys ++ after)) (parts_more part j ps p (omega (arith, l)) e)
+    ∙ (ap (λ ys. before ++ (ys ++ after)) (map-append f (parts_of part (take j ps)) (q ∷ []))
+    ∙ (ap (λ ys. before ++ ys) (append_assoc (map f (parts_of part (take j ps))) (f q ∷ []) after)
+    ∙ (sym (append_assoc before (map f (parts_of part (take j ps))) (f q ∷ after))
+    ∙ ap (λ n. (before ++ map f (parts_of part (take n ps))) ++ f q ∷ after) (sym next)))))
 
--- all have their words
-pub whole_batch : (cs : List CellView) (b n : ℕ) (s : List ℕ) (before after : List Accepted) (ps : List DataPoint) → length ps ≤ n → AreCells cs (before ++ (map (admitted b s) ps ++ after)) → AreCells cs (before ++ (map (admitted b s) (worded n ps) ++ after))
-whole_batch cs b n s before after ps l h = subst (λ (xs : List DataPoint). AreCells cs (before ++ (map (admitted b s) xs ++ after))) (sym (worded_all n ps l)) h
+-- all of each point is the point
+pub whole_batch : (cs : List CellView) (b : ℕ) (s : List ℕ) (before after : List Accepted) (ps : List DataPoint) → AreCells cs (before ++ (map (admitted b s) ps ++ after)) → AreCells cs (before ++ (map (admitted b s) (parts_of Whole ps) ++ after))
+whole_batch cs b s before after ps h = subst (λ (xs : List DataPoint). AreCells cs (before ++ (map (admitted b s) xs ++ after))) (sym (whole_parts ps)) h

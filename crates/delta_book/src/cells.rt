@@ -8,9 +8,8 @@ ghost use Rattle.metric_events.specs.Legal.{are_distinct, is_batch_home};
 ghost use Rattle.metric_events.specs.declared.accepted.Accepted.{Accepted};
 ghost use Rattle.series_cell.specs.Cells.{Stands, IsOfSame, AreTogether, HasHome, is_of_batch, lifted};
 ghost use Rattle.delta_book.specs.Tables.{AreCells, IsEntered, RemovesFrom, RemovesAll, IdAt, id_of, on_series};
-ghost use Rattle.delta_book.specs.Parts.{part_of, worded};
+ghost use Rattle.delta_book.specs.Parts.{part_of, parts_of};
 ghost use Rattle.delta_book.specs.Puts.{IsGap};
-ghost use Rattle.delta_book.specs.Parts as parts;
 
 use metric_events::batch::Batch;
 use metric_events::place::Place;
@@ -26,18 +25,6 @@ pub enum Part {
     Whole,
     /// Its span alone: the sums of its series lack its words.
     Span,
-}
-
-/// What is put of the point at this position of a batch, whose first `whole` points have their
-/// words.
-pub fn part_at(whole: usize, place: usize) -> Part
-    ensures { result ≡ parts.part_at whole place }
-{
-    if place < whole {
-        Part::Whole
-    } else {
-        Part::Span
-    }
 }
 
 /// The position of a series' cell, or the position where it belongs, by binary search.
@@ -187,15 +174,15 @@ fn remove_one(cells: &mut Vec<Cell>, point: &Point, part: Part, number: u64)
     }
 }
 
-/// Removes the points of a batch, whose first `whole` points have their words. The last one goes
-/// first: new cells that came in series order then go from the end, and move no other.
-pub fn remove_points(cells: &mut Vec<Cell>, batch: &[Point], whole: usize, number: u64)
-    requires { RemovesAll cells.old.items number (worded whole batch.now) }
-    ensures { (s : List ℕ) (before after : List Accepted) → AreCells cells.old.items (before ++ (map (admitted number s) (worded whole batch.now) ++ after)) → AreCells cells.new.items (before ++ after) }
+/// Removes this part of the points of a batch. The last one goes first: new cells that came in
+/// series order then go from the end, and move no other.
+pub fn remove_points(cells: &mut Vec<Cell>, batch: &[Point], part: Part, number: u64)
+    requires { RemovesAll cells.old.items number (parts_of part batch.now) }
+    ensures { (s : List ℕ) (before after : List Accepted) → AreCells cells.old.items (before ++ (map (admitted number s) (parts_of part batch.now) ++ after)) → AreCells cells.new.items (before ++ after) }
 {
     for k in 0..batch.len() {
         let i = batch.len() - 1 - k;
-        remove_one(cells, &batch[i], part_at(whole, i), number);
+        remove_one(cells, &batch[i], part, number);
     }
 }
 
@@ -204,7 +191,7 @@ pub fn remove_batch(cells: &mut Vec<Cell>, batch: &[Point], number: u64)
     requires { RemovesAll cells.old.items number batch.now }
     ensures { (s : List ℕ) (before after : List Accepted) → AreCells cells.old.items (before ++ (map (admitted number s) batch.now ++ after)) → AreCells cells.new.items (before ++ after) }
 {
-    remove_points(cells, batch, batch.len(), number);
+    remove_points(cells, batch, Part::Whole, number);
 }
 
 /// A point of a batch shares the identity of its series' cell, where there is one.

@@ -1,16 +1,19 @@
-//! Tests the limits of a batch: how many series there are, and how large their sums. They are
-//! read off the cells after the batch was put. After a failed allocation they are found without
-//! putting any of it. That allocates nothing either: each word of a sum is added up by itself.
-ghost use Rattle.std.specs.Prelude.{◌≡◌, ℕ, ◌++◌, List, not, true, map, length, nat_lt, if◌then◌else◌, ◌+◌, ◌*◌, ◌^◌, ◌-◌, ◌<◌, ◌≤◌};
-ghost use Rattle.std.specs.List.{list_any, All};
+//! Tests the limits of a batch: how many series there are, and how large their sums. Each row is
+//! tested before it is added to its cell's. After a failed allocation the limits are tested without
+//! putting any of the batch. That allocates nothing either: each word of a sum is added up by
+//! itself.
+ghost use Rattle.std.specs.Prelude.{◌≡◌, ℕ, ℤ, Bool, ◌&&◌, ◌++◌, List, map, length, sum, nat_le, nat_lt, if◌then◌else◌, ◌+◌, ◌*◌, ◌^◌, ◌-◌, ◌<◌, ◌≤◌};
+ghost use Rattle.std.specs.List.{All};
 ghost use Rattle.metric_events.specs.Rows as rows;
+ghost use Rattle.metric_events.specs.Rows.{add_rows};
+ghost use Rattle.series_id.specs.declared.kinds.Kind.TheVariants.{Sum, Histogram};
 ghost use Rattle.metric_events.specs.Points.{admitted};
-ghost use Rattle.metric_events.specs.Series.{is_of, series_count};
-ghost use Rattle.metric_events.specs.Legal.{is_over, is_too_large};
-ghost use Rattle.metric_events.specs.declared.limits.TheConstants.{MAX_SERIES};
+ghost use Rattle.metric_events.specs.Series.{series_count};
+ghost use Rattle.metric_events.specs.Legal.{is_too_large};
+ghost use Rattle.metric_events.specs.declared.limits.TheConstants.{MAX_SERIES, MAX_BUCKET, MAX_COUNT};
 ghost use Rattle.metric_events.specs.declared.accepted.Accepted.{Accepted};
 ghost use Rattle.delta_book.specs.declared.faults.AdmitFault.TheVariants.{TooManySeries, TooLarge};
-ghost use Rattle.delta_book.specs.Batches.{has_large, words_of, word_of, word_in, word_with, counts_over, is_over_by};
+ghost use Rattle.delta_book.specs.Batches.{has_large, word_of, word_in, word_with, counts_over, is_over_by};
 ghost use Rattle.delta_book.specs.Refusals.{limit_fault};
 ghost use Rattle.delta_book.specs.Tables.{AreCells, AreBooked};
 ghost use Rattle.series_id.specs.Identity.{row_length};
@@ -21,77 +24,78 @@ use crate::cells::find_cell;
 use crate::faults::AdmitFault;
 use crate::lists::word_at;
 use crate::slow::count_series;
-use bucket_lanes::total;
-use metric_events::limits::{MAX_COUNT, MAX_SERIES};
+use bucket_lanes::{fits, total};
+use metric_events::limits::{MAX_AMOUNT, MAX_BUCKET, MAX_COUNT, MAX_POINTS, MAX_SERIES, MAX_SUM};
 use metric_events::point::Point;
 use metric_events::row_limits::word_limit;
 use series_cell::cell::Cell;
 use series_id::{Kind, SharedId};
 
-/// A word of the row is over its limit.
-fn has_large_in(kind: &Kind, row: &[u64]) -> bool
-    ensures { result ≡ has_large (rows.word_limit kind.now) (words_of row.now) (length row.now) }
+/// Each sum of two words is at most `most`.
+fn are_within(row: &[u64], more: &[u64], most: u64) -> bool
+    requires { length row.now ≡ length more.now }
+    ensures { result ≡ rows.are_within (λ k. most) (add_rows row.now more.now) }
 {
-    for (k, word) in row.iter().enumerate() {
-        if word_limit(kind, k) < *word {
-            return true;
-        }
+    fits(row, more, most)
+}
+
+/// Two rows of a sum are within its limits together.
+fn is_sum_within(row: &[u64], more: &[u64]) -> bool
+    requires row { length row.now ≡ 3 }
+    requires more { length more.now ≡ 3 }
+    ensures { (monotonic : Bool) → result ≡ rows.fits (Sum monotonic) (add_rows row.now more.now) }
+{
+    are_within(&row[..1], &more[..1], MAX_POINTS) && are_within(&row[1..], &more[1..], MAX_AMOUNT)
+}
+
+/// The first three words of two histograms are within their limits together.
+fn is_head_within(row: &[u64], more: &[u64]) -> bool
+    requires row { length row.now ≡ 3 }
+    requires more { length more.now ≡ 3 }
+    ensures { (bounds : List ℤ) → result ≡ rows.are_within (rows.word_limit (Histogram bounds)) (add_rows row.now more.now) }
+{
+    are_within(&row[..2], &more[..2], MAX_POINTS) && are_within(&row[2..], &more[2..], MAX_SUM)
+}
+
+/// The counts of two rows of buckets are within the limit together.
+fn are_counts_within(row: &[u64], more: &[u64]) -> bool
+    ensures { result ≡ nat_le (sum (add_rows row.now more.now)) MAX_COUNT }
+{
+    let count = total(row);
+    let most = u128::from(MAX_COUNT);
+    if count > most {
+        return false;
     }
-    false
+    total(more) <= most - count
 }
 
-/// The buckets of a histogram's row.
-fn buckets_in(row: &[u64]) -> &[u64]
-    ensures { result.now ≡ rows.buckets_of row.now }
+/// The buckets of two histograms are within their limits together.
+fn are_buckets_within(row: &[u64], more: &[u64]) -> bool
+    requires { length row.now ≡ length more.now }
+    ensures { result ≡ (rows.are_within (λ k. MAX_BUCKET) (add_rows row.now more.now) && nat_le (sum (add_rows row.now more.now)) MAX_COUNT) }
 {
-    if row.len() < 3 { &[] } else { &row[3..] }
+    are_within(row, more, MAX_BUCKET) && are_counts_within(row, more)
 }
 
-/// A row is over the limits of its kind.
-fn is_row_over(kind: &Kind, row: &[u64]) -> bool
-    ensures { result ≡ not (rows.fits kind.now row.now) }
+/// Two rows of a histogram are within its limits together.
+fn is_histogram_within(row: &[u64], more: &[u64]) -> bool
+    requires row { 3 ≤ length row.now }
+    requires same { length row.now ≡ length more.now }
+    ensures { (bounds : List ℤ) → result ≡ rows.fits (Histogram bounds) (add_rows row.now more.now) }
+{
+    is_head_within(&row[..3], &more[..3]) && are_buckets_within(&row[3..], &more[3..])
+}
+
+/// Two rows of this kind are within its limits together.
+pub fn is_within(kind: &Kind, row: &[u64], more: &[u64]) -> bool
+    requires row { length row.now ≡ row_length kind.now }
+    requires more { length more.now ≡ row_length kind.now }
+    ensures { result ≡ rows.fits kind.now (add_rows row.now more.now) }
 {
     match kind {
-        Kind::Sum { .. } => has_large_in(kind, row),
-        Kind::Histogram { .. } => {
-            has_large_in(kind, row) || u128::from(MAX_COUNT) < total(buckets_in(row))
-        }
+        Kind::Sum { .. } => is_sum_within(row, more),
+        Kind::Histogram { .. } => is_histogram_within(row, more),
     }
-}
-
-/// The sum of a point's series is over a limit.
-fn is_sum_over(cells: &[Cell], point: &Point) -> bool
-    ensures { (qs : List Accepted) → AreCells cells.now qs → list_any (is_of point.now.series) qs ≡ true → result ≡ is_over qs point.now }
-{
-    match find_cell(cells, point.shared_series()) {
-        Some(i) => is_row_over(point.series().kind(), cells[i].accepted()),
-        None => false,
-    }
-}
-
-/// The sum of one of the batch's series is over a limit.
-fn has_sum_over(cells: &[Cell], batch: &[Point]) -> bool
-    ensures { (b : ℕ) (s : List ℕ) (qs : List Accepted) → AreCells cells.now (qs ++ map (admitted b s) batch.now) → result ≡ is_too_large (qs ++ map (admitted b s) batch.now) batch.now }
-{
-    for point in batch {
-        if is_sum_over(cells, point) {
-            return true;
-        }
-    }
-    false
-}
-
-/// The first limit that is exceeded, the batch being in the cells.
-pub fn find_passed(cells: &[Cell], batch: &[Point]) -> Option<AdmitFault>
-    ensures { (b : ℕ) (s : List ℕ) (qs : List Accepted) → AreCells cells.now (qs ++ map (admitted b s) batch.now) → result ≡ limit_fault (qs ++ map (admitted b s) batch.now) batch.now }
-{
-    if cells.len() > MAX_SERIES {
-        return Some(AdmitFault::TooManySeries);
-    }
-    if has_sum_over(cells, batch) {
-        return Some(AdmitFault::TooLarge);
-    }
-    None
 }
 
 /// The first limit that is exceeded, the spans of a batch with a too large sum being in the cells.

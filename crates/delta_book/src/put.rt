@@ -1,34 +1,33 @@
 //! Puts a batch into the cells, or refuses it and leaves the cells as they were.
 //!
-//! The points of a batch go into the cells one after another. Where one can't, those before it
-//! are removed, which allocates nothing. So a batch needs no search among its own points. Once a
-//! sum overflows 64 bits, only the spans of the remaining points go in, to find which refusal
-//! comes first; then the whole batch is removed.
-ghost use Rattle.std.specs.Prelude.{◌≡◌, ℕ, ◌-◌, ◌<◌, ◌≤◌, ◌^◌, ◌++◌, ◌∷◌, [], List, length, map, true, OnOk, OnErr, IfOk, IfErr, None, unwrap_or};
+//! The points of a batch go into the cells one after another. Where one is refused, those before it
+//! are removed, which allocates nothing. So a batch needs no search among its own points. Where a
+//! sum gets over its limits, a second pass puts the spans alone, to find which refusal comes first;
+//! then they are removed too.
+ghost use Rattle.std.specs.Prelude.{◌≡◌, ℕ, ◌<◌, ◌≤◌, ◌++◌, ◌∷◌, [], List, length, map, true, false, OnOk, OnErr, IfOk, IfErr, None, unwrap_or};
 ghost use Rattle.series_id.specs.Identity.{row_length};
-ghost use Rattle.bucket_lanes.specs.ByPlace.{Fits};
 ghost use Rattle.metric_events.specs.Points.{admitted};
+ghost use Rattle.metric_events.specs.Rows as rows;
+ghost use Rattle.metric_events.specs.Rows.{add_rows};
 ghost use Rattle.metric_events.specs.Series.{is_ascending};
 ghost use Rattle.metric_events.specs.Legal.{is_too_large};
 ghost use Rattle.metric_events.specs.declared.accepted.Accepted.{Accepted};
 ghost use Rattle.series_cell.specs.Cells.{Stands, IsOfSame, end_of};
 ghost use Rattle.delta_book.specs.Refusals.{point_fault, batch_fault};
 ghost use Rattle.delta_book.specs.Tables.{AreCells, AreSome, IdAt, id_of, AreBooked};
-ghost use Rattle.delta_book.specs.Parts.{IsPutBy, part_of, worded};
-ghost use Rattle.delta_book.specs.Puts.{IsGap, IsWide, Stops, StopsAt, fault_at, next_fault};
+ghost use Rattle.delta_book.specs.Parts.{part_of, parts_of};
+ghost use Rattle.delta_book.specs.Puts.{IsGap, Stops, StopsAt, StopsPart, fault_at, fits_with, next_fault};
 ghost use Rattle.std.specs.List.{All};
 ghost use Rattle.metric_events.specs.DataPoint.{IsPoint};
 ghost use Rattle.metric_events.specs.declared.limits.TheConstants.{MAX_SERIES};
 ghost use Rattle.delta_book.specs.declared.faults.AdmitFault.TheVariants.{NoMemory};
 ghost use Rattle.delta_book.specs.AtHome.{AreAccepted};
-ghost use Rattle.delta_book.specs.Parts as parts;
 
-use crate::cells::{Part, find_place, part_at, remove_batch, remove_points};
+use crate::cells::{Part, find_place, remove_batch, remove_points};
 use crate::faults::AdmitFault;
-use crate::limits::{find_passed, limit_of_large, slow_limit};
+use crate::limits::{is_within, limit_of_large, slow_limit};
 use crate::lists::points_to;
 use crate::slow::slow_fault;
-use bucket_lanes::fits;
 use metric_events::limits::MAX_SERIES;
 use metric_events::point::Point;
 use metric_events::sender_name::SenderName;
@@ -40,63 +39,61 @@ use std::alloc::{AllocError, Global};
 pub enum Stop {
     /// This is what refuses the batch.
     Fault(AdmitFault),
+    /// The sum of a series would be over its limits.
+    TooLarge,
     NoMemory,
 }
 
-/// How many points have their words, after the one at this position was put.
-pub fn whole_to(whole: usize, place: usize, put: Part) -> usize
-    ensures { result ≡ parts.whole_to whole place put }
-{
-    match put {
-        Part::Whole => whole,
-        Part::Span => whole.min(place),
-    }
-}
-
-/// What of a point is put: its span alone where that is asked for, or where a word of the sum
-/// would be over 64 bits.
-fn part_for(cell: &Cell, point: &Point, part: Part) -> Part
-    requires { length cell.now.accepted ≡ row_length point.now.series.kind }
-    ensures asked { IsPutBy part result (Fits (2 ^ 64 - 1) cell.now.accepted point.now.row → ⊥) }
-    ensures fits { result ≡ Part.Whole → Fits (2 ^ 64 - 1) cell.now.accepted point.now.row }
-{
-    match part {
-        Part::Whole if fits(cell.accepted(), point.row(), u64::MAX) => Part::Whole,
-        _ => Part::Span,
-    }
-}
-
-/// Puts this part of a point into the cell of its series, after all that is there.
-fn put_part(cell: &mut Cell, point: &Point, part: Part, number: u64) -> Result<(), AllocError>
-    requires series { point.now.series ≡ cell.old.id }
-    requires order { end_of cell.old ≤ point.now.span.start }
-    requires fits { part ≡ Part.Whole → Fits (2 ^ 64 - 1) cell.old.accepted point.now.row }
-    ensures put { OnOk result ((qs : List Accepted) → Stands cell.old qs → Stands cell.new (qs ++ admitted number cell.old.owner (part_of part point.now) ∷ [])) }
-    ensures kept { OnErr result ((qs : List Accepted) → Stands cell.old qs → Stands cell.new qs) }
-    ensures same { IsOfSame cell.old cell.new }
-{
-    match part {
-        Part::Whole => cell.put(point, number),
-        Part::Span => cell.put_span(point, number),
-    }
-}
-
-/// Puts a point into the cell of its series, and returns what of it was put.
-fn put_in(cell: &mut Cell, point: &Point, part: Part, number: u64) -> Result<Part, Stop>
+/// Puts a point into the cell of its series, after all that is there.
+fn put_whole(cell: &mut Cell, point: &Point, number: u64) -> Result<(), Stop>
     requires series { point.now.series ≡ cell.old.id }
     requires order { end_of cell.old ≤ point.now.span.start }
     requires long { length cell.old.accepted ≡ row_length cell.old.id.kind }
-    ensures put { IfOk result (λ put. (qs : List Accepted) → Stands cell.old qs → Stands cell.new (qs ++ admitted number cell.old.owner (part_of put point.now) ∷ [])) }
-    ensures asked { IfOk result (λ put. IsPutBy part put (Fits (2 ^ 64 - 1) cell.old.accepted point.now.row → ⊥)) }
+    ensures put { OnOk result ((qs : List Accepted) → Stands cell.old qs → Stands cell.new (qs ++ admitted number cell.old.owner point.now ∷ [])) }
+    ensures within { OnOk result (rows.fits point.now.series.kind (add_rows cell.old.accepted point.now.row) ≡ true) }
+    ensures kept { OnErr result ((qs : List Accepted) → Stands cell.old qs → Stands cell.new qs) }
+    ensures same { IsOfSame cell.old cell.new }
+    ensures stop { IfErr result (λ e. StopsPart e Part.Whole (rows.fits point.now.series.kind (add_rows cell.old.accepted point.now.row))) }
+{
+    if !is_within(point.series().kind(), cell.accepted(), point.row()) {
+        return Err(Stop::TooLarge);
+    }
+    if cell.put(point, number).is_err() {
+        return Err(Stop::NoMemory);
+    }
+    Ok(())
+}
+
+/// Puts the span of a point into the cell of its series, after all that is there.
+fn put_span(cell: &mut Cell, point: &Point, number: u64) -> Result<(), Stop>
+    requires series { point.now.series ≡ cell.old.id }
+    requires order { end_of cell.old ≤ point.now.span.start }
+    ensures put { OnOk result ((qs : List Accepted) → Stands cell.old qs → Stands cell.new (qs ++ admitted number cell.old.owner (part_of Part.Span point.now) ∷ [])) }
     ensures kept { OnErr result ((qs : List Accepted) → Stands cell.old qs → Stands cell.new qs) }
     ensures same { IsOfSame cell.old cell.new }
     ensures stop { IfErr result (λ e. e ≡ Stop.NoMemory) }
 {
-    let put = part_for(cell, point, part);
-    if put_part(cell, point, put, number).is_err() {
+    if cell.put_span(point, number).is_err() {
         return Err(Stop::NoMemory);
     }
-    Ok(put)
+    Ok(())
+}
+
+/// Puts this part of a point into the cell of its series, after all that is there.
+fn put_part(cell: &mut Cell, point: &Point, part: Part, number: u64) -> Result<(), Stop>
+    requires series { point.now.series ≡ cell.old.id }
+    requires order { end_of cell.old ≤ point.now.span.start }
+    requires long { length cell.old.accepted ≡ row_length cell.old.id.kind }
+    ensures put { OnOk result ((qs : List Accepted) → Stands cell.old qs → Stands cell.new (qs ++ admitted number cell.old.owner (part_of part point.now) ∷ [])) }
+    ensures within { OnOk result (part ≡ Part.Whole → rows.fits point.now.series.kind (add_rows cell.old.accepted point.now.row) ≡ true) }
+    ensures kept { OnErr result ((qs : List Accepted) → Stands cell.old qs → Stands cell.new qs) }
+    ensures same { IsOfSame cell.old cell.new }
+    ensures stop { IfErr result (λ e. StopsPart e part (rows.fits point.now.series.kind (add_rows cell.old.accepted point.now.row))) }
+{
+    match part {
+        Part::Whole => put_whole(cell, point, number),
+        Part::Span => put_span(cell, point, number),
+    }
 }
 
 /// Why a cell refuses a point of its series at this position of a batch.
@@ -113,7 +110,7 @@ fn find_at(cell: &Cell, sender: &SenderName, point: &Point, place: usize) -> Opt
     None
 }
 
-/// Puts a point into the cell at position `i`.
+/// Puts this part of a point into the cell at position `i`.
 fn put_at(
     cells: &mut [Cell],
     i: usize,
@@ -122,20 +119,20 @@ fn put_at(
     place: usize,
     part: Part,
     number: u64,
-) -> Result<Part, Stop>
+) -> Result<(), Stop>
     requires inside { i < length cells.old }
     requires there { IdAt cells.old i point.now.series }
     requires some { AreSome cells.old }
-    ensures put { IfOk result (λ put. (qs : List Accepted) → AreCells cells.old qs → AreCells cells.new (qs ++ admitted number sender.now (part_of put point.now) ∷ [])) }
-    ensures asked { IfOk result (λ put. (qs : List Accepted) → AreCells cells.old qs → IsPutBy part put (IsWide qs point.now)) }
+    ensures put { OnOk result ((qs : List Accepted) → AreCells cells.old qs → AreCells cells.new (qs ++ admitted number sender.now (part_of part point.now) ∷ [])) }
+    ensures within { OnOk result (part ≡ Part.Whole → (qs : List Accepted) → AreCells cells.old qs → fits_with qs point.now ≡ true) }
     ensures kept { OnErr result ((qs : List Accepted) → AreCells cells.old qs → AreCells cells.new qs) }
     ensures next { OnOk result ((qs : List Accepted) → AreCells cells.old qs → next_fault qs sender.now place point.now ≡ None) }
-    ensures stop { IfErr result (λ e. (qs : List Accepted) → AreCells cells.old qs → StopsAt e qs sender.now place point.now) }
+    ensures stop { IfErr result (λ e. (qs : List Accepted) → AreCells cells.old qs → StopsAt e part qs sender.now place point.now) }
 {
     if let Some(fault) = find_at(&cells[i], sender, point, place) {
         return Err(Stop::Fault(fault));
     }
-    put_in(&mut cells[i], point, part, number)
+    put_part(&mut cells[i], point, part, number)
 }
 
 /// A cell without a point, which shares this point's identity.
@@ -147,7 +144,7 @@ fn new_cell(alloc: Global, sender: &SenderName, point: &Point) -> Result<Cell, A
     Cell::of_shared(alloc, sender.copy(alloc)?, point.shared_series().share()?)
 }
 
-/// Puts a point into a new cell at position `i`.
+/// Puts this part of a point into a new cell at position `i`.
 fn open_at(
     alloc: Global,
     cells: &mut Vec<Cell>,
@@ -156,29 +153,28 @@ fn open_at(
     point: &Point,
     part: Part,
     number: u64,
-) -> Result<Part, Stop>
+) -> Result<(), Stop>
     requires inside { i ≤ length cells.old.items }
     requires gap { is_ascending (map id_of cells.old.items) ≡ true → IsGap cells.old.items i point.now.series }
-    ensures put { IfOk result (λ put. (qs : List Accepted) → AreCells cells.old.items qs → AreCells cells.new.items (qs ++ admitted number sender.now (part_of put point.now) ∷ [])) }
-    ensures asked { IfOk result (λ put. (qs : List Accepted) → AreCells cells.old.items qs → IsPutBy part put (IsWide qs point.now)) }
+    ensures put { OnOk result ((qs : List Accepted) → AreCells cells.old.items qs → AreCells cells.new.items (qs ++ admitted number sender.now (part_of part point.now) ∷ [])) }
+    ensures within { OnOk result (part ≡ Part.Whole → (qs : List Accepted) → AreCells cells.old.items qs → fits_with qs point.now ≡ true) }
     ensures kept { OnErr result ((qs : List Accepted) → AreCells cells.old.items qs → AreCells cells.new.items qs) }
     ensures next { OnOk result ((place : ℕ) (qs : List Accepted) → AreCells cells.old.items qs → next_fault qs sender.now place point.now ≡ None) }
-    ensures stop { IfErr result (λ e. (place : ℕ) (qs : List Accepted) → AreCells cells.old.items qs → StopsAt e qs sender.now place point.now) }
+    ensures stop { IfErr result (λ e. (place : ℕ) (qs : List Accepted) → AreCells cells.old.items qs → StopsAt e part qs sender.now place point.now) }
 {
     let Ok(mut cell) = new_cell(alloc, sender, point) else {
         return Err(Stop::NoMemory);
     };
-    let Ok(put) = put_in(&mut cell, point, part, number) else {
-        return Err(Stop::NoMemory);
-    };
+    if let Err(stop) = put_part(&mut cell, point, part, number) {
+        return Err(stop);
+    }
     let Ok(()) = cells.insert(i, cell) else {
         return Err(Stop::NoMemory);
     };
-    Ok(put)
+    Ok(())
 }
 
-/// Puts the point at this position of a batch, after those before it, and returns what of it was
-/// put.
+/// Puts this part of the point at this position of a batch, after those before it.
 fn put_next(
     alloc: Global,
     cells: &mut Vec<Cell>,
@@ -187,13 +183,13 @@ fn put_next(
     place: usize,
     part: Part,
     number: u64,
-) -> Result<Part, Stop>
+) -> Result<(), Stop>
     requires { AreSome cells.old.items }
-    ensures put { IfOk result (λ put. (qs : List Accepted) → AreCells cells.old.items qs → AreCells cells.new.items (qs ++ admitted number sender.now (part_of put point.now) ∷ [])) }
-    ensures asked { IfOk result (λ put. (qs : List Accepted) → AreCells cells.old.items qs → IsPutBy part put (IsWide qs point.now)) }
+    ensures put { OnOk result ((qs : List Accepted) → AreCells cells.old.items qs → AreCells cells.new.items (qs ++ admitted number sender.now (part_of part point.now) ∷ [])) }
+    ensures within { OnOk result (part ≡ Part.Whole → (qs : List Accepted) → AreCells cells.old.items qs → fits_with qs point.now ≡ true) }
     ensures kept { OnErr result ((qs : List Accepted) → AreCells cells.old.items qs → AreCells cells.new.items qs) }
     ensures next { OnOk result ((qs : List Accepted) → AreCells cells.old.items qs → next_fault qs sender.now place point.now ≡ None) }
-    ensures stop { IfErr result (λ e. (qs : List Accepted) → AreCells cells.old.items qs → StopsAt e qs sender.now place point.now) }
+    ensures stop { IfErr result (λ e. (qs : List Accepted) → AreCells cells.old.items qs → StopsAt e part qs sender.now place point.now) }
 {
     match find_place(cells, point.shared_series()) {
         Ok(i) => put_at(cells, i, sender, point, place, part, number),
@@ -201,66 +197,74 @@ fn put_next(
     }
 }
 
-/// Puts the points of a batch, or none of them: where one is refused or an allocation fails, those
-/// before it are removed. Returns how many, from the first on, have their words: all, or those
-/// before a sum that is over 64 bits. The others have their spans alone.
+/// Puts this part of each point of a batch, or of none: where one is refused, a sum is over its
+/// limits or an allocation fails, those before it are removed.
 fn put_points(
     alloc: Global,
     cells: &mut Vec<Cell>,
     sender: &SenderName,
     batch: &[Point],
+    part: Part,
     number: u64,
-) -> Result<usize, Stop>
+) -> Result<(), Stop>
     requires { AreSome cells.old.items }
-    ensures put { IfOk result (λ whole. (qs : List Accepted) → AreCells cells.old.items qs → AreCells cells.new.items (qs ++ map (admitted number sender.now) (worded whole batch.now))) }
+    ensures put { OnOk result ((qs : List Accepted) → AreCells cells.old.items qs → AreCells cells.new.items (qs ++ map (admitted number sender.now) (parts_of part batch.now))) }
     ensures none { OnOk result ((qs : List Accepted) → AreCells cells.old.items qs → point_fault qs sender.now 0 batch.now ≡ None) }
-    ensures large { IfOk result (λ whole. whole < length batch.now → (qs : List Accepted) → AreCells cells.old.items qs → is_too_large (qs ++ map (admitted 0 sender.now) batch.now) batch.now ≡ true) }
+    ensures within { OnOk result (part ≡ Part.Whole → (qs : List Accepted) → AreCells cells.old.items qs → is_too_large (qs ++ map (admitted number sender.now) batch.now) batch.now ≡ false) }
     ensures kept { OnErr result ((qs : List Accepted) → AreCells cells.old.items qs → AreCells cells.new.items qs) }
     ensures stop { IfErr result (λ e. (qs : List Accepted) → AreCells cells.old.items qs → Stops e qs sender.now batch.now) }
 {
-    let mut whole = batch.len();
     for (i, point) in batch.iter().enumerate() {
-        let part = part_at(whole, i);
-        match put_next(alloc, cells, sender, point, i, part, number) {
-            Ok(put) => whole = whole_to(whole, i, put),
-            Err(stop) => {
-                remove_points(cells, points_to(batch, i), whole, number);
-                return Err(stop);
-            }
+        if let Err(stop) = put_next(alloc, cells, sender, point, i, part, number) {
+            remove_points(cells, points_to(batch, i), part, number);
+            return Err(stop);
         }
     }
-    Ok(whole)
+    Ok(())
 }
 
-/// Puts the points of a batch, or none of them where one is refused, a sum is over 64 bits or an
-/// allocation fails.
-pub fn put_all(
+/// What stops a batch with a too large sum: a point, else the count of series, else the sum. The
+/// spans of the batch are put to find out, and removed.
+fn stop_of_large(
     alloc: Global,
     cells: &mut Vec<Cell>,
     sender: &SenderName,
     batch: &[Point],
     number: u64,
-) -> Result<(), Stop>
+) -> Stop
     requires { AreSome cells.old.items }
-    ensures put { OnOk result ((qs : List Accepted) → AreCells cells.old.items qs → AreCells cells.new.items (qs ++ map (admitted number sender.now) batch.now)) }
-    ensures none { OnOk result ((qs : List Accepted) → AreCells cells.old.items qs → point_fault qs sender.now 0 batch.now ≡ None) }
-    ensures kept { OnErr result ((qs : List Accepted) → AreCells cells.old.items qs → AreCells cells.new.items qs) }
-    ensures stop { IfErr result (λ e. (qs : List Accepted) → AreCells cells.old.items qs → Stops e qs sender.now batch.now) }
+    ensures kept { (qs : List Accepted) → AreCells cells.old.items qs → AreCells cells.new.items qs }
+    ensures stop { (qs : List Accepted) → AreCells cells.old.items qs → Stops Stop.TooLarge qs sender.now batch.now → Stops result qs sender.now batch.now }
 {
-    let whole = match put_points(alloc, cells, sender, batch, number) {
-        Ok(whole) => whole,
-        Err(stop) => return Err(stop),
-    };
-    if whole < batch.len() {
-        let fault = limit_of_large(cells);
-        remove_points(cells, batch, whole, number);
-        return Err(Stop::Fault(fault));
+    if let Err(stop) = put_points(alloc, cells, sender, batch, Part::Span, number) {
+        return stop;
     }
-    Ok(())
+    let fault = limit_of_large(cells);
+    remove_points(cells, batch, Part::Span, number);
+    Stop::Fault(fault)
+}
+
+/// What stops a batch first, of which nothing is in the cells.
+fn first_stop(
+    alloc: Global,
+    cells: &mut Vec<Cell>,
+    sender: &SenderName,
+    batch: &[Point],
+    number: u64,
+    stop: Stop,
+) -> Stop
+    requires { AreSome cells.old.items }
+    ensures kept { (qs : List Accepted) → AreCells cells.old.items qs → AreCells cells.new.items qs }
+    ensures stop { (qs : List Accepted) → AreCells cells.old.items qs → Stops stop qs sender.now batch.now → Stops result qs sender.now batch.now }
+{
+    match stop {
+        Stop::TooLarge => stop_of_large(alloc, cells, sender, batch, number),
+        Stop::Fault(_) | Stop::NoMemory => stop,
+    }
 }
 
 /// Puts a batch, or none of it where it is refused or an allocation fails.
-fn put_within(
+fn put_all(
     alloc: Global,
     cells: &mut Vec<Cell>,
     sender: &SenderName,
@@ -273,12 +277,12 @@ fn put_within(
     ensures kept { OnErr result ((qs : List Accepted) → AreCells cells.old.items qs → AreCells cells.new.items qs) }
     ensures stop { IfErr result (λ e. (qs : List Accepted) → AreCells cells.old.items qs → Stops e qs sender.now batch.now) }
 {
-    if let Err(stop) = put_all(alloc, cells, sender, batch, number) {
-        return Err(stop);
+    if let Err(stop) = put_points(alloc, cells, sender, batch, Part::Whole, number) {
+        return Err(first_stop(alloc, cells, sender, batch, number, stop));
     }
-    if let Some(fault) = find_passed(cells, batch) {
+    if cells.len() > MAX_SERIES {
         remove_batch(cells, batch, number);
-        return Err(Stop::Fault(fault));
+        return Err(Stop::Fault(AdmitFault::TooManySeries));
     }
     Ok(())
 }
@@ -305,7 +309,9 @@ fn refusal(cells: &[Cell], sender: &SenderName, batch: &[Point], stop: Stop) -> 
 {
     match stop {
         Stop::Fault(fault) => fault,
-        Stop::NoMemory => slow_refusal(cells, sender, batch).unwrap_or(AdmitFault::NoMemory),
+        Stop::TooLarge | Stop::NoMemory => {
+            slow_refusal(cells, sender, batch).unwrap_or(AdmitFault::NoMemory)
+        }
     }
 }
 
@@ -325,7 +331,7 @@ pub fn put_batch(
     ensures kept { OnErr result ((qs : List Accepted) → AreCells cells.old.items qs → AreCells cells.new.items qs) }
     ensures fault { IfErr result (λ e. (qs : List Accepted) → AreAccepted qs → AreCells cells.old.items qs → e ≡ unwrap_or (batch_fault qs sender.now batch.now) NoMemory) }
 {
-    match put_within(alloc, cells, sender, batch, number) {
+    match put_all(alloc, cells, sender, batch, number) {
         Ok(()) => Ok(()),
         Err(stop) => Err(refusal(cells, sender, batch, stop)),
     }

@@ -1,32 +1,51 @@
-use Rattle.std.proofs.Common.{◌++◌, [], List, map, refl, sym, subst}
+use Rattle.std.proofs.Common.{◌++◌, [], List, map, refl, subst, arith}
 use Rattle.metric_events.specs.DataPoint.{DataPoint}
 use Rattle.metric_events.specs.Points.{admitted}
-use Rattle.delta_book.specs.Parts.{worded}
 use Rattle.delta_book.specs.Tables.{AreCells}
-use Rattle.delta_book.proofs.PointFaults.{large_refused}
+use Rattle.delta_book.proofs.Parts.{whole_parts}
+use Rattle.delta_book.proofs.Passed.{many_series, few_series}
+use Rattle.delta_book.proofs.PointFaults.{many_refused, all_passed}
 use Rattle.delta_book.proofs.PutIn.{with_none, cells_without}
-use Rattle.delta_book.proofs.Worded.{worded_all}
 use Rattle.delta_book.proofs.put.put_all.Goals as goal
 
-pub remove_points-requires : goal.remove_points-requires
-remove_points-requires c =
+pub first_stop-requires : goal.first_stop-requires
+first_stop-requires c = let r = c.requires in (r.0, c.in-Err.ensures.kept r.0 r.1)
+
+pub returns-in-Err-clause-kept : goal.returns-in-Err-clause-kept
+returns-in-Err-clause-kept c = λ qs h. c.first_stop.ensures.kept qs (c.in-Err.ensures.kept qs h)
+
+pub returns-in-Err-clause-stop : goal.returns-in-Err-clause-stop
+returns-in-Err-clause-stop c = λ qs h. c.first_stop.ensures.stop qs (c.in-Err.ensures.kept qs h) (c.in-Err.ensures.stop qs h)
+
+pub remove_batch-requires : goal.remove_batch-requires
+remove_batch-requires c =
     let r = c.requires in
-    let ps = worded c.in-Ok.whole c.args.batch.now in (
-      c.args.sender.now,
-      (r.0, ([], with_none c.put_points.new.cells.items c.args.number c.args.sender.now r.0 ps ps refl (c.in-Ok.ensures.put r.0 r.1))),
-    )
+    let ps = c.args.batch.now in
+    let f = admitted c.args.number c.args.sender.now in
+    let there = subst (λ (xs : List DataPoint). AreCells c.put_points.new.cells.items (r.0 ++ map f xs)) (whole_parts ps) (c.in_default.ensures.put r.0 r.1) in
+    (c.args.sender.now, (r.0, ([], with_none c.put_points.new.cells.items c.args.number c.args.sender.now r.0 ps ps refl there)))
 
-pub returns-then-whole-batch-clause-kept : goal.returns-then-whole-batch-clause-kept
-returns-then-whole-batch-clause-kept c = λ qs h.
-    let ps = worded c.in-Ok.whole c.args.batch.now in
-    cells_without c.put_points.new.cells.items c.remove_points.new.cells.items c.args.number c.args.sender.now qs ps ps refl c.remove_points.ensures (c.in-Ok.ensures.put qs h)
+pub returns-then-len-gt-MAX_SERIES-clause-kept : goal.returns-then-len-gt-MAX_SERIES-clause-kept
+returns-then-len-gt-MAX_SERIES-clause-kept c = λ qs h.
+    let ps = c.args.batch.now in
+    let f = admitted c.args.number c.args.sender.now in
+    let there = subst (λ (xs : List DataPoint). AreCells c.put_points.new.cells.items (qs ++ map f xs)) (whole_parts ps) (c.in_default.ensures.put qs h) in
+    cells_without c.put_points.new.cells.items c.remove_batch.new.cells.items c.args.number c.args.sender.now qs ps ps refl c.remove_batch.ensures there
 
-pub returns-then-whole-batch-clause-stop : goal.returns-then-whole-batch-clause-stop
-returns-then-whole-batch-clause-stop c = λ qs h.
-    let all = qs ++ map (admitted c.args.number c.args.sender.now) (worded c.in-Ok.whole c.args.batch.now) in
-    large_refused c.in-Ok.whole c.args.number c.args.sender.now qs c.args.batch.now c.limit_of_large-fault.result (c.in-Ok.ensures.none qs h) (c.in-Ok.ensures.large c.if-whole-batch.true qs h)
-    (c.limit_of_large-fault.ensures all (subst (λ ks. AreCells ks all) (sym c.deref.ensures.value) (c.in-Ok.ensures.put qs h)))
+pub returns-then-len-gt-MAX_SERIES-clause-stop : goal.returns-then-len-gt-MAX_SERIES-clause-stop
+returns-then-len-gt-MAX_SERIES-clause-stop c = λ qs h.
+    let ps = c.args.batch.now in
+    let f = admitted c.args.number c.args.sender.now in
+    let there = subst (λ (xs : List DataPoint). AreCells c.put_points.new.cells.items (qs ++ map f xs)) (whole_parts ps) (c.in_default.ensures.put qs h) in
+    many_refused c.args.number c.args.sender.now qs ps (c.in_default.ensures.none qs h) (many_series c.put_points.new.cells.items (qs ++ map f ps) there (omega (arith, c.len.ensures, c.if-len-gt-MAX_SERIES.true)))
 
 pub returns-clause-put : goal.returns-clause-put
 returns-clause-put c = λ qs h.
-    subst (λ (ps : List DataPoint). AreCells c.put_points.new.cells.items (qs ++ map (admitted c.args.number c.args.sender.now) ps)) (worded_all c.in-Ok.whole c.args.batch.now c.if-whole-batch.false) (c.in-Ok.ensures.put qs h)
+    subst (λ (xs : List DataPoint). AreCells c.put_points.new.cells.items (qs ++ map (admitted c.args.number c.args.sender.now) xs)) (whole_parts c.args.batch.now) (c.in_default.ensures.put qs h)
+
+pub returns-clause-none : goal.returns-clause-none
+returns-clause-none c = λ qs h.
+    let ps = c.args.batch.now in
+    let f = admitted c.args.number c.args.sender.now in
+    let there = subst (λ (xs : List DataPoint). AreCells c.put_points.new.cells.items (qs ++ map f xs)) (whole_parts ps) (c.in_default.ensures.put qs h) in
+    all_passed c.args.number c.args.sender.now qs ps (c.in_default.ensures.none qs h) (few_series c.put_points.new.cells.items (qs ++ map f ps) there (omega (arith, c.len.ensures, c.if-len-gt-MAX_SERIES.false))) (c.in_default.ensures.within refl qs h)

@@ -2,7 +2,7 @@ use Rattle.std.proofs.Common.{◌∙◌, ap, sym, get_or}
 use Rattle.series_cell.specs.Cells.{CellView}
 use Rattle.delta_book.proofs.Asked.{cell_of}
 use Rattle.delta_book.specs.Parts.{part_of}
-use Rattle.delta_book.proofs.PutIn.{fault_is, clear, row_long, wide_of, put_by, no_memory, put_set, same_set, then_put, then_err, then_stop, any_ok}
+use Rattle.delta_book.proofs.PutIn.{fault_is, clear, row_long, fits_at, stops_at, put_set, same_set, then_ok, then_err, then_stop, any_ok}
 use Rattle.delta_book.proofs.Searching.{same_at}
 use Rattle.delta_book.proofs.Tables.{at_id}
 use Rattle.delta_book.proofs.put.put_at.Goals as goal
@@ -11,11 +11,11 @@ pub returns-in-Some-clause-stop : goal.returns-in-Some-clause-stop
 returns-in-Some-clause-stop c = λ qs h.
     sym (fault_is c.args.cells.now c.args.i (get_or c.args.cells.now c.args.i c.index-cells-i.result) qs c.args.sender.now c.args.place c.args.point.now c.requires.inside (ap (get_or c.args.cells.now c.args.i) c.index-cells-i.is) c.requires.there h) ∙ sym c.in-Some.ensures
 
-pub put_in-requires-clause-series : goal.put_in-requires-clause-series
-put_in-requires-clause-series c = sym (at_id c.args.cells.now c.args.i (get_or c.args.cells.now c.args.i c.index-cells-i-2.result) c.args.point.now.series c.requires.there (ap (get_or c.args.cells.now c.args.i) c.index-cells-i-2.is))
+pub put_part-requires-clause-series : goal.put_part-requires-clause-series
+put_part-requires-clause-series c = sym (at_id c.args.cells.now c.args.i (get_or c.args.cells.now c.args.i c.index-cells-i-2.result) c.args.point.now.series c.requires.there (ap (get_or c.args.cells.now c.args.i) c.index-cells-i-2.is))
 
-pub put_in-requires-clause-long : goal.put_in-requires-clause-long
-put_in-requires-clause-long c = row_long c.args.cells.now c.args.i (get_or c.args.cells.now c.args.i c.index-cells-i-2.result) c.requires.inside (ap (get_or c.args.cells.now c.args.i) c.index-cells-i-2.is) c.requires.some
+pub put_part-requires-clause-long : goal.put_part-requires-clause-long
+put_part-requires-clause-long c = row_long c.args.cells.now c.args.i (get_or c.args.cells.now c.args.i c.index-cells-i-2.result) c.requires.inside (ap (get_or c.args.cells.now c.args.i) c.index-cells-i-2.is) c.requires.some
 
 pub returns-clause-put : goal.returns-clause-put
 returns-clause-put c =
@@ -23,27 +23,31 @@ returns-clause-put c =
     let cell : CellView = get_or c.args.cells.now c.args.i c.index-cells-i-2.result in
     let e = ap (get_or c.args.cells.now c.args.i) c.index-cells-i-2.is in
     let same = same_at c.args.cells.now c.args.i old cell c.requires.inside (ap (get_or c.args.cells.now c.args.i) c.index-cells-i.is) e in
-    then_put c.put_in.result _ _
-    (λ put k qs h. put_set c.args.cells.now c.args.i cell c.put_in.new.cell c.args.number c.args.sender.now qs (part_of put c.args.point.now) c.requires.inside e c.requires.there (clear old cell c.args.sender.now c.args.place c.args.point.now same c.in_default.ensures).owner c.put_in.ensures.same k h)
-    c.put_in.ensures.put
+    then_ok c.put_part.result _ _
+    (λ k qs h. put_set c.args.cells.now c.args.i cell c.put_part.new.cell c.args.number c.args.sender.now qs (part_of c.args.part c.args.point.now) c.requires.inside e c.requires.there (clear old cell c.args.sender.now c.args.place c.args.point.now same c.in_default.ensures).owner c.put_part.ensures.same k h)
+    c.put_part.ensures.put
 
-pub returns-clause-asked : goal.returns-clause-asked
-returns-clause-asked c =
+pub returns-clause-within : goal.returns-clause-within
+returns-clause-within c =
     let cell : CellView = get_or c.args.cells.now c.args.i c.index-cells-i-2.result in
-    then_put c.put_in.result _ _
-    (λ put k qs h. put_by c.args.part put _ _ (wide_of cell qs c.args.point.now (cell_of c.args.cells.now qs c.args.i cell c.args.point.now.series h c.requires.inside (ap (get_or c.args.cells.now c.args.i) c.index-cells-i-2.is) c.requires.there).word) k)
-    c.put_in.ensures.asked
+    then_ok c.put_part.result _ _
+    (λ k w qs h. sym (fits_at cell qs c.args.point.now (cell_of c.args.cells.now qs c.args.i cell c.args.point.now.series h c.requires.inside (ap (get_or c.args.cells.now c.args.i) c.index-cells-i-2.is) c.requires.there).sum) ∙ k w)
+    c.put_part.ensures.within
 
 pub returns-clause-kept : goal.returns-clause-kept
 returns-clause-kept c =
-    then_err c.put_in.result _ _
-    (λ k qs h. same_set c.args.cells.now c.args.i (get_or c.args.cells.now c.args.i c.index-cells-i-2.result) c.put_in.new.cell c.args.point.now.series qs c.requires.inside (ap (get_or c.args.cells.now c.args.i) c.index-cells-i-2.is) c.requires.there c.put_in.ensures.same k h)
-    c.put_in.ensures.kept
+    then_err c.put_part.result _ _
+    (λ k qs h. same_set c.args.cells.now c.args.i (get_or c.args.cells.now c.args.i c.index-cells-i-2.result) c.put_part.new.cell c.args.point.now.series qs c.requires.inside (ap (get_or c.args.cells.now c.args.i) c.index-cells-i-2.is) c.requires.there c.put_part.ensures.same k h)
+    c.put_part.ensures.kept
 
 pub returns-clause-next : goal.returns-clause-next
 returns-clause-next c =
-    any_ok c.put_in.result _
+    any_ok c.put_part.result _
     (λ qs h. sym (fault_is c.args.cells.now c.args.i (get_or c.args.cells.now c.args.i c.index-cells-i.result) qs c.args.sender.now c.args.place c.args.point.now c.requires.inside (ap (get_or c.args.cells.now c.args.i) c.index-cells-i.is) c.requires.there h) ∙ sym c.in_default.ensures)
 
 pub returns-clause-stop : goal.returns-clause-stop
-returns-clause-stop c = then_stop c.put_in.result _ _ (λ e k qs h. no_memory e qs c.args.sender.now c.args.place c.args.point.now k) c.put_in.ensures.stop
+returns-clause-stop c =
+    let cell : CellView = get_or c.args.cells.now c.args.i c.index-cells-i-2.result in
+    then_stop c.put_part.result _ _
+    (λ e k qs h. stops_at e c.args.part _ qs c.args.sender.now c.args.place c.args.point.now (fits_at cell qs c.args.point.now (cell_of c.args.cells.now qs c.args.i cell c.args.point.now.series h c.requires.inside (ap (get_or c.args.cells.now c.args.i) c.index-cells-i-2.is) c.requires.there).sum) k)
+    c.put_part.ensures.stop

@@ -6,4 +6,4 @@ use Rattle.delta_book.proofs.put.put_batch.Goals as goal
 pub refusal-requires-clause-few : goal.refusal-requires-clause-few
 refusal-requires-clause-few c =
     let r = c.requires.accepted in
-    omega (arith, ap length c.deref.ensures.value, few_cells c.put_within.new.cells.items (r.0, (r.1.0, c.in-Err.ensures.kept (points r.0) r.1.1)))
+    omega (arith, ap length c.deref.ensures.value, few_cells c.put_all.new.cells.items (r.0, (r.1.0, c.in-Err.ensures.kept (points r.0) r.1.1)))
