@@ -1,22 +1,21 @@
 -- What the cells say of a series that a point of a batch is of.
 use Rattle.std.proofs.Common.{◌≡◌, ℕ, ◌<◌, Bool, true, false, not, ◌||◌, List, [], ◌∷◌, map, get_or, length, refl, ap, sym, ◌∙◌, subst, inl, inr, ◌⊎◌}
-use Rattle.std.specs.Prelude.{slice_index}
 use Rattle.std.specs.List.{list_any}
 use Rattle.std.proofs.lemmas.Bool.{or_parts}
-use Rattle.series_id.specs.Identity.{Identity}
+use Rattle.series_id.specs.Identity.{Identity, row_length}
 use Rattle.metric_events.specs.Points.{is_among}
-use Rattle.metric_events.specs.Series.{is_of, of_series, frontier, sum_of}
+use Rattle.metric_events.specs.Rows.{zeros}
+use Rattle.metric_events.specs.Series.{is_of, of_series, frontier, row_sum, sum_of}
 use Rattle.metric_events.specs.Senders.{same_sender}
 use Rattle.metric_events.specs.declared.accepted.Accepted.{Accepted}
+use Rattle.metric_events.proofs.Lists.{any_none, filter_none}
 use Rattle.metric_events.proofs.SeriesOnce.{among_in_order}
 use Rattle.series_cell.specs.Cells.{CellView, AllOwn, end_of}
 use Rattle.series_cell.proofs.Reading.{frontier_is}
 use Rattle.delta_book.specs.Tables.{AreCells, IdAt, id_of}
 use Rattle.delta_book.specs.Refusals.{has_other_writer}
-use Rattle.delta_book.specs.Batches.{word_of}
 use Rattle.delta_book.proofs.Tables.{stands_at, at_id}
 use Rattle.delta_book.proofs.CellTotals.{point_at, frontier_of}
-use Rattle.delta_book.proofs.Words.{word-sum}
 
 -- no cell is of the series
 pub none_of : (cs : List CellView) (qs : List Accepted) (x : Identity) → AreCells cs qs → is_among x (map id_of cs) ≡ false → list_any (is_of x) qs ≡ false
@@ -29,10 +28,6 @@ no_writer x s (a ∷ qs) h = let p = or_parts (is_of x a) (list_any (is_of x) qs
 no_end : (x : Identity) (qs : List Accepted) → list_any (is_of x) qs ≡ false → frontier x qs ≡ 0
 no_end x [] h = refl
 no_end x (a ∷ qs) h = let p = or_parts (is_of x a) (list_any (is_of x) qs) h in rw p.0 (no_end x qs p.1)
-
-no_word : (x : Identity) (k : ℕ) (qs : List Accepted) → list_any (is_of x) qs ≡ false → word_of x k qs ≡ 0
-no_word x k [] h = refl
-no_word x k (a ∷ qs) h = let p = or_parts (is_of x a) (list_any (is_of x) qs) h in rw p.0 (no_word x k qs p.1)
 
 writer_of : (o : List ℕ) (x : Identity) (s : List ℕ) (qs : List Accepted) → AllOwn o x (of_series x qs) → list_any (is_of x) qs ≡ true → has_other_writer qs x s ≡ not (same_sender o s)
 writer_of o x s [] h m = absurd (let q : false ≡ true = m in cc)
@@ -72,15 +67,14 @@ writer_none cs qs x s h n = no_writer x s qs (none_of cs qs x h n)
 pub end_none : (cs : List CellView) (qs : List Accepted) (x : Identity) → AreCells cs qs → is_among x (map id_of cs) ≡ false → frontier x qs ≡ 0
 end_none cs qs x h n = no_end x qs (none_of cs qs x h n)
 
-pub word_none : (cs : List CellView) (qs : List Accepted) (x : Identity) (k : ℕ) → AreCells cs qs → is_among x (map id_of cs) ≡ false → word_of x k qs ≡ 0
-word_none cs qs x k h n = no_word x k qs (none_of cs qs x h n)
+pub sum_none : (cs : List CellView) (qs : List Accepted) (x : Identity) → AreCells cs qs → is_among x (map id_of cs) ≡ false → sum_of x qs ≡ zeros (row_length x.kind)
+sum_none cs qs x h n = ap (row_sum (row_length x.kind)) (filter_none (is_of x) qs (any_none (is_of x) qs (none_of cs qs x h n)))
 
 -- the cell of the series
 pub record CellOf (c : CellView) (qs : List Accepted) (x : Identity) : Type 0 where
   pub writer : (s : List ℕ) → has_other_writer qs x s ≡ not (same_sender c.owner s)
   pub end : end_of c ≡ frontier x qs
   pub sum : c.accepted ≡ sum_of x qs
-  pub word : (k : ℕ) → slice_index c.accepted k ≡ word_of x k qs
 
 pub cell_of : (cs : List CellView) (qs : List Accepted) (i : ℕ) (c : CellView) (x : Identity) → AreCells cs qs → i < length cs → c ≡ get_or cs i c → IdAt cs i x → CellOf c qs x
 cell_of cs qs i c x h l e a =
@@ -90,5 +84,4 @@ cell_of cs qs i c x h l e a =
       writer = λ s. writer_of c.owner c.id s qs st.own has;
       end = frontier_is c (of_series c.id qs) st ∙ frontier_of c.id qs;
       sum = st.accepted;
-      word = λ k. ap (λ r. slice_index r k) st.accepted ∙ word-sum c.id k qs;
     })

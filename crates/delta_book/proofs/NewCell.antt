@@ -7,7 +7,8 @@ use Rattle.series_id.specs.Order.{same_series, series_before}
 use Rattle.series_id.proofs.Order.{before-apart, before-transitive}
 use Rattle.metric_events.specs.DataPoint.{DataPoint}
 use Rattle.metric_events.specs.Points.{admitted, is_among}
-use Rattle.metric_events.specs.Series.{is_of, of_series, frontier, is_ascending, row_sum, sum_of}
+use Rattle.metric_events.specs.Rows.{zeros}
+use Rattle.metric_events.specs.Series.{is_of, of_series, frontier, is_ascending, sum_of}
 use Rattle.metric_events.specs.declared.accepted.Accepted.{Accepted}
 use Rattle.metric_events.proofs.Identities.{same_of, same_series-turned}
 use Rattle.metric_events.proofs.Lists.{all_append, all_weaker, any_append_left, any_append_right, any_none, filter_none}
@@ -15,7 +16,7 @@ use Rattle.series_cell.specs.Cells.{CellView, Stands, end_of}
 use Rattle.series_cell.proofs.Standing.{end_is}
 use Rattle.delta_book.specs.Puts.{IsGap, next_fault}
 use Rattle.delta_book.specs.Tables.{AreCells, AllStand, id_of}
-use Rattle.delta_book.proofs.Asked.{none_of, writer_none, end_none}
+use Rattle.delta_book.proofs.Asked.{none_of, writer_none, end_none, sum_none}
 use Rattle.delta_book.proofs.PutIn.{cells_of_table, of_more, of_own}
 use Rattle.delta_book.proofs.Removing.{table_of}
 use Rattle.delta_book.proofs.Tables.{others_stand}
@@ -124,8 +125,8 @@ pub sum_new : (cs : List CellView) (i : ℕ) (d : CellView) (qs : List Accepted)
 sum_new cs i d qs x gap e st h =
     let u = (table_of cs qs h).ascending in
     st.accepted
-    ∙ (ap (λ (y : Identity). row_sum (row_length y.kind) []) e
-    ∙ ap (row_sum (row_length x.kind)) (sym (filter_none (is_of x) qs (any_none (is_of x) qs (none_of cs qs x h (gap_absent cs i x u (gap u)))))))
+    ∙ (ap (λ (y : Identity). zeros (row_length y.kind)) e
+    ∙ sym (sum_none cs qs x h (gap_absent cs i x u (gap u))))
 
 pub end_new : (d : CellView) (start : ℕ) → Stands d [] → end_of d ≤ start
 end_new d start st = omega (arith, end_is d [] st)

@@ -2,18 +2,18 @@
 //! tested before it is added to its cell's. After a failed allocation the limits are tested without
 //! putting any of the batch. That allocates nothing either: each word of a sum is added up by
 //! itself.
-ghost use Rattle.std.specs.Prelude.{◌≡◌, ℕ, ℤ, Bool, ◌&&◌, ◌++◌, List, map, length, sum, nat_le, nat_lt, if◌then◌else◌, ◌+◌, ◌*◌, ◌^◌, ◌-◌, ◌<◌, ◌≤◌};
+ghost use Rattle.std.specs.Prelude.{◌≡◌, ℕ, ℤ, Bool, not, slice_index, ◌&&◌, ◌++◌, List, map, length, sum, nat_le, nat_lt, if◌then◌else◌, ◌+◌, ◌*◌, ◌^◌, ◌-◌, ◌<◌, ◌≤◌};
 ghost use Rattle.std.specs.List.{All};
 ghost use Rattle.metric_events.specs.Rows as rows;
 ghost use Rattle.metric_events.specs.Rows.{add_rows};
 ghost use Rattle.series_id.specs.declared.kinds.Kind.TheVariants.{Sum, Histogram};
 ghost use Rattle.metric_events.specs.Points.{admitted};
-ghost use Rattle.metric_events.specs.Series.{series_count};
+ghost use Rattle.metric_events.specs.Series.{series_count, sum_of};
 ghost use Rattle.metric_events.specs.Legal.{is_too_large};
 ghost use Rattle.metric_events.specs.declared.limits.TheConstants.{MAX_SERIES, MAX_BUCKET, MAX_COUNT};
 ghost use Rattle.metric_events.specs.declared.accepted.Accepted.{Accepted};
 ghost use Rattle.delta_book.specs.declared.faults.AdmitFault.TheVariants.{TooManySeries, TooLarge};
-ghost use Rattle.delta_book.specs.Batches.{has_large, word_of, word_in, word_with, counts_over, is_over_by};
+ghost use Rattle.delta_book.specs.Batches.{word_in, sum_with};
 ghost use Rattle.delta_book.specs.Refusals.{limit_fault};
 ghost use Rattle.delta_book.specs.Tables.{AreCells, AreBooked};
 ghost use Rattle.series_id.specs.Identity.{row_length};
@@ -110,7 +110,7 @@ pub fn limit_of_large(cells: &[Cell]) -> AdmitFault
 }
 
 fn accepted_word(cells: &[Cell], series: &SharedId, k: usize) -> u128
-    ensures value { (qs : List Accepted) → AreCells cells.now qs → result ≡ word_of series.now k qs }
+    ensures value { (qs : List Accepted) → AreCells cells.now qs → result ≡ slice_index (sum_of series.now qs) k }
     ensures few { result < 2 ^ 64 }
 {
     match find_cell(cells, series) {
@@ -134,7 +134,7 @@ fn batch_word(batch: &[Point], series: &SharedId, k: usize) -> u128
 
 /// Word `k` of the sum of a series with the batch's points.
 fn word_total(cells: &[Cell], batch: &[Point], series: &SharedId, k: usize) -> u128
-    ensures value { (qs : List Accepted) → AreCells cells.now qs → result ≡ word_with series.now qs batch.now k }
+    ensures value { (b : ℕ) (s : List ℕ) (qs : List Accepted) → AreCells cells.now qs → result ≡ slice_index (sum_with b s series.now qs batch.now) k }
     ensures few { result ≤ (1 + length batch.now) * 2 ^ 64 }
 {
     accepted_word(cells, series, k) + batch_word(batch, series, k)
@@ -142,14 +142,14 @@ fn word_total(cells: &[Cell], batch: &[Point], series: &SharedId, k: usize) -> u
 
 /// Word `k` of the sum is over its limit.
 fn is_word_large(cells: &[Cell], batch: &[Point], series: &SharedId, k: usize) -> bool
-    ensures { (qs : List Accepted) → AreCells cells.now qs → result ≡ nat_lt (rows.word_limit series.now.kind k) (word_with series.now qs batch.now k) }
+    ensures { (b : ℕ) (s : List ℕ) (qs : List Accepted) → AreCells cells.now qs → result ≡ nat_lt (rows.word_limit series.now.kind k) (slice_index (sum_with b s series.now qs batch.now) k) }
 {
     u128::from(word_limit(series.as_series().kind(), k)) < word_total(cells, batch, series, k)
 }
 
-/// One of the first `n` words is over its limit.
+/// One of the `n` words of the sum is over its limit.
 fn has_large_word(cells: &[Cell], batch: &[Point], series: &SharedId, n: usize) -> bool
-    ensures { (qs : List Accepted) → AreCells cells.now qs → result ≡ has_large (rows.word_limit series.now.kind) (word_with series.now qs batch.now) n }
+    ensures { (b : ℕ) (s : List ℕ) (qs : List Accepted) → AreCells cells.now qs → length (sum_with b s series.now qs batch.now) ≡ n → result ≡ not (rows.are_within (rows.word_limit series.now.kind) (sum_with b s series.now qs batch.now)) }
 {
     for k in 0..n {
         if is_word_large(cells, batch, series, k) {
@@ -159,10 +159,10 @@ fn has_large_word(cells: &[Cell], batch: &[Point], series: &SharedId, n: usize) 
     false
 }
 
-/// The words from the fourth on are over their limit together.
+/// The buckets among the `n` words of the sum are over their limit together.
 fn has_many_counts(cells: &[Cell], batch: &[Point], series: &SharedId, n: usize) -> bool
     requires { 3 ≤ n }
-    ensures { (qs : List Accepted) → AreCells cells.now qs → result ≡ counts_over (word_with series.now qs batch.now) (n - 3) }
+    ensures { (b : ℕ) (s : List ℕ) (qs : List Accepted) → AreCells cells.now qs → length (sum_with b s series.now qs batch.now) ≡ n → result ≡ nat_lt MAX_COUNT (sum (rows.buckets_of (sum_with b s series.now qs batch.now))) }
 {
     let mut total = 0;
     for k in 3..n {
@@ -176,7 +176,7 @@ fn has_many_counts(cells: &[Cell], batch: &[Point], series: &SharedId, n: usize)
 
 /// The sum of a series with the batch's points is over a limit.
 fn is_series_over(cells: &[Cell], batch: &[Point], series: &SharedId) -> bool
-    ensures { (qs : List Accepted) → AreCells cells.now qs → result ≡ is_over_by series.now.kind (word_with series.now qs batch.now) (row_length series.now.kind) }
+    ensures { (b : ℕ) (s : List ℕ) (qs : List Accepted) → AreCells cells.now qs → length (sum_with b s series.now qs batch.now) ≡ row_length series.now.kind → result ≡ not (rows.fits series.now.kind (sum_with b s series.now qs batch.now)) }
 {
     let n = series.as_series().row_len();
     match series.as_series().kind() {

@@ -1,9 +1,10 @@
-use Rattle.std.proofs.Common.{◌≡◌, List, false}
+use Rattle.std.proofs.Common.{ℕ, List, ◌<◌, ◌≤◌}
+use Rattle.std.specs.Prelude.{slice_index}
 use Rattle.metric_events.specs.Rows.{word_limit}
-use Rattle.delta_book.specs.Batches.{has_large, word_with}
+use Rattle.delta_book.specs.Batches.{sum_with}
 use Rattle.metric_events.specs.declared.accepted.Accepted.{Accepted}
 use Rattle.delta_book.specs.Tables.{AreCells}
 use Rattle.delta_book.proofs.limits.has_large_word.Given as goal
 
 abbrev pub invariant-loop-k : goal.invariant-loop-k
-invariant-loop-k l = (qs : List Accepted) → AreCells l.cells qs → has_large (word_limit l.series.kind) (word_with l.series qs l.batch) l.k ≡ false
+invariant-loop-k l = (b : ℕ) (s : List ℕ) (qs : List Accepted) → AreCells l.cells qs → (j : ℕ) → j < l.k → slice_index (sum_with b s l.series qs l.batch) j ≤ word_limit l.series.kind j

@@ -1,11 +1,26 @@
-use Rattle.std.proofs.Common.{◌-◌, ◌+◌, sym, arith}
-use Rattle.std.proofs.lemmas.Bool.{lt-ltb}
+use Rattle.std.proofs.Common.{sym, ap, drop, sum, arith}
+use Rattle.std.proofs.lemmas.Bool.{lt-ltb, le-ltb}
+use Rattle.std.proofs.lemmas.List.{drop_all}
 use Rattle.metric_events.specs.declared.limits.TheConstants.{MAX_COUNT}
-use Rattle.delta_book.specs.Batches.{word_with, counts}
-use Rattle.delta_book.proofs.Words.{counts_more, counts_on}
+use Rattle.delta_book.specs.Batches.{sum_with}
+use Rattle.delta_book.proofs.Words.{sum_rest}
 use Rattle.delta_book.proofs.limits.has_many_counts.Goals as goal
 
 pub returns-then-total-from : goal.returns-then-total-from
-returns-then-total-from c = λ qs h.
-    let w = word_with c.args.series.now qs c.args.batch.now in
-    sym (lt-ltb MAX_COUNT (counts w (c.args.n - 3)) (omega (arith, counts_on w c.loop-k.k c.loop-k.auto.k, counts_more w (c.loop-k.k - 3 + 1) (c.args.n - 3) (omega (arith, c.loop-k-test.true, c.loop-k.auto.k)), c.loop-k.invariant.sum qs h, c.word_total-total.ensures.value qs h, c.from.ensures, c.if-total-from.true)))
+returns-then-total-from c = λ b s qs h n.
+    let row = sum_with b s c.args.series.now qs c.args.batch.now in
+    let k = c.loop-k.k in
+    sym (lt-ltb MAX_COUNT (sum (drop 3 row)) (omega (arith, sum_rest row k (omega (arith, n, c.loop-k-test.true)), c.loop-k.invariant.sum b s qs h n, c.word_total-total.ensures.value b s qs h, c.from.ensures, c.if-total-from.true)))
+
+pub loop-k-preserved : goal.loop-k-preserved
+loop-k-preserved c = record {
+  few = omega (arith, c.from.ensures, c.if-total-from.false);
+  sum = λ b s qs h n.
+      let row = sum_with b s c.args.series.now qs c.args.batch.now in
+      omega (arith, sum_rest row c.loop-k.k (omega (arith, n, c.loop-k-test.true)), c.loop-k.invariant.sum b s qs h n, c.word_total-total.ensures.value b s qs h);
+}
+
+pub returns : goal.returns
+returns c = λ b s qs h n.
+    let row = sum_with b s c.args.series.now qs c.args.batch.now in
+    sym (le-ltb MAX_COUNT (sum (drop 3 row)) (omega (arith, c.loop-k.invariant.few, c.loop-k.invariant.sum b s qs h n, ap sum (drop_all c.loop-k.k row (omega (arith, n, c.loop-k-test.false))))))
