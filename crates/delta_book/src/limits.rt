@@ -98,11 +98,18 @@ pub fn is_within(kind: &Kind, row: &[u64], more: &[u64]) -> bool
     }
 }
 
+/// There are more series than there may be.
+pub fn has_many(cells: &[Cell]) -> bool
+    ensures { (qs : List Accepted) → AreCells cells.now qs → result ≡ nat_lt MAX_SERIES (series_count qs) }
+{
+    cells.len() > MAX_SERIES
+}
+
 /// The first limit that is exceeded, the spans of a batch with a too large sum being in the cells.
 pub fn limit_of_large(cells: &[Cell]) -> AdmitFault
     ensures { (qs : List Accepted) → AreCells cells.now qs → result ≡ (if nat_lt MAX_SERIES (series_count qs) then TooManySeries else TooLarge) }
 {
-    if MAX_SERIES < cells.len() {
+    if has_many(cells) {
         AdmitFault::TooManySeries
     } else {
         AdmitFault::TooLarge

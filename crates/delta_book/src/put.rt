@@ -25,10 +25,9 @@ ghost use Rattle.delta_book.specs.AtHome.{AreAccepted};
 
 use crate::cells::{Part, find_place, remove_batch, remove_points};
 use crate::faults::AdmitFault;
-use crate::limits::{is_within, limit_of_large, slow_limit};
+use crate::limits::{has_many, is_within, limit_of_large, slow_limit};
 use crate::lists::points_to;
 use crate::slow::slow_fault;
-use metric_events::limits::MAX_SERIES;
 use metric_events::point::Point;
 use metric_events::sender_name::SenderName;
 use series_cell::cell::Cell;
@@ -280,7 +279,7 @@ fn put_all(
     if let Err(stop) = put_points(alloc, cells, sender, batch, Part::Whole, number) {
         return Err(first_stop(alloc, cells, sender, batch, number, stop));
     }
-    if cells.len() > MAX_SERIES {
+    if has_many(cells) {
         remove_batch(cells, batch, number);
         return Err(Stop::Fault(AdmitFault::TooManySeries));
     }

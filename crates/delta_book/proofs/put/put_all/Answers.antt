@@ -1,9 +1,8 @@
-use Rattle.std.proofs.Common.{◌++◌, [], List, map, refl, subst, arith}
+use Rattle.std.proofs.Common.{◌++◌, [], List, map, refl, subst, sym, ◌∙◌}
 use Rattle.metric_events.specs.DataPoint.{DataPoint}
 use Rattle.metric_events.specs.Points.{admitted}
 use Rattle.delta_book.specs.Tables.{AreCells}
 use Rattle.delta_book.proofs.Parts.{whole_parts}
-use Rattle.delta_book.proofs.Passed.{many_series, few_series}
 use Rattle.delta_book.proofs.PointFaults.{many_refused, all_passed}
 use Rattle.delta_book.proofs.PutIn.{with_none, cells_without}
 use Rattle.delta_book.proofs.put.put_all.Goals as goal
@@ -25,19 +24,19 @@ remove_batch-requires c =
     let there = subst (λ (xs : List DataPoint). AreCells c.put_points.new.cells.items (r.0 ++ map f xs)) (whole_parts ps) (c.in_default.ensures.put r.0 r.1) in
     (c.args.sender.now, (r.0, ([], with_none c.put_points.new.cells.items c.args.number c.args.sender.now r.0 ps ps refl there)))
 
-pub returns-then-len-gt-MAX_SERIES-clause-kept : goal.returns-then-len-gt-MAX_SERIES-clause-kept
-returns-then-len-gt-MAX_SERIES-clause-kept c = λ qs h.
+pub returns-then-has_many-clause-kept : goal.returns-then-has_many-clause-kept
+returns-then-has_many-clause-kept c = λ qs h.
     let ps = c.args.batch.now in
     let f = admitted c.args.number c.args.sender.now in
     let there = subst (λ (xs : List DataPoint). AreCells c.put_points.new.cells.items (qs ++ map f xs)) (whole_parts ps) (c.in_default.ensures.put qs h) in
     cells_without c.put_points.new.cells.items c.remove_batch.new.cells.items c.args.number c.args.sender.now qs ps ps refl c.remove_batch.ensures there
 
-pub returns-then-len-gt-MAX_SERIES-clause-stop : goal.returns-then-len-gt-MAX_SERIES-clause-stop
-returns-then-len-gt-MAX_SERIES-clause-stop c = λ qs h.
+pub returns-then-has_many-clause-stop : goal.returns-then-has_many-clause-stop
+returns-then-has_many-clause-stop c = λ qs h.
     let ps = c.args.batch.now in
     let f = admitted c.args.number c.args.sender.now in
     let there = subst (λ (xs : List DataPoint). AreCells c.put_points.new.cells.items (qs ++ map f xs)) (whole_parts ps) (c.in_default.ensures.put qs h) in
-    many_refused c.args.number c.args.sender.now qs ps (c.in_default.ensures.none qs h) (many_series c.put_points.new.cells.items (qs ++ map f ps) there (omega (arith, c.len.ensures, c.if-len-gt-MAX_SERIES.true)))
+    many_refused c.args.number c.args.sender.now qs ps (c.in_default.ensures.none qs h) (sym (c.has_many.ensures (qs ++ map f ps) (subst (λ ks. AreCells ks (qs ++ map f ps)) (sym c.deref.ensures.value) there)) ∙ c.if-has_many.true)
 
 pub returns-clause-put : goal.returns-clause-put
 returns-clause-put c = λ qs h.
@@ -48,4 +47,4 @@ returns-clause-none c = λ qs h.
     let ps = c.args.batch.now in
     let f = admitted c.args.number c.args.sender.now in
     let there = subst (λ (xs : List DataPoint). AreCells c.put_points.new.cells.items (qs ++ map f xs)) (whole_parts ps) (c.in_default.ensures.put qs h) in
-    all_passed c.args.number c.args.sender.now qs ps (c.in_default.ensures.none qs h) (few_series c.put_points.new.cells.items (qs ++ map f ps) there (omega (arith, c.len.ensures, c.if-len-gt-MAX_SERIES.false))) (c.in_default.ensures.within refl qs h)
+    all_passed c.args.number c.args.sender.now qs ps (c.in_default.ensures.none qs h) (sym (c.has_many.ensures (qs ++ map f ps) (subst (λ ks. AreCells ks (qs ++ map f ps)) (sym c.deref.ensures.value) there)) ∙ c.if-has_many.false) (c.in_default.ensures.within refl qs h)
