@@ -1,5 +1,5 @@
 -- What the loops of workers come to.
-use Rattle.std.specs.Prelude.{◌≡◌, ℕ, List, [], ◌∷◌, Option}
+use Rattle.std.specs.Prelude.{◌≡◌, ℕ, List, [], ◌∷◌, Option, Some}
 use Rattle.back_answers.specs.declared.answer.Answer.{Answer}
 use Rattle.gate_workers.specs.declared.service.Served.{Served}
 use Rattle.gate_workers.specs.declared.flush.Turn.{Turn}
@@ -12,10 +12,11 @@ abbrev pub IsServedOnce : {K : Type 0} → Giving K → K → K → Served → T
 IsServedOnce gives k k' served =
     (input : Option (List ℕ)) × (old : Option (List ℕ)) × (new : Option (List ℕ)) × IsServed gives input k k' old new served
 
--- so many requests were served one after another, and nothing else was done; the latest comes first
-abbrev pub AreServed : {K : Type 0} → Giving K → List Served → K → K → Type 0
-AreServed gives [] k k' = k ≡ k'
-AreServed {K} gives (s ∷ ss) k k' = (m : K) × AreServed gives ss k m × IsServedOnce gives m k' s
+-- so many connections were given and each was served once, one after another, and nothing else was done; the latest comes first
+abbrev pub AreServed : {S C K : Type 0} → (S → Option C → S → Type 0) → Giving K → List Served → S → S → K → K → Type 0
+AreServed given gives [] s t k k' = (s ≡ t) × (k ≡ k')
+AreServed {S} {C} {K} given gives (x ∷ xs) s t k k' =
+    (u : S) × (m : K) × AreServed given gives xs s u k m × (c : C) × given u (Some c) t × IsServedOnce gives m k' x
 
 -- so many turns were made one after another, and nothing else was done or sent; the latest comes first
 abbrev pub AreMade : {K U : Type 0} → Giving K → (U → List ℕ → Answer → U → Type 0) → ℕ → List Turn → K → K → U → U → Type 0

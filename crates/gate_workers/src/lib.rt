@@ -30,4 +30,4 @@ pub use refusal::{Allowed, Refusal};
 pub use service::{End, Served, serve, serve_book, serve_with};
 pub use shared_keeper::SharedKeeper;
 pub use store::{Keeper, Store};
-pub use worker::{Connection, NoPace, Pace, Spot, flusher_loop, receiver_loop};
+pub use worker::{Connection, Connections, NoPace, Pace, Spot, flusher_loop, receiver_loop};

@@ -1,6 +1,6 @@
-//! The loops of workers, and what they work on. Each works until its channel is empty and closed.
+//! The loops of workers, and what they work on. Each works until it gets no more.
 ghost use Rattle.gate_workers.specs.Worked.{IsServedOnce, AreServed, AreMade};
-ghost use Rattle.std.specs.Prelude.{◌≤◌, List};
+ghost use Rattle.std.specs.Prelude.{◌≤◌, List, Option, None};
 ghost use Rattle.gate_workers.specs.declared.service.Served.{Served};
 ghost use Rattle.gate_workers.specs.declared.flush.Turn.{Turn};
 
@@ -50,21 +50,50 @@ pub trait Connection {
         ensures { IsServedOnce K.gives keeper.old keeper.new result };
 }
 
-/// Serves one connection after another. May wait for the next one. The keeper is asked for their
-/// requests, and for nothing else. What one body leaves in the memo serves those after it.
-pub fn receiver_loop<C: Connection + Drop, K: Keeper, P: Pace, R: Wait>(
+/// Where a worker gets its connections.
+pub trait Connections: Drop {
+    /// A connection that it gives.
+    type Connection: Connection + Drop;
+
+    /// What a call with its outcome makes of it.
+    ghost gives: { Self → Option Self.Connection → Self → Type 0 };
+
+    /// The next connection, or none where there are no more. May wait for it.
+    fn next<R: Wait>(&mut self, rt: &R) -> Option<Self::Connection>
+        ensures { gives self.old result self.new };
+}
+
+impl<C: Connection + Drop> Connections for Receiver<C> {
+    type Connection = C;
+
+    /// What a channel delivers no contract says.
+    ghost gives = { λ before connection after. Unit {0} };
+
+    fn next<R: Wait>(&mut self, rt: &R) -> Option<C> {
+        self.recv(rt).ok()
+    }
+}
+
+/// Serves one connection after another, each once, until there are no more. May wait for the next
+/// one. The keeper is asked for their requests, and for nothing else. What one body leaves in the
+/// memo serves those after it.
+pub fn receiver_loop<S: Connections, K: Keeper, P: Pace, R: Wait>(
     rt: &R,
     alloc: Global,
-    connections: Receiver<C>,
+    mut connections: S,
     keeper: &mut K,
     pace: &mut P,
 )
-    ensures { (all : List Served) × AreServed K.gives all keeper.old keeper.new }
+    ensures { (all : List Served) × (last : S) × (end : S) × AreServed S.gives K.gives all connections last keeper.old keeper.new × S.gives last None end }
 {
     let mut memo = Memo::new(alloc);
-    for connection in connections.iter(rt) {
+    for _ in rt.forever() {
+        let Some(connection) = connections.next(rt) else {
+            return;
+        };
         let _ = connection.serve(alloc, keeper, pace, &mut memo);
     }
+    unreachable!()
 }
 
 /// Makes one flush turn for each order, and gives it back on the order's end; where nobody waits

@@ -3,5 +3,6 @@ use Rattle.gate_workers.specs.declared.service.Served.{Served}
 use Rattle.gate_workers.specs.Worked.{AreServed}
 use Rattle.gate_workers.proofs.worker.receiver_loop.Given as goal
 
-abbrev pub invariant-loop-connection : goal.invariant-loop-connection
-invariant-loop-connection g l = (all : List Served) × AreServed g.K.Store.gives all l.fn.keeper l.keeper
+abbrev pub invariant-loop : goal.invariant-loop
+invariant-loop g l =
+    (all : List Served) × AreServed g.S.Connections.gives g.K.Store.gives all l.fn.connections l.connections l.fn.keeper l.keeper
