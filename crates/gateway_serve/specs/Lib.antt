@@ -4,3 +4,4 @@ pub mod TimeLimit
 pub mod Rounds
 pub mod Dialled
 pub mod Passed
+pub mod Accepted

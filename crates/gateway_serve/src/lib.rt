@@ -5,24 +5,28 @@
 //! the system's only forward.
 #![tactic(auto)]
 
-mod accepting;
+mod acceptor;
+mod accepts;
 mod backend;
-mod channels;
 mod client_connection;
 mod dial;
 mod dialler;
+mod entrance;
 mod fault;
 mod finish;
 mod last_line;
 mod moments;
 mod one_round;
+mod order_channel;
 mod rounds;
 mod serving;
+mod shared_acceptor;
 mod sums;
 mod time_limit;
 mod timed_reader;
 mod timed_writer;
 mod waits;
+mod work;
 mod worker;
 mod workers;
 

@@ -2,6 +2,7 @@
 ghost use Rattle.std.specs.Prelude.{◌≡◌, ◌+◌, [], IfOk};
 ghost use Rattle.gateway_serve.specs.Rounds.{IsOver};
 
+use crate::entrance::Entrance;
 use crate::fault::GatewayFault;
 use crate::workers::serve_beside;
 use delta_book::book::Book;
@@ -17,8 +18,8 @@ use std::sync::ledger::Blank;
 use std::thread::Threads;
 use std::time::Clock;
 
-/// One round over a ledger: the book is shared, so many connections are served, and all that the
-/// workers were told is compared with the book.
+/// One round over a ledger: the book is shared, so many connections are accepted and served, and the
+/// receipts of the workers are compared with the book.
 fn round_over<
     L: Round + Send + Sync,
     R: Net<Listener = TcpListener, Stream = TcpStream> + Threads + Wait + Clock + Sync,
@@ -27,7 +28,7 @@ fn round_over<
     alloc: Global,
     blank: Blank,
     book: Book,
-    listener: &TcpListener,
+    entrance: Entrance,
     options: &ServeOptions<'_>,
     connections: u64,
 ) -> Result<(Book, Audit), GatewayFault>
@@ -41,7 +42,7 @@ fn round_over<
     let Ok((shared, seats)) = SharedBook::<L>::new(alloc, book, blank, seats) else {
         return Err(GatewayFault::NoMemory);
     };
-    let seats = serve_beside(rt, alloc, &shared, seats, listener, options, connections)?;
+    let seats = serve_beside(rt, alloc, &shared, seats, entrance, options, connections)?;
     match shared.finish(seats) {
         Ok(done) => Ok(done),
         Err(_) => Err(GatewayFault::AuditFailed),
@@ -64,5 +65,6 @@ pub fn one_round<
 {
     let parts = u64::from(options.receivers) + u64::from(options.flushers);
     let blank = Blank::new(parts);
-    round_over::<Brand, R>(rt, alloc, blank, book, listener, options, connections)
+    let entrance = Entrance::new(listener)?;
+    round_over::<Brand, R>(rt, alloc, blank, book, entrance, options, connections)
 }

@@ -1,6 +1,9 @@
+use crate::acceptor::Acceptor;
 use crate::backend::Backend;
-use crate::channels::Work;
 use crate::dialler::Dialler;
+use crate::entrance::Entrance;
+use crate::shared_acceptor::SharedAcceptor;
+use crate::work::Work;
 use gate_workers::{NoPace, SharedKeeper, flusher_loop, receiver_loop};
 use gateway_options::ServeOptions;
 use shared_book::round::Round;
@@ -8,22 +11,24 @@ use shared_book::seat::Seat;
 use shared_book::shared::SharedBook;
 use std::alloc::Global;
 use std::net::{Net, TcpStream};
-use std::sync::Wait;
+use std::sync::{Mutex, Wait};
 use std::time::Clock;
 
-/// Works from a seat until there is no more work, and gives the seat back with all that it was told.
+/// Works from a seat until there is no more work, and gives the seat back with all its receipts.
 pub fn work<L: Round, R: Net<Stream = TcpStream> + Wait + Clock>(
     rt: &R,
     alloc: Global,
     shared: &SharedBook<L>,
     seat: Seat<L>,
     options: &ServeOptions<'_>,
-    work: Work<'_, R>,
+    acceptor: &Mutex<Acceptor<Entrance>>,
+    work: Work,
 ) -> Seat<L> {
     match work {
-        Work::Receive { clients, order } => {
+        Work::Receive { order } => {
+            let connections = SharedAcceptor::new(acceptor, rt);
             let mut keeper = SharedKeeper::new(rt, alloc, shared, seat, Some(order));
-            receiver_loop(rt, alloc, clients, &mut keeper, &mut NoPace);
+            receiver_loop(rt, alloc, connections, &mut keeper, &mut NoPace);
             keeper.into_seat()
         }
         Work::Flush { orders } => {

@@ -1,7 +1,9 @@
 //! The workers of a round, each in a thread of its own.
-use crate::accepting::{Entrance, accept_all};
-use crate::channels::{Channels, Work};
+use crate::acceptor::Acceptor;
+use crate::entrance::Entrance;
 use crate::fault::GatewayFault;
+use crate::order_channel::OrderChannel;
+use crate::work::Work;
 use crate::worker::work;
 use gateway_options::ServeOptions;
 use shared_book::round::Round;
@@ -9,39 +11,22 @@ use shared_book::seat::Seat;
 use shared_book::shared::SharedBook;
 use std::alloc::Global;
 use std::net::{Net, TcpListener, TcpStream};
-use std::sync::Wait;
 use std::sync::ledger::Ledger;
+use std::sync::{Mutex, Wait};
 use std::thread;
 use std::thread::{JoinHandle, Threads};
 use std::time::Clock;
 
 /// The work of the seat of this number: the first seats are the flushers', so that these are there
 /// before the first receiver.
-fn work_of<'a, C: Clock>(
-    channels: &Channels<'a, C>,
-    flushers: u16,
-    number: u16,
-) -> Result<Work<'a, C>, GatewayFault> {
+fn work_of(orders: &OrderChannel, flushers: u16, number: u16) -> Result<Work, GatewayFault> {
     if number < flushers {
-        channels.flushing()
+        let orders = orders.receiver()?;
+        Ok(Work::Flush { orders })
     } else {
-        channels.receiving()
+        let order = orders.sender()?;
+        Ok(Work::Receive { order })
     }
-}
-
-/// Accepts so many connections where all workers have started, and hands them to the receivers. May
-/// wait for a free one. Drops all these ends of the channels.
-fn accept_for<'a, R: Wait + Clock>(
-    rt: &'a R,
-    started: Result<(), GatewayFault>,
-    channels: Channels<'a, R>,
-    listener: &TcpListener,
-    connections: u64,
-) -> Result<(), GatewayFault> {
-    started?;
-    let mut entrance = Entrance::new(rt, listener);
-    let mut receivers = channels.into_accepted();
-    accept_all(rt, &mut entrance, &mut receivers, connections)
 }
 
 /// Waits for all workers, and gives their seats.
@@ -61,8 +46,49 @@ fn join_all<L: Ledger, R: Threads>(
     Ok(seats)
 }
 
-/// Starts a worker on each seat, accepts so many connections beside them, and lets them end. On every
-/// path all ends of the channels are dropped before a worker is waited for, so each of them ends.
+/// Starts a worker on each seat, and waits until all end. No receiver accepts before all have started,
+/// and none where one could not be. On every path the sides of the channel are dropped before a worker
+/// is waited for, so each of them ends.
+fn run_workers<
+    L: Round + Send + Sync,
+    R: Net<Listener = TcpListener, Stream = TcpStream> + Threads + Wait + Clock + Sync,
+>(
+    rt: &R,
+    alloc: Global,
+    shared: &SharedBook<L>,
+    seats: Vec<Seat<L>>,
+    acceptor: &Mutex<Acceptor<Entrance>>,
+    options: &ServeOptions<'_>,
+) -> Result<Vec<Seat<L>>, GatewayFault> {
+    thread::scope(thread::scope_env(), rt, |scope| {
+        let orders = OrderChannel::new(alloc)?;
+        let mut running = Vec::new(alloc);
+        let mut closed = acceptor.lock(rt);
+        for seat in seats {
+            let Ok(task) = work_of(&orders, options.flushers, seat.number()) else {
+                closed.close(GatewayFault::NoMemory);
+                break;
+            };
+            let Ok(worker) = scope.spawn(move || work(
+                rt, alloc, shared, seat, options, acceptor, task,
+            )) else {
+                closed.close(GatewayFault::CannotStart);
+                break;
+            };
+            if running.push(worker).is_err() {
+                closed.close(GatewayFault::NoMemory);
+                break;
+            }
+        }
+        drop(closed);
+        drop(orders);
+        join_all(rt, alloc, running)
+    })
+}
+
+/// Starts a worker on each seat, and waits until they end: the receivers once so many connections
+/// were accepted and served, or after a fault, and then the flushers. None is accepted before all have
+/// started.
 pub fn serve_beside<
     L: Round + Send + Sync,
     R: Net<Listener = TcpListener, Stream = TcpStream> + Threads + Wait + Clock + Sync,
@@ -71,32 +97,12 @@ pub fn serve_beside<
     alloc: Global,
     shared: &SharedBook<L>,
     seats: Vec<Seat<L>>,
-    listener: &TcpListener,
+    entrance: Entrance,
     options: &ServeOptions<'_>,
     connections: u64,
 ) -> Result<Vec<Seat<L>>, GatewayFault> {
-    thread::scope(thread::scope_env(), rt, |scope| {
-        let channels = Channels::new(alloc)?;
-        let mut running = Vec::new(alloc);
-        let mut started = Ok(());
-        for seat in seats {
-            let Ok(task) = work_of(&channels, options.flushers, seat.number()) else {
-                started = Err(GatewayFault::NoMemory);
-                break;
-            };
-            let Ok(worker) = scope.spawn(move || work(rt, alloc, shared, seat, options, task))
-            else {
-                started = Err(GatewayFault::CannotStart);
-                break;
-            };
-            if running.push(worker).is_err() {
-                started = Err(GatewayFault::NoMemory);
-                break;
-            }
-        }
-        let served = accept_for(rt, started, channels, listener, connections);
-        let seats = join_all(rt, alloc, running);
-        served?;
-        seats
-    })
+    let acceptor = Mutex::new(Acceptor::new(entrance, connections));
+    let seats = run_workers(rt, alloc, shared, seats, &acceptor, options);
+    acceptor.into_inner().end(connections)?;
+    seats
 }

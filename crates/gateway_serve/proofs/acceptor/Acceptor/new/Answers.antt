@@ -1,0 +1,7 @@
+use Rattle.std.proofs.Common.{[], refl, arith}
+use Rattle.gateway_serve.proofs.acceptor.Acceptor.new.Goals as goal
+
+pub invariant_of-result : goal.invariant_of-result
+invariant_of-result g c = record {
+  accepted = ∣ (λ none. (c.args.entrance, [], omega arith, refl)) ∣₁;
+}

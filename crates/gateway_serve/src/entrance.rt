@@ -1,0 +1,31 @@
+use crate::accepts::Accepts;
+use crate::fault::GatewayFault;
+use std::net::{TcpListener, TcpStream};
+
+/// A listener, by a descriptor of its own.
+#[derive(Drop)]
+pub struct Entrance {
+    listener: TcpListener,
+}
+
+impl Entrance {
+    /// `CannotAccept` where there is no descriptor.
+    pub fn new(listener: &TcpListener) -> Result<Self, GatewayFault> {
+        match listener.try_clone() {
+            Ok(listener) => Ok(Entrance { listener }),
+            Err(_) => Err(GatewayFault::CannotAccept),
+        }
+    }
+}
+
+impl Accepts for Entrance {
+    type Connection = TcpStream;
+
+    /// What comes in is not known.
+    ghost accepts = { λ before connection after. Unit {0} };
+
+    fn accept(&mut self) -> Option<TcpStream> {
+        let (stream, _) = self.listener.accept().ok()?;
+        Some(stream)
+    }
+}
