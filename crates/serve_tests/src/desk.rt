@@ -15,17 +15,16 @@ pub fn keeper(alloc: Global, answer: Answer) -> Result<BookKeeper<Fixed>, Fail> 
 }
 
 /// Serves a request, and looks at all that was written.
-pub fn ask<R: Abort>(
+pub fn ask<R: Abort + AllocGlobal>(
     rt: &R,
-    alloc: Global,
     keeper: &mut BookKeeper<Fixed>,
     request: &[u8],
     served: Served,
     text: &[u8],
 ) -> Result<(), Fail> {
     let mut reader = Script::new(request, &[]);
-    let mut writer = Tape::new(alloc, &[]);
-    let got = serve_book(alloc, keeper, &mut reader, &mut writer, &mut NoPace);
+    let mut writer = Tape::new(rt.alloc(), &[]);
+    let got = serve_book(rt.alloc(), keeper, &mut reader, &mut writer, &mut NoPace);
     assert_eq!(rt; got, served);
     assert_eq!(rt; writer.taken(), text);
     Ok(())

@@ -47,54 +47,39 @@ fn what_is_given_is_taken(rt: HostRuntime) -> Result<(), Fail> {
     Ok(())
 }
 
+/// Lines of a fault each, without the program's name.
+const FAULTY: [&[&str]; 10] = [
+    &[],
+    &["sing"],
+    &["serve"],
+    &["serve", "--help"],
+    &["serve", "--connections", "1"],
+    &["serve", "--backend", "b:9"],
+    &["serve", "--backend=b:9", "--connections", "1000001"],
+    &["serve", "--backend=b:9", "--connections", "+1"],
+    &[
+        "serve",
+        "--backend=b:9",
+        "--connections=1",
+        "--flush-series",
+        "0",
+    ],
+    &[
+        "serve",
+        "--backend=b:9",
+        "--connections=1",
+        "--flush-series",
+        "1001",
+    ],
+];
+
 #[test]
 fn faulty_lines_are_refused(rt: HostRuntime) -> Result<(), Fail> {
-    let lines: [&[&str]; 10] = [
-        &["gateway"],
-        &["gateway", "sing"],
-        &["gateway", "serve"],
-        &["gateway", "serve", "--help"],
-        &["gateway", "serve", "--connections", "1"],
-        &["gateway", "serve", "--backend", "b:9"],
-        &[
-            "gateway",
-            "serve",
-            "--backend",
-            "b:9",
-            "--connections",
-            "1000001",
-        ],
-        &[
-            "gateway",
-            "serve",
-            "--backend",
-            "b:9",
-            "--connections",
-            "+1",
-        ],
-        &[
-            "gateway",
-            "serve",
-            "--backend",
-            "b:9",
-            "--connections",
-            "1",
-            "--flush-series",
-            "0",
-        ],
-        &[
-            "gateway",
-            "serve",
-            "--backend",
-            "b:9",
-            "--connections",
-            "1",
-            "--flush-series",
-            "1001",
-        ],
-    ];
-    for line in lines {
-        assert!(rt; matches!(options(rt.alloc(), line), Err(LineFault::Line(_))));
+    for line in FAULTY {
+        let mut words = vec![in rt.alloc(); "gateway"]?;
+        words.extend_from_slice(line)?;
+        let read = options(rt.alloc(), words.as_slice());
+        assert!(rt; matches!(read, Err(LineFault::Line(_))));
     }
     Ok(())
 }

@@ -3,24 +3,173 @@ use crate::desk::{ask, done, keeper, refused};
 use back_answers::Answer;
 use byte_ends::{Script, Tape};
 use gate_workers::{BookKeeper, End, NoPace, serve_book};
-use std::alloc::Global;
 use std::process::Abort;
 use std::test::Fail;
 use test_support::{ACCEPTED, Fixed};
 
-/// A request, with the first line and the body of its response.
-type Case<'a> = (&'a [u8], &'a [u8], &'a [u8]);
+/// The first line and the body of a response that refuses.
+type Refusal = (&'static [u8], &'static [u8]);
 
-fn refuses<R: Abort>(
+const NO_SUCH_PATH: Refusal = (
+    b"HTTP/1.1 404 Not Found\r\n",
+    b"{\"message\":\"no such path\"}",
+);
+
+const WRONG_METHOD: Refusal = (
+    b"HTTP/1.1 405 Method Not Allowed\r\n",
+    b"{\"message\":\"wrong method\"}",
+);
+
+const WRONG_CONTENT: Refusal = (
+    b"HTTP/1.1 415 Unsupported Media Type\r\n",
+    b"{\"message\":\"only uncompressed application/json\"}",
+);
+
+const BODY_TOO_LONG: Refusal = (
+    b"HTTP/1.1 413 Payload Too Large\r\n",
+    b"{\"message\":\"body too long\"}",
+);
+
+const MALFORMED: Refusal = (BAD_REQUEST, b"{\"message\":\"malformed request\"}");
+
+const BAD_SENDER: Refusal = (BAD_REQUEST, b"{\"message\":\"bad sender\"}");
+
+const NOT_QUARANTINED: Refusal = (BAD_REQUEST, b"{\"message\":\"not quarantined\"}");
+
+const ALREADY_QUARANTINED: Refusal = (BAD_REQUEST, b"{\"message\":\"already quarantined\"}");
+
+const QUARANTINED: Refusal = (
+    b"HTTP/1.1 403 Forbidden\r\n",
+    b"{\"message\":\"quarantined\"}",
+);
+
+const NOT_JSON: Refusal = (BAD_REQUEST, b"{\"message\":\"not JSON\"}");
+
+const WRONG_SHAPE: Refusal = (BAD_REQUEST, b"{\"message\":\"wrong shape\"}");
+
+const BAD_REQUEST: &[u8] = b"HTTP/1.1 400 Bad Request\r\n";
+
+/// Requests of one fault each.
+const FAULTS: [(&[u8], Refusal); 17] = [
+    (b"POST /v1/traces HTTP/1.1\r\n\r\n", NO_SUCH_PATH),
+    (b"GET /v1/metrics HTTP/1.1\r\n\r\n", WRONG_METHOD),
+    (b"POST /report HTTP/1.1\r\n\r\n", WRONG_METHOD),
+    (b"GET /flush HTTP/1.1\r\n\r\n", WRONG_METHOD),
+    (b"get /report HTTP/1.1\r\n\r\n", WRONG_METHOD),
+    (
+        b"POST /v1/metrics HTTP/1.1\r\n\
+            Content-Type: application/x-protobuf\r\n\
+            Content-Length: 2\r\n\r\n\
+            {}",
+        WRONG_CONTENT,
+    ),
+    (
+        b"POST /v1/metrics HTTP/1.1\r\n\
+            Content-Type: application/json\r\n\
+            Content-Encoding: gzip\r\n\
+            Content-Length: 2\r\n\r\n\
+            {}",
+        WRONG_CONTENT,
+    ),
+    (
+        b"POST /v1/metrics HTTP/1.1\r\nContent-Length: 2\r\n\r\n{}",
+        WRONG_CONTENT,
+    ),
+    (
+        b"POST /v1/metrics HTTP/1.1\r\n\
+            Content-Type: application/json\r\n\
+            Content-Length: 4194305\r\n\r\n",
+        BODY_TOO_LONG,
+    ),
+    (b"POST /v1/metrics HTTP/2.0\r\n\r\n", MALFORMED),
+    (
+        b"POST /v1/metrics HTTP/1.1\r\n\
+            Content-Type: application/json\r\n\
+            x-sender: a b\r\n\
+            Content-Length: 2\r\n\r\n\
+            {}",
+        BAD_SENDER,
+    ),
+    (
+        b"POST /v1/metrics HTTP/1.1\r\n\
+            Content-Type: application/json\r\n\
+            x-sender: a\r\n\
+            X-Sender: a\r\n\
+            Content-Length: 2\r\n\r\n\
+            {}",
+        BAD_SENDER,
+    ),
+    (b"POST /quarantine/ HTTP/1.1\r\n\r\n", BAD_SENDER),
+    (b"POST /lift/?A HTTP/1.1\r\n\r\n", BAD_SENDER),
+    (b"POST /lift/A HTTP/1.1\r\n\r\n", NOT_QUARANTINED),
+    (
+        b"POST /v1/metrics HTTP/1.1\r\n\
+            Content-Type: application/json\r\n\
+            Content-Length: 2\r\n\r\n\
+            [1",
+        NOT_JSON,
+    ),
+    (
+        b"POST /v1/metrics HTTP/1.1\r\n\
+            Content-Type: application/json\r\n\
+            Content-Length: 2\r\n\r\n\
+            []",
+        WRONG_SHAPE,
+    ),
+];
+
+/// Requests of several faults: the path comes first, then method, sender, content and body.
+const SEVERAL_FAULTS: [(&[u8], Refusal); 4] = [
+    (
+        b"GET /v1/traces HTTP/1.1\r\nx-sender: a b\r\n\r\n",
+        NO_SUCH_PATH,
+    ),
+    (
+        b"PUT /v1/metrics HTTP/1.1\r\n\
+            Content-Type: text/plain\r\n\
+            x-sender: a b\r\n\
+            Content-Length: 2\r\n\r\n\
+            [1",
+        WRONG_METHOD,
+    ),
+    (
+        b"POST /v1/metrics HTTP/1.1\r\n\
+            Content-Type: text/plain\r\n\
+            x-sender: a b\r\n\
+            Content-Length: 2\r\n\r\n\
+            [1",
+        BAD_SENDER,
+    ),
+    (
+        b"POST /v1/metrics HTTP/1.1\r\nContent-Type: text/plain\r\nContent-Length: 2\r\n\r\n[1",
+        WRONG_CONTENT,
+    ),
+];
+
+const QUARANTINE: &[u8] = b"POST /quarantine/A HTTP/1.1\r\n\r\n";
+
+const LIFT: &[u8] = b"POST /lift/A HTTP/1.1\r\n\r\n";
+
+/// A post of the sender A.
+const POSTED_BY_A: &[u8] = b"POST /v1/metrics HTTP/1.1\r\n\
+    Content-Type: application/json\r\n\
+    x-sender: A\r\n\
+    Content-Length: 195\r\n\r\n\
+    {\"resourceMetrics\":[{\"scopeMetrics\":[{\"metrics\":[{\"name\":\"a\",\"sum\":\
+    {\"aggregationTemporality\":1,\"isMonotonic\":true,\"dataPoints\":[\
+    {\"asInt\":\"5\",\"startTimeUnixNano\":\"10\",\"timeUnixNano\":\"20\"}]}}]}]}]}";
+
+/// Serves a request, and looks at how its response begins and ends.
+fn refuses<R: Abort + AllocGlobal>(
     rt: &R,
-    alloc: Global,
     keeper: &mut BookKeeper<Fixed>,
-    case: Case,
+    request: &[u8],
+    refusal: Refusal,
 ) -> Result<(), Fail> {
-    let (request, line, body) = case;
+    let (line, body) = refusal;
     let mut reader = Script::new(request, &[]);
-    let mut writer = Tape::new(alloc, &[]);
-    let _ = serve_book(alloc, keeper, &mut reader, &mut writer, &mut NoPace);
+    let mut writer = Tape::new(rt.alloc(), &[]);
+    let _ = serve_book(rt.alloc(), keeper, &mut reader, &mut writer, &mut NoPace);
     assert!(rt; writer.taken().starts_with(line));
     assert!(rt; writer.taken().ends_with(body));
     Ok(())
@@ -28,172 +177,27 @@ fn refuses<R: Abort>(
 
 #[test]
 fn each_by_its_first_fault(rt: HostRuntime) -> Result<(), Fail> {
-    let alloc = rt.alloc();
-    let mut keeper = keeper(alloc, Answer::Success)?;
-    let cases: [Case; 17] = [
-        (
-            b"POST /v1/traces HTTP/1.1\r\n\r\n",
-            b"HTTP/1.1 404 Not Found\r\n",
-            b"{\"message\":\"no such path\"}",
-        ),
-        (
-            b"GET /v1/metrics HTTP/1.1\r\n\r\n",
-            b"HTTP/1.1 405 Method Not Allowed\r\n",
-            b"{\"message\":\"wrong method\"}",
-        ),
-        (
-            b"POST /report HTTP/1.1\r\n\r\n",
-            b"HTTP/1.1 405 Method Not Allowed\r\n",
-            b"{\"message\":\"wrong method\"}",
-        ),
-        (
-            b"GET /flush HTTP/1.1\r\n\r\n",
-            b"HTTP/1.1 405 Method Not Allowed\r\n",
-            b"{\"message\":\"wrong method\"}",
-        ),
-        (
-            b"get /report HTTP/1.1\r\n\r\n",
-            b"HTTP/1.1 405 Method Not Allowed\r\n",
-            b"{\"message\":\"wrong method\"}",
-        ),
-        (
-            b"POST /v1/metrics HTTP/1.1\r\n\
-                Content-Type: application/x-protobuf\r\n\
-                Content-Length: 2\r\n\r\n\
-                {}",
-            b"HTTP/1.1 415 Unsupported Media Type\r\n",
-            b"{\"message\":\"only uncompressed application/json\"}",
-        ),
-        (
-            b"POST /v1/metrics HTTP/1.1\r\n\
-                Content-Type: application/json\r\n\
-                Content-Encoding: gzip\r\n\
-                Content-Length: 2\r\n\r\n\
-                {}",
-            b"HTTP/1.1 415 Unsupported Media Type\r\n",
-            b"{\"message\":\"only uncompressed application/json\"}",
-        ),
-        (
-            b"POST /v1/metrics HTTP/1.1\r\nContent-Length: 2\r\n\r\n{}",
-            b"HTTP/1.1 415 Unsupported Media Type\r\n",
-            b"{\"message\":\"only uncompressed application/json\"}",
-        ),
-        (
-            b"POST /v1/metrics HTTP/1.1\r\n\
-                Content-Type: application/json\r\n\
-                Content-Length: 4194305\r\n\r\n",
-            b"HTTP/1.1 413 Payload Too Large\r\n",
-            b"{\"message\":\"body too long\"}",
-        ),
-        (
-            b"POST /v1/metrics HTTP/2.0\r\n\r\n",
-            b"HTTP/1.1 400 Bad Request\r\n",
-            b"{\"message\":\"malformed request\"}",
-        ),
-        (
-            b"POST /v1/metrics HTTP/1.1\r\n\
-                Content-Type: application/json\r\n\
-                x-sender: a b\r\n\
-                Content-Length: 2\r\n\r\n\
-                {}",
-            b"HTTP/1.1 400 Bad Request\r\n",
-            b"{\"message\":\"bad sender\"}",
-        ),
-        (
-            b"POST /v1/metrics HTTP/1.1\r\n\
-                Content-Type: application/json\r\n\
-                x-sender: a\r\n\
-                X-Sender: a\r\n\
-                Content-Length: 2\r\n\r\n\
-                {}",
-            b"HTTP/1.1 400 Bad Request\r\n",
-            b"{\"message\":\"bad sender\"}",
-        ),
-        (
-            b"POST /quarantine/ HTTP/1.1\r\n\r\n",
-            b"HTTP/1.1 400 Bad Request\r\n",
-            b"{\"message\":\"bad sender\"}",
-        ),
-        (
-            b"POST /lift/?A HTTP/1.1\r\n\r\n",
-            b"HTTP/1.1 400 Bad Request\r\n",
-            b"{\"message\":\"bad sender\"}",
-        ),
-        (
-            b"POST /lift/A HTTP/1.1\r\n\r\n",
-            b"HTTP/1.1 400 Bad Request\r\n",
-            b"{\"message\":\"not quarantined\"}",
-        ),
-        (
-            b"POST /v1/metrics HTTP/1.1\r\n\
-                Content-Type: application/json\r\n\
-                Content-Length: 2\r\n\r\n\
-                [1",
-            b"HTTP/1.1 400 Bad Request\r\n",
-            b"{\"message\":\"not JSON\"}",
-        ),
-        (
-            b"POST /v1/metrics HTTP/1.1\r\n\
-                Content-Type: application/json\r\n\
-                Content-Length: 2\r\n\r\n\
-                []",
-            b"HTTP/1.1 400 Bad Request\r\n",
-            b"{\"message\":\"wrong shape\"}",
-        ),
-    ];
-    for case in cases {
-        refuses(&rt, alloc, &mut keeper, case)?;
+    let mut keeper = keeper(rt.alloc(), Answer::Success)?;
+    for (request, refusal) in FAULTS {
+        refuses(&rt, &mut keeper, request, refusal)?;
     }
     Ok(())
 }
 
 #[test]
 fn path_method_sender_content_body_in_this_order(rt: HostRuntime) -> Result<(), Fail> {
-    let alloc = rt.alloc();
-    let mut keeper = keeper(alloc, Answer::Success)?;
-    let cases: [Case; 4] = [
-        (
-            b"GET /v1/traces HTTP/1.1\r\nx-sender: a b\r\n\r\n",
-            b"HTTP/1.1 404 Not Found\r\n",
-            b"{\"message\":\"no such path\"}",
-        ),
-        (
-            b"PUT /v1/metrics HTTP/1.1\r\n\
-                Content-Type: text/plain\r\n\
-                x-sender: a b\r\n\
-                Content-Length: 2\r\n\r\n\
-                [1",
-            b"HTTP/1.1 405 Method Not Allowed\r\n",
-            b"{\"message\":\"wrong method\"}",
-        ),
-        (
-            b"POST /v1/metrics HTTP/1.1\r\n\
-                Content-Type: text/plain\r\n\
-                x-sender: a b\r\n\
-                Content-Length: 2\r\n\r\n\
-                [1",
-            b"HTTP/1.1 400 Bad Request\r\n",
-            b"{\"message\":\"bad sender\"}",
-        ),
-        (
-            b"POST /v1/metrics HTTP/1.1\r\nContent-Type: text/plain\r\nContent-Length: 2\r\n\r\n[1",
-            b"HTTP/1.1 415 Unsupported Media Type\r\n",
-            b"{\"message\":\"only uncompressed application/json\"}",
-        ),
-    ];
-    for case in cases {
-        refuses(&rt, alloc, &mut keeper, case)?;
+    let mut keeper = keeper(rt.alloc(), Answer::Success)?;
+    for (request, refusal) in SEVERAL_FAULTS {
+        refuses(&rt, &mut keeper, request, refusal)?;
     }
     Ok(())
 }
 
 #[test]
 fn a_wrong_method_names_the_right_one(rt: HostRuntime) -> Result<(), Fail> {
-    let alloc = rt.alloc();
-    let mut keeper = keeper(alloc, Answer::Success)?;
+    let mut keeper = keeper(rt.alloc(), Answer::Success)?;
     ask(
         &rt,
-        alloc,
         &mut keeper,
         b"GET /v1/metrics HTTP/1.1\r\n\r\n",
         refused(405),
@@ -208,11 +212,9 @@ fn a_wrong_method_names_the_right_one(rt: HostRuntime) -> Result<(), Fail> {
 
 #[test]
 fn a_media_type_in_any_case_with_parameters(rt: HostRuntime) -> Result<(), Fail> {
-    let alloc = rt.alloc();
-    let mut keeper = keeper(alloc, Answer::Success)?;
+    let mut keeper = keeper(rt.alloc(), Answer::Success)?;
     ask(
         &rt,
-        alloc,
         &mut keeper,
         b"POST /v1/metrics HTTP/1.1\r\n\
             Content-Type: Application/JSON; charset=utf-8\r\n\
@@ -225,57 +227,16 @@ fn a_media_type_in_any_case_with_parameters(rt: HostRuntime) -> Result<(), Fail>
 }
 
 #[test]
-fn a_held_sender_is_refused_until_it_is_lifted(rt: HostRuntime) -> Result<(), Fail> {
-    let alloc = rt.alloc();
-    let mut keeper = keeper(alloc, Answer::Success)?;
-    let posted = b"POST /v1/metrics HTTP/1.1\r\n\
-            Content-Type: application/json\r\n\
-            x-sender: A\r\n\
-            Content-Length: 195\r\n\r\n\
-            {\"resourceMetrics\":[{\"scopeMetrics\":[{\"metrics\":[{\"name\":\"a\",\
-            \"sum\":{\"aggregationTemporality\":1,\"isMonotonic\":true,\"dataPoints\":[{\"asInt\":\"5\",\
-            \"startTimeUnixNano\":\"10\",\"timeUnixNano\":\"20\"}]}}]}]}]}";
+fn a_quarantined_sender_is_refused_until_it_is_released(rt: HostRuntime) -> Result<(), Fail> {
+    let mut keeper = keeper(rt.alloc(), Answer::Success)?;
+    ask(&rt, &mut keeper, QUARANTINE, done(End::NoBatch), ACCEPTED)?;
+    refuses(&rt, &mut keeper, QUARANTINE, ALREADY_QUARANTINED)?;
+    refuses(&rt, &mut keeper, POSTED_BY_A, QUARANTINED)?;
+    ask(&rt, &mut keeper, LIFT, done(End::NoBatch), ACCEPTED)?;
     ask(
         &rt,
-        alloc,
         &mut keeper,
-        b"POST /quarantine/A HTTP/1.1\r\n\r\n",
-        done(End::NoBatch),
-        ACCEPTED,
-    )?;
-    refuses(
-        &rt,
-        alloc,
-        &mut keeper,
-        (
-            b"POST /quarantine/A HTTP/1.1\r\n\r\n",
-            b"HTTP/1.1 400 ",
-            b"{\"message\":\"already quarantined\"}",
-        ),
-    )?;
-    refuses(
-        &rt,
-        alloc,
-        &mut keeper,
-        (
-            posted,
-            b"HTTP/1.1 403 Forbidden\r\n",
-            b"{\"message\":\"quarantined\"}",
-        ),
-    )?;
-    ask(
-        &rt,
-        alloc,
-        &mut keeper,
-        b"POST /lift/A HTTP/1.1\r\n\r\n",
-        done(End::NoBatch),
-        ACCEPTED,
-    )?;
-    ask(
-        &rt,
-        alloc,
-        &mut keeper,
-        posted,
+        POSTED_BY_A,
         done(End::Confirmed),
         ACCEPTED,
     )

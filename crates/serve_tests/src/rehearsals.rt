@@ -9,22 +9,14 @@ use test_support::ACCEPTED;
 /// Each batch starts where the one before ended, and its value is its number counted from 1.
 #[test]
 fn batches_follow_each_other(rt: HostRuntime) -> Result<(), Fail> {
-    let alloc = rt.alloc();
-    let mut keeper = keeper(alloc, Answer::Success)?;
+    let mut keeper = keeper(rt.alloc(), Answer::Success)?;
     for batch in 0..3u16 {
-        let post = post_of(alloc, 1, batch)?;
-        ask(
-            &rt,
-            alloc,
-            &mut keeper,
-            post.as_slice(),
-            done(End::Confirmed),
-            ACCEPTED,
-        )?;
+        let post = post_of(rt.alloc(), 1, batch)?;
+        let post = post.as_slice();
+        ask(&rt, &mut keeper, post, done(End::Confirmed), ACCEPTED)?;
     }
     ask(
         &rt,
-        alloc,
         &mut keeper,
         b"GET /report HTTP/1.1\r\n\r\n",
         done(End::NoBatch),

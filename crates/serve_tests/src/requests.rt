@@ -16,8 +16,7 @@ const CHUNKED: &[u8] = b"POST /v1/metrics HTTP/1.1\r\n\
 
 #[test]
 fn a_body_without_points_asks_nothing(rt: HostRuntime) -> Result<(), Fail> {
-    let alloc = rt.alloc();
-    let mut keeper = keeper(alloc, Answer::Success)?;
+    let mut keeper = keeper(rt.alloc(), Answer::Success)?;
     let bodies: [&[u8]; 2] = [
         b"POST /v1/metrics HTTP/1.1\r\n\
             Content-Type: application/json\r\n\
@@ -29,18 +28,16 @@ fn a_body_without_points_asks_nothing(rt: HostRuntime) -> Result<(), Fail> {
             {\"resourceMetrics\":[]}",
     ];
     for body in bodies {
-        ask(&rt, alloc, &mut keeper, body, done(End::NoBatch), ACCEPTED)?;
+        ask(&rt, &mut keeper, body, done(End::NoBatch), ACCEPTED)?;
     }
     Ok(())
 }
 
 #[test]
-fn foreign_points_are_told(rt: HostRuntime) -> Result<(), Fail> {
-    let alloc = rt.alloc();
-    let mut keeper = keeper(alloc, Answer::Success)?;
+fn foreign_points_are_reported(rt: HostRuntime) -> Result<(), Fail> {
+    let mut keeper = keeper(rt.alloc(), Answer::Success)?;
     ask(
         &rt,
-        alloc,
         &mut keeper,
         b"POST /v1/metrics HTTP/1.1\r\n\
             Content-Type: application/json\r\n\
@@ -61,19 +58,10 @@ fn foreign_points_are_told(rt: HostRuntime) -> Result<(), Fail> {
 
 #[test]
 fn a_repeat_is_refused_and_later_points_are_not(rt: HostRuntime) -> Result<(), Fail> {
-    let alloc = rt.alloc();
-    let mut keeper = keeper(alloc, Answer::Success)?;
+    let mut keeper = keeper(rt.alloc(), Answer::Success)?;
+    ask(&rt, &mut keeper, POSTED, done(End::Confirmed), ACCEPTED)?;
     ask(
         &rt,
-        alloc,
-        &mut keeper,
-        POSTED,
-        done(End::Confirmed),
-        ACCEPTED,
-    )?;
-    ask(
-        &rt,
-        alloc,
         &mut keeper,
         POSTED,
         refused(400),
@@ -83,31 +71,15 @@ fn a_repeat_is_refused_and_later_points_are_not(rt: HostRuntime) -> Result<(), F
             Connection: close\r\n\r\n\
             {\"message\":\"out of order: point 0, frontier 20\"}",
     )?;
-    ask(
-        &rt,
-        alloc,
-        &mut keeper,
-        LATER,
-        done(End::Confirmed),
-        ACCEPTED,
-    )
+    ask(&rt, &mut keeper, LATER, done(End::Confirmed), ACCEPTED)
 }
 
 #[test]
 fn sums_over_a_limit_are_refused(rt: HostRuntime) -> Result<(), Fail> {
-    let alloc = rt.alloc();
-    let mut keeper = keeper(alloc, Answer::Success)?;
+    let mut keeper = keeper(rt.alloc(), Answer::Success)?;
+    ask(&rt, &mut keeper, POSTED, done(End::Confirmed), ACCEPTED)?;
     ask(
         &rt,
-        alloc,
-        &mut keeper,
-        POSTED,
-        done(End::Confirmed),
-        ACCEPTED,
-    )?;
-    ask(
-        &rt,
-        alloc,
         &mut keeper,
         b"POST /v1/metrics HTTP/1.1\r\n\
             Content-Type: application/json\r\n\
@@ -178,10 +150,9 @@ fn a_chunked_body_for_every_cut(rt: HostRuntime) -> Result<(), Fail> {
 fn a_reader_that_ends_or_fails(rt: HostRuntime) -> Result<(), Fail> {
     let alloc = rt.alloc();
     let mut keeper = keeper(alloc, Answer::Success)?;
-    ask(&rt, alloc, &mut keeper, b"", Served::Closed, b"")?;
+    ask(&rt, &mut keeper, b"", Served::Closed, b"")?;
     ask(
         &rt,
-        alloc,
         &mut keeper,
         b"POST /v1/metrics HTTP/1.1\r\n\
             Content-Type: application/json\r\n\
@@ -206,11 +177,9 @@ fn a_reader_that_ends_or_fails(rt: HostRuntime) -> Result<(), Fail> {
 
 #[test]
 fn a_flush_by_order(rt: HostRuntime) -> Result<(), Fail> {
-    let alloc = rt.alloc();
-    let mut keeper = keeper(alloc, Answer::Retryable { after: Some(2) })?;
+    let mut keeper = keeper(rt.alloc(), Answer::Retryable { after: Some(2) })?;
     ask(
         &rt,
-        alloc,
         &mut keeper,
         b"POST /flush HTTP/1.1\r\n\r\n",
         done(End::NoBatch),
@@ -220,17 +189,9 @@ fn a_flush_by_order(rt: HostRuntime) -> Result<(), Fail> {
             Connection: close\r\n\r\n\
             {\"act\":\"nothing\"}",
     )?;
+    ask(&rt, &mut keeper, POSTED, done(End::Confirmed), ACCEPTED)?;
     ask(
         &rt,
-        alloc,
-        &mut keeper,
-        POSTED,
-        done(End::Confirmed),
-        ACCEPTED,
-    )?;
-    ask(
-        &rt,
-        alloc,
         &mut keeper,
         b"POST /flush HTTP/1.1\r\n\r\n",
         done(End::NoBatch),
@@ -242,7 +203,6 @@ fn a_flush_by_order(rt: HostRuntime) -> Result<(), Fail> {
     )?;
     ask(
         &rt,
-        alloc,
         &mut keeper,
         b"GET /report?all HTTP/1.1\r\n\r\n",
         done(End::NoBatch),
