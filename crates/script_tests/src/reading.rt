@@ -3,16 +3,20 @@
 use metric_events::point::Point;
 use otlp_read::{Memo, Place, ReadFault, Reading, read_request, read_request_with};
 use std::alloc::{AllocError, Global};
+use std::process::Abort;
 use std::test::Fail;
+
+/// A request of these metrics.
+fn request_of(alloc: Global, metrics: &str) -> Result<String, AllocError> {
+    format!(in alloc; r#"{{"resourceMetrics":[{{"scopeMetrics":[{{"metrics":[{metrics}]}}]}}]}}"#)
+}
 
 /// A request of one sum with these data points.
 fn sum_of(alloc: Global, points: &str) -> Result<String, AllocError> {
-    let head =
-        r#"{"resourceMetrics":[{"scopeMetrics":[{"metrics":[{"name":"a","sum":{"aggregationTemporality":1,"dataPoints":["#;
-    let mut body = String::from_str(alloc, head)?;
-    body.push_str(points)?;
-    body.push_str("]}}]}]}]}")?;
-    Ok(body)
+    let metric = format!(in alloc;
+        r#"{{"name":"a","sum":{{"aggregationTemporality":1,"dataPoints":[{points}]}}}}"#
+    )?;
+    request_of(alloc, metric.as_str())
 }
 
 /// A request of one sum with one data point of this value.
@@ -28,12 +32,11 @@ fn sum_with(alloc: Global, value: &str) -> Result<String, AllocError> {
 
 /// A request of one histogram with one data point of these fields.
 fn histogram_with(alloc: Global, fields: &str) -> Result<String, AllocError> {
-    let head =
-        r#"{"resourceMetrics":[{"scopeMetrics":[{"metrics":[{"name":"h","histogram":{"aggregationTemporality":1,"dataPoints":[{"startTimeUnixNano":"10","timeUnixNano":"20","#;
-    let mut body = String::from_str(alloc, head)?;
-    body.push_str(fields)?;
-    body.push_str("}]}}]}]}]}")?;
-    Ok(body)
+    let point = format!(in alloc; r#"{{"startTimeUnixNano":"10","timeUnixNano":"20",{fields}}}"#)?;
+    let metric = format!(in alloc;
+        r#"{{"name":"h","histogram":{{"aggregationTemporality":1,"dataPoints":[{point}]}}}}"#
+    )?;
+    request_of(alloc, metric.as_str())
 }
 
 /// That many letters.
@@ -69,57 +72,65 @@ fn first(reading: &Reading) -> Option<&Point> {
     reading.points.as_slice().first()
 }
 
+/// Bodies with the first fault of each.
+const FAULTS: [(&str, ReadFault); 16] = [
+    ("", ReadFault::NotJson),
+    ("[1", ReadFault::NotJson),
+    ("{}x", ReadFault::NotJson),
+    ("[1e999]", ReadFault::NotJson),
+    ("[]", ReadFault::WrongShape(Place::Root)),
+    ("null", ReadFault::WrongShape(Place::Root)),
+    (
+        r#"{"resourceMetrics":{}}"#,
+        ReadFault::WrongShape(Place::ResourceMetrics),
+    ),
+    (
+        r#"{"resourceMetrics":[null]}"#,
+        ReadFault::WrongShape(Place::ResourceMetrics),
+    ),
+    (
+        r#"{"resourceMetrics":[{"resource":1},{}]}"#,
+        ReadFault::WrongShape(Place::Resource),
+    ),
+    (
+        r#"{"resourceMetrics":[{"resource":1},2]}"#,
+        ReadFault::WrongShape(Place::ResourceMetrics),
+    ),
+    (
+        r#"{"resourceMetrics":[{"scopeMetrics":"x"}]}"#,
+        ReadFault::WrongShape(Place::ScopeMetrics),
+    ),
+    (
+        r#"{"resourceMetrics":[{"scopeMetrics":[{"scope":[]}]}]}"#,
+        ReadFault::WrongShape(Place::Scope),
+    ),
+    (
+        r#"{"resourceMetrics":[{"scopeMetrics":[{"metrics":[[]]}]}]}"#,
+        ReadFault::WrongShape(Place::Metrics),
+    ),
+    (
+        concat!(
+            r#"{"resourceMetrics":[{"scopeMetrics":[{"metrics":["#,
+            r#"{"summary":1,"gauge":{"dataPoints":{}}}]}]}]}"#
+        ),
+        ReadFault::WrongShape(Place::DataPoints),
+    ),
+    (
+        r#"{"resourceMetrics":[{"scopeMetrics":[{"metrics":[{"summary":[]}]}]}]}"#,
+        ReadFault::WrongShape(Place::DataField),
+    ),
+    (
+        r#"{"resourceMetrics":[{"scopeMetrics":[{"metrics":[{"sum":{"dataPoints":[{},7]}}]}]}]}"#,
+        ReadFault::WrongShape(Place::DataPoints),
+    ),
+];
+
 #[test]
 fn names_the_first_wrong_container(rt: HostRuntime) {
     let alloc = rt.alloc();
-    let wrong = |place| ReadFault::WrongShape(place);
-    for (body, want) in [
-        ("", ReadFault::NotJson),
-        ("[1", ReadFault::NotJson),
-        ("{}x", ReadFault::NotJson),
-        ("[1e999]", ReadFault::NotJson),
-        ("[]", wrong(Place::Root)),
-        ("null", wrong(Place::Root)),
-        (r#"{"resourceMetrics":{}}"#, wrong(Place::ResourceMetrics)),
-        (
-            r#"{"resourceMetrics":[null]}"#,
-            wrong(Place::ResourceMetrics),
-        ),
-        (
-            r#"{"resourceMetrics":[{"resource":1},{}]}"#,
-            wrong(Place::Resource),
-        ),
-        (
-            r#"{"resourceMetrics":[{"resource":1},2]}"#,
-            wrong(Place::ResourceMetrics),
-        ),
-        (
-            r#"{"resourceMetrics":[{"scopeMetrics":"x"}]}"#,
-            wrong(Place::ScopeMetrics),
-        ),
-        (
-            r#"{"resourceMetrics":[{"scopeMetrics":[{"scope":[]}]}]}"#,
-            wrong(Place::Scope),
-        ),
-        (
-            r#"{"resourceMetrics":[{"scopeMetrics":[{"metrics":[[]]}]}]}"#,
-            wrong(Place::Metrics),
-        ),
-        (
-            r#"{"resourceMetrics":[{"scopeMetrics":[{"metrics":[{"summary":1,"gauge":{"dataPoints":{}}}]}]}]}"#,
-            wrong(Place::DataPoints),
-        ),
-        (
-            r#"{"resourceMetrics":[{"scopeMetrics":[{"metrics":[{"summary":[]}]}]}]}"#,
-            wrong(Place::DataField),
-        ),
-        (
-            r#"{"resourceMetrics":[{"scopeMetrics":[{"metrics":[{"sum":{"dataPoints":[{},7]}}]}]}]}"#,
-            wrong(Place::DataPoints),
-        ),
-    ] {
+    for (body, fault) in FAULTS {
         let found = read_request(alloc, body.as_bytes()).err();
-        assert_eq!(rt; found, Some(want), "at {body}");
+        assert_eq!(rt; found, Some(fault), "at {body}");
     }
     assert_eq!(rt;
         read_request(alloc, b"\"\xff\"").err(),
@@ -150,82 +161,135 @@ fn nests_as_deep_as_serde_json(rt: HostRuntime) -> Result<(), Fail> {
     Ok(())
 }
 
-#[test]
-fn counts_points_and_metrics(rt: HostRuntime) -> Result<(), Fail> {
-    let alloc = rt.alloc();
-    for (body, points, foreign, metrics) in [
-        ("{}", 0, 0, 0),
-        (r#"{"resourceMetrics":null,"other":[1]}"#, 0, 0, 0),
-        (
-            r#"{"resourceMetrics":[{"scopeMetrics":[{"metrics":[{"name":"a","sum":{"aggregationTemporality":1,"isMonotonic":true,"dataPoints":[{"asInt":"5","startTimeUnixNano":"10","timeUnixNano":"20"}]}}]}]}]}"#,
-            1,
-            0,
-            1,
+/// How many points were read, how many are outside the profile, and how many metrics there are.
+type Counts = (usize, u64, u64);
+
+/// Bodies with what is counted in each.
+const COUNTED: [(&str, Counts); 4] = [
+    ("{}", (0, 0, 0)),
+    (r#"{"resourceMetrics":null,"other":[1]}"#, (0, 0, 0)),
+    (
+        concat!(
+            r#"{"resourceMetrics":[{"scopeMetrics":[{"scope":{"name":7},"metrics":[{"sum":"#,
+            r#"{"aggregationTemporality":1,"dataPoints":["#,
+            r#"{"asInt":1,"startTimeUnixNano":1,"timeUnixNano":2}]}}]},{"metrics":[{}]}]}]}"#
         ),
-        (
-            r#"{"resourceMetrics":[{"scopeMetrics":[{"metrics":[{"name":"g","gauge":{"dataPoints":[{},{}]}},{"name":"s","sum":{"aggregationTemporality":1,"dataPoints":[{"asDouble":1.5,"startTimeUnixNano":"10","timeUnixNano":"20"},{"asInt":1,"startTimeUnixNano":"10","timeUnixNano":"20"}]}}]}]}]}"#,
-            1,
-            3,
-            2,
+        (0, 1, 2),
+    ),
+    (
+        concat!(
+            r#"{"resourceMetrics":[{"resource":"#,
+            r#"{"attributes":[{"key":"k","value":{"doubleValue":1}}]},"#,
+            r#""scopeMetrics":[{"metrics":[{"sum":{"aggregationTemporality":1,"dataPoints":["#,
+            r#"{"asInt":1,"startTimeUnixNano":1,"timeUnixNano":2}]}}]}]}]}"#
         ),
-        (
-            r#"{"resourceMetrics":[{"scopeMetrics":[{"metrics":[{"sum":{"aggregationTemporality":1,"dataPoints":[{"asInt":1,"startTimeUnixNano":1,"timeUnixNano":2}]},"gauge":{}}]}]}]}"#,
-            0,
-            1,
-            1,
+        (0, 1, 1),
+    ),
+];
+
+/// The metrics of a body, with what is counted in it.
+const COUNTED_METRICS: [(&str, Counts); 6] = [
+    (
+        concat!(
+            r#"{"name":"a","sum":{"aggregationTemporality":1,"isMonotonic":true,"dataPoints":["#,
+            r#"{"asInt":"5","startTimeUnixNano":"10","timeUnixNano":"20"}]}}"#
         ),
-        (
-            r#"{"resourceMetrics":[{"scopeMetrics":[{"metrics":[{"sum":{"aggregationTemporality":2,"dataPoints":[{"asInt":1,"startTimeUnixNano":1,"timeUnixNano":2}]}}]}]}]}"#,
-            0,
-            1,
-            1,
+        (1, 0, 1),
+    ),
+    (
+        concat!(
+            r#"{"name":"g","gauge":{"dataPoints":[{},{}]}},"#,
+            r#"{"name":"s","sum":{"aggregationTemporality":1,"dataPoints":["#,
+            r#"{"asDouble":1.5,"startTimeUnixNano":"10","timeUnixNano":"20"},"#,
+            r#"{"asInt":1,"startTimeUnixNano":"10","timeUnixNano":"20"}]}}"#
         ),
-        (
-            r#"{"resourceMetrics":[{"scopeMetrics":[{"metrics":[{"sum":{"aggregationTemporality":1.0,"dataPoints":[{"asInt":1,"startTimeUnixNano":1,"timeUnixNano":2}]}}]}]}]}"#,
-            0,
-            1,
-            1,
+        (1, 3, 2),
+    ),
+    (
+        concat!(
+            r#"{"sum":{"aggregationTemporality":1,"dataPoints":["#,
+            r#"{"asInt":1,"startTimeUnixNano":1,"timeUnixNano":2}]},"gauge":{}}"#
         ),
-        (
-            r#"{"resourceMetrics":[{"scopeMetrics":[{"scope":{"name":7},"metrics":[{"sum":{"aggregationTemporality":1,"dataPoints":[{"asInt":1,"startTimeUnixNano":1,"timeUnixNano":2}]}}]},{"metrics":[{}]}]}]}"#,
-            0,
-            1,
-            2,
+        (0, 1, 1),
+    ),
+    (
+        concat!(
+            r#"{"sum":{"aggregationTemporality":2,"dataPoints":["#,
+            r#"{"asInt":1,"startTimeUnixNano":1,"timeUnixNano":2}]}}"#
         ),
-        (
-            r#"{"resourceMetrics":[{"resource":{"attributes":[{"key":"k","value":{"doubleValue":1}}]},"scopeMetrics":[{"metrics":[{"sum":{"aggregationTemporality":1,"dataPoints":[{"asInt":1,"startTimeUnixNano":1,"timeUnixNano":2}]}}]}]}]}"#,
-            0,
-            1,
-            1,
+        (0, 1, 1),
+    ),
+    (
+        concat!(
+            r#"{"sum":{"aggregationTemporality":1.0,"dataPoints":["#,
+            r#"{"asInt":1,"startTimeUnixNano":1,"timeUnixNano":2}]}}"#
         ),
-        (
-            r#"{"resourceMetrics":[{"scopeMetrics":[{"metrics":[{"exponentialHistogram":{"dataPoints":[{}]}},{"summary":{"dataPoints":[{},{}]}}]}]}]}"#,
-            0,
-            3,
-            2,
+        (0, 1, 1),
+    ),
+    (
+        concat!(
+            r#"{"exponentialHistogram":{"dataPoints":[{}]}},"#,
+            r#"{"summary":{"dataPoints":[{},{}]}}"#
         ),
-    ] {
-        let reading = read_request(alloc, body.as_bytes())?;
-        assert_eq!(rt; reading.points.as_slice().len(), points, "at {body}");
-        assert_eq!(rt; reading.foreign, foreign, "at {body}");
-        assert_eq!(rt; reading.metrics, metrics, "at {body}");
-    }
+        (0, 3, 2),
+    ),
+];
+
+/// Reads a body, and looks at what was counted.
+fn counts<R: Abort + AllocGlobal>(rt: &R, body: &str, counts: Counts) -> Result<(), Fail> {
+    let (points, foreign, metrics) = counts;
+    let reading = read_request(rt.alloc(), body.as_bytes())?;
+    assert_eq!(rt; reading.points.as_slice().len(), points, "at {body}");
+    assert_eq!(rt; reading.foreign, foreign, "at {body}");
+    assert_eq!(rt; reading.metrics, metrics, "at {body}");
     Ok(())
 }
 
 #[test]
+fn counts_points_and_metrics(rt: HostRuntime) -> Result<(), Fail> {
+    for (body, counted) in COUNTED {
+        counts(&rt, body, counted)?;
+    }
+    for (metrics, counted) in COUNTED_METRICS {
+        let body = request_of(rt.alloc(), metrics)?;
+        counts(&rt, body.as_str(), counted)?;
+    }
+    Ok(())
+}
+
+/// Values of a sum's point, with what they add and take.
+const VALUES: [(&str, u64, u64); 8] = [
+    (r#""5""#, 5, 0),
+    ("5", 5, 0),
+    ("-5", 0, 5),
+    (r#""007""#, 7, 0),
+    (r#""-0""#, 0, 0),
+    (r#""-09""#, 0, 9),
+    (r#""9223372036854775807""#, 9223372036854775807, 0),
+    ("-9223372036854775807", 0, 9223372036854775807),
+];
+
+/// Values that are no whole number of the range.
+const NO_VALUES: [&str; 13] = [
+    r#""+5""#,
+    r#"" 5""#,
+    r#""""#,
+    r#""-""#,
+    r#""5.0""#,
+    "5.0",
+    "5e0",
+    "-0",
+    "null",
+    "true",
+    r#""9223372036854775808""#,
+    "-9223372036854775808",
+    "18446744073709551615",
+];
+
+#[test]
 fn reads_whole_numbers(rt: HostRuntime) -> Result<(), Fail> {
     let alloc = rt.alloc();
-    for (value, added, taken) in [
-        (r#""5""#, 5, 0),
-        ("5", 5, 0),
-        ("-5", 0, 5),
-        (r#""007""#, 7, 0),
-        (r#""-0""#, 0, 0),
-        (r#""-09""#, 0, 9),
-        (r#""9223372036854775807""#, 9223372036854775807, 0),
-        ("-9223372036854775807", 0, 9223372036854775807),
-    ] {
+    for (value, added, taken) in VALUES {
         let body = sum_with(alloc, value)?;
         let reading = read_request(alloc, body.as_bytes())?;
         let row = [1, added, taken];
@@ -233,21 +297,7 @@ fn reads_whole_numbers(rt: HostRuntime) -> Result<(), Fail> {
         assert_eq!(rt; found.row(), row.as_slice(), "at {value}");
         assert_eq!(rt; (found.span().start(), found.span().end()), (10, 20));
     }
-    for value in [
-        r#""+5""#,
-        r#"" 5""#,
-        r#""""#,
-        r#""-""#,
-        r#""5.0""#,
-        "5.0",
-        "5e0",
-        "-0",
-        "null",
-        "true",
-        r#""9223372036854775808""#,
-        "-9223372036854775808",
-        "18446744073709551615",
-    ] {
+    for value in NO_VALUES {
         let body = sum_with(alloc, value)?;
         let reading = read_request(alloc, body.as_bytes())?;
         assert_eq!(rt; reading.foreign, 1, "at {value}");
@@ -255,144 +305,138 @@ fn reads_whole_numbers(rt: HostRuntime) -> Result<(), Fail> {
     Ok(())
 }
 
-#[test]
-fn refuses_points_outside_the_profile(rt: HostRuntime) -> Result<(), Fail> {
-    let alloc = rt.alloc();
-    for (point, foreign) in [
-        (
-            r#"{"asInt":1,"startTimeUnixNano":"0010","timeUnixNano":18446744073709551615}"#,
-            0,
+/// Points of a sum, with how many of each are outside the profile.
+const SPANS: [(&str, u64); 5] = [
+    (
+        r#"{"asInt":1,"startTimeUnixNano":"0010","timeUnixNano":18446744073709551615}"#,
+        0,
+    ),
+    (r#"{"asInt":1,"timeUnixNano":"20"}"#, 1),
+    (
+        r#"{"asInt":1,"startTimeUnixNano":0,"timeUnixNano":"20"}"#,
+        1,
+    ),
+    (r#"{"asInt":1,"startTimeUnixNano":20,"timeUnixNano":20}"#, 1),
+    (
+        r#"{"asInt":1,"startTimeUnixNano":1,"timeUnixNano":"18446744073709551616"}"#,
+        1,
+    ),
+];
+
+/// Fields behind the span of such a point.
+const FIELDS: [(&str, u64); 15] = [
+    (r#""flags":1"#, 1),
+    (r#""flags":"2""#, 0),
+    (r#""flags":4294967296"#, 1),
+    (r#""asDouble":null"#, 0),
+    (r#""asDouble":{}"#, 1),
+    (r#""count":"x","attributes":null"#, 0),
+    (r#""attributes":{}"#, 1),
+    (r#""attributes":[null]"#, 1),
+    (r#""attributes":[{}]"#, 0),
+    (r#""attributes":[{},{"key":""}]"#, 1),
+    (
+        r#""attributes":[{"value":{"boolValue":true,"intValue":1}}]"#,
+        1,
+    ),
+    (
+        concat!(
+            r#""attributes":[{"value":{"arrayValue":{"values":["#,
+            r#"{},{"intValue":"-9223372036854775808"},{"stringValue":"x"}]}}}]"#
         ),
-        (r#"{"asInt":1,"timeUnixNano":"20"}"#, 1),
-        (
-            r#"{"asInt":1,"startTimeUnixNano":0,"timeUnixNano":"20"}"#,
-            1,
-        ),
-        (r#"{"asInt":1,"startTimeUnixNano":20,"timeUnixNano":20}"#, 1),
-        (
-            r#"{"asInt":1,"startTimeUnixNano":1,"timeUnixNano":"18446744073709551616"}"#,
-            1,
-        ),
-        (
-            r#"{"asInt":1,"startTimeUnixNano":1,"timeUnixNano":2,"flags":1}"#,
-            1,
-        ),
-        (
-            r#"{"asInt":1,"startTimeUnixNano":1,"timeUnixNano":2,"flags":"2"}"#,
-            0,
-        ),
-        (
-            r#"{"asInt":1,"startTimeUnixNano":1,"timeUnixNano":2,"flags":4294967296}"#,
-            1,
-        ),
-        (
-            r#"{"asInt":1,"startTimeUnixNano":1,"timeUnixNano":2,"asDouble":null}"#,
-            0,
-        ),
-        (
-            r#"{"asInt":1,"startTimeUnixNano":1,"timeUnixNano":2,"asDouble":{}}"#,
-            1,
-        ),
-        (
-            r#"{"asInt":1,"startTimeUnixNano":1,"timeUnixNano":2,"count":"x","attributes":null}"#,
-            0,
-        ),
-        (
-            r#"{"asInt":1,"startTimeUnixNano":1,"timeUnixNano":2,"attributes":{}}"#,
-            1,
-        ),
-        (
-            r#"{"asInt":1,"startTimeUnixNano":1,"timeUnixNano":2,"attributes":[null]}"#,
-            1,
-        ),
-        (
-            r#"{"asInt":1,"startTimeUnixNano":1,"timeUnixNano":2,"attributes":[{}]}"#,
-            0,
-        ),
-        (
-            r#"{"asInt":1,"startTimeUnixNano":1,"timeUnixNano":2,"attributes":[{},{"key":""}]}"#,
-            1,
-        ),
-        (
-            r#"{"asInt":1,"startTimeUnixNano":1,"timeUnixNano":2,"attributes":[{"value":{"boolValue":true,"intValue":1}}]}"#,
-            1,
-        ),
-        (
-            r#"{"asInt":1,"startTimeUnixNano":1,"timeUnixNano":2,"attributes":[{"value":{"arrayValue":{"values":[{},{"intValue":"-9223372036854775808"},{"stringValue":"x"}]}}}]}"#,
-            0,
-        ),
-        (
-            r#"{"asInt":1,"startTimeUnixNano":1,"timeUnixNano":2,"attributes":[{"value":{"arrayValue":{"values":[null]}}}]}"#,
-            1,
-        ),
-        (
-            r#"{"asInt":1,"startTimeUnixNano":1,"timeUnixNano":2,"attributes":[{"value":{"arrayValue":{"values":[{"arrayValue":{}}]}}}]}"#,
-            1,
-        ),
-        (
-            r#"{"asInt":1,"startTimeUnixNano":1,"timeUnixNano":2,"attributes":[{"value":{"kvlistValue":0}}]}"#,
-            1,
-        ),
-    ] {
-        let body = sum_of(alloc, point)?;
-        let reading = read_request(alloc, body.as_bytes())?;
-        assert_eq!(rt; reading.foreign, foreign, "at {point}");
-        assert_eq!(rt;
-            reading.points.as_slice().len() as u64,
-            1 - foreign,
-            "at {point}"
-        );
-    }
+        0,
+    ),
+    (
+        r#""attributes":[{"value":{"arrayValue":{"values":[null]}}}]"#,
+        1,
+    ),
+    (
+        r#""attributes":[{"value":{"arrayValue":{"values":[{"arrayValue":{}}]}}}]"#,
+        1,
+    ),
+    (r#""attributes":[{"value":{"kvlistValue":0}}]"#, 1),
+];
+
+/// Reads a sum of one point, and looks at whether it is outside the profile.
+fn reads_point<R: Abort + AllocGlobal>(rt: &R, point: &str, foreign: u64) -> Result<(), Fail> {
+    let body = sum_of(rt.alloc(), point)?;
+    let reading = read_request(rt.alloc(), body.as_bytes())?;
+    assert_eq!(rt; reading.foreign, foreign, "at {point}");
+    let read = if foreign == 0 { 1 } else { 0 };
+    assert_eq!(rt; reading.points.as_slice().len(), read, "at {point}");
     Ok(())
 }
 
 #[test]
+fn refuses_points_outside_the_profile(rt: HostRuntime) -> Result<(), Fail> {
+    for (point, foreign) in SPANS {
+        reads_point(&rt, point, foreign)?;
+    }
+    for (fields, foreign) in FIELDS {
+        let point = format!(in rt.alloc();
+            r#"{{"asInt":1,"startTimeUnixNano":1,"timeUnixNano":2,{fields}}}"#
+        )?;
+        reads_point(&rt, point.as_str(), foreign)?;
+    }
+    Ok(())
+}
+
+/// Fields of a histogram's point, with its row.
+const HISTOGRAMS: [(&str, &[u64]); 7] = [
+    (
+        r#""count":7,"sum":30,"bucketCounts":["1",2,"0",4],"explicitBounds":[0,5,10]"#,
+        &[1, 0, 30, 1, 2, 0, 4],
+    ),
+    (
+        r#""count":"2","bucketCounts":[0,1,1,0],"explicitBounds":[-1,5,10],"min":1"#,
+        &[1, 1, 0, 0, 1, 1, 0],
+    ),
+    (r#""count":3,"sum":"0""#, &[1, 0, 0, 3]),
+    (r#""bucketCounts":[],"explicitBounds":null"#, &[1, 1, 0, 0]),
+    (r#""count":3,"bucketCounts":[3]"#, &[1, 1, 0, 3]),
+    (
+        r#""count":"9223372036854775808""#,
+        &[1, 1, 0, 9223372036854775808],
+    ),
+    (
+        concat!(
+            r#""count":18446744073709551615,"sum":9007199254740992,"#,
+            r#""bucketCounts":["18446744073709551615","0"],"explicitBounds":[0]"#
+        ),
+        &[1, 0, 9007199254740992, 18446744073709551615, 0],
+    ),
+];
+
+/// Fields of histograms' points that are outside the profile.
+const NO_HISTOGRAMS: [&str; 13] = [
+    r#""count":8,"sum":30,"bucketCounts":[1,2,0,4],"explicitBounds":[0,5,10]"#,
+    r#""count":7,"bucketCounts":[1,2,4],"explicitBounds":[0,5,10]"#,
+    r#""count":7,"bucketCounts":[1,2,0,4],"explicitBounds":[0,5,5]"#,
+    r#""count":7,"bucketCounts":[1,2,0,4],"explicitBounds":[0,5.0,10]"#,
+    r#""count":7,"bucketCounts":[1,2,null,4],"explicitBounds":[0,5,10]"#,
+    r#""count":7,"explicitBounds":[0,5,10]"#,
+    r#""count":1,"sum":-1"#,
+    r#""count":1,"sum":9007199254740993"#,
+    r#""count":0,"bucketCounts":[0,0],"explicitBounds":[9007199254740993]"#,
+    r#""count":"18446744073709551616""#,
+    r#""count":0,"bucketCounts":["18446744073709551616"]"#,
+    concat!(
+        r#""count":"18446744073709551615","#,
+        r#""bucketCounts":["18446744073709551615",1],"explicitBounds":[0]"#
+    ),
+    r#""count":0,"bucketCounts":["18446744073709551615",1],"explicitBounds":[0]"#,
+];
+
+#[test]
 fn reads_histograms(rt: HostRuntime) -> Result<(), Fail> {
     let alloc = rt.alloc();
-    for (fields, row) in [
-        (
-            r#""count":7,"sum":30,"bucketCounts":["1",2,"0",4],"explicitBounds":[0,5,10]"#,
-            [1, 0, 30, 1, 2, 0, 4].as_slice(),
-        ),
-        (
-            r#""count":"2","bucketCounts":[0,1,1,0],"explicitBounds":[-1,5,10],"min":1"#,
-            [1, 1, 0, 0, 1, 1, 0].as_slice(),
-        ),
-        (r#""count":3,"sum":"0""#, [1, 0, 0, 3].as_slice()),
-        (
-            r#""bucketCounts":[],"explicitBounds":null"#,
-            [1, 1, 0, 0].as_slice(),
-        ),
-        (r#""count":3,"bucketCounts":[3]"#, [1, 1, 0, 3].as_slice()),
-        (
-            r#""count":"9223372036854775808""#,
-            [1, 1, 0, 9223372036854775808].as_slice(),
-        ),
-        (
-            r#""count":18446744073709551615,"sum":9007199254740992,"bucketCounts":["18446744073709551615","0"],"explicitBounds":[0]"#,
-            [1, 0, 9007199254740992, 18446744073709551615, 0].as_slice(),
-        ),
-    ] {
+    for (fields, row) in HISTOGRAMS {
         let body = histogram_with(alloc, fields)?;
         let reading = read_request(alloc, body.as_bytes())?;
         let found = first(&reading).ok_or("a point")?;
         assert_eq!(rt; found.row(), row, "at {fields}");
     }
-    for fields in [
-        r#""count":8,"sum":30,"bucketCounts":[1,2,0,4],"explicitBounds":[0,5,10]"#,
-        r#""count":7,"bucketCounts":[1,2,4],"explicitBounds":[0,5,10]"#,
-        r#""count":7,"bucketCounts":[1,2,0,4],"explicitBounds":[0,5,5]"#,
-        r#""count":7,"bucketCounts":[1,2,0,4],"explicitBounds":[0,5.0,10]"#,
-        r#""count":7,"bucketCounts":[1,2,null,4],"explicitBounds":[0,5,10]"#,
-        r#""count":7,"explicitBounds":[0,5,10]"#,
-        r#""count":1,"sum":-1"#,
-        r#""count":1,"sum":9007199254740993"#,
-        r#""count":0,"bucketCounts":[0,0],"explicitBounds":[9007199254740993]"#,
-        r#""count":"18446744073709551616""#,
-        r#""count":0,"bucketCounts":["18446744073709551616"]"#,
-        r#""count":"18446744073709551615","bucketCounts":["18446744073709551615",1],"explicitBounds":[0]"#,
-        r#""count":0,"bucketCounts":["18446744073709551615",1],"explicitBounds":[0]"#,
-    ] {
+    for fields in NO_HISTOGRAMS {
         let body = histogram_with(alloc, fields)?;
         let reading = read_request(alloc, body.as_bytes())?;
         assert_eq!(rt; reading.foreign, 1, "at {fields}");
