@@ -58,10 +58,10 @@ fn run_workers<
     shared: &SharedBook<L>,
     seats: Vec<Seat<L>>,
     acceptor: &Mutex<Acceptor<Entrance>>,
+    orders: OrderChannel,
     options: &ServeOptions<'_>,
 ) -> Result<Vec<Seat<L>>, GatewayFault> {
     thread::scope(thread::scope_env(), rt, |scope| {
-        let orders = OrderChannel::new(alloc)?;
         let mut running = Vec::new(alloc);
         let mut closed = acceptor.lock(rt);
         for seat in seats {
@@ -101,8 +101,10 @@ pub fn serve_beside<
     options: &ServeOptions<'_>,
     connections: u64,
 ) -> Result<Vec<Seat<L>>, GatewayFault> {
+    let orders = OrderChannel::new(alloc)?;
     let acceptor = Mutex::new(Acceptor::new(entrance, connections));
-    let seats = run_workers(rt, alloc, shared, seats, &acceptor, options);
+    // Its own fault can only come after those of the acceptor.
+    let seats = run_workers(rt, alloc, shared, seats, &acceptor, orders, options);
     acceptor.into_inner().end(connections)?;
     seats
 }
