@@ -2,6 +2,7 @@
 
 ghost use Rattle.std.specs.Prelude.{◌≡◌, ◌≤◌, IfSome, IsPermutation, IsTrue, OnSome, Some, length, map, option_and_then, take};
 ghost use Rattle.serde_json.specs.View.{view};
+ghost use Rattle.series_id.specs.Identity.{IsIdentity};
 ghost use Rattle.series_id.specs.Sorting.{pair_of as pair_in};
 ghost use Rattle.otlp_read.specs.Lists.{all_of};
 ghost use Rattle.otlp_read.specs.Attributes.{pair_of, set_of};
@@ -103,11 +104,11 @@ fn share_at(
     }
 }
 
-/// Whether a series is that of the stream, the kind and the attributes.
+/// Whether a series is that of the stream, the kind and the attributes. The clause is of a series
+/// within its limits, as every `SharedId` is.
 fn is_series(series: &SeriesId, stream: Stream<'_>, kind: &Kind, pairs: &[PairRef<'_>]) -> bool
-    ensures only { IsTrue result → option_and_then (series_in (stream_data stream.entry) kind.now) (set_of (map pair_data pairs.now)) ≡ Some series.now }
+    ensures only { IsIdentity series.now → IsTrue result → option_and_then (series_in (stream_data stream.entry) kind.now) (set_of (map pair_data pairs.now)) ≡ Some series.now }
 {
-    series.keeps_limits();
     if !is_in_stream(series, stream) {
         return false;
     }

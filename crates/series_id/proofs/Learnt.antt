@@ -1,16 +1,8 @@
 -- Loops that learn something of each element.
-use Rattle.std.proofs.Common.{◌≡◌, ℕ, ℤ, pos, negsuc, ◌+◌, ◌<◌, ◌≤◌, List, take, length, get_or, subst}
-use Rattle.std.specs.Prelude.{FitsSigned}
+use Rattle.std.proofs.Common.{◌≡◌, ℕ, ◌+◌, ◌<◌, ◌≤◌, List, take, length, get_or, subst}
 use Rattle.std.specs.List.{All, AllByRecursion}
 use Rattle.std.proofs.lemmas.List.{take_all}
 use Rattle.std.proofs.lemmas.List.Elements.{All-more, recursion_from_All}
-use mir.Syntax.{w64}
-use Rattle.series_id.specs.Values.{IsInt}
-
--- a number that fits 64 bits
-pub int_fits : (z : ℤ) → FitsSigned w64 z → IsInt z
-int_fits (pos n) h = h.sfits
-int_fits (negsuc n) h = h.sfits
 
 -- one more element
 pub learnt_more : {X : Type 0} (P : X → Type 0) (xs : List X) (i : ℕ) (x : X) → i < length xs → x ≡ get_or xs i x → P x → All P (take i xs) → All P (take (i + 1) xs)

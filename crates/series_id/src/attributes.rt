@@ -6,7 +6,7 @@ ghost use Rattle.series_id.specs.Attributes.{IsAttrSet, attribute_cmp, attrs_cmp
 ghost use Rattle.series_id.specs.Pairs.{attr_refusal};
 ghost use Rattle.series_id.specs.Sorting.{sorted_by_key};
 
-use crate::checks::{attr_fault, keep_width};
+use crate::checks::attr_fault;
 use crate::faults::AttrFault;
 use crate::sorting::sort_by_key;
 use crate::texts::Text;
@@ -91,7 +91,6 @@ impl AttrSet {
         if let Some(fault) = attr_fault(pairs.as_slice()) {
             return Err(fault);
         }
-        keep_width(pairs.as_slice());
         let sorted = sort_by_key(alloc, pairs)?;
         Ok(share_pairs(alloc, sorted)?)
     }
@@ -126,13 +125,6 @@ impl AttrSet {
             None => 1,
             Some(shared) => Arc::strong_count(shared),
         }
-    }
-
-    /// Does nothing when it runs. Its contract says that the set is within its limits.
-    pub fn keeps_limits(&self)
-        ensures { IsAttrSet self.now }
-    {
-        let _ = &self.pairs;
     }
 
     /// Whether both sets have the same attributes.

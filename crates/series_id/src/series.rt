@@ -2,7 +2,7 @@
 
 ghost use Rattle.std.specs.Prelude.{◌≡◌, ◌↔◌, IfOk, IsTrue, Some, refl};
 ghost use Rattle.series_id.specs.Checks.{checked_identity};
-ghost use Rattle.series_id.specs.Identity.{IsIdentity, row_length};
+ghost use Rattle.series_id.specs.Identity.{row_length};
 ghost use Rattle.series_id.specs.SeriesLaws.{same_series_equiv, same_series_per, same_series_ties, series_po};
 ghost use Rattle.series_id.specs.Totals.{series_total};
 ghost use Rattle.series_id.specs.Order.{metric_cmp, resource_cmp, same_series, scope_cmp, series_before, series_cmp, stream_cmp};
@@ -78,10 +78,6 @@ impl SeriesId {
         if scope_name.is_long() || scope_version.is_long() || name.is_long() || unit.is_long() {
             return Err(IdFault::TextTooLong);
         }
-        resource.keeps_limits();
-        scope_attrs.keeps_limits();
-        kind.keeps_limits();
-        attrs.keeps_limits();
         Ok(SeriesId {
             resource,
             scope_name,
@@ -148,14 +144,6 @@ impl SeriesId {
         ensures { result.now ≡ self.now.attrs }
     {
         &self.attrs
-    }
-
-    /// Does nothing when it runs. Its contract says that the identity is within its limits, with
-    /// its sets and bounds in order.
-    pub fn keeps_limits(&self)
-        ensures { IsIdentity self.now }
-    {
-        let _ = &self.name;
     }
 
     /// How many words a row of the series has: 3 for a sum; for a histogram 4 more than it has

@@ -18,11 +18,13 @@ pub struct SharedId {
 
 impl Model for SharedId {
     ghost use Rattle.std.specs.Arc.{arc_value};
-    ghost use Rattle.series_id.specs.Identity.{Identity};
+    ghost use Rattle.series_id.specs.Identity.{Identity, IsIdentity};
 
     ghost Value = { Identity };
 
     ghost view = { λ s. (arc_value s.kept).series };
+
+    ghost invariant = { λ s. IsIdentity (arc_value s.kept).series };
 }
 
 // Written by hand: a derived `drop` is proved again in each crate that drops one.

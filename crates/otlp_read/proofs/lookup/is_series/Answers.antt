@@ -9,6 +9,6 @@ returns c =
     let within = c.is_in_stream.ensures.only c.if-not-is_in_stream.false in
     let kind = c.is_same.ensures.0 c.if-not-is_same.false in
     record {
-      only = λ same.
-          series_is (stream_data c.args.stream) c.args.kind.now _ c.args.series.now c.keeps_limits.ensures within (sym c.kind.ensures ∙ kind) (c.are_pairs.ensures.only same ∙ ap (map pair_in) (c.pairs.ensures ∙ c.attrs.ensures));
+      only = λ limits same.
+          series_is (stream_data c.args.stream) c.args.kind.now _ c.args.series.now limits within (sym c.kind.ensures ∙ kind) (c.are_pairs.ensures.only same ∙ ap (map pair_in) (c.pairs.ensures ∙ c.attrs.ensures));
     }
