@@ -6,8 +6,8 @@ use Rattle.series_id.specs.declared.limits.TheConstants.{MAX_BOUND}
 use Rattle.series_id.specs.declared.kinds.Kind.{Kind}
 use Rattle.series_id.specs.Ascending.{histogram_of}
 use Rattle.metric_events.specs.DataPoint.{DataPoint}
-use Rattle.metric_events.specs.Rows.{histogram_row}
-use Rattle.metric_events.specs.PointFaults.{histogram_fault, given_buckets, bounds_of}
+use Rattle.metric_events.specs.NewPoints.{point_of_histogram}
+use Rattle.metric_events.specs.PointFaults.{histogram_fault}
 use Rattle.otlp_read.specs.Whole.{unsigned_64, signed_in}
 use Rattle.otlp_read.specs.Fields.{field, flags_fit, nanos_in}
 use Rattle.otlp_read.specs.Lists.{list_in}
@@ -57,7 +57,8 @@ histogram_point stream d = do
   kind ← kind_in d
   buckets ← list_in unsigned_64 (field (codes "bucketCounts") d)
   series ← series_of stream kind (field (codes "attributes") d)
-  unless (histogram_fault series.kind fields.start fields.end fields.count fields.total buckets) (record { series = series; span = record { start = fields.start; end = fields.end }; row = histogram_row fields.total (given_buckets (bounds_of series.kind) fields.count buckets) })
+  unless (histogram_fault series.kind fields.start fields.end fields.count fields.total buckets)
+      (point_of_histogram series fields.start fields.end fields.count fields.total buckets)
 
 -- in no stream, every point is foreign
 abbrev pub histogram_point_in : Option Stream → Data → Option DataPoint

@@ -3,7 +3,7 @@ use Rattle.std.specs.Prelude.{ℕ, ℤ, Bool, not, ◌&&◌, if◌then◌else◌
 use Rattle.serde_json.specs.Data.{Data}
 use Rattle.series_id.specs.declared.kinds.Kind.TheVariants.{Sum}
 use Rattle.metric_events.specs.DataPoint.{DataPoint}
-use Rattle.metric_events.specs.Rows.{sum_row}
+use Rattle.metric_events.specs.NewPoints.{point_of_sum}
 use Rattle.metric_events.specs.PointFaults.{sum_fault}
 use Rattle.otlp_read.specs.Whole.{signed_64}
 use Rattle.otlp_read.specs.Fields.{field, flags_fit, nanos_in}
@@ -42,7 +42,8 @@ unfoldable pub sum_point : SumStream → Data → Option DataPoint
 sum_point sum d = do
   fields ← sum_fields d
   series ← series_of sum.stream (Sum sum.monotonic) (field (codes "attributes") d)
-  unless (sum_fault series.kind fields.start fields.end fields.value) (record { series = series; span = record { start = fields.start; end = fields.end }; row = sum_row fields.value })
+  unless (sum_fault series.kind fields.start fields.end fields.value)
+      (point_of_sum series fields.start fields.end fields.value)
 
 -- in no stream, every point is foreign
 abbrev pub sum_point_in : Option SumStream → Data → Option DataPoint
