@@ -7,4 +7,4 @@ pub mod batch_span;
 pub mod cell;
 mod cell_parts;
 pub mod laws;
-mod rows;
+pub mod rows;

@@ -4,7 +4,7 @@ ghost use Rattle.metric_events.specs.Rows.{zeros};
 
 use std::alloc::{AllocError, Global};
 
-/// A row of `len` words, each 0.
+/// A row of `len` words, each 0. Fails only if an allocation fails.
 pub fn zero_row(alloc: Global, len: usize) -> Result<Vec<u64>, AllocError>
     ensures { IfOk result (λ v. v.items ≡ zeros len) }
 {
@@ -14,7 +14,7 @@ pub fn zero_row(alloc: Global, len: usize) -> Result<Vec<u64>, AllocError>
 }
 
 /// Each word has 64 bits. Does nothing when it runs: a caller that names it can cite its clause.
-pub fn keeps_words(row: &[u64])
+pub(crate) fn keeps_words(row: &[u64])
     ensures { (k : ℕ) → slice_index row.now k < 2 ^ 64 }
 {
     let _row = row;
