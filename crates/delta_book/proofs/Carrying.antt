@@ -36,7 +36,7 @@ use Rattle.delta_book.specs.Tables.{are_full}
 use Rattle.delta_book.specs.Rounds.{round_refusal}
 use Rattle.delta_book.specs.Journal.{Journal, journal_of, history, admits, takes, IsNumbered}
 use Rattle.delta_book.specs.declared.open.Open.{Open}
-use Rattle.delta_book.proofs.Adding.{written_back}
+use Rattle.series_cell.proofs.ByPlace.{written_back}
 use Rattle.delta_book.proofs.Choosing.{AreTied}
 use Rattle.delta_book.proofs.Closes.{may_close, next_opened}
 use Rattle.delta_book.proofs.Sweeping.{is_some_cell, empty_cell, none_of_empty}

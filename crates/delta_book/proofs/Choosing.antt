@@ -7,7 +7,7 @@ use Rattle.std.proofs.lemmas.List.Elements.{filter-append}
 use Rattle.std.proofs.lemmas.Bool.{and_parts, and_from, or_parts, or_left, or_cases}
 use Rattle.series_id.specs.Identity.{Identity}
 use Rattle.series_id.specs.Order.{same_series, series_before}
-use Rattle.series_id.proofs.Order.{same_series-refl, same_series-exact, before-transitive, before-irreflexive, before-apart}
+use Rattle.series_id.proofs.Order.{same_series-refl, same_series-exact, before-transitive, before-irreflexive}
 use Rattle.metric_events.specs.Points.{is_among, is_home, is_flying, is_in_flight}
 use Rattle.metric_events.specs.Series.{is_of, of_series, series_in_order, is_ascending}
 use Rattle.metric_events.specs.Standing.{stands}
@@ -18,7 +18,7 @@ use Rattle.metric_events.specs.declared.place.Place.TheVariants.{Home, InFlight,
 use Rattle.metric_events.specs.declared.accepted.Accepted.{Accepted}
 use Rattle.metric_events.specs.declared.flight.Flight.{Flight}
 use Rattle.metric_events.proofs.Identities.{same_series-turned}
-use Rattle.metric_events.proofs.InOrder.{series_ascend}
+use Rattle.metric_events.proofs.InOrder.{series_ascend, not_among}
 use Rattle.metric_events.proofs.SeriesOnce.{among_in_order}
 use Rattle.metric_events.proofs.Lists.{all_filter, any_none, filter_none, any_weaker, both_at}
 use Rattle.metric_events.proofs.Moves.{rides, rides_at, rides-in_live}
@@ -29,12 +29,6 @@ use Rattle.delta_book.proofs.Picking.{some_filtered}
 use Rattle.delta_book.specs.Ready.{is_ready, ready_ids, first_ready}
 
 -- two ascending lists of the same series are one
-
-not_in : (x : Identity) (xs : List Identity) → list_all (series_before x) xs ≡ true → is_among x xs ≡ false
-not_in x [] h = refl
-not_in x (y ∷ ys) h =
-    let p = and_parts (series_before x y) (list_all (series_before x) ys) h in
-    rw (before-apart x y p.0) (not_in x ys p.1)
 
 -- what comes before each of these comes before one of them
 before_of : (x y : Identity) (xs : List Identity) → list_all (series_before x) xs ≡ true → is_among y xs ≡ true → series_before x y ≡ true
@@ -73,7 +67,7 @@ same_ascending (x ∷ xs) (y ∷ ys) h k s =
     let p = and_parts (list_all (series_before x) xs) (is_ascending xs) h in
     let q = and_parts (list_all (series_before y) ys) (is_ascending ys) k in
     let e = heads x y xs ys p.0 q.0 s in
-    ap (λ z. z ∷ xs) e ∙ ap (λ zs. y ∷ zs) (same_ascending xs ys p.1 q.1 (record { same = λ z. tails z (same_series z x) refl (not_in x xs p.0) (not_in y ys q.0) e }))
+    ap (λ z. z ∷ xs) e ∙ ap (λ zs. y ∷ zs) (same_ascending xs ys p.1 q.1 (record { same = λ z. tails z (same_series z x) refl (not_among x xs p.0) (not_among y ys q.0) e }))
   where
     tails : (z : Identity) (v : Bool) → same_series z x ≡ v → is_among x xs ≡ false → is_among y ys ≡ false → x ≡ y → is_among z xs ≡ is_among z ys
     tails z true m nx ny e =

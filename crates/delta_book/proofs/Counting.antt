@@ -2,20 +2,20 @@
 use Rattle.std.proofs.Common.{◌≡◌, ℕ, ◌+◌, ◌<◌, ◌≤◌, Bool, true, false, not, ◌||◌, List, [], ◌∷◌, ◌++◌, map, take, filter, get_or, length, refl, ap, sym, ◌∙◌, subst, arith, zero, suc, add-one}
 use Rattle.std.specs.Prelude.{if◌then◌else◌}
 use Rattle.std.specs.List.{list_any, list_all}
-use Rattle.std.proofs.lemmas.Bool.{and_parts, and_from, or_left, or_from}
+use Rattle.std.proofs.lemmas.Bool.{and_parts, and_from, or_left}
 use Rattle.std.proofs.lemmas.Grind.{fold-append}
 use Rattle.std.proofs.lemmas.List.{append_assoc, take_all, map-append, length-map}
 use Rattle.std.proofs.lemmas.List.Folds.{list_any-append}
 use Rattle.series_id.specs.Identity.{Identity}
 use Rattle.series_id.specs.Order.{same_series, series_before}
-use Rattle.series_id.proofs.Order.{same_series-exact, before-apart, before-transitive}
+use Rattle.series_id.proofs.Order.{same_series-exact, before-transitive}
 use Rattle.metric_events.specs.DataPoint.{DataPoint}
 use Rattle.metric_events.specs.Points.{points, admitted, is_among}
 use Rattle.metric_events.specs.Series.{is_of, series_in_order, series_count, placed, with_series, is_ascending}
 use Rattle.metric_events.specs.declared.limits.TheConstants.{MAX_SERIES}
 use Rattle.metric_events.specs.declared.accepted.Accepted.{Accepted}
 use Rattle.metric_events.proofs.Identities.{same_series-turned, same_of}
-use Rattle.metric_events.proofs.InOrder.{series_ascend}
+use Rattle.metric_events.proofs.InOrder.{series_ascend, not_among}
 use Rattle.metric_events.proofs.SeriesOnce.{among_in_order, in_order_few}
 use Rattle.metric_events.proofs.Lists.{all_weaker, all_both, any_none, any_filter_same, length_without}
 use Rattle.metric_events.proofs.WithinLimits.{few_series}
@@ -59,12 +59,6 @@ pub count_is : (qs : List Accepted) → length (series_in_order qs) ≡ series_c
 count_is qs = omega (arith, in_order_few qs, count_within qs (series_in_order qs) (each_in qs (series_in_order qs) (λ x m. among_in_order x qs ∙ m) qs (λ x m. m)))
 
 -- one more, where it is not among them
-
-not_among : (x : Identity) (xs : List Identity) → list_all (series_before x) xs ≡ true → is_among x xs ≡ false
-not_among x [] h = refl
-not_among x (y ∷ ys) h =
-    let p = and_parts (series_before x y) (list_all (series_before x) ys) h in
-    or_from (same_series x y) (is_among x ys) (before-apart x y p.0) (not_among x ys p.1)
 
 pub length_placed : (x : Identity) (xs : List Identity) → is_ascending xs ≡ true → length (placed x xs) ≡ length xs + (if is_among x xs then 0 else 1)
 length_placed x [] h = refl

@@ -39,7 +39,7 @@ use Rattle.metric_events.specs.Running.{owed}
 use Rattle.delta_book.proofs.Tables.{landed-on}
 use Rattle.delta_book.proofs.Entries.{take_in, taken_distinct, rides_in, flight_at, named_at, flights_length, flights_more, flights_closed, no_flight}
 use Rattle.metric_events.specs.Running.{is_other_flight, is_another}
-use Rattle.delta_book.proofs.Adding.{written_back}
+use Rattle.series_cell.proofs.ByPlace.{written_back}
 use Rattle.delta_book.proofs.Choosing.{AreTied, tied}
 
 -- one more entry, and what it does to what is kept

@@ -26,7 +26,7 @@ use Rattle.delta_book.specs.Stored.{IsStored, journal_in, history_in}
 use Rattle.delta_book.specs.Tables.{AreCells, AreFlights, At, on_series}
 use Rattle.delta_book.specs.Ready.{is_ready, first_ready}
 use Rattle.delta_book.specs.declared.open.Open.{Open}
-use Rattle.delta_book.proofs.Adding.{written_back}
+use Rattle.series_cell.proofs.ByPlace.{written_back}
 use Rattle.delta_book.proofs.Tables.{taken-on}
 use Rattle.delta_book.proofs.Entries.{is_home_of, flights_push, flights_more}
 use Rattle.delta_book.proofs.Choosing.{AreTied, first_is, any_ready}

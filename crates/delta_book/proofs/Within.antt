@@ -5,9 +5,9 @@ use Rattle.std.proofs.lemmas.Bool.{and_from, leb-true, le-leb}
 use Rattle.std.proofs.lemmas.List.{take_all, length-drop}
 use Rattle.std.proofs.lemmas.List.Sums.{sum_by-cons}
 use Rattle.bucket_lanes.specs.ByPlace.{Fits}
-use Rattle.series_id.specs.declared.kinds.Kind.TheVariants.{Sum, Histogram}
+use Rattle.series_id.specs.declared.kinds.Kind.TheVariants.{Histogram}
 use Rattle.metric_events.specs.Rows.{add_rows, are_within, fits, word_limit}
-use Rattle.metric_events.specs.declared.limits.TheConstants.{MAX_POINTS, MAX_AMOUNT, MAX_SUM, MAX_BUCKET, MAX_COUNT}
+use Rattle.metric_events.specs.declared.limits.TheConstants.{MAX_POINTS, MAX_SUM, MAX_BUCKET, MAX_COUNT}
 use Rattle.metric_events.proofs.Fits.{word_within}
 use Rattle.metric_events.proofs.Sums.{added_at}
 
@@ -37,31 +37,6 @@ pub rest_is : (n : ℕ) (xs : List ℕ) → take (length xs - n) (drop n xs) ≡
 rest_is n xs = take_all (length xs - n) (drop n xs) (omega (arith, length-drop n xs))
 
 -- the limits of a kind, word by word
-
-first_one : (p w : Bool) → ((p && true) && w) ≡ (p && w)
-first_one true w = refl
-first_one false w = refl
-
-pub sum_split : (monotonic : Bool) (xs ys : List ℕ) → length xs ≡ 3 → length ys ≡ 3 → (are_within (λ k. MAX_POINTS) (add_rows (take 1 xs) (take 1 ys)) && are_within (λ k. MAX_AMOUNT) (add_rows (drop 1 xs) (drop 1 ys))) ≡ fits (Sum monotonic) (add_rows xs ys)
-sum_split monotonic [] ys l m = absurd (omega (arith, l))
-sum_split monotonic (x ∷ xs) [] l m = absurd (omega (arith, m))
-sum_split monotonic (x ∷ xs) (y ∷ ys) l m = first_one (nat_le (x + y) MAX_POINTS) (are_within (λ k. MAX_AMOUNT) (add_rows xs ys))
-
-first_three : (p q r : Bool) → ((p && (q && true)) && (r && true)) ≡ (p && (q && (r && true)))
-first_three true true r = refl
-first_three true false r = refl
-first_three false q r = refl
-
-pub head_split : (bounds : List ℤ) (xs ys : List ℕ) → length xs ≡ 3 → length ys ≡ 3 → (are_within (λ k. MAX_POINTS) (add_rows (take 2 xs) (take 2 ys)) && are_within (λ k. MAX_SUM) (add_rows (drop 2 xs) (drop 2 ys))) ≡ are_within (word_limit (Histogram bounds)) (add_rows xs ys)
-head_split bounds (a ∷ b ∷ c ∷ []) (x ∷ y ∷ z ∷ []) l m = first_three (nat_le (a + x) MAX_POINTS) (nat_le (b + y) MAX_POINTS) (nat_le (c + z) MAX_SUM)
-head_split bounds [] ys l m = absurd (omega (arith, l))
-head_split bounds (a ∷ []) ys l m = absurd (omega (arith, l))
-head_split bounds (a ∷ b ∷ []) ys l m = absurd (omega (arith, l))
-head_split bounds (a ∷ b ∷ c ∷ d ∷ xs) ys l m = absurd (omega (arith, l))
-head_split bounds (a ∷ b ∷ c ∷ []) [] l m = absurd (omega (arith, m))
-head_split bounds (a ∷ b ∷ c ∷ []) (x ∷ []) l m = absurd (omega (arith, m))
-head_split bounds (a ∷ b ∷ c ∷ []) (x ∷ y ∷ []) l m = absurd (omega (arith, m))
-head_split bounds (a ∷ b ∷ c ∷ []) (x ∷ y ∷ z ∷ w ∷ ys) l m = absurd (omega (arith, m))
 
 then_rest : (p q r w s : Bool) → ((p && (q && (r && true))) && (w && s)) ≡ ((p && (q && (r && w))) && s)
 then_rest true true true w s = refl

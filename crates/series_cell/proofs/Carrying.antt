@@ -18,14 +18,14 @@ use Rattle.series_cell.specs.Cells.{CellView, Stands, IsCell, AllOwn, InOrder, g
 use Rattle.series_cell.specs.Spans.{span_of, hull_of, joined_spans}
 use Rattle.series_cell.specs.declared.batch_span.BatchSpan.{BatchSpan}
 use Rattle.series_cell.proofs.Sizes.{sized}
-use Rattle.series_cell.proofs.Standing.{end_is, home_own, none_away, spans_of_home}
+use Rattle.series_cell.proofs.Standing.{end_is, home_own, none_away, home_spans}
 
 pub spans_hull : (qs : List Accepted) → hull_of (map span_of qs) ≡ hull qs
 spans_hull [] = refl
 spans_hull (a ∷ qs) = ap (λ o. Some (joined_to a.point.span o)) (spans_hull qs)
 
 pub hull_at_home : (c : CellView) (qs : List Accepted) (h : Stands c qs) → home_hull c ≡ hull h.home
-hull_at_home c qs h = ap hull_of (spans_of_home c qs h) ∙ spans_hull h.home
+hull_at_home c qs h = ap hull_of (home_spans c qs h) ∙ spans_hull h.home
 
 -- a hull of points is an interval, and there is none only of no points
 joined_is : (p : Interval) (o : Option Interval) → IsInterval p → ((q : Interval) → o ≡ Some q → IsInterval q) → IsInterval (joined_to p o)

@@ -19,7 +19,7 @@ use Rattle.series_cell.specs.Reading.{IsTotalOf}
 use Rattle.series_cell.specs.Spans.{span_of, hull_of}
 use Rattle.series_cell.proofs.Carrying.{spans_hull, hull_at_home}
 use Rattle.series_id.proofs.Order.{same_series-refl}
-use Rattle.series_cell.proofs.Standing.{end_is, spans_of_away}
+use Rattle.series_cell.proofs.Standing.{end_is, away_spans, landed_off, flying_off}
 
 -- points that all stand elsewhere
 pub none_stand : (t u : Place → Bool) → ((q : Place) → u q ≡ true → t q ≡ false) → (qs : List Accepted) → list_all (stands u) qs ≡ true → filter (stands t) qs ≡ []
@@ -35,23 +35,11 @@ all_stand t u k (a ∷ qs) h =
     let p = and_parts (u a.place) (list_all (stands u) qs) h in
     rw (k a.place p.0) (ap (λ rs. a ∷ rs) (all_stand t u k qs p.1))
 
-landed_home : (q : Place) → is_landed q ≡ true → is_home q ≡ false
-landed_home Home e = absurd (let k : false ≡ true = e in cc)
-landed_home (InFlight g) e = refl
-landed_home Acknowledged e = refl
-landed_home Dropped e = refl
-
 landed_flying : (q : Place) → is_landed q ≡ true → is_flying q ≡ false
 landed_flying Home e = refl
 landed_flying (InFlight g) e = absurd (let k : false ≡ true = e in cc)
 landed_flying Acknowledged e = refl
 landed_flying Dropped e = refl
-
-flight_home : (f : ℕ) (q : Place) → is_in_flight f q ≡ true → is_home q ≡ false
-flight_home f Home e = absurd (let k : false ≡ true = e in cc)
-flight_home f (InFlight g) e = refl
-flight_home f Acknowledged e = refl
-flight_home f Dropped e = refl
 
 flight_flying : (f : ℕ) (q : Place) → is_in_flight f q ≡ true → is_flying q ≡ true
 flight_flying f Home e = absurd (let k : false ≡ true = e in cc)
@@ -96,7 +84,7 @@ three : (t : Accepted → Bool) (c : CellView) (qs : List Accepted) (h : Stands 
 three t c qs h = ap (filter t) h.parts ∙ (filter-append t h.gone (h.away ++ h.home) ∙ ap (λ rs. filter t h.gone ++ rs) (filter-append t h.away h.home))
 
 pub home_points : (c : CellView) (qs : List Accepted) (h : Stands c qs) → filter (stands is_home) qs ≡ h.home
-home_points c qs h = three (stands is_home) c qs h ∙ rw (none_stand is_home is_landed landed_home h.gone h.are_gone, none_stand is_home (is_in_flight c.flush) (flight_home c.flush) h.away h.are_away) (filter_keeps (stands is_home) h.home h.are_home)
+home_points c qs h = three (stands is_home) c qs h ∙ rw (none_stand is_home is_landed landed_off h.gone h.are_gone, none_stand is_home (is_in_flight c.flush) (flying_off c.flush) h.away h.are_away) (filter_keeps (stands is_home) h.home h.are_home)
 
 pub away_points : (c : CellView) (qs : List Accepted) (h : Stands c qs) → filter (stands is_flying) qs ≡ h.away
 away_points c qs h = three (stands is_flying) c qs h ∙ rw (none_stand is_flying is_landed landed_flying h.gone h.are_gone, all_stand is_flying (is_in_flight c.flush) (flight_flying c.flush) h.away h.are_away, none_stand is_flying is_home home_flying h.home h.are_home) (append-nil h.away)
@@ -164,7 +152,7 @@ tells c qs h = record {
   in_flight = h.in_flight ∙ ap (row_sum (row_length c.id.kind)) (sym (away_points c qs h));
   stored = h.stored ∙ ap (row_sum (row_length c.id.kind)) (sym (home_points c qs h));
   home_span = hull_at_home c qs h ∙ ap hull (sym (home_points c qs h));
-  flight_span = ap hull_of (spans_of_away c qs h) ∙ (spans_hull h.away ∙ ap hull (sym (away_points c qs h)));
+  flight_span = ap hull_of (away_spans c qs h) ∙ (spans_hull h.away ∙ ap hull (sym (away_points c qs h)));
   frontier = frontier_is c qs h;
   flying = flying_is c qs h;
   at_home = stored_is c qs h;

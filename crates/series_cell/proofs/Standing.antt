@@ -241,13 +241,13 @@ stands_down c qs in_flight stored h es ef =
     }
 
 -- the spans of what is at home, and the end of what has landed, after a landing
-home_spans : (c : CellView) (qs : List Accepted) (h : Stands c qs) → drop c.cut c.spans ≡ map span_of h.home
+pub home_spans : (c : CellView) (qs : List Accepted) (h : Stands c qs) → drop c.cut c.spans ≡ map span_of h.home
 home_spans c qs h =
     ap (λ n. drop n c.spans) h.cut
     ∙ (ap (drop (length h.away)) (h.spans ∙ map-append span_of h.away h.home)
     ∙ (ap (λ n. drop n (map span_of h.away ++ map span_of h.home)) (sym (length-map h.away span_of)) ∙ drop-append_seam (map span_of h.away) (map span_of h.home)))
 
-away_spans : (c : CellView) (qs : List Accepted) (h : Stands c qs) → take c.cut c.spans ≡ map span_of h.away
+pub away_spans : (c : CellView) (qs : List Accepted) (h : Stands c qs) → take c.cut c.spans ≡ map span_of h.away
 away_spans c qs h =
     ap (λ n. take n c.spans) h.cut
     ∙ (ap (take (length h.away)) (h.spans ∙ map-append span_of h.away h.home)
@@ -260,12 +260,6 @@ away_spans c qs h =
         none [] = refl
         none (y ∷ ys) = refl
     take_seam (x ∷ xs) ys = ap (λ zs. x ∷ zs) (take_seam xs ys)
-
-pub spans_of_home : (c : CellView) (qs : List Accepted) (h : Stands c qs) → drop c.cut c.spans ≡ map span_of h.home
-spans_of_home c qs h = home_spans c qs h
-
-pub spans_of_away : (c : CellView) (qs : List Accepted) (h : Stands c qs) → take c.cut c.spans ≡ map span_of h.away
-spans_of_away c qs h = away_spans c qs h
 
 -- what is at home is in order of time, and what is in flight
 pub home_in_order : (c : CellView) (qs : List Accepted) → Stands c qs → (ms : List BatchSpan) → ms ≡ drop c.cut c.spans → AreInOrder ms
@@ -341,13 +335,13 @@ marked : (b : ℕ) (qs : List Accepted) → list_any (is_span_of b) (map span_of
 marked b [] = refl
 marked b (a ∷ qs) = ap (λ v. (a.batch == b) || v) (marked b qs)
 
-landed_off : (q : Place) → is_landed q ≡ true → is_home q ≡ false
+pub landed_off : (q : Place) → is_landed q ≡ true → is_home q ≡ false
 landed_off Home e = absurd (let k : false ≡ true = e in cc)
 landed_off (InFlight g) e = refl
 landed_off Acknowledged e = refl
 landed_off Dropped e = refl
 
-flying_off : (f : ℕ) (q : Place) → is_in_flight f q ≡ true → is_home q ≡ false
+pub flying_off : (f : ℕ) (q : Place) → is_in_flight f q ≡ true → is_home q ≡ false
 flying_off f Home e = absurd (let k : false ≡ true = e in cc)
 flying_off f (InFlight g) e = refl
 flying_off f Acknowledged e = refl

@@ -9,7 +9,7 @@ use Rattle.series_cell.specs.Cells.{CellView}
 use Rattle.delta_book.specs.Tables.{id_of}
 use Rattle.delta_book.proofs.Tables.{stands_at}
 use Rattle.delta_book.proofs.CellTotals.{point_at}
-use Rattle.delta_book.proofs.Handing.{map-each}
+use Rattle.std.proofs.lemmas.Simd.{map-map}
 use Rattle.delta_book.proofs.opening.hand_on_all.Goals as goal
 
 pub hand_on-requires-clause-booked : goal.hand_on-requires-clause-booked
@@ -31,4 +31,4 @@ pub returns : goal.returns
 returns c held qs h =
     let handed : Identity → OpenedSeries = λ x. handed_on c.args.before.now.series (series_standing qs held x) in
     let cs = c.args.cells.now in
-    c.loop-cell.invariant held qs h ∙ (ap (map (λ d. handed (id_of d))) (take_all c.loop-cell.cell-index cs c.loop-cell-test.false) ∙ (sym (map-each handed id_of cs) ∙ ap (map handed) h.ids))
+    c.loop-cell.invariant held qs h ∙ (ap (map (λ d. handed (id_of d))) (take_all c.loop-cell.cell-index cs c.loop-cell-test.false) ∙ (sym (map-map handed id_of cs) ∙ ap (map handed) h.ids))
