@@ -6,3 +6,4 @@ pub mod Carrying
 pub mod Reading
 pub mod Ends
 pub mod Lent
+pub mod Words

@@ -1,6 +1,6 @@
 -- The contents of a cell, as contracts see it.
-use Rattle.std.specs.Prelude.{◌-◌, vec_capacity, vec_len}
-use Rattle.series_cell.specs.Cells.{CellView}
+use Rattle.std.specs.Prelude.{ℕ, ◌-◌, ◌<◌, ◌^◌, List, length, slice_index, vec_capacity, vec_len}
+use Rattle.series_cell.specs.Cells.{CellView, IsCell}
 use Rattle.series_cell.specs.declared.cell_parts.CellParts.{CellParts}
 
 -- rows and spans as lists; spare is the room that is left for spans
@@ -19,3 +19,13 @@ view_of k = record {
   landed = k.landed;
   spare = vec_capacity k.spans - vec_len k.spans;
 }
+
+-- each word of a row has 64 bits
+abbrev pub AreWords : List ℕ → Type 0
+AreWords row = (k : ℕ) → k < length row → slice_index row k < 2 ^ 64
+
+-- the contents represent some points, and each word of the sum of all their rows has 64 bits. So
+-- has each word of a sum of some of those rows.
+pub record IsKept (k : CellParts) : Type 0 where
+  pub cell : IsCell (view_of k)
+  pub words : AreWords k.accepted.items

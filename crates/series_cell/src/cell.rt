@@ -7,13 +7,13 @@ ghost use Rattle.metric_events.specs.Legal.{is_batch_home};
 ghost use Rattle.metric_events.specs.declared.place.Place.TheVariants.{Home, Acknowledged, Dropped};
 ghost use Rattle.metric_events.specs.declared.accepted.Accepted.{Accepted};
 ghost use Rattle.metric_events.specs.declared.opened_series.OpenedSeries.{OpenedSeries};
-ghost use Rattle.series_cell.specs.Cells.{Stands, IsCell, IsOfSame, HasHome, HandsOn, AreTogether, is_of_batch, is_home_of, bare, end_of, home_hull, flight_hull, lifted, opened_with};
+ghost use Rattle.series_cell.specs.Cells.{Stands, IsOfSame, HasHome, HandsOn, AreTogether, is_of_batch, is_home_of, bare, end_of, home_hull, flight_hull, lifted, opened_with};
 
 use crate::batch_span::{
     BatchSpan, drop_first, end_or, find_start, has_batch, hull, join_all, spans_from, spans_to,
 };
 use crate::cell_parts::CellParts;
-use crate::rows::{keeps_words, zero_row};
+use crate::rows::zero_row;
 use bucket_lanes::{add_into, clear, move_into, sub_from};
 use metric_events::point::Point;
 use metric_events::sender_name::SenderName;
@@ -32,15 +32,15 @@ pub struct Cell {
 }
 
 impl Model for Cell {
-    ghost use Rattle.series_cell.specs.Cells.{CellView, IsCell};
+    ghost use Rattle.series_cell.specs.Cells.{CellView};
 
     ghost Value = { CellView };
 
-    ghost use Rattle.series_cell.specs.CellParts.{view_of};
+    ghost use Rattle.series_cell.specs.CellParts.{view_of, IsKept};
 
     ghost view = { λ c. view_of c.kept.value };
 
-    ghost invariant = { λ c. IsCell (view_of c.kept.value) };
+    ghost invariant = { λ c. IsKept c.kept.value };
 }
 
 impl Cell {
@@ -132,6 +132,7 @@ impl Cell {
         let kept = self.kept.as_mut();
         kept.spans.reserve(1)?;
         let span = point.span();
+        // So the span is an interval.
         let _end = span.end();
         kept.spans.push_reserved(BatchSpan { span, batch });
         Ok(())
@@ -154,6 +155,7 @@ impl Cell {
         ensures same { IsOfSame self.old self.new }
         ensures spare { self.old.spare ≤ self.new.spare }
     {
+        // Only the contract needs it.
         let _batch = batch;
         let kept = self.kept.as_mut();
         let at = kept.cut + find_start(spans_from(&kept.spans, kept.cut), point.span().start());
@@ -169,6 +171,7 @@ impl Cell {
         ensures same { IsOfSame self.old self.new }
         ensures spare { self.old.spare ≤ self.new.spare }
     {
+        // Only the contract needs it.
         let _batch = batch;
         let kept = self.kept.as_mut();
         let home = spans_from(&kept.spans, kept.cut);
@@ -185,7 +188,6 @@ impl Cell {
         ensures spare { self.old.spare ≤ self.new.spare }
     {
         let kept = self.kept.as_mut();
-        keeps_words(kept.accepted.as_slice());
         move_into(&mut kept.in_flight, &mut kept.stored);
         kept.cut = kept.spans.len();
         kept.flush = flush;
@@ -198,7 +200,6 @@ impl Cell {
         ensures spare { self.old.spare ≤ self.new.spare }
     {
         let kept = self.kept.as_mut();
-        keeps_words(kept.accepted.as_slice());
         move_into(&mut kept.stored, &mut kept.in_flight);
         kept.cut = 0;
     }
@@ -210,7 +211,6 @@ impl Cell {
         ensures spare { self.old.spare ≤ self.new.spare }
     {
         let kept = self.kept.as_mut();
-        keeps_words(kept.accepted.as_slice());
         move_into(&mut kept.acknowledged, &mut kept.in_flight);
         kept.landed = kept.landed.max(end_or(spans_to(&kept.spans, kept.cut), 0));
         drop_first(&mut kept.spans, kept.cut);
@@ -224,7 +224,6 @@ impl Cell {
         ensures spare { self.old.spare ≤ self.new.spare }
     {
         let kept = self.kept.as_mut();
-        keeps_words(kept.accepted.as_slice());
         move_into(&mut kept.dropped, &mut kept.in_flight);
         kept.landed = kept.landed.max(end_or(spans_to(&kept.spans, kept.cut), 0));
         drop_first(&mut kept.spans, kept.cut);

@@ -1,4 +1,4 @@
-use Rattle.std.proofs.Common.{◌≡◌, ℕ, ◌<◌, ◌^◌, sym, ap, ◌∙◌, subst, arith, take, map, max, length, refl, List}
+use Rattle.std.proofs.Common.{◌≡◌, ℕ, sym, ap, ◌∙◌, subst, arith, take, map, max, length, refl, List}
 use Rattle.std.specs.Prelude.{slice_index}
 use Rattle.metric_events.specs.Points.{landed}
 use Rattle.metric_events.specs.Rows.{zeros}
@@ -7,7 +7,7 @@ use Rattle.series_cell.specs.Cells.{CellView, Stands}
 use Rattle.series_cell.specs.CellParts.{view_of}
 use Rattle.series_cell.specs.Spans.{end_of_spans}
 use Rattle.series_cell.proofs.ByPlace.{moved}
-use Rattle.series_cell.proofs.Lent.{lent_cell, lent_view}
+use Rattle.series_cell.proofs.Lent.{lent_cell, lent_words, lent_view}
 use Rattle.series_cell.proofs.Sizes.{sized, within}
 use Rattle.series_cell.proofs.Standing.{stands_acknowledged_as}
 use Rattle.series_cell.proofs.cell.Cell.acknowledge.Goals as goal
@@ -24,7 +24,8 @@ move_into-requires-clause-fits c = λ k l.
     let own = lent_cell c.as_mut-kept.ensures.value c.self.invariant in
     let v : CellView = view_of i in
     let w = within v own.0 k own.1 in
-    let top : slice_index i.accepted.items k < 2 ^ 64 = subst (λ (r : List ℕ). slice_index r k < 2 ^ 64) c.as_slice.ensures.value (c.keeps_words.ensures k) in
+    let s = sized v own.0 own.1 in
+    let top = lent_words c.as_mut-kept.ensures.value c.self.invariant k (omega (arith, l, ap length c.deref_mut.ensures.value, s.acknowledged, s.accepted)) in
     let ed : slice_index c.deref_mut.result.now k ≡ slice_index i.acknowledged.items k = ap (λ (r : List ℕ). slice_index r k) c.deref_mut.ensures.value in
     let es : slice_index c.deref_mut-2.result.now k ≡ slice_index i.in_flight.items k = ap (λ (r : List ℕ). slice_index r k) c.deref_mut-2.ensures.value in
     omega (arith, top, ed, es, w.acknowledged)
@@ -35,12 +36,16 @@ invariant_of-self c =
     let own = lent_cell c.as_mut-kept.ensures.value c.self.invariant in
     let h = own.1 in
     let s = sized _ own.0 h in
-    let m = moved i.acknowledged.items i.in_flight.items _ _ _ _ i.acknowledged.len i.in_flight.len c.deref_mut.ensures.value c.deref_mut-2.ensures.value (s.acknowledged ∙ sym s.in_flight) c.move_into.auto.dst c.move_into.auto.src c.move_into.ensures.sums c.move_into.ensures.none i.acknowledged.ok.0 i.in_flight.ok.0 in (
-      map (landed i.flush Acknowledged) own.0,
-      stands_acknowledged_as _ i.flush own.0 _ _ _ _ _ refl h m.0 (m.1 ∙ ap zeros s.in_flight)
-          c.drop_first.ensures.items
-          (c.max-kept.ensures ∙ ap (λ n. max i.landed n) (c.end_or.ensures ∙ ap (end_of_spans 0) (c.spans_to.ensures ∙ ap (take i.cut) c.deref.ensures.value))),
-    )
+    let m = moved i.acknowledged.items i.in_flight.items _ _ _ _ i.acknowledged.len i.in_flight.len c.deref_mut.ensures.value c.deref_mut-2.ensures.value (s.acknowledged ∙ sym s.in_flight) c.move_into.auto.dst c.move_into.auto.src c.move_into.ensures.sums c.move_into.ensures.none i.acknowledged.ok.0 i.in_flight.ok.0 in
+    record {
+      cell = (
+        map (landed i.flush Acknowledged) own.0,
+        stands_acknowledged_as _ i.flush own.0 _ _ _ _ _ refl h m.0 (m.1 ∙ ap zeros s.in_flight)
+            c.drop_first.ensures.items
+            (c.max-kept.ensures ∙ ap (λ n. max i.landed n) (c.end_or.ensures ∙ ap (end_of_spans 0) (c.spans_to.ensures ∙ ap (take i.cut) c.deref.ensures.value))),
+      );
+      words = lent_words c.as_mut-kept.ensures.value c.self.invariant;
+    }
 
 pub returns-clause-stands : goal.returns-clause-stands
 returns-clause-stands c = λ qs g.

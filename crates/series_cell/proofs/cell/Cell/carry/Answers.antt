@@ -4,10 +4,11 @@ use Rattle.series_cell.specs.Cells.{CellView, Stands, HandsOn, end_of}
 use Rattle.series_cell.specs.CellParts.{view_of}
 use Rattle.series_cell.specs.Spans.{hull_of, joined_spans}
 use Rattle.series_cell.proofs.ByPlace.{cleared_row}
-use Rattle.series_cell.proofs.Lent.{lent_cell, lent_view}
+use Rattle.series_cell.proofs.Lent.{lent_cell, lent_words, lent_view}
 use Rattle.series_cell.proofs.Sizes.{sized}
 use Rattle.series_cell.proofs.Carrying.{stands_carried, stands_for_none, cell_carried}
 use Rattle.series_cell.proofs.Standing.{home_in_order}
+use Rattle.series_cell.proofs.Words.{words_stored}
 use Rattle.series_cell.proofs.cell.Cell.carry.Goals as goal
 
 pub copy_from_slice-requires : goal.copy_from_slice-requires
@@ -26,12 +27,16 @@ invariant_of-self c =
     let h : Stands v own.0 = own.1 in
     let s = sized v own.0 h in
     let none : i.cut ≡ 0 = ap (λ (w : CellView). w.cut) is ∙ c.requires in
-    cell_carried v own.0 _ _ _ _ _ _ h none
-    (c.copy_from_slice.ensures.items ∙ c.as_slice.ensures.value)
-    (cleared_row i.acknowledged.items _ _ i.acknowledged.len c.deref_mut.ensures.value c.clear.auto.words c.clear.ensures i.acknowledged.ok.0 ∙ ap zeros s.acknowledged)
-    (cleared_row i.dropped.items _ _ i.dropped.len c.deref_mut-2.ensures.value c.clear-2.auto.words c.clear-2.ensures i.dropped.ok.0 ∙ ap zeros s.dropped)
-    (c.join_all.ensures.items (home_in_order v own.0 h i.spans.items (ap (λ n. drop n i.spans.items) (sym none))) ∙ ap (λ n. joined_spans (hull_of (drop n i.spans.items))) (sym none))
-    (c.frontier-frontier.ensures ∙ ap end_of (sym is))
+    record {
+      cell =
+          cell_carried v own.0 _ _ _ _ _ _ h none
+          (c.copy_from_slice.ensures.items ∙ c.as_slice.ensures.value)
+          (cleared_row i.acknowledged.items _ _ i.acknowledged.len c.deref_mut.ensures.value c.clear.auto.words c.clear.ensures i.acknowledged.ok.0 ∙ ap zeros s.acknowledged)
+          (cleared_row i.dropped.items _ _ i.dropped.len c.deref_mut-2.ensures.value c.clear-2.auto.words c.clear-2.ensures i.dropped.ok.0 ∙ ap zeros s.dropped)
+          (c.join_all.ensures.items (home_in_order v own.0 h i.spans.items (ap (λ n. drop n i.spans.items) (sym none))) ∙ ap (λ n. joined_spans (hull_of (drop n i.spans.items))) (sym none))
+          (c.frontier-frontier.ensures ∙ ap end_of (sym is));
+      words = words_stored v own.0 _ h (lent_words c.as_mut-kept.ensures.value c.self.invariant) (c.copy_from_slice.ensures.items ∙ c.as_slice.ensures.value);
+    }
 
 pub returns-clause-stands : goal.returns-clause-stands
 returns-clause-stands c = λ t k l.

@@ -1,5 +1,6 @@
-use Rattle.std.proofs.Common.{◌≡◌, ℕ, ◌≤◌, sym, ap, ◌∙◌, subst, arith, length, refl, List, [], ◌∷◌, ◌++◌}
+use Rattle.std.proofs.Common.{◌≡◌, ℕ, ◌-◌, ◌^◌, ◌≤◌, sym, ap, ◌∙◌, subst, arith, length, refl, List, [], ◌∷◌, ◌++◌}
 use Rattle.std.specs.Prelude.{slice_index}
+use Rattle.bucket_lanes.specs.ByPlace.{Fits}
 use Rattle.series_id.specs.Identity.{Identity, row_length}
 use Rattle.metric_events.specs.Points.{admitted}
 use Rattle.metric_events.specs.Interval.{Interval}
@@ -9,6 +10,7 @@ use Rattle.series_cell.proofs.ByPlace.{added_row}
 use Rattle.series_cell.proofs.Lent.{lent_cell, lent_view}
 use Rattle.series_cell.proofs.Sizes.{sized, within}
 use Rattle.series_cell.proofs.Standing.{stands_put_as}
+use Rattle.series_cell.proofs.Words.{words_added}
 use Rattle.series_cell.proofs.cell.Cell.put.Goals as goal
 
 pub add_into-requires-clause-same : goal.add_into-requires-clause-same
@@ -46,14 +48,19 @@ invariant_of-self-2 c =
     let is = lent_view c.as_mut-kept.ensures.value c.self.view_is in
     let long : length c.args.point.now.row ≡ row_length i.id.kind = c.row.ensures.made.merged.long ∙ ap (λ (x : Identity). row_length x.kind) (c.requires.series ∙ sym (ap (λ (w : CellView). w.id) is)) in
     let h = own.1 in
-    let s = sized _ own.0 h in (
-      own.0 ++ admitted c.args.batch i.owner c.args.point.now ∷ [],
-      stands_put_as _ i.owner c.args.point.now c.args.batch own.0 _ _ _ _ refl h c.row.ensures.made (c.requires.series ∙ sym (ap (λ (w : CellView). w.id) is))
-          (subst (λ (w : CellView). end_of w ≤ c.args.point.now.span.start) (sym is) c.requires.order)
-          (added_row i.accepted.items c.args.point.now.row _ _ _ i.accepted.len c.deref_mut.ensures.value c.row.ensures.value (long ∙ sym s.accepted) c.add_into.auto.dst c.add_into.ensures i.accepted.ok.0)
-          (added_row i.stored.items c.args.point.now.row _ _ _ i.stored.len c.deref_mut-2.ensures.value c.row-2.ensures.value (long ∙ sym s.stored) c.add_into-2.auto.dst c.add_into-2.ensures i.stored.ok.0)
-          (c.push_reserved.ensures.items ∙ (ap (λ ms. ms ++ record { span = c.span.result; batch = c.args.batch } ∷ []) c.in_ok-reserve.ensures.items ∙ ap (λ (t : Interval). i.spans.items ++ record { span = t; batch = c.args.batch } ∷ []) c.span.ensures)),
-    )
+    let s = sized _ own.0 h in
+    let added = added_row i.accepted.items c.args.point.now.row _ _ _ i.accepted.len c.deref_mut.ensures.value c.row.ensures.value (long ∙ sym s.accepted) c.add_into.auto.dst c.add_into.ensures i.accepted.ok.0 in
+    record {
+      cell = (
+        own.0 ++ admitted c.args.batch i.owner c.args.point.now ∷ [],
+        stands_put_as _ i.owner c.args.point.now c.args.batch own.0 _ _ _ _ refl h c.row.ensures.made (c.requires.series ∙ sym (ap (λ (w : CellView). w.id) is))
+            (subst (λ (w : CellView). end_of w ≤ c.args.point.now.span.start) (sym is) c.requires.order)
+            added
+            (added_row i.stored.items c.args.point.now.row _ _ _ i.stored.len c.deref_mut-2.ensures.value c.row-2.ensures.value (long ∙ sym s.stored) c.add_into-2.auto.dst c.add_into-2.ensures i.stored.ok.0)
+            (c.push_reserved.ensures.items ∙ (ap (λ ms. ms ++ record { span = c.span.result; batch = c.args.batch } ∷ []) c.in_ok-reserve.ensures.items ∙ ap (λ (t : Interval). i.spans.items ++ record { span = t; batch = c.args.batch } ∷ []) c.span.ensures)),
+      );
+      words = words_added i.accepted.items c.args.point.now.row _ (long ∙ sym s.accepted) (subst (λ (w : CellView). Fits (2 ^ 64 - 1) w.accepted c.args.point.now.row) (sym is) c.requires.fits) added;
+    }
 
 pub returns-clause-ok : goal.returns-clause-ok
 returns-clause-ok c = λ qs g.

@@ -6,9 +6,10 @@ use Rattle.series_cell.specs.Cells.{CellView, Stands, HasHome}
 use Rattle.series_cell.specs.CellParts.{view_of}
 use Rattle.series_cell.specs.Spans.{place_of}
 use Rattle.series_cell.proofs.ByPlace.{taken_row, part_le}
-use Rattle.series_cell.proofs.Lent.{lent_view}
+use Rattle.series_cell.proofs.Lent.{lent_words, lent_view}
 use Rattle.series_cell.proofs.Sizes.{sized}
 use Rattle.series_cell.proofs.Standing.{stands_remove, taken_from, parted, span_inside, home_in_order}
+use Rattle.series_cell.proofs.Words.{words_left}
 use Rattle.series_cell.proofs.cell.Cell.remove.Goals as goal
 
 pub sub_from-requires-clause-same : goal.sub_from-requires-clause-same
@@ -82,16 +83,21 @@ invariant_of-self c =
     let h = g.1.1 in
     let t = taken_from v c.args.batch c.args.point.now g.0 g.1.0 h in
     let s = sized v _ h in
+    let left = taken_row i.accepted.items c.args.point.now.row _ _ _ _ i.accepted.len c.deref_mut.ensures.value c.row.ensures.value t.accepted (t.accepted_long ∙ sym s.accepted) c.sub_from.auto.dst c.sub_from.ensures i.accepted.ok.0 in
     let at : c.find_start.result ≡ place_of c.args.point.now.span.start (drop i.cut i.spans.items) =
     c.find_start.ensures.value (home_in_order v _ h c.spans_from.result.now (c.spans_from.ensures ∙ ap (drop i.cut) c.deref.ensures.value)).ends
     ∙ (ap (λ n. place_of n c.spans_from.result.now) (c.start.ensures ∙ ap (λ (t : Interval). t.start) c.span.ensures)
-    ∙ ap (place_of c.args.point.now.span.start) (c.spans_from.ensures ∙ ap (drop i.cut) c.deref.ensures.value)) in (
-      g.0 ++ g.1.0,
-      stands_remove v c.args.batch c.args.point.now g.0 g.1.0 _ _ _ _ h
-          (taken_row i.accepted.items c.args.point.now.row _ _ _ _ i.accepted.len c.deref_mut.ensures.value c.row.ensures.value t.accepted (t.accepted_long ∙ sym s.accepted) c.sub_from.auto.dst c.sub_from.ensures i.accepted.ok.0)
-          (taken_row i.stored.items c.args.point.now.row _ _ _ _ i.stored.len c.deref_mut-2.ensures.value c.row-2.ensures.value t.stored (t.stored_long ∙ sym s.stored) c.sub_from-2.auto.dst c.sub_from-2.ensures i.stored.ok.0)
-          (c.remove.ensures.items ∙ ap (λ n. remove i.spans.items (i.cut + n)) at),
-    )
+    ∙ ap (place_of c.args.point.now.span.start) (c.spans_from.ensures ∙ ap (drop i.cut) c.deref.ensures.value)) in
+    record {
+      cell = (
+        g.0 ++ g.1.0,
+        stands_remove v c.args.batch c.args.point.now g.0 g.1.0 _ _ _ _ h
+            left
+            (taken_row i.stored.items c.args.point.now.row _ _ _ _ i.stored.len c.deref_mut-2.ensures.value c.row-2.ensures.value t.stored (t.stored_long ∙ sym s.stored) c.sub_from-2.auto.dst c.sub_from-2.ensures i.stored.ok.0)
+            (c.remove.ensures.items ∙ ap (λ n. remove i.spans.items (i.cut + n)) at),
+      );
+      words = words_left i.accepted.items c.args.point.now.row _ _ (lent_words c.as_mut-kept.ensures.value c.self.invariant) t.accepted (t.accepted_long ∙ sym s.accepted) left;
+    }
 
 pub returns-clause-stands : goal.returns-clause-stands
 returns-clause-stands c = λ before after k.

@@ -4,7 +4,7 @@ use Rattle.metric_events.specs.Interval.{Interval}
 use Rattle.series_cell.specs.Cells.{CellView, Stands, HasHome, bare}
 use Rattle.series_cell.specs.CellParts.{view_of}
 use Rattle.series_cell.specs.Spans.{place_of}
-use Rattle.series_cell.proofs.Lent.{lent_view}
+use Rattle.series_cell.proofs.Lent.{lent_words, lent_view}
 use Rattle.series_cell.proofs.Standing.{stands_remove_span, parted, span_inside, home_in_order}
 use Rattle.series_cell.proofs.cell.Cell.remove_span.Goals as goal
 
@@ -32,10 +32,14 @@ invariant_of-self c =
     let at : c.find_start.result ≡ place_of c.args.point.now.span.start (drop i.cut i.spans.items) =
     c.find_start.ensures.value (home_in_order v _ h c.spans_from-home.result.now (c.spans_from-home.ensures ∙ ap (drop i.cut) c.deref.ensures.value)).ends
     ∙ (ap (λ n. place_of n c.spans_from-home.result.now) (c.start.ensures ∙ ap (λ (t : Interval). t.start) c.span.ensures)
-    ∙ ap (place_of c.args.point.now.span.start) (c.spans_from-home.ensures ∙ ap (drop i.cut) c.deref.ensures.value)) in (
-      g.0 ++ g.1.0,
-      stands_remove_span v c.args.batch c.args.point.now g.0 g.1.0 _ _ h (c.remove.ensures.items ∙ ap (λ n. remove i.spans.items (i.cut + n)) at),
-    )
+    ∙ ap (place_of c.args.point.now.span.start) (c.spans_from-home.ensures ∙ ap (drop i.cut) c.deref.ensures.value)) in
+    record {
+      cell = (
+        g.0 ++ g.1.0,
+        stands_remove_span v c.args.batch c.args.point.now g.0 g.1.0 _ _ h (c.remove.ensures.items ∙ ap (λ n. remove i.spans.items (i.cut + n)) at),
+      );
+      words = lent_words c.as_mut-kept.ensures.value c.self.invariant;
+    }
 
 pub returns-clause-stands : goal.returns-clause-stands
 returns-clause-stands c = λ before after k.

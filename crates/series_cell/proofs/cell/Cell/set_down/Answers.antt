@@ -1,4 +1,4 @@
-use Rattle.std.proofs.Common.{◌≡◌, ℕ, ◌<◌, ◌^◌, sym, ap, ◌∙◌, subst, arith, map, length, refl, List}
+use Rattle.std.proofs.Common.{◌≡◌, ℕ, sym, ap, ◌∙◌, subst, arith, map, length, refl, List}
 use Rattle.std.specs.Prelude.{slice_index}
 use Rattle.metric_events.specs.Points.{landed}
 use Rattle.metric_events.specs.Rows.{zeros}
@@ -6,7 +6,7 @@ use Rattle.metric_events.specs.declared.place.Place.TheVariants.{Home}
 use Rattle.series_cell.specs.Cells.{CellView, Stands}
 use Rattle.series_cell.specs.CellParts.{view_of}
 use Rattle.series_cell.proofs.ByPlace.{moved}
-use Rattle.series_cell.proofs.Lent.{lent_cell, lent_view}
+use Rattle.series_cell.proofs.Lent.{lent_cell, lent_words, lent_view}
 use Rattle.series_cell.proofs.Sizes.{sized, within}
 use Rattle.series_cell.proofs.Standing.{stands_down_as}
 use Rattle.series_cell.proofs.cell.Cell.set_down.Goals as goal
@@ -23,7 +23,8 @@ move_into-requires-clause-fits c = λ k l.
     let own = lent_cell c.as_mut-kept.ensures.value c.self.invariant in
     let v : CellView = view_of i in
     let w = within v own.0 k own.1 in
-    let top : slice_index i.accepted.items k < 2 ^ 64 = subst (λ (r : List ℕ). slice_index r k < 2 ^ 64) c.as_slice.ensures.value (c.keeps_words.ensures k) in
+    let s = sized v own.0 own.1 in
+    let top = lent_words c.as_mut-kept.ensures.value c.self.invariant k (omega (arith, l, ap length c.deref_mut.ensures.value, s.stored, s.accepted)) in
     let ed : slice_index c.deref_mut.result.now k ≡ slice_index i.stored.items k = ap (λ (r : List ℕ). slice_index r k) c.deref_mut.ensures.value in
     let es : slice_index c.deref_mut-2.result.now k ≡ slice_index i.in_flight.items k = ap (λ (r : List ℕ). slice_index r k) c.deref_mut-2.ensures.value in
     omega (arith, top, ed, es, w.stored)
@@ -35,7 +36,10 @@ invariant_of-self c =
     let h = own.1 in
     let s = sized _ own.0 h in
     let m = moved i.stored.items i.in_flight.items _ _ _ _ i.stored.len i.in_flight.len c.deref_mut.ensures.value c.deref_mut-2.ensures.value (s.stored ∙ sym s.in_flight) c.move_into.auto.dst c.move_into.auto.src c.move_into.ensures.sums c.move_into.ensures.none i.stored.ok.0 i.in_flight.ok.0 in
-    (map (landed i.flush Home) own.0, stands_down_as _ i.flush own.0 _ _ refl h m.0 (m.1 ∙ ap zeros s.in_flight))
+    record {
+      cell = (map (landed i.flush Home) own.0, stands_down_as _ i.flush own.0 _ _ refl h m.0 (m.1 ∙ ap zeros s.in_flight));
+      words = lent_words c.as_mut-kept.ensures.value c.self.invariant;
+    }
 
 pub returns-clause-stands : goal.returns-clause-stands
 returns-clause-stands c = λ qs g.
