@@ -10,9 +10,9 @@ use Rattle.shared_book.specs.declared.seat.TheConstants.{MAX_SEATS}
 use Rattle.shared_book.specs.Receipts.{SeatView, receipt_of, receipts_of, IsNext}
 use Rattle.shared_book.specs.Audits.{IsBegun, IsTallied}
 
--- the receipts that an entry at a place adds
+-- the receipts that an entry at an index adds
 abbrev added : ℕ → ℕ → Entry → List Receipt
-added n place e = if e.seat == n then receipt_of place e.event ∷ [] else []
+added n index e = if e.seat == n then receipt_of index e.event ∷ [] else []
 
 more_after : (b : Bool) (r : Receipt) (xs ys zs : List Receipt) → xs ≡ ys ++ zs → (if b then r ∷ xs else xs) ≡ (if b then r ∷ ys else ys) ++ zs
 more_after true r xs ys zs e = ap (λ v. r ∷ v) e
@@ -25,9 +25,9 @@ receipts_more n i (x ∷ es) e =
     let ih : receipts_of n (i + 1) (es ++ e ∷ []) ≡ receipts_of n (i + 1) es ++ added n (i + suc (length es)) e = rw z at (receipts_more n (i + 1) es e) in
     more_after (x.seat == n) (receipt_of i x.event) _ _ _ ih
 
--- the entries up to a place, and that one
-pub one_more : (journal : List Entry) (place : ℕ) (e : Entry) → place < length journal → e ≡ get_or journal place e → take (place + 1) journal ≡ take place journal ++ e ∷ []
-one_more journal place e within is = take_more journal place e within ∙ ap (λ v. take place journal ++ v ∷ []) (sym is)
+-- the entries up to an index, and that one
+pub one_more : (journal : List Entry) (index : ℕ) (e : Entry) → index < length journal → e ≡ get_or journal index e → take (index + 1) journal ≡ take index journal ++ e ∷ []
+one_more journal index e within is = take_more journal index e within ∙ ap (λ v. take index journal ++ v ∷ []) (sym is)
 
 -- what an entry adds to those before it
 abbrev after : ℕ → List Entry → Entry → List Receipt
@@ -46,17 +46,17 @@ few_receipts n i [] = omega arith
 few_receipts n i (x ∷ es) = few_after (x.seat == n) (receipt_of i x.event) _ _ (few_receipts n (i + 1) es)
 
 -- what begins with these and has this next begins with these and this
-begun_more : (told these rest : List Receipt) (r : Receipt) → told ≡ these ++ rest → IsNext told (length these) r → told ≡ (these ++ r ∷ []) ++ drop (length these + 1) told
-begun_more told these rest r e next =
-    let left : drop (length these) told ≡ rest = rw e (drop_at these rest (length these) refl) in
+begun_more : (receipts these rest : List Receipt) (r : Receipt) → receipts ≡ these ++ rest → IsNext receipts (length these) r → receipts ≡ (these ++ r ∷ []) ++ drop (length these + 1) receipts
+begun_more receipts these rest r e next =
+    let left : drop (length these) receipts ≡ rest = rw e (drop_at these rest (length these) refl) in
     rw append_assoc (e ∙ ap (λ v. these ++ v) (sym left ∙ next))
 
 -- and the other way round
-next_of_more : (told these rest : List Receipt) (r : Receipt) → told ≡ (these ++ r ∷ []) ++ rest → IsNext told (length these) r
-next_of_more told these rest r e =
-    let whole : told ≡ these ++ (r ∷ rest) = rw append_assoc at e in
-    let left : drop (length these) told ≡ r ∷ rest = rw whole (drop_at these (r ∷ rest) (length these) refl) in
-    let past : drop (length these + 1) told ≡ rest = sym (drop-drop 1 (length these) told) ∙ ap (drop 1) left in
+next_of_more : (receipts these rest : List Receipt) (r : Receipt) → receipts ≡ (these ++ r ∷ []) ++ rest → IsNext receipts (length these) r
+next_of_more receipts these rest r e =
+    let whole : receipts ≡ these ++ (r ∷ rest) = rw append_assoc at e in
+    let left : drop (length these) receipts ≡ r ∷ rest = rw whole (drop_at these (r ∷ rest) (length these) refl) in
+    let past : drop (length these + 1) receipts ≡ rest = sym (drop-drop 1 (length these) receipts) ∙ ap (drop 1) left in
     left ∙ ap (λ v. r ∷ v) (sym past)
 
 -- a seat's receipts still begin so where it is not named, or has the entry's receipt next

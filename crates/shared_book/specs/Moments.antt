@@ -59,7 +59,7 @@ pub record IsRecordedAt
   pub moment : IsMoment seats opening old before
   pub entry : Appends before after old.number event
   pub shared : IsShared seats opening after
-  pub told : new ≡ with_receipt old (receipt_of (length before.entries) event)
+  pub receipt : new ≡ with_receipt old (receipt_of (length before.entries) event)
 
 -- the same, for some two journals
 abbrev pub IsRecorded : ℕ → Opening → SeatView → SeatView → Event → Type 0
@@ -71,7 +71,7 @@ pub record IsTakenAt
     (seats : ℕ) (opening : Opening) (before after : Journal) (old new : SeatView)
     (max : ℕ) (flush : Flush) : Type 0 where
   pub taken : IsTaken before after old.number max flush
-  pub told :
+  pub recorded :
       IsRecordedAt seats opening before after old new
       (Take flush.number (pick (history before) max))
 

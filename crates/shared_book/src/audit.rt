@@ -50,12 +50,12 @@ pub fn check<L: Ledger>(book: &Book, seats: &[Seat<L>]) -> Result<(), AuditFault
     let tally = Tally::of(book.journal(), seats);
     let mut same = tally.same;
     for seat in seats {
-        let told = seat.receipts().len();
+        let receipts = seat.receipts().len();
         let named = tally.named[seat.number() as usize];
-        if told < named {
+        if receipts < named {
             return Err(AuditFault::MissingReceipt);
         }
-        if named < told {
+        if named < receipts {
             same = false;
         }
     }
@@ -101,13 +101,13 @@ fn join_shares<L: Ledger>(events: ledger::Book<L>, seats: Vec<Seat<L>>) -> u128
     let Some(first) = seats.pop() else {
         return 0;
     };
-    let (mut whole, told) = first.into_share();
-    let mut count = told as u128;
+    let (mut whole, receipts) = first.into_share();
+    let mut count = receipts as u128;
     while let Some(seat) = seats.pop() {
-        let (share, told) = seat.into_share();
+        let (share, receipts) = seat.into_share();
         whole.merge(share);
         events.audit(&mut whole);
-        count += told as u128;
+        count += receipts as u128;
     }
     events.audit(&mut whole);
     count
@@ -146,7 +146,7 @@ pub(crate) fn audit_of<L: Ledger>(
     requires some { 0 < L.parts }
     requires all { AllSeated L.parts seats.items }
     ensures events { result.events ≡ length book.now.entries }
-    ensures told { result.events ≡ sum_by (λ s. length s.receipts) seats.items }
+    ensures receipts { result.events ≡ sum_by (λ s. length s.receipts) seats.items }
     ensures once { length seats.items ≡ L.parts }
     ensures admitted { result.admitted ≡ admitted_points book.now.entries }
     ensures acknowledged { result.acknowledged ≡ acknowledged_points (standing (history book.now)).series }

@@ -220,6 +220,7 @@ impl<L: Round> Locked<L> {
         ensures seat { seat.new ≡ seat.old }
         ensures moment { IsMoment L.parts L.opening seat.old self.old }
     {
+        // From this call it is known that the journal is one of this round.
         self.seat_number(seat);
         self.book.totals()
     }

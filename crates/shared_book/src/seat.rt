@@ -91,7 +91,8 @@ impl<L: Ledger> Seat<L> {
     )
         requires last { length book.now.entries ≡ events.old.total + 1 }
         requires long { length self.old.receipts ≤ events.old.total }
-        ensures told { self.new ≡ with_receipt self.old (record { index = events.old.total; kind = kind; number = number; body = body }) }
+        ensures receipt { self.new ≡ with_receipt self.old
+            (record { index = events.old.total; kind = kind; number = number; body = body }) }
         ensures total { events.new.total ≡ events.old.total + 1 }
         ensures legal { IsLegal (history book.now) }
         ensures numbered { IsNumbered (history book.now) }

@@ -29,26 +29,28 @@ impl Tally {
             named: [0; MAX_SEATS as usize],
             same: true,
         };
-        for place in 0..journal.len() {
-            tally.note(journal, place, seats);
+        for index in 0..journal.len() {
+            tally.note(journal, index, seats);
         }
         tally
     }
 
     /// Counts the entry at this index, after those before it.
-    fn note<L: Ledger>(&mut self, journal: &[Entry], place: usize, seats: &[Seat<L>])
-        requires place { place < length journal.now }
-        requires before { IsTallied (take place journal.now) seats.now self.old.named self.old.same }
-        ensures after { IsTallied (take (place + 1) journal.now) seats.now self.new.named self.new.same }
+    fn note<L: Ledger>(&mut self, journal: &[Entry], index: usize, seats: &[Seat<L>])
+        requires index { index < length journal.now }
+        requires before { IsTallied (take index journal.now) seats.now
+            self.old.named self.old.same }
+        ensures after { IsTallied (take (index + 1) journal.now) seats.now
+            self.new.named self.new.same }
     {
-        let entry = &journal[place];
+        let entry = &journal[index];
         let number = entry.seat as usize;
         if number >= self.named.len() {
             return;
         }
         let at = self.named[number];
         if self.same {
-            self.same = are_next(seats, entry.seat, at, place as u64, &entry.event);
+            self.same = are_next(seats, entry.seat, at, index as u64, &entry.event);
         }
         self.named[number] = at + 1;
     }
