@@ -1,5 +1,6 @@
 -- Points of histograms.
-use Rattle.std.specs.Prelude.{ℕ, if◌then◌else◌, Option, Some, None, option_map, option_and_then, codes}
+use Rattle.std.specs.Prelude.{ℕ, if◌then◌else◌, Option, Some, None, codes}
+use Rattle.std.specs.Prelude.{option_map, option_and_then}
 use Rattle.std.specs.Result.{result_ok}
 use Rattle.serde_json.specs.Data.{Data}
 use Rattle.series_id.specs.declared.limits.TheConstants.{MAX_BOUND}
@@ -42,7 +43,9 @@ histogram_fields d = do
   end ← nanos_in (field (codes "timeUnixNano") d)
   count ← count_in (field (codes "count") d)
   total ← total_in (field (codes "sum") d)
-  if flags_fit (field (codes "flags") d) then Some (record { start = start; end = end; count = count; total = total }) else None
+  if flags_fit (field (codes "flags") d)
+      then Some (record { start = start; end = end; count = count; total = total })
+      else None
 
 -- explicitBounds: whole numbers that may be the bounds of a histogram
 unfoldable pub kind_in : Data → Option Kind

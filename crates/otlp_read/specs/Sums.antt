@@ -1,5 +1,6 @@
 -- Points of sums.
-use Rattle.std.specs.Prelude.{ℕ, ℤ, Bool, not, ◌&&◌, if◌then◌else◌, Option, Some, None, option_and_then, is_some, codes}
+use Rattle.std.specs.Prelude.{ℕ, ℤ, Bool, not, ◌&&◌, if◌then◌else◌, codes}
+use Rattle.std.specs.Prelude.{Option, Some, None, option_and_then, is_some}
 use Rattle.serde_json.specs.Data.{Data}
 use Rattle.series_id.specs.declared.kinds.Kind.TheVariants.{Sum}
 use Rattle.metric_events.specs.DataPoint.{DataPoint}

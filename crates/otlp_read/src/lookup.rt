@@ -1,6 +1,7 @@
 //! Looks an identity up in a memo, before anything of it is made.
 
-ghost use Rattle.std.specs.Prelude.{◌≡◌, ◌≤◌, IfSome, IsPermutation, IsTrue, OnSome, Some, length, map, option_and_then, take};
+ghost use Rattle.std.specs.Prelude.{◌≡◌, ◌≤◌, IfSome, IsPermutation, IsTrue, OnSome, Some};
+ghost use Rattle.std.specs.Prelude.{length, map, option_and_then, take};
 ghost use Rattle.serde_json.specs.View.{view};
 ghost use Rattle.series_id.specs.Identity.{IsIdentity};
 ghost use Rattle.series_id.specs.Sorting.{pair_of as pair_in};
@@ -31,7 +32,8 @@ pub fn look_up(
     kind: &Kind,
     found: Option<&Value>,
 ) -> Option<SharedId>
-    ensures { IfSome result (λ s. series_of (stream_data stream.entry) kind.now (found_data found.entry) ≡ Some s) }
+    ensures { IfSome result (λ s.
+        series_of (stream_data stream.entry) kind.now (found_data found.entry) ≡ Some s) }
 {
     if memo.is_empty() {
         return None;
@@ -53,7 +55,8 @@ pub fn look_up(
 /// Puts the attributes of a list at the front of `room`; `None` if one has no single value.
 fn put_pairs<'v>(room: &mut [PairRef<'v>], values: &'v [Value]) -> Option<()>
     requires { length values.now ≤ length room.old }
-    ensures { OnSome result (all_of pair_of (map view values.now) ≡ Some (map pair_data (take (length values.now) room.new))) }
+    ensures { OnSome result (all_of pair_of (map view values.now)
+        ≡ Some (map pair_data (take (length values.now) room.new))) }
 {
     for i in 0..values.len() {
         room[i] = pair_ref(&values[i])?;
@@ -75,7 +78,9 @@ fn look_up_pairs(
     kind: &Kind,
     pairs: &[PairRef<'_>],
 ) -> Option<SharedId>
-    ensures { IfSome result (λ s. option_and_then (series_in (stream_data stream.entry) kind.now) (set_of (map pair_data pairs.now)) ≡ Some s) }
+    ensures { IfSome result (λ s.
+        option_and_then (series_in (stream_data stream.entry) kind.now)
+        (set_of (map pair_data pairs.now)) ≡ Some s) }
 {
     let mut digest = stream.digest;
     digest.add_kind(kind);
@@ -94,7 +99,9 @@ fn share_at(
     kind: &Kind,
     pairs: &[PairRef<'_>],
 ) -> Option<SharedId>
-    ensures { IfSome result (λ s. option_and_then (series_in (stream_data stream.entry) kind.now) (set_of (map pair_data pairs.now)) ≡ Some s) }
+    ensures { IfSome result (λ s.
+        option_and_then (series_in (stream_data stream.entry) kind.now)
+        (set_of (map pair_data pairs.now)) ≡ Some s) }
 {
     let kept = memo.at(slot)?;
     if is_series(kept.as_series(), stream, kind, pairs) {
@@ -107,7 +114,9 @@ fn share_at(
 /// Whether a series is that of the stream, the kind and the attributes. The clause is of a series
 /// within its limits, as every `SharedId` is.
 fn is_series(series: &SeriesId, stream: Stream<'_>, kind: &Kind, pairs: &[PairRef<'_>]) -> bool
-    ensures only { IsIdentity series.now → IsTrue result → option_and_then (series_in (stream_data stream.entry) kind.now) (set_of (map pair_data pairs.now)) ≡ Some series.now }
+    ensures only { IsIdentity series.now → IsTrue result →
+        option_and_then (series_in (stream_data stream.entry) kind.now)
+        (set_of (map pair_data pairs.now)) ≡ Some series.now }
 {
     if !is_in_stream(series, stream) {
         return false;
@@ -120,7 +129,8 @@ fn is_series(series: &SeriesId, stream: Stream<'_>, kind: &Kind, pairs: &[PairRe
 
 /// Whether a series is one of the stream.
 fn is_in_stream(series: &SeriesId, stream: Stream<'_>) -> bool
-    ensures only { IsTrue result → identity_in (stream_data stream.entry) series.now.kind series.now.attrs ≡ series.now }
+    ensures only { IsTrue result →
+        identity_in (stream_data stream.entry) series.now.kind series.now.attrs ≡ series.now }
 {
     series.name().as_str() == stream.name
         && series.unit().as_str() == stream.unit
@@ -129,7 +139,12 @@ fn is_in_stream(series: &SeriesId, stream: Stream<'_>) -> bool
 
 /// Whether a series is one of the scope.
 fn is_in_scope(series: &SeriesId, scope: Scope<'_>) -> bool
-    ensures only { IsTrue result → scope_data scope.entry ≡ record { resource = series.now.resource; name = series.now.scope_name; version = series.now.scope_version; attributes = series.now.scope_attrs } }
+    ensures only { IsTrue result → scope_data scope.entry ≡ record {
+      resource = series.now.resource;
+      name = series.now.scope_name;
+      version = series.now.scope_version;
+      attributes = series.now.scope_attrs;
+    } }
 {
     series.scope_name().as_str() == scope.name
         && series.scope_version().as_str() == scope.version

@@ -84,7 +84,8 @@ impl AttrSet {
     /// `MAX_VALUES` values), `TextTooLong` (a key or a text value of more than `MAX_TEXT` bytes),
     /// `DuplicateKey` (a key occurs twice), `NoMemory`.
     pub fn from_pairs(alloc: Global, pairs: Vec<(Text, AttrValue)>) -> Result<AttrSet, AttrFault>
-        ensures fault { IfErr result (λ e. e ≡ unwrap_or (attr_refusal pairs.items) AttrFault.NoMemory) }
+        ensures fault { IfErr result (λ e.
+            e ≡ unwrap_or (attr_refusal pairs.items) AttrFault.NoMemory) }
         ensures none { OnOk result (attr_refusal pairs.items ≡ None) }
         ensures set { IfOk result (λ set. set ≡ sorted_by_key pairs.items) }
     {

@@ -3,10 +3,13 @@
 ghost use Rattle.std.specs.Prelude.{◌≡◌, ◌↔◌, IfOk, IsTrue, Some, refl};
 ghost use Rattle.series_id.specs.Checks.{checked_identity};
 ghost use Rattle.series_id.specs.Identity.{row_length};
-ghost use Rattle.series_id.specs.SeriesLaws.{same_series_equiv, same_series_per, same_series_ties, series_po};
+ghost use Rattle.series_id.specs.SeriesLaws.{same_series_equiv, same_series_per};
+ghost use Rattle.series_id.specs.SeriesLaws.{same_series_ties, series_po};
 ghost use Rattle.series_id.specs.Totals.{series_total};
-ghost use Rattle.series_id.specs.Order.{metric_cmp, resource_cmp, same_series, scope_cmp, series_before, series_cmp, stream_cmp};
-ghost use Rattle.series_id.specs.Sharing.{HasOneResource, HasOneScope, HasOneStream, shares_resource, shares_scope, shares_stream};
+ghost use Rattle.series_id.specs.Order.{metric_cmp, resource_cmp, scope_cmp, stream_cmp};
+ghost use Rattle.series_id.specs.Order.{same_series, series_before, series_cmp};
+ghost use Rattle.series_id.specs.Sharing.{HasOneResource, HasOneScope, HasOneStream};
+ghost use Rattle.series_id.specs.Sharing.{shares_resource, shares_scope, shares_stream};
 
 use crate::attributes::AttrSet;
 use crate::faults::IdFault;
@@ -73,7 +76,16 @@ impl SeriesId {
         kind: Kind,
         attrs: AttrSet,
     ) -> Result<SeriesId, IdFault>
-        ensures { result ≡ checked_identity (record { resource = resource; scope_name = scope_name; scope_version = scope_version; scope_attrs = scope_attrs; name = name; unit = unit; kind = kind; attrs = attrs }) }
+        ensures { result ≡ checked_identity (record {
+          resource = resource;
+          scope_name = scope_name;
+          scope_version = scope_version;
+          scope_attrs = scope_attrs;
+          name = name;
+          unit = unit;
+          kind = kind;
+          attrs = attrs;
+        }) }
     {
         if scope_name.is_long() || scope_version.is_long() || name.is_long() || unit.is_long() {
             return Err(IdFault::TextTooLong);
