@@ -76,13 +76,4 @@ IsMade sends seat max J J' u u' t =
 abbrev pub KeeperGives : {U : Type 0} → (U → List ℕ → Answer → U → Type 0) → ℕ → ℕ → Journal → U → Call → Journal → U → Type 0
 KeeperGives sends seat max J u (order (Ok t)) J' u' = IsMade sends seat max J J' u u' t
 KeeperGives sends seat max J u (order (Err e)) J' u' = ⊥
-KeeperGives sends seat max J u (admit body r) J' u' = (u' ≡ u) × BookGives seat J (admit body r) J'
-KeeperGives sends seat max J u (undo b r) J' u' = (u' ≡ u) × BookGives seat J (undo b r) J'
-KeeperGives sends seat max J u (confirm b r) J' u' = (u' ≡ u) × BookGives seat J (confirm b r) J'
-KeeperGives sends seat max J u (take n r) J' u' = (u' ≡ u) × BookGives seat J (take n r) J'
-KeeperGives sends seat max J u (settle f r) J' u' = (u' ≡ u) × BookGives seat J (settle f r) J'
-KeeperGives sends seat max J u (drop_flush f r) J' u' = (u' ≡ u) × BookGives seat J (drop_flush f r) J'
-KeeperGives sends seat max J u (give_back f r) J' u' = (u' ≡ u) × BookGives seat J (give_back f r) J'
-KeeperGives sends seat max J u (quarantine s r) J' u' = (u' ≡ u) × BookGives seat J (quarantine s r) J'
-KeeperGives sends seat max J u (lift s r) J' u' = (u' ≡ u) × BookGives seat J (lift s r) J'
-KeeperGives sends seat max J u (totals rows) J' u' = (u' ≡ u) × BookGives seat J (totals rows) J'
+KeeperGives sends seat max J u c J' u' = (u' ≡ u) × BookGives seat J c J'
