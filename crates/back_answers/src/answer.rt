@@ -1,5 +1,8 @@
 //! The classes of answers, and what is done after each.
 
+ghost use Rattle.std.specs.Prelude.{◌≡◌};
+ghost use Rattle.back_answers.specs.Waits.{asked_wait};
+
 /// What an answer of the back end means for the request that it answers.
 #[derive(Clone, Copy, Debug, PartialEq, Eq)]
 pub enum Answer {
@@ -14,6 +17,18 @@ pub enum Answer {
     Final,
     /// There is no answer, or one that the protocol does not know.
     Unknown,
+}
+
+impl Answer {
+    /// The seconds that it asks to wait before the request is sent again, if it names them.
+    pub fn asked_wait(self) -> Option<u64>
+        ensures { result ≡ asked_wait self }
+    {
+        match self {
+            Answer::Retryable { after } => after,
+            Answer::Success | Answer::Final | Answer::Unknown => None,
+        }
+    }
 }
 
 /// What is done with a flush once its request was answered.

@@ -1,7 +1,6 @@
 //! The response to a request: a value that is written once.
 ghost use Rattle.std.specs.Prelude.{◌≡◌, ◌<◌, ◌^◌, codes, length, option_map, IfOk};
 ghost use Rattle.http_edge.specs.Sent.{Sent, Failed};
-ghost use Rattle.back_answers.specs.Waits.{asked_wait};
 ghost use Rattle.gate_workers.specs.Refusals.{allowed_name};
 ghost use Rattle.gate_workers.specs.Responses as spec;
 ghost use Rattle.gate_workers.specs.Responses.{IsThatOrNoMemory};
@@ -10,7 +9,6 @@ ghost use Rattle.gate_workers.specs.Bodies.{kind_of, text_of};
 use crate::flush::Turn;
 use crate::order::OrderFault;
 use crate::refusal::{Allowed, Refusal};
-use back_answers::Answer;
 use byte_ends::Sink;
 use delta_book::totals::SeriesTotals;
 use http::StatusCode;
@@ -91,16 +89,6 @@ fn refusal_text(alloc: Global, why: Refusal) -> Result<Vec<u8>, AllocError>
     status_text(alloc, message.as_str())
 }
 
-/// The seconds that an answer asks to wait.
-fn asked_wait(answer: Answer) -> Option<u64>
-    ensures { result ≡ asked_wait answer }
-{
-    match answer {
-        Answer::Retryable { after } => after,
-        Answer::Success | Answer::Final | Answer::Unknown => None,
-    }
-}
-
 impl Response {
     /// 200, with this body.
     fn ok(body: Body) -> Response
@@ -178,7 +166,7 @@ impl Response {
                 points,
                 answer,
                 act,
-            } => match turn_text(alloc, flush, points, act, asked_wait(answer)) {
+            } => match turn_text(alloc, flush, points, act, answer.asked_wait()) {
                 Ok(text) => Response::json(text),
                 Err(_) => Response::no_memory(),
             },

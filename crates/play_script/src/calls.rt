@@ -7,7 +7,6 @@ ghost use Rattle.delta_book.specs.Refusals.{flush_refusal};
 ghost use Rattle.metric_events.specs.History.{◌▸◌};
 ghost use Rattle.play_script.specs.Answered.{IsReply, reply_text};
 ghost use Rattle.play_script.specs.Commands as asked;
-ghost use Rattle.back_answers.specs.Waits.{asked_wait};
 ghost use Rattle.delta_book.specs.Outcomes.{event_of};
 ghost use Rattle.play_script.specs.Run as spec;
 ghost use Rattle.play_script.specs.Run.{IsForwarded};
@@ -236,16 +235,6 @@ fn wire(alloc: Global, book: &mut Book, most: u64) -> Reply<'static>
     }
 }
 
-/// The seconds that an answer asks to wait.
-fn asked_wait(answer: Answer) -> Option<u64>
-    ensures { result ≡ asked_wait answer }
-{
-    match answer {
-        Answer::Retryable { after } => after,
-        Answer::Success | Answer::Final | Answer::Unknown => None,
-    }
-}
-
 /// Ends a flush by an act.
 fn end_flush(book: &mut Book, flush: u64, by: Act) -> Result<(), NotLive>
     ensures ok { OnOk result (history book.new ≡ history book.old ▸ event_of by flush) }
@@ -278,7 +267,7 @@ fn answer_flush(book: &mut Book, flush: u64, answer: Answer) -> Reply<'static>
 {
     let by = act(answer);
     match end_flush(book, flush, by) {
-        Ok(()) => end_reply(flush, by, asked_wait(answer)),
+        Ok(()) => end_reply(flush, by, answer.asked_wait()),
         Err(_) => Reply::Refused(Refusal::NotLive),
     }
 }
