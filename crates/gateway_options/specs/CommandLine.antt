@@ -116,6 +116,10 @@ abbrev pub IsNumber : Number → List Row → ℕ → Type 0
 IsNumber n rows v =
     (option_and_then (number_up_to n.most) (first_of n.name rows) ≡ Some v) × (n.least ≤ v)
 
+-- no number is
+abbrev pub HasNoNumber : Number → List Row → Type 0
+HasNoNumber n rows = (v : ℕ) → ¬ (IsNumber n rows v)
+
 -- the values of the options of `serve`
 abbrev pub AreServed : List Row → ServeOptions → Type 0
 AreServed rows o =

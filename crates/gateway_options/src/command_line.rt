@@ -88,7 +88,10 @@ pub const MAX_SENDERS: u32 = SENDERS.most;
 pub const MAX_BATCHES: u32 = BATCHES.most;
 
 /// The most bytes of the back end's address.
-const LONGEST_BACKEND: usize = 4_294_967_295;
+pub const MAX_BACKEND: usize = 4_294_967_295;
+
+/// Where senders connect if nothing else is said.
+const DEFAULT_LISTEN: &str = "127.0.0.1:4318";
 
 /// `--backend HOST:PORT`
 fn backend<'a>(alloc: Global) -> Arg<'a>
@@ -111,7 +114,7 @@ fn listen<'a>(alloc: Global) -> Arg<'a>
         .help("Where senders connect")
         .value_name("HOST:PORT")
         .long("listen")
-        .default_value("127.0.0.1:4318")
+        .default_value(DEFAULT_LISTEN)
 }
 
 /// The command with these numeric options.
@@ -170,7 +173,7 @@ fn serve_options<'a>(matches: &ArgMatches<'a>) -> Option<ServeOptions<'a>>
     ensures { IfSome result (AreServed (rows_of (found_of matches.now))) }
 {
     let backend = matches.get_str("backend")?;
-    if backend.len() > LONGEST_BACKEND {
+    if backend.len() > MAX_BACKEND {
         return None;
     }
     Some(ServeOptions {

@@ -9,8 +9,8 @@ mod serve_options;
 mod subcommand;
 
 pub use command_line::{
-    MAX_BATCHES, MAX_CONNECTIONS, MAX_FLUSH_SERIES, MAX_FLUSHERS, MAX_RECEIVERS, MAX_ROUND,
-    MAX_SENDERS, options,
+    MAX_BACKEND, MAX_BATCHES, MAX_CONNECTIONS, MAX_FLUSH_SERIES, MAX_FLUSHERS, MAX_RECEIVERS,
+    MAX_ROUND, MAX_SENDERS, options,
 };
 pub use line_fault::LineFault;
 pub use rehearse_options::RehearseOptions;

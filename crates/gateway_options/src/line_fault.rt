@@ -1,3 +1,5 @@
+ghost use Rattle.gateway_options.specs.LineFault.{IsFaultOf};
+
 use clap::Error;
 use clap::error::ErrorKind;
 use std::fmt;
@@ -12,7 +14,7 @@ pub enum LineFault {
 }
 
 impl From<Error> for LineFault {
-    ghost from_gives = { λ e fault. Unit {0} };
+    ghost from_gives = { IsFaultOf };
 
     fn from(error: Error) -> LineFault {
         match error.kind() {

@@ -1,6 +1,6 @@
-ghost use Rattle.std.specs.Prelude.{◌≡◌, ◌≤◌, IfSome, false};
+ghost use Rattle.std.specs.Prelude.{◌≡◌, ◌≤◌, IfNone, IfSome, false};
 ghost use Rattle.clap.specs.Words.{found_of, rows_of, rule_of};
-ghost use Rattle.gateway_options.specs.CommandLine.{IsNumber, number_rule};
+ghost use Rattle.gateway_options.specs.CommandLine.{HasNoNumber, IsNumber, number_rule};
 ghost use Rattle.gateway_options.specs.NumberOption.{described};
 
 use clap::{Arg, ArgMatches, value_parser};
@@ -42,7 +42,10 @@ impl<'a> NumberOption<'a> {
 
     /// The number that the option's digits write, if it is in the option's range.
     pub fn read(&self, matches: &ArgMatches<'_>) -> Option<u64>
-        ensures { IfSome result (λ n. IsNumber (described self.now) (rows_of (found_of matches.now)) n × (n ≤ self.now.most)) }
+        ensures number { IfSome result (λ n. (n ≤ self.now.most)
+            × IsNumber (described self.now) (rows_of (found_of matches.now)) n) }
+        ensures none { IfNone result (HasNoNumber (described self.now)
+            (rows_of (found_of matches.now))) }
     {
         let number = number_up_to(matches.get_str(self.name)?.as_bytes(), u64::from(self.most))?;
         if number < u64::from(self.least) {

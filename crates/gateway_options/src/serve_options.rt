@@ -1,5 +1,5 @@
-ghost use Rattle.std.specs.Prelude.{◌<◌, ◌≤◌, ◌^◌, length};
-ghost use Rattle.gateway_options.specs.declared.command_line.TheConstants.{MAX_RECEIVERS, MAX_FLUSHERS, MAX_FLUSH_SERIES, MAX_ROUND};
+ghost use Rattle.std.specs.Prelude.{◌≤◌, length};
+ghost use Rattle.gateway_options.specs.declared.command_line.TheConstants.{MAX_BACKEND, MAX_FLUSH_SERIES, MAX_FLUSHERS, MAX_RECEIVERS, MAX_ROUND};
 
 /// The options of `serve`.
 #[derive(Clone, Copy, Debug)]
@@ -18,7 +18,7 @@ pub struct ServeOptions<'a> {
     pub flush_series: usize,
     /// How many connections a round of the store has.
     pub round: u64,
-    ghost short: { length backend.now < 2 ^ 32 },
+    ghost short: { length backend.now ≤ MAX_BACKEND },
     ghost received: { (1 ≤ receivers) × (receivers ≤ MAX_RECEIVERS) },
     ghost flushed: { (1 ≤ flushers) × (flushers ≤ MAX_FLUSHERS) },
     ghost few: { (1 ≤ flush_series) × (flush_series ≤ MAX_FLUSH_SERIES) },

@@ -1,4 +1,4 @@
-use Rattle.std.proofs.Common.{◌≡◌, ◌+◌, ◌∙◌, ap, sym, refl, drop, map}
+use Rattle.std.proofs.Common.{◌+◌, ◌∙◌, ap, sym, refl, drop, map}
 use Rattle.std.proofs.lemmas.List.{at_drop_more, drop_all}
 use Rattle.clap.specs.Words.{app_of}
 use Rattle.gateway_options.specs.CommandLine.{with_numbers}
