@@ -1,5 +1,5 @@
 //! A client's connection.
-ghost use Rattle.std.specs.Prelude.{Option, List, ℕ};
+ghost use Rattle.std.specs.Prelude.{◌≡◌, Option, List, ℕ};
 ghost use Rattle.gate_workers.specs.Served.{IsServed};
 
 use crate::finish::Finish;
@@ -9,26 +9,28 @@ use crate::timed_reader::TimedReader;
 use crate::timed_writer::TimedWriter;
 use crate::waits::Waits;
 use byte_ends::{FromReader, ToWriter, drain};
-use gate_workers::{Connection, Keeper, Pace, Served, serve_with};
+use gate_workers::{Connection, Keeper, Pace, Refusal, Served, serve_with};
 use otlp_read::Memo;
 use std::alloc::Global;
 use std::io::{Read, Write};
 use std::net::TcpStream;
 use std::time::Clock;
 
-/// The most bytes that are thrown away of a request that was refused: a client that sends all before it
-/// reads gets its answer behind a body of so many.
+/// The most bytes that are thrown away of a request that was refused: a client that sends all
+/// before it reads gets its answer behind a body of so many.
 pub const MOST_REFUSED: usize = 64 * 1024 * 1024;
+
+/// The refusals of requests that may not have been read whole.
+const CUT_OFF: [Refusal; 3] = [Refusal::Malformed, Refusal::BodyTooLong, Refusal::NoMemory];
 
 /// Whether the request may have been refused before all of it was read.
 fn may_be_cut_off(served: Served) -> bool {
-    matches!(
-        served,
-        Served::Replied {
-            status: 400 | 413 | 503,
-            ..
-        }
-    )
+    let Served::Replied { status, .. } = served else {
+        return false;
+    };
+    CUT_OFF
+        .iter()
+        .any(|refusal| refusal.status().as_u16() == status)
 }
 
 /// Says that nothing more is written, and reads what still comes, so that the sender can read its
@@ -46,8 +48,8 @@ fn end_softly<I: Read + Waits, O: Finish, M: Moments + Drop>(
     let _ = drain(&mut FromReader::new(rest), MOST_REFUSED);
 }
 
-/// Serves one client: what its bytes ask for, and the answer. The request has `REQUEST_SECONDS` to come,
-/// the answer `ANSWER_SECONDS` to go, and what follows a refused request `REFUSED_SECONDS`.
+/// Serves one client: what its bytes ask for, and the answer. The request has `REQUEST_SECONDS` to
+/// come, the answer `ANSWER_SECONDS` to go, and what follows a refused request `REFUSED_SECONDS`.
 fn serve_client<
     K: Keeper,
     P: Pace,
@@ -63,7 +65,8 @@ fn serve_client<
     pace: &mut P,
     memo: &mut Memo,
 ) -> Served
-    ensures { (taken : Option (List ℕ)) × IsServed K.gives (I.remaining input.old) keeper.old keeper.new (O.contents output.old) taken result }
+    ensures { (taken : Option (List ℕ)) × IsServed K.gives (I.remaining input.old) keeper.old
+        keeper.new (O.contents output.old) taken result }
 {
     let mut reader = FromReader::new(TimedReader::new(&mut *input, moments, REQUEST_SECONDS));
     let mut writer = ToWriter::new(TimedWriter::new(&mut *output, moments, ANSWER_SECONDS));
@@ -74,9 +77,9 @@ fn serve_client<
     served
 }
 
-/// A client's connection, with one request on it, and the clock that bounds how long it takes. The bytes
-/// of a socket are not known; the keeper's calls are those of one request, and its answers lead to the
-/// status and to the end of the batch.
+/// A client's connection, with one request on it, and the clock that bounds how long it takes. The
+/// bytes of a socket are not known; the keeper's calls are those of one request, and its answers
+/// lead to the status and to the end of the batch.
 #[derive(Drop)]
 pub struct ClientConnection<'a, C> {
     clock: &'a C,
@@ -85,7 +88,9 @@ pub struct ClientConnection<'a, C> {
 
 impl<'a, C: Clock> ClientConnection<'a, C> {
     /// The client behind a connection that was accepted.
-    pub fn new(clock: &'a C, stream: TcpStream) -> Self {
+    pub fn new(clock: &'a C, stream: TcpStream) -> Self
+        ensures { result.stream ≡ stream }
+    {
         ClientConnection { clock, stream }
     }
 }
