@@ -1,3 +1,6 @@
+ghost use Rattle.std.specs.Prelude.{◌≡◌, IfErr};
+ghost use Rattle.gateway_serve.specs.declared.fault.GatewayFault.TheVariants.{CannotAccept};
+
 use crate::accepts::Accepts;
 use crate::fault::GatewayFault;
 use std::net::{TcpListener, TcpStream};
@@ -10,7 +13,9 @@ pub struct Entrance {
 
 impl Entrance {
     /// `CannotAccept` where there is no descriptor.
-    pub fn new(listener: &TcpListener) -> Result<Self, GatewayFault> {
+    pub fn new(listener: &TcpListener) -> Result<Self, GatewayFault>
+        ensures { IfErr result (λ fault. fault ≡ CannotAccept) }
+    {
         match listener.try_clone() {
             Ok(listener) => Ok(Entrance { listener }),
             Err(_) => Err(GatewayFault::CannotAccept),
@@ -21,7 +26,7 @@ impl Entrance {
 impl Accepts for Entrance {
     type Connection = TcpStream;
 
-    /// What comes in is not known.
+    /// No contract says what comes in.
     ghost accepts = { λ before connection after. Unit {0} };
 
     fn accept(&mut self) -> Option<TcpStream> {

@@ -1,3 +1,6 @@
+ghost use Rattle.std.specs.Prelude.{◌≡◌, IfErr};
+ghost use Rattle.gateway_serve.specs.declared.fault.GatewayFault.TheVariants.{NoMemory};
+
 use crate::fault::GatewayFault;
 use crossbeam_channel::{Receiver, Sender, bounded};
 use gate_workers::{CHANNEL_PLACES, Order};
@@ -13,7 +16,9 @@ pub struct OrderChannel {
 
 impl OrderChannel {
     /// An empty channel.
-    pub fn new(alloc: Global) -> Result<Self, GatewayFault> {
+    pub fn new(alloc: Global) -> Result<Self, GatewayFault>
+        ensures { IfErr result (λ fault. fault ≡ NoMemory) }
+    {
         match bounded(alloc, CHANNEL_PLACES) {
             Ok((sender, receiver)) => Ok(OrderChannel { sender, receiver }),
             Err(_) => Err(GatewayFault::NoMemory),
@@ -21,7 +26,9 @@ impl OrderChannel {
     }
 
     /// A side that orders are placed by.
-    pub fn sender(&self) -> Result<Sender<Order>, GatewayFault> {
+    pub fn sender(&self) -> Result<Sender<Order>, GatewayFault>
+        ensures { IfErr result (λ fault. fault ≡ NoMemory) }
+    {
         match self.sender.clone() {
             Ok(sender) => Ok(sender),
             Err(_) => Err(GatewayFault::NoMemory),
@@ -29,7 +36,9 @@ impl OrderChannel {
     }
 
     /// A side that orders are taken from.
-    pub fn receiver(&self) -> Result<Receiver<Order>, GatewayFault> {
+    pub fn receiver(&self) -> Result<Receiver<Order>, GatewayFault>
+        ensures { IfErr result (λ fault. fault ≡ NoMemory) }
+    {
         match self.receiver.clone() {
             Ok(receiver) => Ok(receiver),
             Err(_) => Err(GatewayFault::NoMemory),
