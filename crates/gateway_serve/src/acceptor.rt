@@ -1,43 +1,52 @@
-ghost use Rattle.std.specs.Prelude.{◌≡◌, ◌+◌, Some, None, Err, IfSome, IfNone, OnOk, unwrap_or};
-ghost use Rattle.gateway_serve.specs.Accepted.{AreAccepted, IsEnded, next_fault};
+ghost use Rattle.std.specs.Prelude.{◌≡◌, ◌+◌, Some, None, IfSome, IfNone, OnOk, unwrap_or};
+ghost use Rattle.gateway_serve.specs.Accepted.{AreAccepted, IsEnded, next_fault, or_fault};
 
 use crate::accepts::Accepts;
+use crate::beginning::Beginning;
 use crate::fault::GatewayFault;
+use std::marker::PhantomData;
 
 /// Accepts the connections of a round: so many, each given out once. After a fault it accepts none,
-/// and the first fault counts. The receivers share it under a lock.
+/// and the first fault counts. The receivers share it under a lock. That it began at the round's
+/// entrance is known of it at any time.
 #[derive(Drop)]
-pub struct Acceptor<A: Accepts> {
+pub struct Acceptor<A: Accepts, B: Beginning<A>> {
     entrance: A,
-    connections: u64,
     left: u64,
     fault: Option<GatewayFault>,
-    ghost accepted: { ∥ (fault ≡ None → AreAccepted A.accepts connections left entrance) ∥₁ },
+    begun: PhantomData<B>,
+    ghost accepted: { ∥ (fault ≡ None
+        → AreAccepted A.accepts B.entrance B.connections left entrance) ∥₁ },
 }
 
-impl<A: Accepts> Acceptor<A> {
+impl<A: Accepts, B: Beginning<A>> Acceptor<A, B> {
     /// None of the connections of this round was accepted.
     pub fn new(entrance: A, connections: u64) -> Self
+        requires entrance { B.entrance ≡ Some entrance }
+        requires connections { B.connections ≡ connections }
         ensures entrance { result.entrance ≡ entrance }
         ensures left { result.left ≡ connections }
         ensures fault { result.fault ≡ None }
     {
         Acceptor {
             entrance,
-            connections,
             left: connections,
             fault: None,
+            begun: PhantomData,
         }
     }
 
     /// Accepts the next connection and gives it out. None once all were given out or after a fault;
     /// then nothing is accepted. None also where it can't be accepted, which is a fault.
     pub fn next(&mut self) -> Option<A::Connection>
-        ensures given { IfSome result (λ connection. A.accepts self.old.entrance connection self.new.entrance) }
+        ensures given { IfSome result (λ connection. A.accepts self.old.entrance connection
+            self.new.entrance) }
         ensures left { IfSome result (λ connection. self.old.left ≡ self.new.left + 1) }
         ensures fault { IfSome result (λ connection. self.new.fault ≡ None) }
-        ensures none { IfNone result ((self.new.left ≡ self.old.left) × (self.new.fault ≡ next_fault self.old.left self.old.fault)) }
-        ensures ended { IsEnded self.old.left self.old.fault → self.new.entrance ≡ self.old.entrance }
+        ensures none { IfNone result ((self.new.left ≡ self.old.left)
+            × (self.new.fault ≡ next_fault self.old.left self.old.fault)) }
+        ensures ended { IsEnded self.old.left self.old.fault
+            → self.new.entrance ≡ self.old.entrance }
     {
         if self.left == 0 || self.fault.is_some() {
             return None;
@@ -59,17 +68,17 @@ impl<A: Accepts> Acceptor<A> {
         }
     }
 
-    /// The first fault, if there is one. Ok only where so many connections were to be accepted, and all
-    /// were.
-    pub fn end(&self, connections: u64) -> Result<(), GatewayFault>
-        ensures all { OnOk result (∥ AreAccepted A.accepts connections 0 self.now.entrance ∥₁) }
-        ensures fault { IfSome self.now.fault (λ fault. result ≡ Err fault) }
+    /// What the round gives: the first fault, if there is one, and `CannotAccept` where connections
+    /// are left; else the workers' outcome.
+    pub fn end<T: Drop>(&self, outcome: Result<T, GatewayFault>) -> Result<T, GatewayFault>
+        ensures fault { result ≡ or_fault (next_fault self.now.left self.now.fault) outcome }
+        ensures all { OnOk result (∥ AreAccepted A.accepts B.entrance B.connections 0
+            self.now.entrance ∥₁) }
     {
         match self.fault {
             Some(fault) => Err(fault),
             None if self.left > 0 => Err(GatewayFault::CannotAccept),
-            None if self.connections != connections => Err(GatewayFault::CannotAccept),
-            None => Ok(()),
+            None => outcome,
         }
     }
 }

@@ -1,13 +1,14 @@
-//! The gateway as a library: its sockets, its threads, and the rounds of its store. What is done with
-//! a request and with a flush is `gate_workers`'s, and what the workers share is `shared_book`'s; here
-//! are the calls of the system. No contract can say what a socket gives or takes. So what is proved
-//! stands over traits, of what accepts, dials and tells the moment, and of streams; their impls over
-//! the system's only forward.
+//! The gateway as a library: its sockets, its threads, and the rounds of its store. What is done
+//! with a request and with a flush is `gate_workers`'s, and what the workers share is
+//! `shared_book`'s; here are the calls of the system. No contract can say what a socket gives or
+//! takes. So what is proved stands over traits, of what accepts, dials and tells the moment, and of
+//! streams; their impls over the system's only forward.
 #![tactic(auto)]
 
 mod acceptor;
 mod accepts;
 mod backend;
+mod beginning;
 mod client_connection;
 mod dial;
 mod dialler;

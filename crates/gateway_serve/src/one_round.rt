@@ -1,7 +1,10 @@
 //! One round, served by workers in threads.
-ghost use Rattle.std.specs.Prelude.{◌≡◌, ◌+◌, [], IfOk};
+ghost use Rattle.std.specs.Prelude.{◌≡◌, ◌+◌, [], IfOk, OnOk, Some};
+ghost use Rattle.gateway_serve.specs.Accepted.{AreAccepted};
 ghost use Rattle.gateway_serve.specs.Rounds.{IsOver};
 
+use crate::accepts::Accepts;
+use crate::beginning::Beginning;
 use crate::entrance::Entrance;
 use crate::fault::GatewayFault;
 use crate::workers::serve_beside;
@@ -18,10 +21,10 @@ use std::sync::ledger::Blank;
 use std::thread::Threads;
 use std::time::Clock;
 
-/// One round over a ledger: the book is shared, so many connections are accepted and served, and the
-/// receipts of the workers are compared with the book.
+/// One round over a ledger: the book is shared, so many connections are accepted and served, and
+/// the receipts of the workers are compared with the book.
 fn round_over<
-    L: Round + Send + Sync,
+    L: Round + Beginning<Entrance> + Send + Sync,
     R: Net<Listener = TcpListener, Stream = TcpStream> + Threads + Wait + Clock + Sync,
 >(
     rt: &R,
@@ -36,7 +39,11 @@ fn round_over<
     requires parts { blank.parts ≡ options.now.receivers + options.now.flushers }
     requires empty { book.entries ≡ [] }
     requires opening { book.opening ≡ L.opening }
-    ensures { IfOk result (λ r. IsOver book r.0 r.1) }
+    requires entrance { L.entrance ≡ Some entrance }
+    requires connections { L.connections ≡ connections }
+    ensures over { IfOk result (λ r. IsOver book r.0 r.1) }
+    ensures accepted { OnOk result ((end : Entrance)
+        × ∥ AreAccepted ⟦<Entrance as Accepts>⟧.accepts (Some entrance) connections 0 end ∥₁) }
 {
     let seats = options.receivers + options.flushers;
     let Ok((shared, seats)) = SharedBook::<L>::new(alloc, book, blank, seats) else {

@@ -1,5 +1,6 @@
 use crate::acceptor::Acceptor;
 use crate::backend::Backend;
+use crate::beginning::Beginning;
 use crate::dialler::Dialler;
 use crate::entrance::Entrance;
 use crate::shared_acceptor::SharedAcceptor;
@@ -15,13 +16,13 @@ use std::sync::{Mutex, Wait};
 use std::time::Clock;
 
 /// Works from a seat until there is no more work, and gives the seat back with all its receipts.
-pub fn work<L: Round, R: Net<Stream = TcpStream> + Wait + Clock>(
+pub fn work<L: Round + Beginning<Entrance>, R: Net<Stream = TcpStream> + Wait + Clock>(
     rt: &R,
     alloc: Global,
     shared: &SharedBook<L>,
     seat: Seat<L>,
     options: &ServeOptions<'_>,
-    acceptor: &Mutex<Acceptor<Entrance>>,
+    acceptor: &Mutex<Acceptor<Entrance, L>>,
     work: Work,
 ) -> Seat<L> {
     match work {

@@ -1,5 +1,11 @@
 //! The workers of a round, each in a thread of its own.
+ghost use Rattle.std.specs.Prelude.{◌≡◌, IfErr, OnOk, Some};
+ghost use Rattle.gateway_serve.specs.Accepted.{AreAccepted};
+ghost use Rattle.gateway_serve.specs.declared.fault.GatewayFault.TheVariants.{NoMemory};
+
 use crate::acceptor::Acceptor;
+use crate::accepts::Accepts;
+use crate::beginning::Beginning;
 use crate::entrance::Entrance;
 use crate::fault::GatewayFault;
 use crate::order_channel::OrderChannel;
@@ -19,7 +25,9 @@ use std::time::Clock;
 
 /// The work of the seat of this number: the first seats are the flushers', so that these are there
 /// before the first receiver.
-fn work_of(orders: &OrderChannel, flushers: u16, number: u16) -> Result<Work, GatewayFault> {
+fn work_of(orders: &OrderChannel, flushers: u16, number: u16) -> Result<Work, GatewayFault>
+    ensures { IfErr result (λ fault. fault ≡ NoMemory) }
+{
     if number < flushers {
         let orders = orders.receiver()?;
         Ok(Work::Flush { orders })
@@ -34,30 +42,32 @@ fn join_all<L: Ledger, R: Threads>(
     rt: &R,
     alloc: Global,
     running: Vec<JoinHandle<Seat<L>>>,
-) -> Result<Vec<Seat<L>>, GatewayFault> {
+) -> Result<Vec<Seat<L>>, GatewayFault>
+    ensures { IfErr result (λ fault. fault ≡ NoMemory) }
+{
     let mut seats = Vec::new(alloc);
-    let mut outcome = Ok(());
+    let mut is_short = false;
     for worker in running {
-        if seats.push(worker.join(rt)).is_err() {
-            outcome = Err(GatewayFault::NoMemory);
-        }
+        is_short |= seats.push(worker.join(rt)).is_err();
     }
-    outcome?;
+    if is_short {
+        return Err(GatewayFault::NoMemory);
+    }
     Ok(seats)
 }
 
-/// Starts a worker on each seat, and waits until all end. No receiver accepts before all have started,
-/// and none where one could not be. On every path the sides of the channel are dropped before a worker
-/// is waited for, so each of them ends.
+/// Starts a worker on each seat, and waits until all end. No receiver accepts before all have
+/// started, and none where one could not be. On every path the sides of the channel are dropped
+/// before a worker is waited for, so each of them ends.
 fn run_workers<
-    L: Round + Send + Sync,
+    L: Round + Beginning<Entrance> + Send + Sync,
     R: Net<Listener = TcpListener, Stream = TcpStream> + Threads + Wait + Clock + Sync,
 >(
     rt: &R,
     alloc: Global,
     shared: &SharedBook<L>,
     seats: Vec<Seat<L>>,
-    acceptor: &Mutex<Acceptor<Entrance>>,
+    acceptor: &Mutex<Acceptor<Entrance, L>>,
     orders: OrderChannel,
     options: &ServeOptions<'_>,
 ) -> Result<Vec<Seat<L>>, GatewayFault> {
@@ -65,9 +75,12 @@ fn run_workers<
         let mut running = Vec::new(alloc);
         let mut closed = acceptor.lock(rt);
         for seat in seats {
-            let Ok(task) = work_of(&orders, options.flushers, seat.number()) else {
-                closed.close(GatewayFault::NoMemory);
-                break;
+            let task = match work_of(&orders, options.flushers, seat.number()) {
+                Ok(task) => task,
+                Err(fault) => {
+                    closed.close(fault);
+                    break;
+                }
             };
             let Ok(worker) = scope.spawn(move || work(
                 rt, alloc, shared, seat, options, acceptor, task,
@@ -87,10 +100,11 @@ fn run_workers<
 }
 
 /// Starts a worker on each seat, and waits until they end: the receivers once so many connections
-/// were accepted and served, or after a fault, and then the flushers. None is accepted before all have
-/// started.
+/// were accepted and served, or after a fault, and then the flushers. None is accepted before all
+/// have started. If it returns Ok, so many connections were accepted at this entrance, and nothing
+/// else was done there.
 pub fn serve_beside<
-    L: Round + Send + Sync,
+    L: Round + Beginning<Entrance> + Send + Sync,
     R: Net<Listener = TcpListener, Stream = TcpStream> + Threads + Wait + Clock + Sync,
 >(
     rt: &R,
@@ -100,11 +114,14 @@ pub fn serve_beside<
     entrance: Entrance,
     options: &ServeOptions<'_>,
     connections: u64,
-) -> Result<Vec<Seat<L>>, GatewayFault> {
+) -> Result<Vec<Seat<L>>, GatewayFault>
+    requires entrance { L.entrance ≡ Some entrance }
+    requires connections { L.connections ≡ connections }
+    ensures accepted { OnOk result ((end : Entrance)
+        × ∥ AreAccepted ⟦<Entrance as Accepts>⟧.accepts (Some entrance) connections 0 end ∥₁) }
+{
     let orders = OrderChannel::new(alloc)?;
-    let acceptor = Mutex::new(Acceptor::new(entrance, connections));
-    // Its own fault can only come after those of the acceptor.
+    let acceptor = Mutex::new(Acceptor::<Entrance, L>::new(entrance, connections));
     let seats = run_workers(rt, alloc, shared, seats, &acceptor, orders, options);
-    acceptor.into_inner().end(connections)?;
-    seats
+    acceptor.into_inner().end(seats)
 }

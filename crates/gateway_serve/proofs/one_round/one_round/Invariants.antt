@@ -1,3 +1,4 @@
+use Rattle.std.proofs.Common.{Some}
 use Rattle.gateway_serve.proofs.one_round.one_round.Given as goal
 
 abbrev pub ghosts-round_over-L-Ledger : goal.ghosts-round_over-L-Ledger
@@ -5,3 +6,6 @@ ghosts-round_over-L-Ledger g a = record { name = a.blank.name; parts = a.blank.p
 
 abbrev pub ghosts-round_over-L-Round : goal.ghosts-round_over-L-Round
 ghosts-round_over-L-Round g a = record { opening = a.book.opening }
+
+abbrev pub ghosts-round_over-L-Beginning : goal.ghosts-round_over-L-Beginning
+ghosts-round_over-L-Beginning g a = record { entrance = Some a.entrance; connections = a.connections }

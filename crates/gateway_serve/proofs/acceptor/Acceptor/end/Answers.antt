@@ -1,9 +1,15 @@
-use Rattle.std.proofs.Common.{arith}
+use Rattle.std.proofs.Common.{Result, Ok, Err, arith}
+use Rattle.std.specs.Prelude.{OnOk}
 use Rattle.std.proofs.Math.Logic.{∥∥₁_map}
 use Rattle.gateway_serve.proofs.acceptor.Acceptor.end.Goals as goal
 
-pub returns-in-None-3-clause-all : goal.returns-in-None-3-clause-all
-returns-in-None-3-clause-all g c =
-    ∥∥₁_map c.args.self.now.accepted (λ all.
-    let h = all c.in-None-3.is in
-    (h.0, h.1, omega (arith, h.2), h.3))
+-- what always holds does so at Ok
+where_ok : {X E P : Type 0} (r : Result X E) → P → OnOk r P
+where_ok (Ok x) p = p
+where_ok (Err e) p = tt
+
+pub returns-in-None-2-clause-all : goal.returns-in-None-2-clause-all
+returns-in-None-2-clause-all g c =
+    where_ok c.args.outcome (∥∥₁_map c.args.self.now.accepted (λ all.
+    let h = all c.in-None-2.is in
+    (h.0, h.1, h.2, omega (arith, h.3), h.4)))

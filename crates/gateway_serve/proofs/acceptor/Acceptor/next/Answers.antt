@@ -7,8 +7,9 @@ invariant_of-self-2 g c = record {
   accepted = ∥∥₁_map c.args.self.now.accepted (λ all none.
       let h = all none in (
         h.0,
-        c.in-Some.connection ∷ h.1,
-        omega (arith, h.2, c.if-self-eq0.false),
-        (c.args.self.now.entrance, h.3, c.in-Some.ensures),
+        h.1,
+        c.in-Some.connection ∷ h.2,
+        omega (arith, h.3, c.if-self-eq0.false),
+        (c.args.self.now.entrance, h.4, c.in-Some.ensures),
       ));
 }
