@@ -7,7 +7,7 @@ use crate::sender::{ask_report, order_flushes, post_all};
 use crate::stage::Stage;
 use gateway_options::{RehearseOptions, ServeOptions};
 use std::alloc::Global;
-use std::net::{Net, TcpListener, TcpStream};
+use std::net::{Net, SocketAddr, TcpListener, TcpStream};
 use std::sync::Wait;
 use std::thread;
 use std::thread::Threads;
@@ -33,8 +33,8 @@ fn connections_of(options: &RehearseOptions) -> u64
     posts + u64::from(FLUSHES_MEANWHILE) + u64::from(FLUSHES_AFTER) + 1
 }
 
-/// Has each sender post from a thread of its own and another thread order flushes meanwhile, until all
-/// have ended. Work for which no thread can be started is done here: the gateway waits for it.
+/// Has each sender post from a thread of its own and another thread order flushes meanwhile, until
+/// all have ended. Work for which no thread can be started is done here: the gateway waits for it.
 fn send_all<
     F: Drop,
     R: Net<Listener = TcpListener, Stream = TcpStream> + Threads + Wait + Clock + Sync,
@@ -126,8 +126,22 @@ fn play<
     )
 }
 
+/// A listener of this machine at a free port, and its address.
+fn listen<F: Drop, R: Net<Listener = TcpListener, Stream = TcpStream>>(
+    rt: &R,
+) -> Result<(TcpListener, SocketAddr), RehearsalFault<F>> {
+    let Ok(listener) = TcpListener::bind(rt, LOOPBACK) else {
+        return Err(RehearsalFault::CannotListen);
+    };
+    match listener.local_addr() {
+        Ok(address) => Ok((listener, address)),
+        Err(_) => Err(RehearsalFault::CannotListen),
+    }
+}
+
 /// Plays senders, gateway and back end over loopback, and returns what the gateway prints at its end.
-/// The gateway is `serve_bound`: it serves the connections of a listener by the options that it is handed.
+/// The gateway is `serve_bound`: it serves the connections of a listener by the options that it is
+/// handed.
 ///
 /// Each sender posts its batches one after the other while two flushes are ordered; then four more are,
 /// and the report is asked for. The back end refuses the first request that it gets and takes the
@@ -146,19 +160,11 @@ pub fn rehearse<
 ) -> Result<Vec<u8>, RehearsalFault<F>>
     requires { S.IsAlwaysCallable serve_bound }
 {
-    let Ok(listener) = TcpListener::bind(rt, LOOPBACK) else {
+    let (listener, gateway_at) = listen(rt)?;
+    let (back_end, back_end_at) = listen(rt)?;
+    if back_end.set_nonblocking(true).is_err() {
         return Err(RehearsalFault::CannotListen);
-    };
-    let Ok(back_end) = TcpListener::bind(rt, LOOPBACK) else {
-        return Err(RehearsalFault::CannotListen);
-    };
-    let (Ok(gateway_at), Ok(back_end_at), Ok(())) = (
-        listener.local_addr(),
-        back_end.local_addr(),
-        back_end.set_nonblocking(true),
-    ) else {
-        return Err(RehearsalFault::CannotListen);
-    };
+    }
     let port = back_end_at.port();
     let Ok(backend) = format!(in alloc; "127.0.0.1:{port}") else {
         return Err(RehearsalFault::NoMemory);

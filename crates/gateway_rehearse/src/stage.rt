@@ -1,3 +1,5 @@
+ghost use Rattle.std.specs.Prelude.{◌≡◌};
+
 use std::net::SocketAddr;
 use std::sync::atomic::{AtomicBool, Ordering};
 
@@ -12,7 +14,9 @@ pub struct Stage {
 
 impl Stage {
     /// A stage on which nothing has ended.
-    pub fn new(gateway: SocketAddr) -> Stage {
+    pub fn new(gateway: SocketAddr) -> Stage
+        ensures { result.gateway ≡ gateway }
+    {
         Stage {
             gateway,
             ended: AtomicBool::new(false),
