@@ -1,14 +1,12 @@
 //! Tests of one connection: requests with their responses over a book, flush turns by order, the
-//! exchange with the back end, connections over loopback, and command lines. They run what no clause says: worked
-//! bytes, writers that fail, and the refusals in their order.
+//! exchange with the back end, connections over loopback, and command lines. They run what no
+//! clause says: worked bytes, writers that fail, and the refusals in their order.
 #![tactic(auto)]
 
 #[cfg(test)]
 mod desk;
 #[cfg(test)]
 mod exchanges;
-#[cfg(test)]
-mod lines;
 #[cfg(test)]
 mod options;
 #[cfg(test)]

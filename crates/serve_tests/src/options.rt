@@ -28,13 +28,37 @@ fn rehearsed<'a, R: Abort>(
 }
 
 #[test]
-fn workers_have_defaults(rt: HostRuntime) -> Result<(), Fail> {
+fn defaults_stand_in(rt: HostRuntime) -> Result<(), Fail> {
     let words = ["gateway", "serve", "--backend", "b:9", "--connections", "0"];
     let options = served(&rt, rt.alloc(), words.as_slice())?;
+    assert_eq!(rt; options.backend, "b:9");
+    assert_eq!(rt; options.listen, "127.0.0.1:4318");
+    assert_eq!(rt; options.connections, 0);
     assert_eq!(rt; options.receivers, 2);
     assert_eq!(rt; options.flushers, 1);
     assert_eq!(rt; options.flush_series, 1000);
     assert_eq!(rt; options.round, 32_000);
+    Ok(())
+}
+
+#[test]
+fn what_is_given_is_taken(rt: HostRuntime) -> Result<(), Fail> {
+    let words = [
+        "gateway",
+        "serve",
+        "--flush-series",
+        "1",
+        "--listen=[::1]:80",
+        "--connections",
+        "1000000",
+        "--backend",
+        "b:9",
+    ];
+    let options = served(&rt, rt.alloc(), words.as_slice())?;
+    assert_eq!(rt; options.backend, "b:9");
+    assert_eq!(rt; options.listen, "[::1]:80");
+    assert_eq!(rt; options.connections, 1_000_000);
+    assert_eq!(rt; options.flush_series, 1);
     Ok(())
 }
 
@@ -122,12 +146,24 @@ fn numbers_out_of_range(rt: HostRuntime) -> Result<(), Fail> {
 }
 
 #[test]
-fn faulty_lines(rt: HostRuntime) -> Result<(), Fail> {
-    let lines: [&[&str]; 13] = [
+fn faulty_lines_are_refused(rt: HostRuntime) -> Result<(), Fail> {
+    let lines: [&[&str]; 19] = [
         &["gateway"],
         &["gateway", "sing"],
         &["gateway", "-h"],
         &["gateway", "help"],
+        &["gateway", "serve"],
+        &["gateway", "serve", "--help"],
+        &["gateway", "serve", "--connections", "1"],
+        &["gateway", "serve", "--backend", "b:9"],
+        &[
+            "gateway",
+            "serve",
+            "--backend=b:9",
+            "--connections",
+            "1000001",
+        ],
+        &["gateway", "serve", "--backend=b:9", "--connections", "+1"],
         &["gateway", "rehearse", "-h"],
         &["gateway", "rehearse", "--senders", "0"],
         &["gateway", "rehearse", "--senders", "5"],
