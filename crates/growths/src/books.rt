@@ -1,11 +1,13 @@
-//! Calls of a book: without memory its journal and its totals are as before, and the same call goes
-//! through.
+//! Calls of a book: where one is out of memory, the journal and the totals are as before, and the
+//! same call is accepted when it is made again.
 ghost use Rattle.std.specs.Prelude.{◌≡◌, ◌≤◌, [], IfOk, OnOk};
 
 use crate::bodies::{LATER, MIXED, SUMS};
+use crate::lines::{no_memory, print_number, print_right};
 use crate::tables;
-use crate::telling::{no_memory, tell, tell_number};
-use crate::twice::{batch_twice, copy_twice, print_request, print_text, sender_twice, tell_back};
+use crate::twice::{
+    batch_twice, compare_batch, copy_twice, print_request, print_text, sender_twice,
+};
 use delta_book::book::Book;
 use delta_book::faults::{AdmitFault, QuarantineFault, RoundFault, TakeFault};
 use delta_book::flush::Flush;
@@ -27,7 +29,7 @@ fn report_of(alloc: Global, book: &Book) -> Result<Vec<u8>, AllocError> {
     report_text(alloc, rows.as_slice())
 }
 
-/// What a book shows, which is asked for twice where it finds no memory.
+/// What a book shows. Where there is no memory for the report, it is asked for again.
 pub fn look_at(rt: &impl Print, alloc: Global, book: &Book) -> Result<Shown, AllocError> {
     for _ in 0..2 {
         match report_of(alloc, book) {
@@ -41,8 +43,8 @@ pub fn look_at(rt: &impl Print, alloc: Global, book: &Book) -> Result<Shown, All
     Err(AllocError)
 }
 
-/// Tells that a call found no memory, and whether the book is as before; of the report where that
-/// finds memory.
+/// Prints that a call was out of memory, and whether the book is as before. Reports are compared
+/// where there is memory for this one.
 pub fn refused(rt: &impl Print, alloc: Global, call: &str, book: &Book, before: &Shown) {
     let same = match report_of(alloc, book) {
         Ok(report) => report == before.report,
@@ -55,7 +57,7 @@ fn made(rt: &impl Print, alloc: Global) -> Result<Book, AllocError> {
     for _ in 0..2 {
         match Book::new(alloc) {
             Ok(book) => {
-                tell(rt, "Book::new", book.journal().is_empty());
+                print_right(rt, "Book::new", book.journal().is_empty());
                 return Ok(book);
             }
             Err(_) => no_memory(rt, "Book::new", true),
@@ -74,12 +76,12 @@ fn admit(rt: &impl Print, alloc: Global, book: &mut Book, body: &[u8]) -> Result
         }
         match book.admit(SEAT, batch) {
             Ok(number) => {
-                tell_number(rt, "Book::admit", number);
+                print_number(rt, "Book::admit", number);
                 return Ok(());
             }
             Err((AdmitFault::NoMemory, back)) => {
                 refused(rt, alloc, "Book::admit", book, &before);
-                tell_back(rt, &back, &copy);
+                compare_batch(rt, &back, &copy);
                 batch = back;
             }
             Err(_) => return Err(AllocError),
@@ -96,7 +98,7 @@ fn take(rt: &impl Print, alloc: Global, book: &mut Book, most: usize) -> Result<
     for _ in 0..2 {
         match book.take(SEAT, most) {
             Ok(Some(flush)) => {
-                tell_number(rt, "Book::take", flush.number);
+                print_number(rt, "Book::take", flush.number);
                 return Ok(flush);
             }
             Err(TakeFault::NoMemory) => refused(rt, alloc, "Book::take", book, &before),
@@ -112,7 +114,7 @@ fn quarantine(rt: &impl Print, alloc: Global, book: &mut Book) -> Result<(), All
         let sender = sender_twice(rt, alloc)?;
         match book.quarantine(SEAT, sender) {
             Ok(()) => {
-                tell(rt, "Book::quarantine", true);
+                print_right(rt, "Book::quarantine", true);
                 return Ok(());
             }
             Err(QuarantineFault::NoMemory) => refused(rt, alloc, "Book::quarantine", book, &before),
@@ -129,7 +131,7 @@ fn close_round(rt: &impl Print, alloc: Global, book: &mut Book) -> Result<(), Al
     for _ in 0..2 {
         match book.close_round() {
             Ok(round) => {
-                tell_number(rt, "Book::close_round", round);
+                print_number(rt, "Book::close_round", round);
                 return Ok(());
             }
             Err(RoundFault::NoMemory) => refused(rt, alloc, "Book::close_round", book, &before),
@@ -162,10 +164,10 @@ fn print_past(rt: &impl Print, alloc: Global, book: &Book) -> Result<(), AllocEr
 /// The first round: a batch is taken and settled.
 fn first_round(rt: &impl Print, alloc: Global, book: &mut Book) -> Result<(), AllocError> {
     admit(rt, alloc, book, MIXED)?;
-    tell(rt, "Book::confirm", book.confirm(SEAT, 1).is_ok());
+    print_right(rt, "Book::confirm", book.confirm(SEAT, 1).is_ok());
     let flush = take(rt, alloc, book, 1)?;
     print_request(rt, alloc, &flush)?;
-    tell(rt, "Book::settle", book.settle(SEAT, 1).is_ok());
+    print_right(rt, "Book::settle", book.settle(SEAT, 1).is_ok());
     print_report(rt, alloc, book)
 }
 
@@ -189,7 +191,7 @@ pub fn second_round(rt: &impl Print, alloc: Global) -> Result<Book, AllocError>
 {
     let mut book = made(rt, alloc)?;
     admit(rt, alloc, &mut book, SUMS)?;
-    tell(rt, "Book::confirm", book.confirm(SEAT, 1).is_ok());
+    print_right(rt, "Book::confirm", book.confirm(SEAT, 1).is_ok());
     close_round(rt, alloc, &mut book)?;
     Ok(book)
 }

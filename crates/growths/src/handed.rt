@@ -1,10 +1,10 @@
-//! Calls that are handed a value or change one: without memory it is as before, and the same call with
-//! the same value goes through.
+//! Calls that are passed a value or change one: where one is out of memory, the value is as before,
+//! and the same call with the same value goes through when it is made again.
 ghost use Rattle.std.specs.Prelude.{◌≡◌};
 
 use crate::bodies::{MIXED, SUMS};
+use crate::lines::{no_memory, print_right};
 use crate::making::{first_point, name_of, own_series, points_of};
-use crate::telling::{no_memory, tell};
 use bucket_lanes::{fits, is_zero};
 use metric_events::point::Point;
 use metric_events::points::Points;
@@ -32,14 +32,14 @@ pub fn make(rt: &impl Print, alloc: Global, call: &str) -> Result<(), AllocError
     }
 }
 
-/// An identity that is handed back is kept at the second call.
+/// An identity that is handed back is shared by the second call.
 fn share(rt: &impl Print, alloc: Global) -> Result<(), AllocError> {
     let mut series = own_series(alloc)?;
     let same = own_series(alloc)?;
     for _ in 0..2 {
         match SharedId::new(alloc, series) {
             Ok(shared) => {
-                tell(rt, "SharedId::new", shared.as_series().is_same(&same));
+                print_right(rt, "SharedId::new", shared.as_series().is_same(&same));
                 return Ok(());
             }
             Err(refused) => {
@@ -51,14 +51,14 @@ fn share(rt: &impl Print, alloc: Global) -> Result<(), AllocError> {
     Err(AllocError)
 }
 
-/// Points that found no room for one more are as before.
+/// Points without memory for one more are as before.
 fn push(rt: &impl Print, alloc: Global) -> Result<(), AllocError> {
     let mut points = Points::new(alloc);
     let sums = points_of(alloc, SUMS)?;
     for point in sums.as_slice() {
         push_one(rt, alloc, &mut points, point)?;
     }
-    tell(rt, "Points::push", points.is_same(&sums));
+    print_right(rt, "Points::push", points.is_same(&sums));
     Ok(())
 }
 
@@ -79,7 +79,7 @@ fn push_one(
     Err(AllocError)
 }
 
-/// A cell without room for a point is as before.
+/// A cell without memory for a point is as before.
 fn put(rt: &impl Print, alloc: Global) -> Result<(), AllocError> {
     let point = first_point(alloc, MIXED)?;
     let series = point.series().copy(alloc)?;
@@ -90,12 +90,12 @@ fn put(rt: &impl Print, alloc: Global) -> Result<(), AllocError> {
             || cell.accepted().len() != point.row().len()
             || !fits(cell.accepted(), point.row(), 18_446_744_073_709_551_615)
         {
-            tell(rt, "Cell::put", false);
+            print_right(rt, "Cell::put", false);
             return Ok(());
         }
         match cell.put(&point, 1) {
             Ok(()) => {
-                tell(rt, "Cell::put", cell.accepted() == point.row());
+                print_right(rt, "Cell::put", cell.accepted() == point.row());
                 return Ok(());
             }
             Err(_) => no_memory(
@@ -108,20 +108,20 @@ fn put(rt: &impl Print, alloc: Global) -> Result<(), AllocError> {
     Err(AllocError)
 }
 
-/// A cell without room for the span of a point is as before.
+/// A cell without memory for the span of a point is as before.
 fn put_span(rt: &impl Print, alloc: Global) -> Result<(), AllocError> {
     let point = first_point(alloc, MIXED)?;
     let series = point.series().copy(alloc)?;
     let mut cell = Cell::new(alloc, name_of(alloc, b"A")?, series)?;
     for _ in 0..2 {
         if !cell.id().is_same(point.series()) || cell.frontier() > point.span().start() {
-            tell(rt, "Cell::put_span", false);
+            print_right(rt, "Cell::put_span", false);
             return Ok(());
         }
         match cell.put_span(&point, 1) {
             Ok(()) => {
                 let is_there = cell.frontier() == point.span().end();
-                tell(rt, "Cell::put_span", is_there && is_zero(cell.accepted()));
+                print_right(rt, "Cell::put_span", is_there && is_zero(cell.accepted()));
                 return Ok(());
             }
             Err(_) => no_memory(rt, "Cell::put_span", cell.frontier() == 0),
@@ -130,13 +130,13 @@ fn put_span(rt: &impl Print, alloc: Global) -> Result<(), AllocError> {
     Err(AllocError)
 }
 
-/// A cell without room for more points is as before.
+/// A cell without memory for more points is as before.
 fn reserve(rt: &impl Print, alloc: Global) -> Result<(), AllocError> {
     let mut cell = Cell::new(alloc, name_of(alloc, b"A")?, own_series(alloc)?)?;
     for _ in 0..2 {
         match cell.reserve(100) {
             Ok(()) => {
-                tell(rt, "Cell::reserve", is_zero(cell.accepted()));
+                print_right(rt, "Cell::reserve", is_zero(cell.accepted()));
                 return Ok(());
             }
             Err(_) => no_memory(rt, "Cell::reserve", is_zero(cell.accepted())),

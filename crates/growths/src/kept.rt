@@ -1,10 +1,10 @@
-//! A book that is made before the calls, and whose batches, flushes and held sender end after them, by
-//! calls that take no memory.
+//! A book that is made before the calls. After them its batches and flushes end, and its
+//! quarantined sender is released, by calls that allocate nothing.
 ghost use Rattle.std.specs.Prelude.{◌≤◌};
 
 use crate::bodies::{FOURTH, MIXED, SUMS};
+use crate::lines::{print_number, print_right};
 use crate::making::{batch_of, first_point, name_of};
-use crate::telling::{tell, tell_number};
 use delta_book::book::Book;
 use metric_events::sender_name::SenderName;
 use series_cell::cell::Cell;
@@ -14,12 +14,12 @@ use std::alloc::{AllocError, Global};
 /// The seat of all events.
 const SEAT: u16 = 0;
 
-/// A book with two open batches, three live flushes of the first, and a held sender; and an identity
-/// that is shared, with one attribute of its resource.
+/// A book with two open batches, three live flushes of the first, and a quarantined sender; and a
+/// shared identity, with one attribute of its resource.
 #[derive(Drop)]
 pub struct Kept {
     book: Book,
-    held: SenderName,
+    quarantined: SenderName,
     shared: SharedId,
 }
 
@@ -52,18 +52,22 @@ pub fn prepare(alloc: Global) -> Result<Kept, AllocError> {
     if book.quarantine(SEAT, name_of(alloc, b"H")?).is_err() {
         return Err(AllocError);
     }
-    let held = name_of(alloc, b"H")?;
+    let quarantined = name_of(alloc, b"H")?;
     let shared = first_point(alloc, MIXED)?.shared_series().share()?;
-    Ok(Kept { book, held, shared })
+    Ok(Kept {
+        book,
+        quarantined,
+        shared,
+    })
 }
 
-/// How many points were acknowledged, as far as 64 bits tell it.
+/// How many points were acknowledged, at most as many as 64 bits can count.
 fn acknowledged(book: &Book) -> u64 {
     u64::try_from(book.acknowledged()).unwrap_or(u64::MAX)
 }
 
-/// Whether these cells are those of the first batch's points: the first settled, the second dropped,
-/// and the third given back.
+/// Whether these cells are those of the first batch's points: the first settled, the second
+/// dropped, and the third given back.
 fn are_ended(cells: &[Cell]) -> bool {
     match cells {
         [x, y, z] => {
@@ -83,28 +87,28 @@ fn is_copied(alloc: Global, shared: &SharedId) -> bool {
     }
 }
 
-/// Ends all that is open, tells each answer, and leaves the book.
+/// Ends all that is open, prints each answer, and returns the book.
 pub fn end(rt: &impl Print, alloc: Global, kept: Kept) -> Book {
     let Kept {
         mut book,
-        held,
+        quarantined,
         shared,
     } = kept;
-    tell(rt, "end: settle", book.settle(SEAT, 1).is_ok());
-    tell(rt, "end: drop_flush", book.drop_flush(SEAT, 2).is_ok());
-    tell(rt, "end: give_back", book.give_back(SEAT, 3).is_ok());
-    tell(rt, "end: undo", book.undo(SEAT, 2).is_ok());
-    tell(
+    print_right(rt, "end: settle", book.settle(SEAT, 1).is_ok());
+    print_right(rt, "end: drop_flush", book.drop_flush(SEAT, 2).is_ok());
+    print_right(rt, "end: give_back", book.give_back(SEAT, 3).is_ok());
+    print_right(rt, "end: undo", book.undo(SEAT, 2).is_ok());
+    print_right(
         rt,
         "end: undo of a taken batch",
         book.undo(SEAT, 1).is_err(),
     );
-    tell(rt, "end: confirm", book.confirm(SEAT, 1).is_ok());
-    tell(rt, "end: lift", book.lift(SEAT, &held).is_ok());
-    tell(rt, "end: settle again", book.settle(SEAT, 1).is_err());
-    tell_number(rt, "end: journal", book.journal().len() as u64);
-    tell_number(rt, "end: acknowledged", acknowledged(&book));
-    tell(rt, "end: cells", are_ended(book.cells()));
-    tell(rt, "end: copies of an identity", is_copied(alloc, &shared));
+    print_right(rt, "end: confirm", book.confirm(SEAT, 1).is_ok());
+    print_right(rt, "end: lift", book.lift(SEAT, &quarantined).is_ok());
+    print_right(rt, "end: settle again", book.settle(SEAT, 1).is_err());
+    print_number(rt, "end: journal", book.journal().len() as u64);
+    print_number(rt, "end: acknowledged", acknowledged(&book));
+    print_right(rt, "end: cells", are_ended(book.cells()));
+    print_right(rt, "end: copies of an identity", is_copied(alloc, &shared));
     book
 }

@@ -1,6 +1,7 @@
-//! Each call of the libraries that can find no memory, made once; where it finds none, it says so and is
-//! made again. At the end come the calls that take no memory. Each call's line is its answer, so that
-//! two runs can be compared. `tests/refused_libraries.py` refuses each growth in turn.
+//! Makes each call of the libraries that can be out of memory. Where one is, a line says so, and it
+//! is made again. At the end come the calls that allocate nothing. Each call's line is its answer,
+//! so that two runs can be compared. `tests/refused_libraries.py` makes each allocation fail in
+//! turn.
 #![tactic(auto)]
 
 ghost use Rattle.std.specs.Prelude.{◌≡◌};
@@ -10,12 +11,12 @@ mod bodies;
 mod books;
 mod handed;
 mod kept;
+mod lines;
 mod making;
 mod parts;
 mod shared_calls;
 mod shared_kept;
 mod tables;
-mod telling;
 mod twice;
 mod values;
 
@@ -26,7 +27,7 @@ use std::process::ExitCode;
 use std::sync::Wait;
 use std::sync::ledger::Blank;
 
-/// Makes a call, and makes it again where it finds no memory.
+/// Makes a call, and makes it again where it is out of memory.
 fn make(rt: &impl Print, alloc: Global, call: &str) -> Result<(), AllocError> {
     for _ in 0..2 {
         match values::answer_of(alloc, call) {
@@ -34,24 +35,24 @@ fn make(rt: &impl Print, alloc: Global, call: &str) -> Result<(), AllocError> {
                 let _ = println!(rt; "{call} {answer}");
                 return Ok(());
             }
-            Err(_) => telling::no_memory(rt, call, true),
+            Err(_) => lines::no_memory(rt, call, true),
         }
     }
     Err(AllocError)
 }
 
-/// Makes a call on a value, and makes that value again where it finds no memory.
+/// Makes a call on a value. Where there is no memory for that value, it is made again.
 fn make_handed(rt: &impl Print, alloc: Global, call: &str) -> Result<(), AllocError> {
     for _ in 0..2 {
         match handed::make(rt, alloc, call) {
             Ok(()) => return Ok(()),
-            Err(_) => telling::no_memory(rt, "the value", true),
+            Err(_) => lines::no_memory(rt, "the value", true),
         }
     }
     Err(AllocError)
 }
 
-/// All calls, as far as they find memory at the second time.
+/// All calls, up to one that is out of memory twice.
 fn make_all<R: Print + Wait>(rt: &R, alloc: Global) -> Result<(), AllocError> {
     for call in values::CALLS {
         make(rt, alloc, call)?;
@@ -63,7 +64,7 @@ fn make_all<R: Print + Wait>(rt: &R, alloc: Global) -> Result<(), AllocError> {
     shared_calls::make_all(rt, alloc)
 }
 
-/// All calls, and where they end before the last one.
+/// All calls, and a line if they end before the last one.
 pub fn make_calls<R: Print + Wait>(rt: &R, alloc: Global) {
     if make_all(rt, alloc).is_err() {
         let _ = println!(rt; "the calls end here");

@@ -47,8 +47,8 @@ pub fn text_of(alloc: Global, bytes: Vec<u8>) -> Result<String, AllocError> {
     }
 }
 
-/// Whether two values are one, told in a word.
-pub fn told(alloc: Global, same: bool) -> Result<String, AllocError> {
+/// The word `same`, or `other`.
+pub fn same_or_other(alloc: Global, same: bool) -> Result<String, AllocError> {
     String::from_str(alloc, if same { "same" } else { "other" })
 }
 

@@ -1,6 +1,6 @@
 //! Calls that copy what identities, points and flushes are made of.
 use crate::bodies::MIXED;
-use crate::making::{points_of, text, told};
+use crate::making::{points_of, same_or_other, text};
 use delta_book::totals::row_of;
 use metric_events::row::Row;
 use metric_events::series_list::SeriesList;
@@ -18,7 +18,7 @@ fn is_text(value: &Scalar, text: &str) -> bool {
 fn scalar_copy(alloc: Global) -> Result<String, AllocError> {
     let value = Scalar::Text(text(alloc, "x")?);
     let copy = value.copy(alloc)?;
-    told(alloc, is_text(&copy, "x"))
+    same_or_other(alloc, is_text(&copy, "x"))
 }
 
 fn scalars_copy(alloc: Global) -> Result<String, AllocError> {
@@ -27,8 +27,8 @@ fn scalars_copy(alloc: Global) -> Result<String, AllocError> {
     values.push(Scalar::Text(text(alloc, "y")?))?;
     let copy = Scalars::new(values).copy(alloc)?;
     match copy.as_slice() {
-        [x, y] => told(alloc, is_text(x, "x") && is_text(y, "y")),
-        _ => told(alloc, false),
+        [x, y] => same_or_other(alloc, is_text(x, "x") && is_text(y, "y")),
+        _ => same_or_other(alloc, false),
     }
 }
 
@@ -37,8 +37,8 @@ fn attribute_copy(alloc: Global) -> Result<String, AllocError> {
     let value = AttrValue::One(Scalar::Text(text(alloc, "x")?));
     let copy = Attribute { key, value }.copy(alloc)?;
     match &copy.value {
-        AttrValue::One(one) => told(alloc, copy.key.as_str() == "k" && is_text(one, "x")),
-        AttrValue::Many(_) => told(alloc, false),
+        AttrValue::One(one) => same_or_other(alloc, copy.key.as_str() == "k" && is_text(one, "x")),
+        AttrValue::Many(_) => same_or_other(alloc, false),
     }
 }
 
@@ -48,9 +48,9 @@ fn bounds_copy(alloc: Global) -> Result<String, AllocError> {
     match Kind::histogram(bounds) {
         Ok(Kind::Histogram { bounds }) => {
             let copy = bounds.copy(alloc)?;
-            told(alloc, copy.as_slice() == [0, 5, 10].as_slice())
+            same_or_other(alloc, copy.as_slice() == [0, 5, 10].as_slice())
         }
-        _ => told(alloc, false),
+        _ => same_or_other(alloc, false),
     }
 }
 
@@ -58,12 +58,12 @@ fn row_copy(alloc: Global) -> Result<String, AllocError> {
     let mut words = Vec::new(alloc);
     words.extend_from_slice(&[1, 5, 0])?;
     let copy = Row::new(words).copy(alloc)?;
-    told(alloc, copy.as_slice() == [1, 5, 0].as_slice())
+    same_or_other(alloc, copy.as_slice() == [1, 5, 0].as_slice())
 }
 
 fn row_of_words(alloc: Global) -> Result<String, AllocError> {
     let row = row_of(alloc, &[1, 0, 3])?;
-    told(alloc, row.as_slice() == [1, 0, 3].as_slice())
+    same_or_other(alloc, row.as_slice() == [1, 0, 3].as_slice())
 }
 
 fn series_list_copy(alloc: Global) -> Result<String, AllocError> {
@@ -75,9 +75,9 @@ fn series_list_copy(alloc: Global) -> Result<String, AllocError> {
     match copy.as_slice() {
         [h, m] => {
             let names = [h.as_series().name().as_str(), m.as_series().name().as_str()];
-            told(alloc, names[0] == "h" && names[1] == "m")
+            same_or_other(alloc, names[0] == "h" && names[1] == "m")
         }
-        _ => told(alloc, false),
+        _ => same_or_other(alloc, false),
     }
 }
 

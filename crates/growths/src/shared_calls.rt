@@ -1,12 +1,13 @@
-//! Calls of a book that threads share: without memory its totals are as before, and the seat was told
-//! nothing, and the same call goes through. That its journal is as before shows where its next entry
-//! stands, and at the end, where it is compared with the seats.
+//! Calls of a book that threads share: where one is out of memory, the totals are as before, the
+//! seat has no new receipt, and the same call is accepted when it is made again. The index of the
+//! next entry shows that the journal is as before, and so does its comparison with the seats at the
+//! end.
 ghost use Rattle.std.specs.Prelude.{◌≡◌, ◌≤◌, [], IfErr};
 
 use crate::bodies::MIXED;
 use crate::books;
-use crate::telling::{no_memory, tell, tell_number};
-use crate::twice::{batch_twice, copy_twice, print_text, sender_twice, tell_back};
+use crate::lines::{no_memory, print_number, print_right};
+use crate::twice::{batch_twice, compare_batch, copy_twice, print_text, sender_twice};
 use delta_book::book::Book;
 use delta_book::faults::{AdmitFault, QuarantineFault, TakeFault};
 use out_texts::report_text;
@@ -18,7 +19,8 @@ use std::marker::Brand;
 use std::sync::Wait;
 use std::sync::ledger::{Blank, Ledger};
 
-/// What is seen of a shared book from the one seat that works: how much it was told, and the report.
+/// What is seen of a shared book from the one seat that calls it: how many receipts the seat has,
+/// and the report.
 #[derive(Drop)]
 struct Seen {
     receipts: usize,
@@ -35,7 +37,7 @@ fn report_of<L: Round>(
     report_text(alloc, rows.as_slice())
 }
 
-/// What is seen, which is asked for twice where it finds no memory.
+/// What is seen. Where there is no memory for the report, it is asked for again.
 fn look_at<L: Round, R: Print + Wait>(
     rt: &R,
     alloc: Global,
@@ -52,8 +54,8 @@ fn look_at<L: Round, R: Print + Wait>(
     Err(AllocError)
 }
 
-/// Tells that a call found no memory, and whether all is as before; of the report where that finds
-/// memory.
+/// Prints that a call was out of memory, and whether all is as before. Reports are compared where
+/// there is memory for this one.
 fn refused<L: Round, R: Print + Wait>(
     rt: &R,
     alloc: Global,
@@ -62,22 +64,22 @@ fn refused<L: Round, R: Print + Wait>(
     seat: &mut Seat<L>,
     before: &Seen,
 ) {
-    let told = seat.receipts().len() == before.receipts;
+    let no_receipt = seat.receipts().len() == before.receipts;
     let same = match report_of(rt, alloc, shared, seat) {
         Ok(report) => report == before.report,
         Err(_) => true,
     };
-    no_memory(rt, call, told && same);
+    no_memory(rt, call, no_receipt && same);
 }
 
-/// Tells where a call was not told as the next entry of the journal.
-fn tell_place<L: Ledger>(rt: &impl Print, seat: &Seat<L>, before: &Seen) {
+/// Prints a line if the last receipt is not that of the next entry of the journal.
+fn compare_index<L: Ledger>(rt: &impl Print, seat: &Seat<L>, before: &Seen) {
     let at_end = match seat.receipts().last() {
         Some(receipt) => receipt.index == before.receipts as u64,
         None => false,
     };
     if !at_end {
-        tell(rt, "the place of the entry is", false);
+        print_right(rt, "the place of the entry is", false);
     }
 }
 
@@ -96,13 +98,13 @@ fn admit<L: Round, R: Print + Wait>(
         }
         match shared.admit(rt, seat, batch) {
             Ok(number) => {
-                tell_number(rt, "SharedBook::admit", number);
-                tell_place(rt, seat, &before);
+                print_number(rt, "SharedBook::admit", number);
+                compare_index(rt, seat, &before);
                 return Ok(());
             }
             Err((AdmitFault::NoMemory, back)) => {
                 refused(rt, alloc, "SharedBook::admit", shared, seat, &before);
-                tell_back(rt, &back, &copy);
+                compare_batch(rt, &back, &copy);
                 batch = back;
             }
             Err(_) => return Err(AllocError),
@@ -121,8 +123,8 @@ fn take<L: Round, R: Print + Wait>(
     for _ in 0..2 {
         match shared.take(rt, seat, 4) {
             Ok(Some(flush)) => {
-                tell_number(rt, "SharedBook::take", flush.points.len() as u64);
-                tell_place(rt, seat, &before);
+                print_number(rt, "SharedBook::take", flush.points.len() as u64);
+                compare_index(rt, seat, &before);
                 return Ok(());
             }
             Err(TakeFault::NoMemory) => {
@@ -145,8 +147,8 @@ fn quarantine<L: Round, R: Print + Wait>(
         let sender = sender_twice(rt, alloc)?;
         match shared.quarantine(rt, seat, sender) {
             Ok(()) => {
-                tell(rt, "SharedBook::quarantine", true);
-                tell_place(rt, seat, &before);
+                print_right(rt, "SharedBook::quarantine", true);
+                compare_index(rt, seat, &before);
                 return Ok(());
             }
             Err(QuarantineFault::NoMemory) => {
@@ -158,7 +160,7 @@ fn quarantine<L: Round, R: Print + Wait>(
     Err(AllocError)
 }
 
-/// Each call that takes memory, with one that takes none between them.
+/// Each call that allocates, with one that allocates nothing between them.
 fn one_round<L: Round, R: Print + Wait>(
     rt: &R,
     alloc: Global,
@@ -167,14 +169,14 @@ fn one_round<L: Round, R: Print + Wait>(
 ) -> Result<(), AllocError> {
     admit(rt, alloc, shared, seat)?;
     take(rt, alloc, shared, seat)?;
-    tell(rt, "SharedBook::settle", shared.settle(rt, seat, 1).is_ok());
+    print_right(rt, "SharedBook::settle", shared.settle(rt, seat, 1).is_ok());
     quarantine(rt, alloc, shared, seat)?;
     let now = look_at(rt, alloc, shared, seat)?;
     print_text(rt, alloc, "SharedBook::totals", now.report)
 }
 
-/// Makes the calls from the first seat, and compares all seats with the journal, also where the calls
-/// find no memory again.
+/// Makes the calls from the first seat, and compares all seats with the journal, also where a call
+/// is out of memory twice.
 fn from_seats<L: Round, R: Print + Wait>(
     rt: &R,
     alloc: Global,
@@ -189,14 +191,14 @@ fn from_seats<L: Round, R: Print + Wait>(
     seats.push(seat)?;
     seats.push(idle)?;
     match (shared.finish(seats), &calls) {
-        (Ok((_, audit)), Ok(())) => tell_number(rt, "SharedBook::finish", audit.events as u64),
+        (Ok((_, audit)), Ok(())) => print_number(rt, "SharedBook::finish", audit.events as u64),
         (Ok(_), Err(_)) => {}
-        (Err(_), _) => tell(rt, "SharedBook::finish", false),
+        (Err(_), _) => print_right(rt, "SharedBook::finish", false),
     }
     calls
 }
 
-/// Shares a book, and makes the calls; the book comes back where it finds no memory to be shared in.
+/// Shares a book, and makes the calls. Where there is no memory to share it, the book comes back.
 fn over<L: Round, R: Print + Wait>(
     rt: &R,
     alloc: Global,
@@ -212,7 +214,7 @@ fn over<L: Round, R: Print + Wait>(
 {
     match SharedBook::<L>::new(alloc, book, blank, 2) {
         Ok((shared, seats)) => {
-            tell(rt, "SharedBook::new", seats.len() == 2);
+            print_right(rt, "SharedBook::new", seats.len() == 2);
             Ok(from_seats(rt, alloc, shared, seats))
         }
         Err((_, back)) => Err(back),

@@ -1,13 +1,13 @@
-//! A shared book that is made before the calls, as the kept one, and ends beside that one, by calls that
-//! take no memory.
+//! A shared book that is made before the calls, as the kept one, and ends beside that one, by calls
+//! that allocate nothing.
 ghost use Rattle.std.specs.Prelude.{◌≡◌, ◌≤◌};
 ghost use Rattle.metric_events.specs.Opening.{first_opening};
 
 use crate::bodies::{FOURTH, SUMS};
 use crate::kept::{self, Kept};
+use crate::lines::{print_number, print_right};
 use crate::make_calls;
 use crate::making::{batch_of, name_of};
-use crate::telling::{tell, tell_number};
 use delta_book::book::Book;
 use metric_events::sender_name::SenderName;
 use shared_book::audit::{AuditFault, check};
@@ -64,28 +64,28 @@ fn fill<L: Round>(
     }
 }
 
-/// Ends all that is open, in the kept book's order, and tells each answer.
+/// Ends all that is open, in the kept book's order, and prints each answer.
 fn end_calls<L: Round, R: Print + Wait>(
     rt: &R,
     shared: &SharedBook<L>,
     seat: &mut Seat<L>,
-    held: &SenderName,
+    quarantined: &SenderName,
 ) {
     let settled = shared.settle(rt, seat, 1).is_ok();
-    tell(rt, "end: SharedBook::settle", settled);
+    print_right(rt, "end: SharedBook::settle", settled);
     let dropped = shared.drop_flush(rt, seat, 2).is_ok();
-    tell(rt, "end: SharedBook::drop_flush", dropped);
+    print_right(rt, "end: SharedBook::drop_flush", dropped);
     let back = shared.give_back(rt, seat, 3).is_ok();
-    tell(rt, "end: SharedBook::give_back", back);
+    print_right(rt, "end: SharedBook::give_back", back);
     let undone = shared.undo(rt, seat, 2).is_ok();
-    tell(rt, "end: SharedBook::undo", undone);
+    print_right(rt, "end: SharedBook::undo", undone);
     let refused = shared.undo(rt, seat, 1).is_err();
-    tell(rt, "end: SharedBook::undo of a taken batch", refused);
+    print_right(rt, "end: SharedBook::undo of a taken batch", refused);
     let confirmed = shared.confirm(rt, seat, 1).is_ok();
-    tell(rt, "end: SharedBook::confirm", confirmed);
-    let lifted = shared.lift(rt, seat, held).is_ok();
-    tell(rt, "end: SharedBook::lift", lifted);
-    tell_number(rt, "end: Seat::receipts", seat.receipts().len() as u64);
+    print_right(rt, "end: SharedBook::confirm", confirmed);
+    let released = shared.lift(rt, seat, quarantined).is_ok();
+    print_right(rt, "end: SharedBook::lift", released);
+    print_number(rt, "end: Seat::receipts", seat.receipts().len() as u64);
 }
 
 /// The end of the sharing, which is refused without the second seat.
@@ -99,7 +99,7 @@ fn finish<L: Round>(
         Err((AuditFault::SeatOut, shared, seats)) => (shared, seats),
         _ => return Err(AllocError),
     };
-    tell(
+    print_right(
         rt,
         "end: SharedBook::finish without a seat",
         seats.len() == 1,
@@ -111,7 +111,7 @@ fn finish<L: Round>(
             let right = audit.events == book.journal().len() as u128
                 && audit.admitted == 4
                 && audit.acknowledged == 1;
-            tell(rt, "end: SharedBook::finish", right);
+            print_right(rt, "end: SharedBook::finish", right);
             Ok(())
         }
         Err(_) => Err(AllocError),
@@ -126,9 +126,9 @@ fn compare<L: Round>(
     seats: Vec<Seat<L>>,
     idle: Seat<L>,
 ) {
-    tell(rt, "end: check", check(book, seats.as_slice()).is_ok());
+    print_right(rt, "end: check", check(book, seats.as_slice()).is_ok());
     if finish(rt, shared, seats, idle).is_err() {
-        tell(rt, "end: SharedBook::finish", false);
+        print_right(rt, "end: SharedBook::finish", false);
     }
 }
 
@@ -152,12 +152,12 @@ pub fn calls_beside<L: Round, R: Print + Wait>(
         return Err(AllocError);
     };
     fill(rt, alloc, &shared, &mut seat)?;
-    let held = name_of(alloc, b"H")?;
+    let quarantined = name_of(alloc, b"H")?;
     make_calls(rt, alloc);
     let book = kept::end(rt, alloc, kept);
-    end_calls(rt, &shared, &mut seat, &held);
+    end_calls(rt, &shared, &mut seat, &quarantined);
     if seats.push(seat).is_err() {
-        tell(rt, "end: the room of a seat is", false);
+        print_right(rt, "end: the room of a seat is", false);
         return Ok(());
     }
     compare(rt, &book, shared, seats, idle);

@@ -1,17 +1,18 @@
-//! Calls on what a book tells. Without memory they are made again, behind an empty text.
-use crate::telling::{no_memory, tell_number};
+//! Calls on the rows that a book returns. Where one is out of memory, it is made again, with an
+//! empty text.
+use crate::lines::{no_memory, print_number};
 use crate::twice::print_text;
 use delta_book::book::Book;
 use delta_book::totals::all_totals;
 use out_texts::{put_past, put_report};
 use std::alloc::{AllocError, Global};
 
-/// The totals of the book's cells, as if no sender were held.
+/// The totals of the book's cells, as if no sender were quarantined.
 fn totals(rt: &impl Print, alloc: Global, book: &Book) -> Result<(), AllocError> {
     for _ in 0..2 {
         match all_totals(alloc, book.cells(), &[]) {
             Ok(rows) => {
-                tell_number(rt, "all_totals", rows.len() as u64);
+                print_number(rt, "all_totals", rows.len() as u64);
                 return Ok(());
             }
             Err(_) => no_memory(rt, "all_totals", true),

@@ -1,6 +1,7 @@
-//! What calls are handed, made again where it finds no memory, and texts that are printed.
+//! What calls are passed, which is made again where there is no memory for it, and texts that are
+//! printed.
+use crate::lines::{no_memory, print_right};
 use crate::making::{batch_of, name_of, text_of};
-use crate::telling::{no_memory, tell};
 use delta_book::flush::Flush;
 use metric_events::batch::Batch;
 use metric_events::sender_name::SenderName;
@@ -29,7 +30,7 @@ pub fn copy_twice(rt: &impl Print, alloc: Global, batch: &Batch) -> Result<Batch
     Err(AllocError)
 }
 
-/// The sender that is to be held.
+/// The sender that is to be quarantined.
 pub fn sender_twice(rt: &impl Print, alloc: Global) -> Result<SenderName, AllocError> {
     for _ in 0..2 {
         match name_of(alloc, b"H") {
@@ -40,10 +41,10 @@ pub fn sender_twice(rt: &impl Print, alloc: Global) -> Result<SenderName, AllocE
     Err(AllocError)
 }
 
-/// Tells where a batch that is handed back is another one.
-pub fn tell_back(rt: &impl Print, back: &Batch, copy: &Batch) {
+/// Prints a line if a batch that is handed back is another one.
+pub fn compare_batch(rt: &impl Print, back: &Batch, copy: &Batch) {
     if !back.is_same(copy) {
-        tell(rt, "the batch that came back is", false);
+        print_right(rt, "the batch that came back is", false);
     }
 }
 

@@ -1,7 +1,9 @@
-//! Calls that make a value of what they are lent: identities, events, texts and messages. Each is made
-//! on values of its own, so that what it leaves is what it answers.
+//! Calls that make a value of what they are lent: identities, events, texts and messages. Each is
+//! made on values of its own, so that what it leaves is what it answers.
 use crate::bodies::{CHUNKED, LATER, MIXED, NO_JSON, NO_REQUEST, SUMS, WAIT};
-use crate::making::{batch_of, first_point, name_of, own_series, points_of, text, text_of, told};
+use crate::making::{
+    batch_of, first_point, name_of, own_series, points_of, same_or_other, text, text_of,
+};
 use crate::parts;
 use back_answers::Act;
 use byte_ends::Script;
@@ -56,7 +58,7 @@ pub const CALLS: [&str; 36] = [
 fn text_copy(alloc: Global) -> Result<String, AllocError> {
     let name = text(alloc, "requests")?;
     let copy = name.copy(alloc)?;
-    told(alloc, copy.as_str() == "requests")
+    same_or_other(alloc, copy.as_str() == "requests")
 }
 
 /// Two attributes, of which the second comes first.
@@ -78,73 +80,76 @@ fn set_of_pairs(alloc: Global) -> Result<String, AllocError> {
 fn value_copy(alloc: Global) -> Result<String, AllocError> {
     let value = AttrValue::One(Scalar::Text(text(alloc, "x")?));
     match value.copy(alloc)? {
-        AttrValue::One(Scalar::Text(copy)) => told(alloc, copy.as_str() == "x"),
-        _ => told(alloc, false),
+        AttrValue::One(Scalar::Text(copy)) => same_or_other(alloc, copy.as_str() == "x"),
+        _ => same_or_other(alloc, false),
     }
 }
 
 fn kind_copy(alloc: Global) -> Result<String, AllocError> {
     let point = first_point(alloc, MIXED)?;
     match point.series().kind().copy(alloc)? {
-        Kind::Histogram { bounds } => told(alloc, bounds.as_slice() == [0, 5, 10].as_slice()),
-        Kind::Sum { .. } => told(alloc, false),
+        Kind::Histogram { bounds } => same_or_other(
+            alloc,
+            bounds.as_slice() == [0, 5, 10].as_slice(),
+        ),
+        Kind::Sum { .. } => same_or_other(alloc, false),
     }
 }
 
 fn series_copy(alloc: Global) -> Result<String, AllocError> {
     let series = own_series(alloc)?;
     let copy = series.copy(alloc)?;
-    told(alloc, copy.is_same(&series))
+    same_or_other(alloc, copy.is_same(&series))
 }
 
 fn sender_new(alloc: Global) -> Result<String, AllocError> {
     let sender = name_of(alloc, b"A")?;
-    told(alloc, sender.as_bytes() == b"A".as_slice())
+    same_or_other(alloc, sender.as_bytes() == b"A".as_slice())
 }
 
 fn sender_copy(alloc: Global) -> Result<String, AllocError> {
     let sender = name_of(alloc, b"A")?;
     let copy = sender.copy(alloc)?;
-    told(alloc, copy.is_same(&sender))
+    same_or_other(alloc, copy.is_same(&sender))
 }
 
 fn sum_point(alloc: Global) -> Result<String, AllocError> {
     let point = first_point(alloc, SUMS)?;
-    told(alloc, point.row() == [1, 1, 0].as_slice())
+    same_or_other(alloc, point.row() == [1, 1, 0].as_slice())
 }
 
 fn histogram_point(alloc: Global) -> Result<String, AllocError> {
     let point = first_point(alloc, LATER)?;
-    told(alloc, point.row() == [1, 1, 0, 1, 0, 0, 0].as_slice())
+    same_or_other(alloc, point.row() == [1, 1, 0, 1, 0, 0, 0].as_slice())
 }
 
 fn point_copy(alloc: Global) -> Result<String, AllocError> {
     let point: Point = first_point(alloc, MIXED)?;
     let copy = point.copy(alloc)?;
-    told(alloc, copy.is_same(&point))
+    same_or_other(alloc, copy.is_same(&point))
 }
 
 fn merged_copy(alloc: Global) -> Result<String, AllocError> {
     let point = first_point(alloc, MIXED)?;
     let copy = point.as_merged().copy(alloc)?;
-    told(alloc, copy.is_same(point.as_merged()))
+    same_or_other(alloc, copy.is_same(point.as_merged()))
 }
 
 fn points_copy(alloc: Global) -> Result<String, AllocError> {
     let points = points_of(alloc, MIXED)?;
     let copy = points.copy(alloc)?;
-    told(alloc, copy.is_same(&points))
+    same_or_other(alloc, copy.is_same(&points))
 }
 
 fn batch_copy(alloc: Global) -> Result<String, AllocError> {
     let batch = batch_of(alloc, MIXED)?;
     let copy = batch.copy(alloc)?;
-    told(alloc, copy.is_same(&batch))
+    same_or_other(alloc, copy.is_same(&batch))
 }
 
 fn cell_new(alloc: Global) -> Result<String, AllocError> {
     let cell = Cell::new(alloc, name_of(alloc, b"A")?, own_series(alloc)?)?;
-    told(alloc, cell.accepted() == [0, 0, 0].as_slice())
+    same_or_other(alloc, cell.accepted() == [0, 0, 0].as_slice())
 }
 
 fn reading(alloc: Global, answer: Result<Reading, ReadFault>) -> Result<String, AllocError> {
@@ -166,8 +171,8 @@ fn readings(alloc: Global, body: &[u8]) -> Result<String, AllocError> {
     let plain = reading(alloc, read_request(alloc, body))?;
     let mut memo = Memo::new(alloc);
     for _ in 0..2 {
-        let told = reading(alloc, read_request_with(alloc, body, &mut memo))?;
-        if told.as_str() != plain.as_str() {
+        let with_memo = reading(alloc, read_request_with(alloc, body, &mut memo))?;
+        if with_memo.as_str() != plain.as_str() {
             return String::from_str(alloc, "another reading");
         }
     }
@@ -217,7 +222,7 @@ fn response(alloc: Global) -> Result<String, AllocError> {
     }
 }
 
-/// The request byte by byte. A decoder that found no memory says so at each later call.
+/// The request byte by byte. A decoder that was out of memory says so at each later call.
 fn decoded(alloc: Global) -> Result<String, AllocError> {
     let mut decoder = Decoder::new(alloc);
     for byte in CHUNKED {
