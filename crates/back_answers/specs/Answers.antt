@@ -1,9 +1,11 @@
 -- What an answer of the back end means, and what is done with the flush then.
-use Rattle.std.specs.Prelude.{◌≡◌, ℕ, ◌⊎◌, ◌&&◌, ◌||◌, ◌==◌, Bool, List, Option, None, nat_le, if◌then◌else◌}
+use Rattle.std.specs.Prelude.{◌≡◌, ℕ, ◌⊎◌, ◌&&◌, ◌||◌, ◌==◌, Bool, List, Option, None, nat_le}
+use Rattle.std.specs.Prelude.{if◌then◌else◌}
 use Rattle.std.specs.Int.{IsInRange}
 use Rattle.std.specs.Option.{option_and_then}
 use Rattle.back_answers.specs.declared.answer.Answer.{Answer}
-use Rattle.back_answers.specs.declared.answer.Answer.TheVariants.{Success, Retryable, Final, Unknown}
+use Rattle.back_answers.specs.declared.answer.Answer.TheVariants.{Success, Retryable, Final}
+use Rattle.back_answers.specs.declared.answer.Answer.TheVariants.{Unknown}
 use Rattle.back_answers.specs.declared.answer.Act.{Act}
 use Rattle.back_answers.specs.declared.answer.Act.TheVariants.{Settle, GiveBack, DropFlush}
 use Rattle.back_answers.specs.Delay.{delay_seconds}
@@ -37,7 +39,8 @@ is_retryable status = is_throttling status || status == 502 || status == 504
 
 -- the seconds that an answer with this status asks to wait
 abbrev pub wait_of : ℕ → Option (List ℕ) → Option ℕ
-wait_of status retry_after = if is_throttling status then option_and_then delay_seconds retry_after else None
+wait_of status retry_after =
+    if is_throttling status then option_and_then delay_seconds retry_after else None
 
 -- the meaning of an answer with this status, and with this value of `Retry-After`, if any
 unfoldable pub answer_of : ℕ → Option (List ℕ) → Answer

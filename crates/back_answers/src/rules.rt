@@ -1,7 +1,8 @@
 //! The table of answers: what a status and `Retry-After` mean, and what becomes of the flush.
 
 ghost use Rattle.std.specs.Prelude.{◌≡◌, ◌⊎◌, ◌↔◌, ℕ, Option, option_copied, IsSomeAnd};
-ghost use Rattle.back_answers.specs.Answers.{answer_of, act_of, IsSuccess, IsError, IsRetryable, IsThrottling};
+ghost use Rattle.back_answers.specs.Answers.{answer_of, act_of, IsSuccess, IsError, IsRetryable};
+ghost use Rattle.back_answers.specs.Answers.{IsThrottling};
 ghost use Rattle.back_answers.specs.Delay.{delay_seconds, IsDelayOf};
 
 use crate::answer::{Act, Answer};
@@ -28,11 +29,14 @@ pub fn classify(status: u16, retry_after: Option<&[u8]>) -> Answer
     // The same in the protocol's words: a class has these statuses and no other.
     ensures success { (result ≡ Answer.Success) ↔ IsSuccess status }
     ensures is_final { (result ≡ Answer.Final) ↔ (IsError status × ¬ (IsRetryable status)) }
-    ensures retryable { ((after : Option ℕ) × (result ≡ Answer.Retryable after)) ↔ IsRetryable status }
+    ensures retryable { ((after : Option ℕ) × (result ≡ Answer.Retryable after))
+        ↔ IsRetryable status }
     ensures unknown { (result ≡ Answer.Unknown) ↔ ¬ (IsSuccess status ⊎ IsError status) }
 
     // The seconds are those of the value, if the status may have some.
-    ensures waits { (n : ℕ) → (result ≡ Answer.Retryable (Some n)) ↔ (IsThrottling status × IsSomeAnd (option_copied retry_after.entry) (λ value. IsDelayOf value n)) }
+    ensures waits { (n : ℕ) → (result ≡ Answer.Retryable (Some n))
+        ↔ (IsThrottling status × IsSomeAnd (option_copied retry_after.entry)
+        (λ value. IsDelayOf value n)) }
 {
     match status {
         200..=299 => Answer::Success,

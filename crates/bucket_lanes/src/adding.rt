@@ -8,8 +8,11 @@ use crate::clearing::clear;
 #[inline(always)]
 fn add_block(dst: &mut [u64], src: &[u64], at: usize)
     requires room { (at + 8 ≤ length dst.old) × (at + 8 ≤ length src.now) }
-    requires fits { (k : ℕ) → k < 8 → slice_index dst.old (at + k) + slice_index src.now (at + k) < 2 ^ 64 }
-    ensures here { (k : ℕ) → k < 8 → slice_index dst.new (at + k) ≡ slice_index dst.old (at + k) + slice_index src.now (at + k) }
+    requires fits { (k : ℕ) → k < 8
+        → slice_index dst.old (at + k) + slice_index src.now (at + k) < 2 ^ 64 }
+    ensures here { (k : ℕ) → k < 8
+        → slice_index dst.new (at + k) ≡ slice_index dst.old (at + k) + slice_index src.now
+        (at + k) }
     ensures before { (k : ℕ) → k < at → slice_index dst.new k ≡ slice_index dst.old k }
     ensures after { (k : ℕ) → at + 8 ≤ k → slice_index dst.new k ≡ slice_index dst.old k }
 {
@@ -22,7 +25,8 @@ fn add_blocks(dst: &mut [u64], src: &[u64], blocks: usize)
     requires same { length dst.old ≡ length src.now }
     requires fits { Fits (2 ^ 64 - 1) dst.old src.now }
     requires room { 8 * blocks ≤ length dst.old }
-    ensures sums { (k : ℕ) → k < 8 * blocks → slice_index dst.new k ≡ slice_index dst.old k + slice_index src.now k }
+    ensures sums { (k : ℕ) → k < 8 * blocks
+        → slice_index dst.new k ≡ slice_index dst.old k + slice_index src.now k }
     ensures rest { (k : ℕ) → 8 * blocks ≤ k → slice_index dst.new k ≡ slice_index dst.old k }
 {
     for block in 0..blocks {
@@ -33,8 +37,10 @@ fn add_blocks(dst: &mut [u64], src: &[u64], blocks: usize)
 /// Adds the words from an index on.
 fn add_tail(dst: &mut [u64], src: &[u64], from: usize)
     requires same { length dst.old ≡ length src.now }
-    requires fits { (k : ℕ) → from ≤ k → k < length dst.old → slice_index dst.old k + slice_index src.now k < 2 ^ 64 }
-    ensures sums { (k : ℕ) → from ≤ k → k < length dst.old → slice_index dst.new k ≡ slice_index dst.old k + slice_index src.now k }
+    requires fits { (k : ℕ) → from ≤ k → k < length dst.old
+        → slice_index dst.old k + slice_index src.now k < 2 ^ 64 }
+    ensures sums { (k : ℕ) → from ≤ k → k < length dst.old
+        → slice_index dst.new k ≡ slice_index dst.old k + slice_index src.now k }
     ensures rest { (k : ℕ) → k < from → slice_index dst.new k ≡ slice_index dst.old k }
 {
     for k in from..dst.len() {

@@ -34,7 +34,8 @@ fn are_blocks_zero(words: &[u64], blocks: usize) -> bool
 
 /// Whether the words from an index on are 0.
 fn is_tail_zero(words: &[u64], from: usize) -> bool
-    ensures { IsTrue result ↔ ((k : ℕ) → from ≤ k → k < length words.now → slice_index words.now k ≡ 0) }
+    ensures { IsTrue result ↔ ((k : ℕ) → from ≤ k → k < length words.now
+        → slice_index words.now k ≡ 0) }
 {
     for k in from..words.len() {
         if words[k] != 0 {

@@ -8,7 +8,8 @@ use crate::blocks::{LANES, differences, every, load, none_above};
 #[inline(always)]
 fn fits_block(a: &[u64], b: &[u64], most: u64, at: usize) -> bool
     requires room { (at + 8 ≤ length a.now) × (at + 8 ≤ length b.now) }
-    ensures { IsTrue result ↔ ((k : ℕ) → k < 8 → slice_index a.now (at + k) + slice_index b.now (at + k) ≤ most) }
+    ensures { IsTrue result ↔ ((k : ℕ) → k < 8
+        → slice_index a.now (at + k) + slice_index b.now (at + k) ≤ most) }
 {
     let limit = every(most);
     let used = load(b, at);
@@ -22,7 +23,8 @@ fn fits_block(a: &[u64], b: &[u64], most: u64, at: usize) -> bool
 fn fit_blocks(a: &[u64], b: &[u64], most: u64, blocks: usize) -> bool
     requires same { length a.now ≡ length b.now }
     requires room { 8 * blocks ≤ length a.now }
-    ensures { IsTrue result ↔ ((k : ℕ) → k < 8 * blocks → slice_index a.now k + slice_index b.now k ≤ most) }
+    ensures { IsTrue result ↔ ((k : ℕ) → k < 8 * blocks
+        → slice_index a.now k + slice_index b.now k ≤ most) }
 {
     for block in 0..blocks {
         if !fits_block(a, b, most, block * LANES) {
@@ -35,7 +37,8 @@ fn fit_blocks(a: &[u64], b: &[u64], most: u64, blocks: usize) -> bool
 /// Whether no sum from an index on is greater than `most`.
 fn fits_tail(a: &[u64], b: &[u64], most: u64, from: usize) -> bool
     requires { length a.now ≡ length b.now }
-    ensures { IsTrue result ↔ ((k : ℕ) → from ≤ k → k < length a.now → slice_index a.now k + slice_index b.now k ≤ most) }
+    ensures { IsTrue result ↔ ((k : ℕ) → from ≤ k → k < length a.now
+        → slice_index a.now k + slice_index b.now k ≤ most) }
 {
     for k in from..a.len() {
         if b[k] > most || a[k] > most - b[k] {

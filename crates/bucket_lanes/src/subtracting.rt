@@ -7,8 +7,11 @@ use crate::blocks::{LANES, differences, load, store};
 #[inline(always)]
 fn sub_block(dst: &mut [u64], src: &[u64], at: usize)
     requires room { (at + 8 ≤ length dst.old) × (at + 8 ≤ length src.now) }
-    requires within { (k : ℕ) → k < 8 → slice_index src.now (at + k) ≤ slice_index dst.old (at + k) }
-    ensures here { (k : ℕ) → k < 8 → slice_index dst.new (at + k) + slice_index src.now (at + k) ≡ slice_index dst.old (at + k) }
+    requires within { (k : ℕ) → k < 8
+        → slice_index src.now (at + k) ≤ slice_index dst.old (at + k) }
+    ensures here { (k : ℕ) → k < 8
+        → slice_index dst.new (at + k) + slice_index src.now (at + k) ≡ slice_index dst.old
+        (at + k) }
     ensures before { (k : ℕ) → k < at → slice_index dst.new k ≡ slice_index dst.old k }
     ensures after { (k : ℕ) → at + 8 ≤ k → slice_index dst.new k ≡ slice_index dst.old k }
 {
@@ -21,7 +24,8 @@ fn sub_blocks(dst: &mut [u64], src: &[u64], blocks: usize)
     requires same { length dst.old ≡ length src.now }
     requires within { Covers dst.old src.now }
     requires room { 8 * blocks ≤ length dst.old }
-    ensures differences { (k : ℕ) → k < 8 * blocks → slice_index dst.new k + slice_index src.now k ≡ slice_index dst.old k }
+    ensures differences { (k : ℕ) → k < 8 * blocks
+        → slice_index dst.new k + slice_index src.now k ≡ slice_index dst.old k }
     ensures rest { (k : ℕ) → 8 * blocks ≤ k → slice_index dst.new k ≡ slice_index dst.old k }
 {
     for block in 0..blocks {
@@ -32,8 +36,10 @@ fn sub_blocks(dst: &mut [u64], src: &[u64], blocks: usize)
 /// Subtracts the words from an index on.
 fn sub_tail(dst: &mut [u64], src: &[u64], from: usize)
     requires same { length dst.old ≡ length src.now }
-    requires within { (k : ℕ) → from ≤ k → k < length dst.old → slice_index src.now k ≤ slice_index dst.old k }
-    ensures differences { (k : ℕ) → from ≤ k → k < length dst.old → slice_index dst.new k + slice_index src.now k ≡ slice_index dst.old k }
+    requires within { (k : ℕ) → from ≤ k → k < length dst.old
+        → slice_index src.now k ≤ slice_index dst.old k }
+    ensures differences { (k : ℕ) → from ≤ k → k < length dst.old
+        → slice_index dst.new k + slice_index src.now k ≡ slice_index dst.old k }
     ensures rest { (k : ℕ) → k < from → slice_index dst.new k ≡ slice_index dst.old k }
 {
     for k in from..dst.len() {

@@ -11,8 +11,10 @@ const PIECE: usize = 16_384;
 /// connection that is closed with unread bytes is reset, and its peer may lose what was sent to
 /// it.
 pub fn drain<S: Source>(source: &mut S, most: usize) -> Result<(), Failed>
-    ensures thrown { IsDrained (S.remaining source.old) (S.remaining source.new) most (IsOk result) }
-    ensures failed { S.failures source.new ≡ counted S.one_more (is_err result) (S.failures source.old) }
+    ensures thrown { IsDrained (S.remaining source.old) (S.remaining source.new) most
+        (IsOk result) }
+    ensures failed { S.failures source.new ≡ counted S.one_more (is_err result)
+        (S.failures source.old) }
 {
     let mut piece = [0; PIECE];
     let mut left = most;

@@ -56,10 +56,14 @@ impl Source for Script<'_> {
 
     fn read(&mut self, buf: &mut [u8]) -> Result<usize, Failed>
         ensures bound { IfOk result (λ n. n ≤ length buf.new) }
-        ensures bytes { Gave (⟦<Self as Source>⟧.remaining self.old) (⟦<Self as Source>⟧.remaining self.new) result buf.new }
-        ensures failed { ⟦<Self as Source>⟧.failures self.new ≡ counted next_count (is_err result) (⟦<Self as Source>⟧.failures self.old) }
+        ensures bytes { Gave (⟦<Self as Source>⟧.remaining self.old)
+            (⟦<Self as Source>⟧.remaining self.new) result buf.new }
+        ensures failed { ⟦<Self as Source>⟧.failures self.new ≡ counted next_count (is_err result)
+            (⟦<Self as Source>⟧.failures self.old) }
         ensures given { ⟦<Self as Source>⟧.given self.new ≡ result_unwrap_or result 0 }
-        ensures step { result_ok result ≡ option_map (λ most. min most (length (script_bytes self.old))) (read_limit (script_steps self.old) (length buf.old)) }
+        ensures step { result_ok result ≡ option_map (λ most. min most
+            (length (script_bytes self.old))) (read_limit (script_steps self.old)
+            (length buf.old)) }
         ensures steps { script_steps self.new ≡ drop 1 (script_steps self.old) }
     {
         self.given = 0;

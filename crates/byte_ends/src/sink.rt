@@ -1,4 +1,5 @@
-ghost use Rattle.std.specs.Prelude.{◌≡◌, ◌≢◌, ◌≤◌, ◌<◌, Option, List, ℕ, None, length, IfOk, is_err};
+ghost use Rattle.std.specs.Prelude.{◌≡◌, ◌≢◌, ◌≤◌, ◌<◌, Option, List, ℕ, None, length, IfOk};
+ghost use Rattle.std.specs.Prelude.{is_err};
 ghost use Rattle.byte_ends.specs.Ends.{Took};
 ghost use Rattle.byte_ends.specs.Counts.{counted};
 

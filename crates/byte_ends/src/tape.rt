@@ -52,9 +52,12 @@ impl Sink for Tape<'_> {
     fn write(&mut self, bytes: &[u8]) -> Result<usize, Failed>
         ensures bound { IfOk result (λ n. n ≤ length bytes.now) }
         ensures some { 0 < length bytes.now → IfOk result (λ n. 0 < n) }
-        ensures bytes { Took (⟦<Self as Sink>⟧.contents self.old) (⟦<Self as Sink>⟧.contents self.new) result bytes.now }
-        ensures failed { ⟦<Self as Sink>⟧.failures self.new ≡ counted next_count (is_err result) (⟦<Self as Sink>⟧.failures self.old) }
-        ensures step { IfOk result (λ n. write_limit (tape_steps self.old) (length bytes.now) ≡ Some n) }
+        ensures bytes { Took (⟦<Self as Sink>⟧.contents self.old)
+            (⟦<Self as Sink>⟧.contents self.new) result bytes.now }
+        ensures failed { ⟦<Self as Sink>⟧.failures self.new ≡ counted next_count (is_err result)
+            (⟦<Self as Sink>⟧.failures self.old) }
+        ensures step { IfOk result (λ n. write_limit (tape_steps self.old) (length bytes.now)
+            ≡ Some n) }
         ensures steps { tape_steps self.new ≡ drop 1 (tape_steps self.old) }
     {
         let mut most = bytes.len();

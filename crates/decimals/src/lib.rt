@@ -68,5 +68,6 @@ fn capped_value(digits: &[u8], most: u64) -> u128
 /// The law of `number_up_to`: it returns a number exactly where the digits are a numeral of that
 /// number and it is within the limit. Does nothing when it runs.
 pub fn numerals_are_read()
-    ensures { (most : ℕ) (digits : List ℕ) (n : ℕ) → (spec.number_up_to most digits ≡ Some n) ↔ spec.TellsUpTo most digits n }
+    ensures { (most : ℕ) (digits : List ℕ) (n : ℕ) → (spec.number_up_to most digits ≡ Some n)
+        ↔ spec.TellsUpTo most digits n }
 {}

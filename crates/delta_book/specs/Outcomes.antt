@@ -15,7 +15,8 @@ use Rattle.delta_book.specs.declared.faults.UndoFault.{UndoFault}
 use Rattle.delta_book.specs.declared.faults.NotOpen.{NotOpen}
 use Rattle.delta_book.specs.declared.faults.QuarantineFault.{QuarantineFault}
 use Rattle.delta_book.specs.declared.faults.NotQuarantined.{NotQuarantined}
-use Rattle.delta_book.specs.Refusals.{admit_refusal, undo_refusal, confirm_refusal, flush_refusal, quarantine_refusal, lift_refusal}
+use Rattle.delta_book.specs.Refusals.{admit_refusal, undo_refusal, confirm_refusal, flush_refusal}
+use Rattle.delta_book.specs.Refusals.{quarantine_refusal, lift_refusal}
 use Rattle.delta_book.specs.Flushes.{take_refusal}
 
 -- a call that may add an entry

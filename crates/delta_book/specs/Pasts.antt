@@ -18,6 +18,7 @@ abbrev pub HasNoPast : Opening → Identity → Type 0
 HasNoPast O x = (f : OpenedSeries → List ℕ) → past f x O.series ≡ zeros (row_length x.kind)
 
 -- two rows of a series, each with the words of earlier rounds added
-pub record AddsPast (before : List OpenedSeries) (x : Identity) (a d all_a all_d : List ℕ) : Type 0 where
+pub record AddsPast (before : List OpenedSeries) (x : Identity)
+    (a d all_a all_d : List ℕ) : Type 0 where
   pub acknowledged : all_a ≡ add_rows a (past (λ o. o.acknowledged) x before)
   pub dropped : all_d ≡ add_rows d (past (λ o. o.dropped) x before)

@@ -1,5 +1,6 @@
 -- A batch goes into the cells, point by point.
-use Rattle.std.specs.Prelude.{◌≡◌, ℕ, zero, suc, Bool, true, false, not, List, [], ◌∷◌, ◌++◌, map, if◌then◌else◌, nat_lt, Some, None}
+use Rattle.std.specs.Prelude.{◌≡◌, ℕ, zero, suc, Bool, true, false, not, List, [], ◌∷◌, ◌++◌, map}
+use Rattle.std.specs.Prelude.{if◌then◌else◌, nat_lt, Some, None}
 use Rattle.std.specs.declared.option.Option.{Option}
 use Rattle.series_id.specs.Identity.{Identity}
 use Rattle.series_id.specs.Order.{series_before}
@@ -36,7 +37,8 @@ fault_at c s i p =
 abbrev pub next_fault : List Accepted → List ℕ → ℕ → DataPoint → Option AdmitFault
 next_fault qs s i p =
     if has_other_writer qs p.series s then Some (OtherWriter i)
-    else (if nat_lt p.span.start (frontier p.series qs) then Some (OutOfOrder i (frontier p.series qs)) else None)
+    else (if nat_lt p.span.start (frontier p.series qs) then Some (OutOfOrder i
+    (frontier p.series qs)) else None)
 
 -- with the point, the sum of its series is within its limits
 abbrev pub fits_with : List Accepted → DataPoint → Bool

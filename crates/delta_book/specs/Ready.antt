@@ -12,7 +12,8 @@ use Rattle.delta_book.specs.Tables.{id_of}
 
 -- there are pending points, none in flight, and the owner is not quarantined
 abbrev pub is_ready : List (List ℕ) → CellView → Bool
-is_ready held c = nat_lt c.cut (length c.spans) && (not (nat_lt 0 c.cut) && not (is_held c.owner held))
+is_ready held c =
+    nat_lt c.cut (length c.spans) && (not (nat_lt 0 c.cut) && not (is_held c.owner held))
 
 -- the series of these cells, and the first so many
 abbrev pub ready_ids : List (List ℕ) → List CellView → List Identity

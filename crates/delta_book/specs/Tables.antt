@@ -1,5 +1,6 @@
 -- The cells of a book, one for each series that has an accepted point, in series order.
-use Rattle.std.specs.Prelude.{◌≡◌, ℕ, ◌==◌, Bool, true, List, [], ◌∷◌, ◌++◌, map, if◌then◌else◌, Some, None, zero, suc, not}
+use Rattle.std.specs.Prelude.{◌≡◌, ℕ, ◌==◌, Bool, true, List, [], ◌∷◌, ◌++◌, map, if◌then◌else◌}
+use Rattle.std.specs.Prelude.{Some, None, zero, suc, not}
 use Rattle.std.specs.declared.option.Option.{Option}
 use Rattle.std.specs.List.{list_all, list_any}
 use Rattle.series_id.specs.Identity.{Identity}
@@ -57,14 +58,16 @@ abbrev pub AreFlights : List Entry → List Open → List Flight → Type 0
 AreFlights es [] [] = Unit {0}
 AreFlights es [] (l ∷ ls) = ⊥
 AreFlights es (o ∷ os) [] = ⊥
-AreFlights es (o ∷ os) (l ∷ ls) = (o.number ≡ l.number) × (At es o.entry (Take l.number l.series)) × AreFlights es os ls
+AreFlights es (o ∷ os) (l ∷ ls) =
+    (o.number ≡ l.number) × (At es o.entry (Take l.number l.series)) × AreFlights es os ls
 
 -- what is open, likewise
 abbrev pub AreOpen : List Entry → List Open → List ℕ → Type 0
 AreOpen es [] [] = Unit {0}
 AreOpen es [] (b ∷ bs) = ⊥
 AreOpen es (o ∷ os) [] = ⊥
-AreOpen es (o ∷ os) (b ∷ bs) = (o.number ≡ b) × ((body : Batch) × At es o.entry (Admit b body)) × AreOpen es os bs
+AreOpen es (o ∷ os) (b ∷ bs) =
+    (o.number ≡ b) × ((body : Batch) × At es o.entry (Admit b body)) × AreOpen es os bs
 
 -- the position of the entry of what has this number
 abbrev pub entry_of : ℕ → List Open → Option ℕ
@@ -116,11 +119,15 @@ pub record IsTable (cs : List CellView) (qs : List Accepted) : Type 0 where
 
 -- the point is a pending point of the batch
 abbrev pub RemovesFrom : List CellView → ℕ → DataPoint → Type 0
-RemovesFrom cs b p = (s : List ℕ) × ((before : List Accepted) × ((after : List Accepted) × AreCells cs (before ++ admitted b s p ∷ after)))
+RemovesFrom cs b p =
+    (s : List ℕ) × ((before : List Accepted)
+    × ((after : List Accepted) × AreCells cs (before ++ admitted b s p ∷ after)))
 
 -- so are these points
 abbrev pub RemovesAll : List CellView → ℕ → List DataPoint → Type 0
-RemovesAll cs b ps = (s : List ℕ) × ((before : List Accepted) × ((after : List Accepted) × AreCells cs (before ++ (map (admitted b s) ps ++ after))))
+RemovesAll cs b ps =
+    (s : List ℕ) × ((before : List Accepted)
+    × ((after : List Accepted) × AreCells cs (before ++ (map (admitted b s) ps ++ after))))
 
 -- these are the batch's points; in each series they are all pending, or none is
 pub record IsEntered (qs : List Accepted) (b : ℕ) (ps : List DataPoint) : Type 0 where

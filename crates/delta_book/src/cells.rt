@@ -1,13 +1,16 @@
 //! The cells of a book, in series order.
-ghost use Rattle.std.specs.Prelude.{◌≡◌, ◌<◌, ◌∷◌, [], ℕ, List, map, length, true, false, ◌++◌, MatchOption, MatchResult, ◌≤◌, not, if◌then◌else◌};
+ghost use Rattle.std.specs.Prelude.{◌≡◌, ◌<◌, ◌∷◌, [], ℕ, List, map, length, true, false, ◌++◌};
+ghost use Rattle.std.specs.Prelude.{MatchOption, MatchResult, ◌≤◌, not, if◌then◌else◌};
 ghost use Rattle.std.specs.List.{list_any, list_all};
 ghost use Rattle.metric_events.specs.Points.{landed, is_among, is_flying, is_in_flight, admitted};
 ghost use Rattle.metric_events.specs.Series.{of_series, is_ascending};
 ghost use Rattle.metric_events.specs.Standing.{stands};
 ghost use Rattle.metric_events.specs.Legal.{are_distinct, is_batch_home};
 ghost use Rattle.metric_events.specs.declared.accepted.Accepted.{Accepted};
-ghost use Rattle.series_cell.specs.Cells.{Stands, IsOfSame, AreTogether, HasHome, is_of_batch, lifted};
-ghost use Rattle.delta_book.specs.Tables.{AreCells, IsEntered, RemovesFrom, RemovesAll, IdAt, id_of, on_series};
+ghost use Rattle.series_cell.specs.Cells.{Stands, IsOfSame, AreTogether, HasHome, is_of_batch};
+ghost use Rattle.series_cell.specs.Cells.{lifted};
+ghost use Rattle.delta_book.specs.Tables.{AreCells, IsEntered, RemovesFrom, RemovesAll, IdAt};
+ghost use Rattle.delta_book.specs.Tables.{id_of, on_series};
 ghost use Rattle.delta_book.specs.Parts.{part_of, parts_of};
 ghost use Rattle.delta_book.specs.Puts.{IsGap};
 
@@ -29,7 +32,9 @@ pub enum Part {
 
 /// The position of a series' cell, or the position where it belongs, by binary search.
 fn search_place(cells: &[Cell], series: &SeriesId) -> Result<usize, usize>
-    ensures { MatchResult result (λ i. (i < length cells.now) × IdAt cells.now i series.now) (λ i. (i ≤ length cells.now) × (is_ascending (map id_of cells.now) ≡ true → IsGap cells.now i series.now)) }
+    ensures { MatchResult result (λ i. (i < length cells.now) × IdAt cells.now i series.now)
+        (λ i. (i ≤ length cells.now)
+        × (is_ascending (map id_of cells.now) ≡ true → IsGap cells.now i series.now)) }
 {
     let mut low = 0;
     let mut high = cells.len();
@@ -50,7 +55,9 @@ fn search_place(cells: &[Cell], series: &SeriesId) -> Result<usize, usize>
 /// The position of a series' cell, or the position where it belongs. The position that the
 /// identity has noted is tried first; the one that is found is noted.
 pub fn find_place(cells: &[Cell], series: &SharedId) -> Result<usize, usize>
-    ensures { MatchResult result (λ i. (i < length cells.now) × IdAt cells.now i series.now) (λ i. (i ≤ length cells.now) × (is_ascending (map id_of cells.now) ≡ true → IsGap cells.now i series.now)) }
+    ensures { MatchResult result (λ i. (i < length cells.now) × IdAt cells.now i series.now)
+        (λ i. (i ≤ length cells.now)
+        × (is_ascending (map id_of cells.now) ≡ true → IsGap cells.now i series.now)) }
 {
     let hint = series.place();
     if hint < cells.len() && series.as_series().is_same(cells[hint].id()) {
@@ -65,7 +72,9 @@ pub fn find_place(cells: &[Cell], series: &SharedId) -> Result<usize, usize>
 
 /// The position of a series' cell.
 pub fn find_cell(cells: &[Cell], series: &SharedId) -> Option<usize>
-    ensures { MatchOption result (is_ascending (map id_of cells.now) ≡ true → is_among series.now (map id_of cells.now) ≡ false) (λ i. (i < length cells.now) × IdAt cells.now i series.now) }
+    ensures { MatchOption result (is_ascending (map id_of cells.now) ≡ true
+        → is_among series.now (map id_of cells.now) ≡ false) (λ i. (i < length cells.now)
+        × IdAt cells.now i series.now) }
 {
     match find_place(cells, series) {
         Ok(i) => Some(i),
@@ -74,7 +83,8 @@ pub fn find_cell(cells: &[Cell], series: &SharedId) -> Option<usize>
 }
 
 fn lift_one(cell: &mut Cell, flush: u64)
-    ensures stands { (qs : List Accepted) → Stands cell.old qs → list_any (stands is_flying) qs ≡ false → Stands cell.new (map (lifted flush) qs) }
+    ensures stands { (qs : List Accepted) → Stands cell.old qs
+        → list_any (stands is_flying) qs ≡ false → Stands cell.new (map (lifted flush) qs) }
     ensures same { IsOfSame cell.old cell.new }
 {
     if !cell.is_flying() {
@@ -83,7 +93,9 @@ fn lift_one(cell: &mut Cell, flush: u64)
 }
 
 fn lift_series(cells: &mut [Cell], flush: u64, series: &SharedId)
-    ensures { (qs : List Accepted) → AreCells cells.old qs → list_any (stands is_flying) (of_series series.now qs) ≡ false → AreCells cells.new (map (on_series (lifted flush) (series.now ∷ [])) qs) }
+    ensures { (qs : List Accepted) → AreCells cells.old qs
+        → list_any (stands is_flying) (of_series series.now qs) ≡ false
+        → AreCells cells.new (map (on_series (lifted flush) (series.now ∷ [])) qs) }
 {
     if let Some(i) = find_cell(cells, series) {
         lift_one(&mut cells[i], flush);
@@ -92,7 +104,9 @@ fn lift_series(cells: &mut [Cell], flush: u64, series: &SharedId)
 
 /// The pending points of these series are in flight with the flush.
 pub fn take_off(cells: &mut [Cell], flush: u64, series: &[SharedId])
-    ensures { (qs : List Accepted) → AreCells cells.old qs → are_distinct series.now ≡ true → list_all (λ x. not (list_any (stands is_flying) (of_series x qs))) series.now ≡ true → AreCells cells.new (map (on_series (lifted flush) series.now) qs) }
+    ensures { (qs : List Accepted) → AreCells cells.old qs → are_distinct series.now ≡ true
+        → list_all (λ x. not (list_any (stands is_flying) (of_series x qs))) series.now ≡ true
+        → AreCells cells.new (map (on_series (lifted flush) series.now) qs) }
 {
     for x in series {
         lift_series(cells, flush, x);
@@ -100,7 +114,9 @@ pub fn take_off(cells: &mut [Cell], flush: u64, series: &[SharedId])
 }
 
 fn land_one(cell: &mut Cell, place: Place)
-    ensures stands { (f : ℕ) (qs : List Accepted) → Stands cell.old qs → list_any (stands (is_in_flight f)) qs ≡ true → is_flying place ≡ false → Stands cell.new (map (landed f place) qs) }
+    ensures stands { (f : ℕ) (qs : List Accepted) → Stands cell.old qs
+        → list_any (stands (is_in_flight f)) qs ≡ true → is_flying place ≡ false
+        → Stands cell.new (map (landed f place) qs) }
     ensures same { IsOfSame cell.old cell.new }
 {
     match place {
@@ -112,7 +128,10 @@ fn land_one(cell: &mut Cell, place: Place)
 }
 
 fn land_series(cells: &mut [Cell], place: Place, series: &SharedId)
-    ensures { (f : ℕ) (qs : List Accepted) → AreCells cells.old qs → list_any (stands (is_in_flight f)) (of_series series.now qs) ≡ true → is_flying place ≡ false → AreCells cells.new (map (on_series (landed f place) (series.now ∷ [])) qs) }
+    ensures { (f : ℕ) (qs : List Accepted) → AreCells cells.old qs
+        → list_any (stands (is_in_flight f)) (of_series series.now qs) ≡ true
+        → is_flying place ≡ false
+        → AreCells cells.new (map (on_series (landed f place) (series.now ∷ [])) qs) }
 {
     if let Some(i) = find_cell(cells, series) {
         land_one(&mut cells[i], place);
@@ -121,7 +140,10 @@ fn land_series(cells: &mut [Cell], place: Place, series: &SharedId)
 
 /// What is in flight of these series gets this state.
 pub fn land(cells: &mut [Cell], place: Place, series: &[SharedId])
-    ensures { (f : ℕ) (qs : List Accepted) → AreCells cells.old qs → are_distinct series.now ≡ true → list_all (λ x. list_any (stands (is_in_flight f)) (of_series x qs)) series.now ≡ true → is_flying place ≡ false → AreCells cells.new (map (on_series (landed f place) series.now) qs) }
+    ensures { (f : ℕ) (qs : List Accepted) → AreCells cells.old qs → are_distinct series.now ≡ true
+        → list_all (λ x. list_any (stands (is_in_flight f)) (of_series x qs)) series.now ≡ true
+        → is_flying place ≡ false
+        → AreCells cells.new (map (on_series (landed f place) series.now) qs) }
 {
     for x in series {
         land_series(cells, place, x);
@@ -129,7 +151,10 @@ pub fn land(cells: &mut [Cell], place: Place, series: &[SharedId])
 }
 
 fn is_home_in(cells: &[Cell], series: &SharedId, number: u64) -> bool
-    ensures { (qs : List Accepted) → AreCells cells.now qs → list_any (is_of_batch number) (of_series series.now qs) ≡ true → AreTogether number (of_series series.now qs) → result ≡ is_batch_home number (of_series series.now qs) }
+    ensures { (qs : List Accepted) → AreCells cells.now qs
+        → list_any (is_of_batch number) (of_series series.now qs) ≡ true
+        → AreTogether number (of_series series.now qs)
+        → result ≡ is_batch_home number (of_series series.now qs) }
 {
     match find_cell(cells, series) {
         Some(i) => cells[i].can_remove(number),
@@ -139,7 +164,8 @@ fn is_home_in(cells: &[Cell], series: &SharedId, number: u64) -> bool
 
 /// Each point of the batch is pending.
 pub fn is_all_home(cells: &[Cell], batch: &[Point], number: u64) -> bool
-    ensures { (qs : List Accepted) → AreCells cells.now qs → IsEntered qs number batch.now → result ≡ is_batch_home number qs }
+    ensures { (qs : List Accepted) → AreCells cells.now qs → IsEntered qs number batch.now
+        → result ≡ is_batch_home number qs }
 {
     for p in batch {
         if !is_home_in(cells, p.shared_series(), number) {
@@ -152,7 +178,10 @@ pub fn is_all_home(cells: &[Cell], batch: &[Point], number: u64) -> bool
 /// Removes what a cell has of a point.
 fn remove_part(cell: &mut Cell, point: &Point, part: Part, number: u64)
     requires { HasHome cell.old number (part_of part point.now) }
-    ensures stands { (before after : List Accepted) → Stands cell.old (before ++ admitted number cell.old.owner (part_of part point.now) ∷ after) → Stands cell.new (before ++ after) }
+    ensures stands { (before after : List Accepted)
+        → Stands cell.old (before
+        ++ admitted number cell.old.owner (part_of part point.now) ∷ after)
+        → Stands cell.new (before ++ after) }
     ensures same { IsOfSame cell.old cell.new }
 {
     match part {
@@ -164,7 +193,9 @@ fn remove_part(cell: &mut Cell, point: &Point, part: Part, number: u64)
 /// Removes what there is of a point, and its cell with the cell's last point.
 fn remove_one(cells: &mut Vec<Cell>, point: &Point, part: Part, number: u64)
     requires { RemovesFrom cells.old.items number (part_of part point.now) }
-    ensures { (s : List ℕ) (before after : List Accepted) → AreCells cells.old.items (before ++ admitted number s (part_of part point.now) ∷ after) → AreCells cells.new.items (before ++ after) }
+    ensures { (s : List ℕ) (before after : List Accepted)
+        → AreCells cells.old.items (before ++ admitted number s (part_of part point.now) ∷ after)
+        → AreCells cells.new.items (before ++ after) }
 {
     if let Some(i) = find_cell(cells, point.shared_series()) {
         remove_part(&mut cells[i], point, part, number);
@@ -178,7 +209,10 @@ fn remove_one(cells: &mut Vec<Cell>, point: &Point, part: Part, number: u64)
 /// series order then go from the end, and move no other.
 pub fn remove_points(cells: &mut Vec<Cell>, batch: &[Point], part: Part, number: u64)
     requires { RemovesAll cells.old.items number (parts_of part batch.now) }
-    ensures { (s : List ℕ) (before after : List Accepted) → AreCells cells.old.items (before ++ (map (admitted number s) (parts_of part batch.now) ++ after)) → AreCells cells.new.items (before ++ after) }
+    ensures { (s : List ℕ) (before after : List Accepted)
+        → AreCells cells.old.items (before
+        ++ (map (admitted number s) (parts_of part batch.now) ++ after))
+        → AreCells cells.new.items (before ++ after) }
 {
     for k in 0..batch.len() {
         let i = batch.len() - 1 - k;
@@ -189,7 +223,9 @@ pub fn remove_points(cells: &mut Vec<Cell>, batch: &[Point], part: Part, number:
 /// Removes the points of a batch, each with its words.
 pub fn remove_batch(cells: &mut Vec<Cell>, batch: &[Point], number: u64)
     requires { RemovesAll cells.old.items number batch.now }
-    ensures { (s : List ℕ) (before after : List Accepted) → AreCells cells.old.items (before ++ (map (admitted number s) batch.now ++ after)) → AreCells cells.new.items (before ++ after) }
+    ensures { (s : List ℕ) (before after : List Accepted)
+        → AreCells cells.old.items (before ++ (map (admitted number s) batch.now ++ after))
+        → AreCells cells.new.items (before ++ after) }
 {
     remove_points(cells, batch, Part::Whole, number);
 }

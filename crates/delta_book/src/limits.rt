@@ -2,7 +2,9 @@
 //! tested before it is added to its cell's. After a failed allocation the limits are tested without
 //! putting any of the batch. That allocates nothing either: each word of a sum is added up by
 //! itself.
-ghost use Rattle.std.specs.Prelude.{◌≡◌, ℕ, ℤ, Bool, not, slice_index, ◌&&◌, ◌++◌, List, map, length, sum, nat_le, nat_lt, if◌then◌else◌, ◌+◌, ◌*◌, ◌^◌, ◌-◌, ◌<◌, ◌≤◌};
+ghost use Rattle.std.specs.Prelude.{◌≡◌, ℕ, ℤ, Bool, not, slice_index, ◌&&◌, ◌++◌, List, map};
+ghost use Rattle.std.specs.Prelude.{length, sum, nat_le, nat_lt, if◌then◌else◌, ◌+◌, ◌*◌, ◌^◌, ◌-◌};
+ghost use Rattle.std.specs.Prelude.{◌<◌, ◌≤◌};
 ghost use Rattle.std.specs.List.{All};
 ghost use Rattle.metric_events.specs.Rows as rows;
 ghost use Rattle.metric_events.specs.Rows.{add_rows};
@@ -10,7 +12,8 @@ ghost use Rattle.series_id.specs.declared.kinds.Kind.TheVariants.{Sum, Histogram
 ghost use Rattle.metric_events.specs.Points.{admitted};
 ghost use Rattle.metric_events.specs.Series.{series_count, sum_of};
 ghost use Rattle.metric_events.specs.Legal.{is_too_large};
-ghost use Rattle.metric_events.specs.declared.limits.TheConstants.{MAX_SERIES, MAX_BUCKET, MAX_COUNT};
+ghost use Rattle.metric_events.specs.declared.limits.TheConstants.{MAX_SERIES, MAX_BUCKET};
+ghost use Rattle.metric_events.specs.declared.limits.TheConstants.{MAX_COUNT};
 ghost use Rattle.metric_events.specs.declared.accepted.Accepted.{Accepted};
 ghost use Rattle.delta_book.specs.declared.faults.AdmitFault.TheVariants.{TooManySeries, TooLarge};
 ghost use Rattle.delta_book.specs.Batches.{word_in, sum_with};
@@ -52,7 +55,8 @@ fn is_sum_within(row: &[u64], more: &[u64]) -> bool
 fn is_head_within(row: &[u64], more: &[u64]) -> bool
     requires row { length row.now ≡ 3 }
     requires more { length more.now ≡ 3 }
-    ensures { (bounds : List ℤ) → result ≡ rows.are_within (rows.word_limit (Histogram bounds)) (add_rows row.now more.now) }
+    ensures { (bounds : List ℤ) → result ≡ rows.are_within (rows.word_limit (Histogram bounds))
+        (add_rows row.now more.now) }
 {
     are_within(&row[..2], &more[..2], MAX_POINTS) && are_within(&row[2..], &more[2..], MAX_SUM)
 }
@@ -72,7 +76,8 @@ fn are_counts_within(row: &[u64], more: &[u64]) -> bool
 /// The buckets of two histograms are within their limits together.
 fn are_buckets_within(row: &[u64], more: &[u64]) -> bool
     requires { length row.now ≡ length more.now }
-    ensures { result ≡ (rows.are_within (λ k. MAX_BUCKET) (add_rows row.now more.now) && nat_le (sum (add_rows row.now more.now)) MAX_COUNT) }
+    ensures { result ≡ (rows.are_within (λ k. MAX_BUCKET) (add_rows row.now more.now)
+        && nat_le (sum (add_rows row.now more.now)) MAX_COUNT) }
 {
     are_within(row, more, MAX_BUCKET) && are_counts_within(row, more)
 }
@@ -81,7 +86,8 @@ fn are_buckets_within(row: &[u64], more: &[u64]) -> bool
 fn is_histogram_within(row: &[u64], more: &[u64]) -> bool
     requires row { 3 ≤ length row.now }
     requires same { length row.now ≡ length more.now }
-    ensures { (bounds : List ℤ) → result ≡ rows.fits (Histogram bounds) (add_rows row.now more.now) }
+    ensures { (bounds : List ℤ) → result ≡ rows.fits (Histogram bounds)
+        (add_rows row.now more.now) }
 {
     is_head_within(&row[..3], &more[..3]) && are_buckets_within(&row[3..], &more[3..])
 }
@@ -100,14 +106,16 @@ pub fn is_within(kind: &Kind, row: &[u64], more: &[u64]) -> bool
 
 /// There are more series than there may be.
 pub fn has_many(cells: &[Cell]) -> bool
-    ensures { (qs : List Accepted) → AreCells cells.now qs → result ≡ nat_lt MAX_SERIES (series_count qs) }
+    ensures { (qs : List Accepted) → AreCells cells.now qs
+        → result ≡ nat_lt MAX_SERIES (series_count qs) }
 {
     cells.len() > MAX_SERIES
 }
 
 /// The first limit that is exceeded, the spans of a batch with a too large sum being in the cells.
 pub fn limit_of_large(cells: &[Cell]) -> AdmitFault
-    ensures { (qs : List Accepted) → AreCells cells.now qs → result ≡ (if nat_lt MAX_SERIES (series_count qs) then TooManySeries else TooLarge) }
+    ensures { (qs : List Accepted) → AreCells cells.now qs
+        → result ≡ (if nat_lt MAX_SERIES (series_count qs) then TooManySeries else TooLarge) }
 {
     if has_many(cells) {
         AdmitFault::TooManySeries
@@ -117,7 +125,8 @@ pub fn limit_of_large(cells: &[Cell]) -> AdmitFault
 }
 
 fn accepted_word(cells: &[Cell], series: &SharedId, k: usize) -> u128
-    ensures value { (qs : List Accepted) → AreCells cells.now qs → result ≡ slice_index (sum_of series.now qs) k }
+    ensures value { (qs : List Accepted) → AreCells cells.now qs
+        → result ≡ slice_index (sum_of series.now qs) k }
     ensures few { result < 2 ^ 64 }
 {
     match find_cell(cells, series) {
@@ -141,7 +150,8 @@ fn batch_word(batch: &[Point], series: &SharedId, k: usize) -> u128
 
 /// Word `k` of the sum of a series with the batch's points.
 fn word_total(cells: &[Cell], batch: &[Point], series: &SharedId, k: usize) -> u128
-    ensures value { (b : ℕ) (s : List ℕ) (qs : List Accepted) → AreCells cells.now qs → result ≡ slice_index (sum_with b s series.now qs batch.now) k }
+    ensures value { (b : ℕ) (s : List ℕ) (qs : List Accepted) → AreCells cells.now qs
+        → result ≡ slice_index (sum_with b s series.now qs batch.now) k }
     ensures few { result ≤ (1 + length batch.now) * 2 ^ 64 }
 {
     accepted_word(cells, series, k) + batch_word(batch, series, k)
@@ -149,14 +159,19 @@ fn word_total(cells: &[Cell], batch: &[Point], series: &SharedId, k: usize) -> u
 
 /// Word `k` of the sum is over its limit.
 fn is_word_large(cells: &[Cell], batch: &[Point], series: &SharedId, k: usize) -> bool
-    ensures { (b : ℕ) (s : List ℕ) (qs : List Accepted) → AreCells cells.now qs → result ≡ nat_lt (rows.word_limit series.now.kind k) (slice_index (sum_with b s series.now qs batch.now) k) }
+    ensures { (b : ℕ) (s : List ℕ) (qs : List Accepted) → AreCells cells.now qs
+        → result ≡ nat_lt (rows.word_limit series.now.kind k)
+        (slice_index (sum_with b s series.now qs batch.now) k) }
 {
     u128::from(word_limit(series.as_series().kind(), k)) < word_total(cells, batch, series, k)
 }
 
 /// One of the `n` words of the sum is over its limit.
 fn has_large_word(cells: &[Cell], batch: &[Point], series: &SharedId, n: usize) -> bool
-    ensures { (b : ℕ) (s : List ℕ) (qs : List Accepted) → AreCells cells.now qs → length (sum_with b s series.now qs batch.now) ≡ n → result ≡ not (rows.are_within (rows.word_limit series.now.kind) (sum_with b s series.now qs batch.now)) }
+    ensures { (b : ℕ) (s : List ℕ) (qs : List Accepted) → AreCells cells.now qs
+        → length (sum_with b s series.now qs batch.now) ≡ n
+        → result ≡ not (rows.are_within (rows.word_limit series.now.kind)
+        (sum_with b s series.now qs batch.now)) }
 {
     for k in 0..n {
         if is_word_large(cells, batch, series, k) {
@@ -169,7 +184,9 @@ fn has_large_word(cells: &[Cell], batch: &[Point], series: &SharedId, n: usize) 
 /// The buckets among the `n` words of the sum are over their limit together.
 fn has_many_counts(cells: &[Cell], batch: &[Point], series: &SharedId, n: usize) -> bool
     requires { 3 ≤ n }
-    ensures { (b : ℕ) (s : List ℕ) (qs : List Accepted) → AreCells cells.now qs → length (sum_with b s series.now qs batch.now) ≡ n → result ≡ nat_lt MAX_COUNT (sum (rows.buckets_of (sum_with b s series.now qs batch.now))) }
+    ensures { (b : ℕ) (s : List ℕ) (qs : List Accepted) → AreCells cells.now qs
+        → length (sum_with b s series.now qs batch.now) ≡ n
+        → result ≡ nat_lt MAX_COUNT (sum (rows.buckets_of (sum_with b s series.now qs batch.now))) }
 {
     let mut total = 0;
     for k in 3..n {
@@ -183,7 +200,9 @@ fn has_many_counts(cells: &[Cell], batch: &[Point], series: &SharedId, n: usize)
 
 /// The sum of a series with the batch's points is over a limit.
 fn is_series_over(cells: &[Cell], batch: &[Point], series: &SharedId) -> bool
-    ensures { (b : ℕ) (s : List ℕ) (qs : List Accepted) → AreCells cells.now qs → length (sum_with b s series.now qs batch.now) ≡ row_length series.now.kind → result ≡ not (rows.fits series.now.kind (sum_with b s series.now qs batch.now)) }
+    ensures { (b : ℕ) (s : List ℕ) (qs : List Accepted) → AreCells cells.now qs
+        → length (sum_with b s series.now qs batch.now) ≡ row_length series.now.kind
+        → result ≡ not (rows.fits series.now.kind (sum_with b s series.now qs batch.now)) }
 {
     let n = series.as_series().row_len();
     match series.as_series().kind() {
@@ -197,7 +216,8 @@ fn is_series_over(cells: &[Cell], batch: &[Point], series: &SharedId) -> bool
 fn is_large(cells: &[Cell], batch: &[Point]) -> bool
     requires accepted { AreBooked cells.now }
     requires made { All IsPoint batch.now }
-    ensures { (b : ℕ) (s : List ℕ) (qs : List Accepted) → AreAccepted qs → AreCells cells.now qs → result ≡ is_too_large (qs ++ map (admitted b s) batch.now) batch.now }
+    ensures { (b : ℕ) (s : List ℕ) (qs : List Accepted) → AreAccepted qs → AreCells cells.now qs
+        → result ≡ is_too_large (qs ++ map (admitted b s) batch.now) batch.now }
 {
     for p in batch {
         if is_series_over(cells, batch, p.shared_series()) {
@@ -212,7 +232,8 @@ pub fn slow_limit(cells: &[Cell], batch: &[Point]) -> Option<AdmitFault>
     requires few { length cells.now ≤ MAX_SERIES }
     requires accepted { AreBooked cells.now }
     requires made { All IsPoint batch.now }
-    ensures { (b : ℕ) (s : List ℕ) (qs : List Accepted) → AreAccepted qs → AreCells cells.now qs → result ≡ limit_fault (qs ++ map (admitted b s) batch.now) batch.now }
+    ensures { (b : ℕ) (s : List ℕ) (qs : List Accepted) → AreAccepted qs → AreCells cells.now qs
+        → result ≡ limit_fault (qs ++ map (admitted b s) batch.now) batch.now }
 {
     if count_series(cells, batch) > MAX_SERIES {
         return Some(AdmitFault::TooManySeries);

@@ -1,5 +1,6 @@
 //! Makes the opening of the next round from what this round leaves.
-ghost use Rattle.std.specs.Prelude.{◌≡◌, ◌≤◌, ◌<◌, ◌^◌, ℕ, List, length, map, nat_le, true, IfOk, MatchOption};
+ghost use Rattle.std.specs.Prelude.{◌≡◌, ◌≤◌, ◌<◌, ◌^◌, ℕ, List, length, map, nat_le, true, IfOk};
+ghost use Rattle.std.specs.Prelude.{MatchOption};
 ghost use Rattle.std.specs.List.{list_all};
 ghost use Rattle.series_id.specs.Identity.{row_length};
 ghost use Rattle.metric_events.specs.History.{History, opening, admits, takes};
@@ -60,7 +61,8 @@ fn widen(alloc: Global, row: &[u64]) -> Result<WideRow, AllocError>
 /// What the opening has of a series, by binary search. `None` of one that is new in this round.
 fn find_past<'a>(before: &'a Opening, series: &SeriesId) -> Option<&'a OpenedSeries>
     requires { IsOpening before.now }
-    ensures { MatchOption result (HasNoPast before.now series.now) (λ s. HasPast before.now series.now s.now) }
+    ensures { MatchOption result (HasNoPast before.now series.now)
+        (λ s. HasPast before.now series.now s.now) }
 {
     let opened = before.series.as_slice();
     let mut low = 0;
@@ -93,7 +95,8 @@ fn with_past(
     requires few { before.now.round ≤ LAST_ROUND }
     requires acknowledged { length acknowledged.now ≡ row_length series.now.kind }
     requires dropped { length dropped.now ≡ row_length series.now.kind }
-    ensures { IfOk result (λ w. AddsPast before.now.series series.now acknowledged.now dropped.now w.0 w.1) }
+    ensures { IfOk result (λ w. AddsPast before.now.series series.now acknowledged.now dropped.now
+        w.0 w.1) }
 {
     match find_past(before, series) {
         Some(past) => {
@@ -114,7 +117,9 @@ fn hand_on(alloc: Global, cell: &Cell, before: &Opening) -> Result<OpenedSeries,
     requires booked { IsBookedCell cell.now }
     requires opened { IsOpening before.now }
     requires few { before.now.round ≤ LAST_ROUND }
-    ensures { (held : List (List ℕ)) (qs : List Accepted) → Stands cell.now (of_series cell.now.id qs) → HasPoint cell.now.id qs → IfOk result (λ s. s ≡ handed_on before.now.series (series_standing qs held cell.now.id)) }
+    ensures { (held : List (List ℕ)) (qs : List Accepted)
+        → Stands cell.now (of_series cell.now.id qs) → HasPoint cell.now.id qs
+        → IfOk result (λ s. s ≡ handed_on before.now.series (series_standing qs held cell.now.id)) }
 {
     let home = row_of(alloc, cell.stored())?;
     let (acknowledged, dropped) = with_past(
@@ -145,7 +150,9 @@ fn hand_on_all(
     requires booked { AreBooked cells.now }
     requires opened { IsOpening before.now }
     requires few { before.now.round ≤ LAST_ROUND }
-    ensures { (held : List (List ℕ)) (qs : List Accepted) → AreCells cells.now qs → IfOk result (λ v. v.items ≡ map (λ x. handed_on before.now.series (series_standing qs held x)) (series_in_order qs)) }
+    ensures { (held : List (List ℕ)) (qs : List Accepted) → AreCells cells.now qs
+        → IfOk result (λ v. v.items ≡ map (λ x. handed_on before.now.series
+        (series_standing qs held x)) (series_in_order qs)) }
 {
     let mut all = Vec::new(alloc);
     for cell in cells {
@@ -177,7 +184,9 @@ pub fn next_opening(
     requires booked { AreBooked cells.now }
     requires opened { IsOpening before.now }
     requires few { before.now.round < LAST_ROUND }
-    ensures { (E : History) → AreCells cells.now (points E) → held.now ≡ held_senders E → before.now ≡ opening E → batches ≡ admits E → flushes ≡ takes E → IfOk result (λ o. o ≡ close E) }
+    ensures { (E : History) → AreCells cells.now (points E) → held.now ≡ held_senders E
+        → before.now ≡ opening E → batches ≡ admits E → flushes ≡ takes E
+        → IfOk result (λ o. o ≡ close E) }
 {
     let series = hand_on_all(alloc, cells, before)?;
     let held = copy_names(alloc, held)?;

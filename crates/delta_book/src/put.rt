@@ -4,7 +4,8 @@
 //! are removed, which allocates nothing. So a batch needs no search among its own points. Where a
 //! sum gets over its limits, a second pass puts the spans alone, to find which refusal comes first;
 //! then they are removed too.
-ghost use Rattle.std.specs.Prelude.{◌≡◌, ℕ, ◌<◌, ◌≤◌, ◌++◌, ◌∷◌, [], List, length, map, true, false, OnOk, OnErr, IfOk, IfErr, None, unwrap_or};
+ghost use Rattle.std.specs.Prelude.{◌≡◌, ℕ, ◌<◌, ◌≤◌, ◌++◌, ◌∷◌, [], List, length, map, true};
+ghost use Rattle.std.specs.Prelude.{false, OnOk, OnErr, IfOk, IfErr, None, unwrap_or};
 ghost use Rattle.series_id.specs.Identity.{row_length};
 ghost use Rattle.metric_events.specs.Points.{admitted};
 ghost use Rattle.metric_events.specs.Rows as rows;
@@ -16,7 +17,8 @@ ghost use Rattle.series_cell.specs.Cells.{Stands, IsOfSame, end_of};
 ghost use Rattle.delta_book.specs.Refusals.{point_fault, batch_fault};
 ghost use Rattle.delta_book.specs.Tables.{AreCells, AreSome, IdAt, id_of, AreBooked};
 ghost use Rattle.delta_book.specs.Parts.{part_of, parts_of};
-ghost use Rattle.delta_book.specs.Puts.{IsGap, Stops, StopsAt, StopsPart, fault_at, fits_with, next_fault};
+ghost use Rattle.delta_book.specs.Puts.{IsGap, Stops, StopsAt, StopsPart, fault_at, fits_with};
+ghost use Rattle.delta_book.specs.Puts.{next_fault};
 ghost use Rattle.std.specs.List.{All};
 ghost use Rattle.metric_events.specs.DataPoint.{IsPoint};
 ghost use Rattle.metric_events.specs.declared.limits.TheConstants.{MAX_SERIES};
@@ -48,11 +50,14 @@ fn put_whole(cell: &mut Cell, point: &Point, number: u64) -> Result<(), Stop>
     requires series { point.now.series ≡ cell.old.id }
     requires order { end_of cell.old ≤ point.now.span.start }
     requires long { length cell.old.accepted ≡ row_length cell.old.id.kind }
-    ensures put { OnOk result ((qs : List Accepted) → Stands cell.old qs → Stands cell.new (qs ++ admitted number cell.old.owner point.now ∷ [])) }
-    ensures within { OnOk result (rows.fits point.now.series.kind (add_rows cell.old.accepted point.now.row) ≡ true) }
+    ensures put { OnOk result ((qs : List Accepted) → Stands cell.old qs
+        → Stands cell.new (qs ++ admitted number cell.old.owner point.now ∷ [])) }
+    ensures within { OnOk result (rows.fits point.now.series.kind
+        (add_rows cell.old.accepted point.now.row) ≡ true) }
     ensures kept { OnErr result ((qs : List Accepted) → Stands cell.old qs → Stands cell.new qs) }
     ensures same { IsOfSame cell.old cell.new }
-    ensures stop { IfErr result (λ e. StopsPart e Part.Whole (rows.fits point.now.series.kind (add_rows cell.old.accepted point.now.row))) }
+    ensures stop { IfErr result (λ e. StopsPart e Part.Whole
+        (rows.fits point.now.series.kind (add_rows cell.old.accepted point.now.row))) }
 {
     if !is_within(point.series().kind(), cell.accepted(), point.row()) {
         return Err(Stop::TooLarge);
@@ -67,7 +72,9 @@ fn put_whole(cell: &mut Cell, point: &Point, number: u64) -> Result<(), Stop>
 fn put_span(cell: &mut Cell, point: &Point, number: u64) -> Result<(), Stop>
     requires series { point.now.series ≡ cell.old.id }
     requires order { end_of cell.old ≤ point.now.span.start }
-    ensures put { OnOk result ((qs : List Accepted) → Stands cell.old qs → Stands cell.new (qs ++ admitted number cell.old.owner (part_of Part.Span point.now) ∷ [])) }
+    ensures put { OnOk result ((qs : List Accepted) → Stands cell.old qs
+        → Stands cell.new (qs ++ admitted number cell.old.owner
+        (part_of Part.Span point.now) ∷ [])) }
     ensures kept { OnErr result ((qs : List Accepted) → Stands cell.old qs → Stands cell.new qs) }
     ensures same { IsOfSame cell.old cell.new }
     ensures stop { IfErr result (λ e. e ≡ Stop.NoMemory) }
@@ -83,11 +90,14 @@ fn put_part(cell: &mut Cell, point: &Point, part: Part, number: u64) -> Result<(
     requires series { point.now.series ≡ cell.old.id }
     requires order { end_of cell.old ≤ point.now.span.start }
     requires long { length cell.old.accepted ≡ row_length cell.old.id.kind }
-    ensures put { OnOk result ((qs : List Accepted) → Stands cell.old qs → Stands cell.new (qs ++ admitted number cell.old.owner (part_of part point.now) ∷ [])) }
-    ensures within { OnOk result (part ≡ Part.Whole → rows.fits point.now.series.kind (add_rows cell.old.accepted point.now.row) ≡ true) }
+    ensures put { OnOk result ((qs : List Accepted) → Stands cell.old qs
+        → Stands cell.new (qs ++ admitted number cell.old.owner (part_of part point.now) ∷ [])) }
+    ensures within { OnOk result (part ≡ Part.Whole
+        → rows.fits point.now.series.kind (add_rows cell.old.accepted point.now.row) ≡ true) }
     ensures kept { OnErr result ((qs : List Accepted) → Stands cell.old qs → Stands cell.new qs) }
     ensures same { IsOfSame cell.old cell.new }
-    ensures stop { IfErr result (λ e. StopsPart e part (rows.fits point.now.series.kind (add_rows cell.old.accepted point.now.row))) }
+    ensures stop { IfErr result (λ e. StopsPart e part (rows.fits point.now.series.kind
+        (add_rows cell.old.accepted point.now.row))) }
 {
     match part {
         Part::Whole => put_whole(cell, point, number),
@@ -122,11 +132,16 @@ fn put_at(
     requires inside { i < length cells.old }
     requires there { IdAt cells.old i point.now.series }
     requires some { AreSome cells.old }
-    ensures put { OnOk result ((qs : List Accepted) → AreCells cells.old qs → AreCells cells.new (qs ++ admitted number sender.now (part_of part point.now) ∷ [])) }
-    ensures within { OnOk result (part ≡ Part.Whole → (qs : List Accepted) → AreCells cells.old qs → fits_with qs point.now ≡ true) }
-    ensures kept { OnErr result ((qs : List Accepted) → AreCells cells.old qs → AreCells cells.new qs) }
-    ensures next { OnOk result ((qs : List Accepted) → AreCells cells.old qs → next_fault qs sender.now place point.now ≡ None) }
-    ensures stop { IfErr result (λ e. (qs : List Accepted) → AreCells cells.old qs → StopsAt e part qs sender.now place point.now) }
+    ensures put { OnOk result ((qs : List Accepted) → AreCells cells.old qs
+        → AreCells cells.new (qs ++ admitted number sender.now (part_of part point.now) ∷ [])) }
+    ensures within { OnOk result (part ≡ Part.Whole → (qs : List Accepted) → AreCells cells.old qs
+        → fits_with qs point.now ≡ true) }
+    ensures kept { OnErr result ((qs : List Accepted) → AreCells cells.old qs
+        → AreCells cells.new qs) }
+    ensures next { OnOk result ((qs : List Accepted) → AreCells cells.old qs
+        → next_fault qs sender.now place point.now ≡ None) }
+    ensures stop { IfErr result (λ e. (qs : List Accepted) → AreCells cells.old qs
+        → StopsAt e part qs sender.now place point.now) }
 {
     if let Some(fault) = find_at(&cells[i], sender, point, place) {
         return Err(Stop::Fault(fault));
@@ -154,12 +169,19 @@ fn open_at(
     number: u64,
 ) -> Result<(), Stop>
     requires inside { i ≤ length cells.old.items }
-    requires gap { is_ascending (map id_of cells.old.items) ≡ true → IsGap cells.old.items i point.now.series }
-    ensures put { OnOk result ((qs : List Accepted) → AreCells cells.old.items qs → AreCells cells.new.items (qs ++ admitted number sender.now (part_of part point.now) ∷ [])) }
-    ensures within { OnOk result (part ≡ Part.Whole → (qs : List Accepted) → AreCells cells.old.items qs → fits_with qs point.now ≡ true) }
-    ensures kept { OnErr result ((qs : List Accepted) → AreCells cells.old.items qs → AreCells cells.new.items qs) }
-    ensures next { OnOk result ((place : ℕ) (qs : List Accepted) → AreCells cells.old.items qs → next_fault qs sender.now place point.now ≡ None) }
-    ensures stop { IfErr result (λ e. (place : ℕ) (qs : List Accepted) → AreCells cells.old.items qs → StopsAt e part qs sender.now place point.now) }
+    requires gap { is_ascending (map id_of cells.old.items) ≡ true
+        → IsGap cells.old.items i point.now.series }
+    ensures put { OnOk result ((qs : List Accepted) → AreCells cells.old.items qs
+        → AreCells cells.new.items (qs
+        ++ admitted number sender.now (part_of part point.now) ∷ [])) }
+    ensures within { OnOk result (part ≡ Part.Whole → (qs : List Accepted)
+        → AreCells cells.old.items qs → fits_with qs point.now ≡ true) }
+    ensures kept { OnErr result ((qs : List Accepted) → AreCells cells.old.items qs
+        → AreCells cells.new.items qs) }
+    ensures next { OnOk result ((place : ℕ) (qs : List Accepted) → AreCells cells.old.items qs
+        → next_fault qs sender.now place point.now ≡ None) }
+    ensures stop { IfErr result (λ e. (place : ℕ) (qs : List Accepted) → AreCells cells.old.items qs
+        → StopsAt e part qs sender.now place point.now) }
 {
     let Ok(mut cell) = new_cell(alloc, sender, point) else {
         return Err(Stop::NoMemory);
@@ -184,11 +206,17 @@ fn put_next(
     number: u64,
 ) -> Result<(), Stop>
     requires { AreSome cells.old.items }
-    ensures put { OnOk result ((qs : List Accepted) → AreCells cells.old.items qs → AreCells cells.new.items (qs ++ admitted number sender.now (part_of part point.now) ∷ [])) }
-    ensures within { OnOk result (part ≡ Part.Whole → (qs : List Accepted) → AreCells cells.old.items qs → fits_with qs point.now ≡ true) }
-    ensures kept { OnErr result ((qs : List Accepted) → AreCells cells.old.items qs → AreCells cells.new.items qs) }
-    ensures next { OnOk result ((qs : List Accepted) → AreCells cells.old.items qs → next_fault qs sender.now place point.now ≡ None) }
-    ensures stop { IfErr result (λ e. (qs : List Accepted) → AreCells cells.old.items qs → StopsAt e part qs sender.now place point.now) }
+    ensures put { OnOk result ((qs : List Accepted) → AreCells cells.old.items qs
+        → AreCells cells.new.items (qs
+        ++ admitted number sender.now (part_of part point.now) ∷ [])) }
+    ensures within { OnOk result (part ≡ Part.Whole → (qs : List Accepted)
+        → AreCells cells.old.items qs → fits_with qs point.now ≡ true) }
+    ensures kept { OnErr result ((qs : List Accepted) → AreCells cells.old.items qs
+        → AreCells cells.new.items qs) }
+    ensures next { OnOk result ((qs : List Accepted) → AreCells cells.old.items qs
+        → next_fault qs sender.now place point.now ≡ None) }
+    ensures stop { IfErr result (λ e. (qs : List Accepted) → AreCells cells.old.items qs
+        → StopsAt e part qs sender.now place point.now) }
 {
     match find_place(cells, point.shared_series()) {
         Ok(i) => put_at(cells, i, sender, point, place, part, number),
@@ -207,11 +235,18 @@ fn put_points(
     number: u64,
 ) -> Result<(), Stop>
     requires { AreSome cells.old.items }
-    ensures put { OnOk result ((qs : List Accepted) → AreCells cells.old.items qs → AreCells cells.new.items (qs ++ map (admitted number sender.now) (parts_of part batch.now))) }
-    ensures none { OnOk result ((qs : List Accepted) → AreCells cells.old.items qs → point_fault qs sender.now 0 batch.now ≡ None) }
-    ensures within { OnOk result (part ≡ Part.Whole → (qs : List Accepted) → AreCells cells.old.items qs → is_too_large (qs ++ map (admitted number sender.now) batch.now) batch.now ≡ false) }
-    ensures kept { OnErr result ((qs : List Accepted) → AreCells cells.old.items qs → AreCells cells.new.items qs) }
-    ensures stop { IfErr result (λ e. (qs : List Accepted) → AreCells cells.old.items qs → Stops e qs sender.now batch.now) }
+    ensures put { OnOk result ((qs : List Accepted) → AreCells cells.old.items qs
+        → AreCells cells.new.items (qs
+        ++ map (admitted number sender.now) (parts_of part batch.now))) }
+    ensures none { OnOk result ((qs : List Accepted) → AreCells cells.old.items qs
+        → point_fault qs sender.now 0 batch.now ≡ None) }
+    ensures within { OnOk result (part ≡ Part.Whole → (qs : List Accepted)
+        → AreCells cells.old.items qs
+        → is_too_large (qs ++ map (admitted number sender.now) batch.now) batch.now ≡ false) }
+    ensures kept { OnErr result ((qs : List Accepted) → AreCells cells.old.items qs
+        → AreCells cells.new.items qs) }
+    ensures stop { IfErr result (λ e. (qs : List Accepted) → AreCells cells.old.items qs
+        → Stops e qs sender.now batch.now) }
 {
     for (i, point) in batch.iter().enumerate() {
         if let Err(stop) = put_next(alloc, cells, sender, point, i, part, number) {
@@ -232,8 +267,10 @@ fn stop_of_large(
     number: u64,
 ) -> Stop
     requires { AreSome cells.old.items }
-    ensures kept { (qs : List Accepted) → AreCells cells.old.items qs → AreCells cells.new.items qs }
-    ensures stop { (qs : List Accepted) → AreCells cells.old.items qs → Stops Stop.TooLarge qs sender.now batch.now → Stops result qs sender.now batch.now }
+    ensures kept { (qs : List Accepted) → AreCells cells.old.items qs
+        → AreCells cells.new.items qs }
+    ensures stop { (qs : List Accepted) → AreCells cells.old.items qs
+        → Stops Stop.TooLarge qs sender.now batch.now → Stops result qs sender.now batch.now }
 {
     if let Err(stop) = put_points(alloc, cells, sender, batch, Part::Span, number) {
         return stop;
@@ -253,8 +290,10 @@ fn first_stop(
     stop: Stop,
 ) -> Stop
     requires { AreSome cells.old.items }
-    ensures kept { (qs : List Accepted) → AreCells cells.old.items qs → AreCells cells.new.items qs }
-    ensures stop { (qs : List Accepted) → AreCells cells.old.items qs → Stops stop qs sender.now batch.now → Stops result qs sender.now batch.now }
+    ensures kept { (qs : List Accepted) → AreCells cells.old.items qs
+        → AreCells cells.new.items qs }
+    ensures stop { (qs : List Accepted) → AreCells cells.old.items qs
+        → Stops stop qs sender.now batch.now → Stops result qs sender.now batch.now }
 {
     match stop {
         Stop::TooLarge => stop_of_large(alloc, cells, sender, batch, number),
@@ -271,10 +310,14 @@ fn put_all(
     number: u64,
 ) -> Result<(), Stop>
     requires { AreSome cells.old.items }
-    ensures put { OnOk result ((qs : List Accepted) → AreCells cells.old.items qs → AreCells cells.new.items (qs ++ map (admitted number sender.now) batch.now)) }
-    ensures none { OnOk result ((qs : List Accepted) → AreCells cells.old.items qs → batch_fault qs sender.now batch.now ≡ None) }
-    ensures kept { OnErr result ((qs : List Accepted) → AreCells cells.old.items qs → AreCells cells.new.items qs) }
-    ensures stop { IfErr result (λ e. (qs : List Accepted) → AreCells cells.old.items qs → Stops e qs sender.now batch.now) }
+    ensures put { OnOk result ((qs : List Accepted) → AreCells cells.old.items qs
+        → AreCells cells.new.items (qs ++ map (admitted number sender.now) batch.now)) }
+    ensures none { OnOk result ((qs : List Accepted) → AreCells cells.old.items qs
+        → batch_fault qs sender.now batch.now ≡ None) }
+    ensures kept { OnErr result ((qs : List Accepted) → AreCells cells.old.items qs
+        → AreCells cells.new.items qs) }
+    ensures stop { IfErr result (λ e. (qs : List Accepted) → AreCells cells.old.items qs
+        → Stops e qs sender.now batch.now) }
 {
     if let Err(stop) = put_points(alloc, cells, sender, batch, Part::Whole, number) {
         return Err(first_stop(alloc, cells, sender, batch, number, stop));
@@ -291,7 +334,8 @@ fn slow_refusal(cells: &[Cell], sender: &SenderName, batch: &[Point]) -> Option<
     requires few { length cells.now ≤ MAX_SERIES }
     requires accepted { AreBooked cells.now }
     requires made { All IsPoint batch.now }
-    ensures { (qs : List Accepted) → AreAccepted qs → AreCells cells.now qs → result ≡ batch_fault qs sender.now batch.now }
+    ensures { (qs : List Accepted) → AreAccepted qs → AreCells cells.now qs
+        → result ≡ batch_fault qs sender.now batch.now }
 {
     match slow_fault(cells, sender, batch) {
         Some(fault) => Some(fault),
@@ -304,7 +348,9 @@ fn refusal(cells: &[Cell], sender: &SenderName, batch: &[Point], stop: Stop) -> 
     requires few { length cells.now ≤ MAX_SERIES }
     requires accepted { AreBooked cells.now }
     requires made { All IsPoint batch.now }
-    ensures { (qs : List Accepted) → AreAccepted qs → AreCells cells.now qs → Stops stop qs sender.now batch.now → result ≡ unwrap_or (batch_fault qs sender.now batch.now) NoMemory }
+    ensures { (qs : List Accepted) → AreAccepted qs → AreCells cells.now qs
+        → Stops stop qs sender.now batch.now
+        → result ≡ unwrap_or (batch_fault qs sender.now batch.now) NoMemory }
 {
     match stop {
         Stop::Fault(fault) => fault,
@@ -325,10 +371,15 @@ pub fn put_batch(
 ) -> Result<(), AdmitFault>
     requires accepted { AreBooked cells.old.items }
     requires made { All IsPoint batch.now }
-    ensures put { OnOk result ((qs : List Accepted) → AreCells cells.old.items qs → AreCells cells.new.items (qs ++ map (admitted number sender.now) batch.now)) }
-    ensures none { OnOk result ((qs : List Accepted) → AreCells cells.old.items qs → batch_fault qs sender.now batch.now ≡ None) }
-    ensures kept { OnErr result ((qs : List Accepted) → AreCells cells.old.items qs → AreCells cells.new.items qs) }
-    ensures fault { IfErr result (λ e. (qs : List Accepted) → AreAccepted qs → AreCells cells.old.items qs → e ≡ unwrap_or (batch_fault qs sender.now batch.now) NoMemory) }
+    ensures put { OnOk result ((qs : List Accepted) → AreCells cells.old.items qs
+        → AreCells cells.new.items (qs ++ map (admitted number sender.now) batch.now)) }
+    ensures none { OnOk result ((qs : List Accepted) → AreCells cells.old.items qs
+        → batch_fault qs sender.now batch.now ≡ None) }
+    ensures kept { OnErr result ((qs : List Accepted) → AreCells cells.old.items qs
+        → AreCells cells.new.items qs) }
+    ensures fault { IfErr result (λ e. (qs : List Accepted) → AreAccepted qs
+        → AreCells cells.old.items qs
+        → e ≡ unwrap_or (batch_fault qs sender.now batch.now) NoMemory) }
 {
     match put_all(alloc, cells, sender, batch, number) {
         Ok(()) => Ok(()),

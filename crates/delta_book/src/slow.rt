@@ -1,7 +1,8 @@
 //! Finds what refuses a batch, its points one after another and the count of series, without
 //! putting any of it. This allocates nothing. The time grows with the square of the batch, so only
 //! a batch for which an allocation failed is examined in this way.
-ghost use Rattle.std.specs.Prelude.{ℕ, ◌||◌, if◌then◌else◌, ◌≡◌, ◌++◌, ◌≤◌, ◌<◌, List, length, map, true};
+ghost use Rattle.std.specs.Prelude.{ℕ, ◌||◌, if◌then◌else◌, ◌≡◌, ◌++◌, ◌≤◌, ◌<◌, List, length, map};
+ghost use Rattle.std.specs.Prelude.{true};
 ghost use Rattle.std.specs.List.{list_any};
 ghost use Rattle.metric_events.specs.Points.{admitted, is_among};
 ghost use Rattle.metric_events.specs.Series.{frontier, series_count, is_ascending};
@@ -20,7 +21,8 @@ use series_cell::cell::Cell;
 use series_id::SharedId;
 
 fn is_taken(cells: &[Cell], series: &SharedId, sender: &SenderName) -> bool
-    ensures { (qs : List Accepted) → AreCells cells.now qs → result ≡ has_other_writer qs series.now sender.now }
+    ensures { (qs : List Accepted) → AreCells cells.now qs
+        → result ≡ has_other_writer qs series.now sender.now }
 {
     match find_cell(cells, series) {
         Some(i) => !cells[i].owner().is_same(sender),
@@ -52,7 +54,8 @@ fn end_in(points: &[Point], series: &SharedId) -> u64
 
 /// The refusal of the first point that may not follow those before it.
 pub fn slow_fault(cells: &[Cell], sender: &SenderName, batch: &[Point]) -> Option<AdmitFault>
-    ensures { (qs : List Accepted) → AreCells cells.now qs → result ≡ point_fault qs sender.now 0 batch.now }
+    ensures { (qs : List Accepted) → AreCells cells.now qs
+        → result ≡ point_fault qs sender.now 0 batch.now }
 {
     for (i, p) in batch.iter().enumerate() {
         let series = p.shared_series();
@@ -74,7 +77,9 @@ fn is_listed_in(points: &[Point], series: &SharedId) -> bool
 }
 
 fn is_known(cells: &[Cell], before: &[Point], series: &SharedId) -> bool
-    ensures { is_ascending (map id_of cells.now) ≡ true → result ≡ (is_among series.now (map id_of cells.now) || list_any (is_point_of series.now) before.now) }
+    ensures { is_ascending (map id_of cells.now) ≡ true
+        → result ≡ (is_among series.now (map id_of cells.now)
+        || list_any (is_point_of series.now) before.now) }
 {
     match find_cell(cells, series) {
         Some(_) => true,
@@ -91,7 +96,8 @@ fn one_unless(known: bool) -> usize
 /// How many series there are, the batch's included.
 pub fn count_series(cells: &[Cell], batch: &[Point]) -> usize
     requires { length cells.now ≤ MAX_SERIES }
-    ensures { (b : ℕ) (s : List ℕ) (qs : List Accepted) → AreCells cells.now qs → result ≡ series_count (qs ++ map (admitted b s) batch.now) }
+    ensures { (b : ℕ) (s : List ℕ) (qs : List Accepted) → AreCells cells.now qs
+        → result ≡ series_count (qs ++ map (admitted b s) batch.now) }
 {
     let mut n = cells.len();
     for (j, p) in batch.iter().enumerate() {

@@ -1,5 +1,8 @@
--- What a request asks for: its path decides first, then its method, the sender, the content type and the coding, the body.
-use Rattle.std.specs.Prelude.{ℕ, Bool, false, not, ◌&&◌, ◌||◌, ◌==◌, List, [], ◌∷◌, codes, length, take, drop, position, if◌then◌else◌, Option, Some, None, Result, Ok, Err}
+-- What a request asks for: its path decides first, then its method, the sender, the content type
+-- and the coding, the body.
+use Rattle.std.specs.Prelude.{ℕ, Bool, false, not, ◌&&◌, ◌||◌, ◌==◌, List, [], ◌∷◌, codes, length}
+use Rattle.std.specs.Prelude.{take, drop, position, if◌then◌else◌, Option, Some, None, Result, Ok}
+use Rattle.std.specs.Prelude.{Err}
 use Rattle.std.specs.List.{list_all}
 use Rattle.std.specs.Str.{bytes_eq, str_eq_ignore_ascii_case}
 use Rattle.metric_events.specs.Senders.{name_fault}
@@ -14,7 +17,9 @@ use Rattle.http_edge.specs.Framing.{is_named, values_of}
 use Rattle.gate_workers.specs.declared.refusal.Allowed.{Allowed}
 use Rattle.gate_workers.specs.declared.refusal.Allowed.TheVariants.{Post, Get}
 use Rattle.gate_workers.specs.declared.refusal.Refusal.{Refusal}
-use Rattle.gate_workers.specs.declared.refusal.Refusal.TheVariants.{NoSuchPath, WrongMethod, BadSender, BadContent, NotJson, WrongShape}
+use Rattle.gate_workers.specs.declared.refusal.Refusal.TheVariants.{NoSuchPath, WrongMethod}
+use Rattle.gate_workers.specs.declared.refusal.Refusal.TheVariants.{BadSender, BadContent, NotJson}
+use Rattle.gate_workers.specs.declared.refusal.Refusal.TheVariants.{WrongShape}
 use Rattle.gate_workers.specs.Refusals.{allowed_name}
 
 pub data Asked : Type 0 where
@@ -49,7 +54,8 @@ abbrev pub with_name : (List ℕ → Asked) → List ℕ → Asked
 with_name asks name = if_named asks name (name_fault name)
 
 abbrev pub by_method : Allowed → Message → Asked → Asked
-by_method allowed m asked = if bytes_eq m.method (allowed_name allowed) then asked else Refused (WrongMethod allowed)
+by_method allowed m asked =
+    if bytes_eq m.method (allowed_name allowed) then asked else Refused (WrongMethod allowed)
 
 -- a blank or a tab
 abbrev pub is_blank : ℕ → Bool
@@ -57,7 +63,9 @@ is_blank b = b == 32 || b == 9
 
 -- these words, in any case, and only blanks behind them
 abbrev pub is_words : List ℕ → List ℕ → Bool
-is_words words value = str_eq_ignore_ascii_case (take (length words) value) words && list_all is_blank (drop (length words) value)
+is_words words value =
+    str_eq_ignore_ascii_case (take (length words) value) words
+    && list_all is_blank (drop (length words) value)
 
 -- the media type, before its parameters
 abbrev pub is_json_type : Option (List ℕ) → Bool
@@ -77,15 +85,18 @@ first (v ∷ vs) = Some v
 
 -- the first content type is that of JSON, and there is no content coding
 abbrev pub is_plain_json : List Header → Bool
-is_plain_json hs = is_json_type (first (values_of (codes "content-type") hs)) && list_all is_uncoded hs
+is_plain_json hs =
+    is_json_type (first (values_of (codes "content-type") hs)) && list_all is_uncoded hs
 
 abbrev pub read_as : List ℕ → Option (Result Tally Place) → Asked
 read_as sender None = Refused NotJson
 read_as sender (Some (Err place)) = Refused WrongShape
-read_as sender (Some (Ok t)) = Metrics (record { sender = sender; points = t.points }) (success_text t.foreign)
+read_as sender (Some (Ok t)) =
+    Metrics (record { sender = sender; points = t.points }) (success_text t.foreign)
 
 abbrev pub metrics_of : Message → List ℕ → Asked
-metrics_of m sender = if is_plain_json m.headers then read_as sender (text_reading m.body) else Refused BadContent
+metrics_of m sender =
+    if is_plain_json m.headers then read_as sender (text_reading m.body) else Refused BadContent
 
 -- the sender of a request with these values of x-sender: '-' where there is none
 abbrev pub metrics_by : Message → List (List ℕ) → Asked
@@ -102,7 +113,8 @@ asked_at p m =
     if bytes_eq p (codes "/v1/metrics") then by_method Post m (metrics m)
     else (if bytes_eq p (codes "/flush") then by_method Post m FlushNow
     else (if bytes_eq p (codes "/report") then by_method Get m Report
-    else (if begins (codes "/quarantine/") p then by_method Post m (with_name Quarantine (drop 12 p))
+    else (if begins (codes "/quarantine/") p then by_method Post m
+    (with_name Quarantine (drop 12 p))
     else (if begins (codes "/lift/") p then by_method Post m (with_name Lift (drop 6 p))
     else Refused NoSuchPath))))
 

@@ -3,7 +3,8 @@ use Rattle.std.specs.Prelude.{◌≡◌, ◌≢◌, ◌⊎◌, ℕ, List, [], Op
 use Rattle.http_edge.specs.Message.{Message}
 use Rattle.http_edge.specs.Reading.{BeginsWith, IsTooLong}
 use Rattle.http_edge.specs.Delivery.{IsMalformed}
-use Rattle.gate_workers.specs.declared.refusal.Refusal.TheVariants.{Malformed, BodyTooLong, NoMemory}
+use Rattle.gate_workers.specs.declared.refusal.Refusal.TheVariants.{Malformed, BodyTooLong}
+use Rattle.gate_workers.specs.declared.refusal.Refusal.TheVariants.{NoMemory}
 use Rattle.gate_workers.specs.Asked.{Asked, Refused, asked}
 
 -- what bytes ask for: what their message asks, or they are refused

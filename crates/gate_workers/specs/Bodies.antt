@@ -2,7 +2,8 @@
 use Rattle.std.specs.Prelude.{ℕ, List, codes}
 use Rattle.out_texts.specs.Answers.{status_text}
 use Rattle.gate_workers.specs.declared.response.Body.{Body}
-use Rattle.gate_workers.specs.declared.response.Body.TheVariants.{Json, Plain, Empty, Idle, NoMemory}
+use Rattle.gate_workers.specs.declared.response.Body.TheVariants.{Json, Plain, Empty, Idle}
+use Rattle.gate_workers.specs.declared.response.Body.TheVariants.{NoMemory}
 
 -- its media type
 abbrev pub kind_of : Body → List ℕ

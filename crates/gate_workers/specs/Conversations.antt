@@ -1,4 +1,5 @@
--- The calls of a keeper for a request, and the response to their answers. Where the book is shared, other calls may come between.
+-- The calls of a keeper for a request, and the response to their answers. Where the book is shared,
+-- other calls may come between.
 use Rattle.std.specs.Prelude.{◌≡◌, ℕ, List, [], ◌∷◌, Option, Some, None, Result, Ok, Err, codes}
 use Rattle.metric_events.specs.DataPoint.{DataPoint}
 use Rattle.metric_events.specs.declared.batch.Batch.{Batch}
@@ -17,7 +18,8 @@ use Rattle.gate_workers.specs.declared.service.End.{End}
 use Rattle.gate_workers.specs.declared.service.End.TheVariants.{NoBatch, Confirmed, Undone}
 use Rattle.gate_workers.specs.Calls.{Call, admit, undo, confirm, quarantine, lift, totals, order}
 use Rattle.gate_workers.specs.Refusals.{of_admit, of_quarantine, of_lift}
-use Rattle.gate_workers.specs.Responses.{Response, json_response, refusal_response, IsThatOrNoMemory, order_response, report_response}
+use Rattle.gate_workers.specs.Responses.{Response, json_response, refusal_response}
+use Rattle.gate_workers.specs.Responses.{IsThatOrNoMemory, order_response, report_response}
 use Rattle.gate_workers.specs.Asked.{Asked, Metrics, Quarantine, Lift, FlushNow, Report, Refused}
 
 -- how a call with its answer changes a keeper
@@ -25,17 +27,21 @@ abbrev pub Giving : Type 0 → Type 1
 Giving K = K → Call → K → Type 0
 
 abbrev pub IsConfirmed : {K : Type 0} → Giving K → ℕ → K → K → End → Type 0
-IsConfirmed gives batch k k' end = (r : Result (Unit {0}) NotOpen) × gives k (confirm batch r) k' × (end ≡ Confirmed)
+IsConfirmed gives batch k k' end =
+    (r : Result (Unit {0}) NotOpen) × gives k (confirm batch r) k' × (end ≡ Confirmed)
 
 -- after the answer to an undo: Taken is followed by the Confirm
-abbrev pub IsUndone : {K : Type 0} → Giving K → ℕ → Result (Unit {0}) UndoFault → K → K → End → Type 0
+abbrev pub IsUndone : {K : Type 0} → Giving K → ℕ → Result (Unit {0}) UndoFault → K → K → End
+    → Type 0
 IsUndone gives batch (Err Taken) k k' end = IsConfirmed gives batch k k' end
 IsUndone gives batch (Err not_open) k k' end = (k ≡ k') × (end ≡ Undone)
 IsUndone gives batch (Ok u) k k' end = (k ≡ k') × (end ≡ Undone)
 
 -- an admitted batch is closed by how much of the response was written
 abbrev pub IsClosed : {K : Type 0} → Giving K → ℕ → Written → K → K → End → Type 0
-IsClosed {K} gives batch None_ k k' end = (r : Result (Unit {0}) UndoFault) × (m : K) × gives k (undo batch r) m × IsUndone gives batch r m k' end
+IsClosed {K} gives batch None_ k k' end =
+    (r : Result (Unit {0}) UndoFault) × (m : K) × gives k (undo batch r) m
+    × IsUndone gives batch r m k' end
 IsClosed {K} gives batch All k k' end = IsConfirmed gives batch k k' end
 IsClosed {K} gives batch (Part n) k k' end = IsConfirmed gives batch k k' end
 
@@ -46,22 +52,30 @@ IsEnded gives (Some batch) written k k' end = IsClosed gives batch written k k' 
 
 -- the response to an admission, and the batch that is open then
 abbrev pub SaysAdmission : List ℕ → Result ℕ (AdmitFault × Batch) → Response → Option ℕ → Type 0
-SaysAdmission text (Ok number) response batch = (response ≡ json_response text) × (batch ≡ Some number)
-SaysAdmission text (Err e) response batch = IsThatOrNoMemory (refusal_response (of_admit e.0)) response × (batch ≡ None)
+SaysAdmission text (Ok number) response batch =
+    (response ≡ json_response text) × (batch ≡ Some number)
+SaysAdmission text (Err e) response batch =
+    IsThatOrNoMemory (refusal_response (of_admit e.0)) response × (batch ≡ None)
 
 -- a batch without points needs no call
-abbrev pub IsPosted : {K : Type 0} → Giving K → List ℕ → List DataPoint → List ℕ → K → K → Response → Option ℕ → Type 0
-IsPosted {K} gives sender [] text k k' response batch = (k ≡ k') × (response ≡ json_response text) × (batch ≡ None)
+abbrev pub IsPosted : {K : Type 0} → Giving K → List ℕ → List DataPoint → List ℕ → K → K → Response
+    → Option ℕ → Type 0
+IsPosted {K} gives sender [] text k k' response batch =
+    (k ≡ k') × (response ≡ json_response text) × (batch ≡ None)
 IsPosted {K} gives sender (p ∷ ps) text k k' response batch =
-    (r : Result ℕ (AdmitFault × Batch)) × gives k (admit (record { sender = sender; points = p ∷ ps }) r) k' × SaysAdmission text r response batch
+    (r : Result ℕ (AdmitFault × Batch))
+    × gives k (admit (record { sender = sender; points = p ∷ ps }) r) k'
+    × SaysAdmission text r response batch
 
 -- one call, and the response to its answer
-abbrev pub IsOneCall : {K A : Type 0} → Giving K → (A → Call) → (A → Response → Type 0) → K → K → Response → Type 0
+abbrev pub IsOneCall : {K A : Type 0} → Giving K → (A → Call) → (A → Response → Type 0) → K → K
+    → Response → Type 0
 IsOneCall {K} {A} gives call Says k k' response = (a : A) × gives k (call a) k' × Says a response
 
 abbrev pub SaysQuarantine : Result (Unit {0}) QuarantineFault → Response → Type 0
 SaysQuarantine (Ok u) response = response ≡ json_response (codes "{}")
-SaysQuarantine (Err fault) response = IsThatOrNoMemory (refusal_response (of_quarantine fault)) response
+SaysQuarantine (Err fault) response =
+    IsThatOrNoMemory (refusal_response (of_quarantine fault)) response
 
 abbrev pub SaysLift : Result (Unit {0}) NotQuarantined → Response → Type 0
 SaysLift (Ok u) response = response ≡ json_response (codes "{}")
@@ -75,14 +89,22 @@ SaysReport rows response = IsThatOrNoMemory (report_response rows) response
 
 -- the calls before the response is written: the response, and the batch that is open until then
 abbrev pub IsHandled : {K : Type 0} → Giving K → Asked → K → K → Response → Option ℕ → Type 0
-IsHandled gives (Metrics body text) k k' response batch = IsPosted gives body.sender body.points text k k' response batch
-IsHandled gives (Quarantine sender) k k' response batch = IsOneCall gives (quarantine sender) SaysQuarantine k k' response × (batch ≡ None)
-IsHandled gives (Lift sender) k k' response batch = IsOneCall gives (lift sender) SaysLift k k' response × (batch ≡ None)
-IsHandled gives FlushNow k k' response batch = IsOneCall gives order SaysOrder k k' response × (batch ≡ None)
-IsHandled gives Report k k' response batch = IsOneCall gives totals SaysReport k k' response × (batch ≡ None)
-IsHandled gives (Refused why) k k' response batch = (k ≡ k') × IsThatOrNoMemory (refusal_response why) response × (batch ≡ None)
+IsHandled gives (Metrics body text) k k' response batch =
+    IsPosted gives body.sender body.points text k k' response batch
+IsHandled gives (Quarantine sender) k k' response batch =
+    IsOneCall gives (quarantine sender) SaysQuarantine k k' response × (batch ≡ None)
+IsHandled gives (Lift sender) k k' response batch =
+    IsOneCall gives (lift sender) SaysLift k k' response × (batch ≡ None)
+IsHandled gives FlushNow k k' response batch =
+    IsOneCall gives order SaysOrder k k' response × (batch ≡ None)
+IsHandled gives Report k k' response batch =
+    IsOneCall gives totals SaysReport k k' response × (batch ≡ None)
+IsHandled gives (Refused why) k k' response batch =
+    (k ≡ k') × IsThatOrNoMemory (refusal_response why) response × (batch ≡ None)
 
 -- the calls of a request: those before its response, and those that close its batch
-abbrev pub IsConversation : {K : Type 0} → Giving K → Asked → K → K → Response → Written → End → Type 0
+abbrev pub IsConversation : {K : Type 0} → Giving K → Asked → K → K → Response → Written → End
+    → Type 0
 IsConversation {K} gives asked k k' response written end =
-    (m : K) × (batch : Option ℕ) × IsHandled gives asked k m response batch × IsEnded gives batch written m k' end
+    (m : K) × (batch : Option ℕ) × IsHandled gives asked k m response batch
+    × IsEnded gives batch written m k' end

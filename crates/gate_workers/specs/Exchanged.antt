@@ -16,17 +16,24 @@ abbrev pub answer_to : Result Reply HttpFault → Answer
 answer_to (Ok r) = answer_of r.status (option_map (λ v. v.items) r.retry_after)
 answer_to (Err e) = Unknown
 
--- what was read, and the answer: the reader's bytes before and after, how many its last call returned, its count of failed calls before and after, and the head or the fault.
--- No read follows the one that completes the head
-pub record IsRead (input left : Option (List ℕ)) (given : ℕ) (one_more : ℕ → ℕ) (old new : ℕ) (r : Result Reply HttpFault) (answer : Answer) : Type 0 where
+-- what was read, and the answer: the reader's bytes before and after, how many its last call
+-- returned, its count of failed calls before and after, and the head or the fault. No read follows
+-- the one that completes the head
+pub record IsRead (input left : Option (List ℕ)) (given : ℕ) (one_more : ℕ → ℕ) (old new : ℕ)
+    (r : Result Reply HttpFault) (answer : Answer) : Type 0 where
   pub says : IfSome input (λ bytes. SaysReply bytes r)
   pub stops : StopsReading NoReply input left given
   pub io : r ≡ Err Io → new ≡ one_more old
   pub well : r ≢ Err Io → new ≡ old
   pub class : answer ≡ answer_to r
 
--- where the whole request was written, the answer is that of the head that was read; else it is unknown, and no known byte was read
-abbrev pub IsAnswered : Option (List ℕ) → Option (List ℕ) → ℕ → (ℕ → ℕ) → ℕ → ℕ → Written → Answer → Type 0
-IsAnswered input left given one_more old new All answer = (r : Result Reply HttpFault) × IsRead input left given one_more old new r answer
-IsAnswered input left given one_more old new None_ answer = (answer ≡ Unknown) × (left ≡ input) × (new ≡ old)
-IsAnswered input left given one_more old new (Part n) answer = (answer ≡ Unknown) × (left ≡ input) × (new ≡ old)
+-- where the whole request was written, the answer is that of the head that was read; else it is
+-- unknown, and no known byte was read
+abbrev pub IsAnswered : Option (List ℕ) → Option (List ℕ) → ℕ → (ℕ → ℕ) → ℕ → ℕ → Written → Answer
+    → Type 0
+IsAnswered input left given one_more old new All answer =
+    (r : Result Reply HttpFault) × IsRead input left given one_more old new r answer
+IsAnswered input left given one_more old new None_ answer =
+    (answer ≡ Unknown) × (left ≡ input) × (new ≡ old)
+IsAnswered input left given one_more old new (Part n) answer =
+    (answer ≡ Unknown) × (left ≡ input) × (new ≡ old)

@@ -2,7 +2,8 @@
 use Rattle.std.specs.Prelude.{◌≡◌, ℕ, List, Option, ⊤}
 use Rattle.http_edge.specs.declared.fault.HttpFault.{HttpFault}
 use Rattle.http_edge.specs.declared.fault.HttpFault.TheVariants as http
-use Rattle.gate_workers.specs.declared.refusal.Refusal.TheVariants.{Malformed, BodyTooLong, NoMemory}
+use Rattle.gate_workers.specs.declared.refusal.Refusal.TheVariants.{Malformed, BodyTooLong}
+use Rattle.gate_workers.specs.declared.refusal.Refusal.TheVariants.{NoMemory}
 use Rattle.gate_workers.specs.declared.request.Ask.TheVariants as ask
 use Rattle.gate_workers.specs.declared.service.Heard.{Heard}
 use Rattle.gate_workers.specs.declared.service.Heard.TheVariants as heard

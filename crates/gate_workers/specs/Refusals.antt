@@ -10,7 +10,14 @@ use Rattle.gate_workers.specs.declared.order.OrderFault.TheVariants as order
 use Rattle.gate_workers.specs.declared.refusal.Allowed.{Allowed}
 use Rattle.gate_workers.specs.declared.refusal.Allowed.TheVariants.{Post, Get}
 use Rattle.gate_workers.specs.declared.refusal.Refusal.{Refusal}
-use Rattle.gate_workers.specs.declared.refusal.Refusal.TheVariants.{Malformed, BodyTooLong, NoSuchPath, WrongMethod, BadSender, BadContent, NotJson, WrongShape, Quarantined, OtherWriter, OutOfOrder, Full, TooManySeries, TooLarge, Already, NotQuarantined, NoFlusher, NoMemory}
+use Rattle.gate_workers.specs.declared.refusal.Refusal.TheVariants.{Malformed, BodyTooLong}
+use Rattle.gate_workers.specs.declared.refusal.Refusal.TheVariants.{NoSuchPath, WrongMethod}
+use Rattle.gate_workers.specs.declared.refusal.Refusal.TheVariants.{BadSender, BadContent, NotJson}
+use Rattle.gate_workers.specs.declared.refusal.Refusal.TheVariants.{WrongShape, Quarantined}
+use Rattle.gate_workers.specs.declared.refusal.Refusal.TheVariants.{OtherWriter, OutOfOrder, Full}
+use Rattle.gate_workers.specs.declared.refusal.Refusal.TheVariants.{TooManySeries, TooLarge}
+use Rattle.gate_workers.specs.declared.refusal.Refusal.TheVariants.{Already, NotQuarantined}
+use Rattle.gate_workers.specs.declared.refusal.Refusal.TheVariants.{NoFlusher, NoMemory}
 
 abbrev pub refusal_status : Refusal → ℕ
 refusal_status Malformed = 400
@@ -44,7 +51,8 @@ refusal_message NotJson = codes "not JSON"
 refusal_message WrongShape = codes "wrong shape"
 refusal_message Quarantined = codes "quarantined"
 refusal_message (OtherWriter i) = codes "other writer: point " ++ decimal i
-refusal_message (OutOfOrder i f) = codes "out of order: point " ++ (decimal i ++ (codes ", frontier " ++ decimal f))
+refusal_message (OutOfOrder i f) =
+    codes "out of order: point " ++ (decimal i ++ (codes ", frontier " ++ decimal f))
 refusal_message Full = codes "full"
 refusal_message TooManySeries = codes "too many series"
 refusal_message TooLarge = codes "too large"

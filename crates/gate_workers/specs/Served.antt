@@ -9,11 +9,13 @@ use Rattle.gate_workers.specs.Responses.{Response, IsSaid}
 use Rattle.gate_workers.specs.Conversations.{Giving, IsConversation}
 
 -- no call and nothing written, or the calls that the bytes ask for and their response
-abbrev pub IsServed : {K : Type 0} → Giving K → Option (List ℕ) → K → K → Option (List ℕ) → Option (List ℕ) → Served → Type 0
+abbrev pub IsServed : {K : Type 0} → Giving K → Option (List ℕ) → K → K → Option (List ℕ)
+    → Option (List ℕ) → Served → Type 0
 IsServed gives input k k' old new Closed = IsEmpty input × (k ≡ k') × (old ≡ new)
 IsServed gives input k k' old new Broken = (k ≡ k') × (old ≡ new)
 IsServed gives input k k' old new (Replied status written end) =
-    (asked : Asked) × (response : Response) × IsHeard input asked × IsConversation gives asked k k' response written end × IsSaid old new response status written
+    (asked : Asked) × (response : Response) × IsHeard input asked
+    × IsConversation gives asked k k' response written end × IsSaid old new response status written
 
 -- the reader's count of failed calls, before and after: one more at Broken
 abbrev pub ReadingFails : (ℕ → ℕ) → ℕ → ℕ → Served → Type 0

@@ -1,5 +1,6 @@
 -- A flush turn: of any store, and after a history.
-use Rattle.std.specs.Prelude.{◌≡◌, ℕ, ◌+◌, List, [], ◌∷◌, length, Option, Some, None, Result, Ok, Err}
+use Rattle.std.specs.Prelude.{◌≡◌, ℕ, ◌+◌, List, [], ◌∷◌, length, Option, Some, None, Result, Ok}
+use Rattle.std.specs.Prelude.{Err}
 use Rattle.metric_events.specs.History.{History, ◌▸◌}
 use Rattle.metric_events.specs.Choice.{flush_points}
 use Rattle.metric_events.specs.DataPoint.{DataPoint}
@@ -29,23 +30,30 @@ abbrev pub IsClosing : {K : Type 0} → (K → Call → K → Type 0) → Act �
 IsClosing gives act flush k k' = (r : Result (Unit {0}) NotLive) × gives k (closing act flush r) k'
 
 -- no flush was taken, or one was given back without memory for its text
-abbrev pub IsUnsent : {K : Type 0} → (K → Call → K → Type 0) → ℕ → Result (Option Flush) TakeFault → K → K → Turn → Type 0
+abbrev pub IsUnsent : {K : Type 0} → (K → Call → K → Type 0) → ℕ → Result (Option Flush) TakeFault
+    → K → K → Turn → Type 0
 IsUnsent gives max (Ok None) m k' t = (m ≡ k') × (t ≡ Idle)
-IsUnsent gives max (Ok (Some flush)) m k' t = IsClosing gives GiveBack flush.number m k' × (t ≡ NoMemory)
+IsUnsent gives max (Ok (Some flush)) m k' t =
+    IsClosing gives GiveBack flush.number m k' × (t ≡ NoMemory)
 IsUnsent gives max (Err fault.Full) m k' t = (m ≡ k') × (t ≡ Full)
 IsUnsent gives max (Err fault.NoMemory) m k' t = (m ≡ k') × (t ≡ NoMemory)
 
 -- the calls of a turn in which nothing was sent
 abbrev pub IsIdleTurn : {K : Type 0} → (K → Call → K → Type 0) → ℕ → K → K → Turn → Type 0
-IsIdleTurn {K} gives max k k' t = (r : Result (Option Flush) TakeFault) × (m : K) × gives k (take max r) m × IsUnsent gives max r m k' t
+IsIdleTurn {K} gives max k k' t =
+    (r : Result (Option Flush) TakeFault) × (m : K) × gives k (take max r) m
+    × IsUnsent gives max r m k' t
 
 -- the calls of a turn and what was sent
-abbrev pub IsTurn : {K U : Type 0} → (K → Call → K → Type 0) → (U → List ℕ → Answer → U → Type 0) → ℕ → K → K → U → U → Turn → Type 0
+abbrev pub IsTurn : {K U : Type 0} → (K → Call → K → Type 0) → (U → List ℕ → Answer → U → Type 0)
+    → ℕ → K → K → U → U → Turn → Type 0
 IsTurn gives sends max k k' u u' Idle = IsIdleTurn gives max k k' Idle × (u ≡ u')
 IsTurn gives sends max k k' u u' Full = IsIdleTurn gives max k k' Full × (u ≡ u')
 IsTurn gives sends max k k' u u' NoMemory = IsIdleTurn gives max k k' NoMemory × (u ≡ u')
 IsTurn {K} {U} gives sends max k k' u u' (Done number points answer act) =
-    (flush : Flush) × (m : K) × gives k (take max (Ok (Some flush))) m × sends u (request_text flush.points.items) answer u' × IsClosing gives (act_of answer) flush.number m k'
+    (flush : Flush) × (m : K) × gives k (take max (Ok (Some flush))) m
+    × sends u (request_text flush.points.items) answer u'
+    × IsClosing gives (act_of answer) flush.number m k'
     × (number ≡ flush.number) × (points ≡ length flush.points.items) × (act ≡ act_of answer)
 
 -- where a turn is out of memory: nowhere, at its flush, or at the flush's text
@@ -75,7 +83,8 @@ sending f taken points answer = record {
 abbrev pub taking : History → ℕ → Event → Answer → Want → Made
 taking E f taken answer Nowhere = sending f taken (flush_points (E ▸ taken) f) answer
 taking E f taken answer ForFlush = without_events NoMemory
-taking E f taken answer ForText = record { turn = NoMemory; events = taken ∷ book.event_of GiveBack f ∷ []; sent = [] }
+taking E f taken answer ForText =
+    record { turn = NoMemory; events = taken ∷ book.event_of GiveBack f ∷ []; sent = [] }
 
 -- by what the take does
 abbrev pub turn_by : History → ℕ → Result Event (Option TakeFault) → Answer → Want → Made

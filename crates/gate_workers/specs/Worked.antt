@@ -10,16 +10,22 @@ use Rattle.gate_workers.specs.Turns.{IsTurn}
 -- one request was served, whatever its ends tell of their bytes
 abbrev pub IsServedOnce : {K : Type 0} → Giving K → K → K → Served → Type 0
 IsServedOnce gives k k' served =
-    (input : Option (List ℕ)) × (old : Option (List ℕ)) × (new : Option (List ℕ)) × IsServed gives input k k' old new served
+    (input : Option (List ℕ)) × (old : Option (List ℕ)) × (new : Option (List ℕ))
+    × IsServed gives input k k' old new served
 
--- so many connections were given and each was served once, one after another, and nothing else was done; the latest comes first
-abbrev pub AreServed : {S C K : Type 0} → (S → Option C → S → Type 0) → Giving K → List Served → S → S → K → K → Type 0
+-- so many connections were given and each was served once, one after another, and nothing else was
+-- done; the latest comes first
+abbrev pub AreServed : {S C K : Type 0} → (S → Option C → S → Type 0) → Giving K → List Served → S
+    → S → K → K → Type 0
 AreServed given gives [] s t k k' = (s ≡ t) × (k ≡ k')
 AreServed {S} {C} {K} given gives (x ∷ xs) s t k k' =
-    (u : S) × (m : K) × AreServed given gives xs s u k m × (c : C) × given u (Some c) t × IsServedOnce gives m k' x
+    (u : S) × (m : K) × AreServed given gives xs s u k m × (c : C) × given u (Some c) t
+    × IsServedOnce gives m k' x
 
--- so many turns were made one after another, and nothing else was done or sent; the latest comes first
-abbrev pub AreMade : {K U : Type 0} → Giving K → (U → List ℕ → Answer → U → Type 0) → ℕ → List Turn → K → K → U → U → Type 0
+-- so many turns were made one after another, and nothing else was done or sent; the latest comes
+-- first
+abbrev pub AreMade : {K U : Type 0} → Giving K → (U → List ℕ → Answer → U → Type 0) → ℕ → List Turn
+    → K → K → U → U → Type 0
 AreMade gives sends max [] k k' u u' = (k ≡ k') × (u ≡ u')
 AreMade {K} {U} gives sends max (t ∷ ts) k k' u u' =
     (m : K) × (v : U) × AreMade gives sends max ts k m u v × IsTurn gives sends max m k' v u' t

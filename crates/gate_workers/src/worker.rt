@@ -84,7 +84,9 @@ pub fn receiver_loop<S: Connections, K: Keeper, P: Pace, R: Wait>(
     keeper: &mut K,
     pace: &mut P,
 )
-    ensures { (all : List Served) × (last : S) × (end : S) × AreServed S.gives K.gives all connections last keeper.old keeper.new × S.gives last None end }
+    ensures { (all : List Served) × (last : S) × (end : S)
+        × AreServed S.gives K.gives all connections last keeper.old keeper.new
+        × S.gives last None end }
 {
     let mut memo = Memo::new(alloc);
     for _ in rt.forever() {

@@ -1,4 +1,5 @@
-//! The gateway. `serve` serves so many connections and prints the report and the sums of its audits;
+//! The gateway. `serve` serves so many connections and prints the report and the sums of its
+//! audits;
 //! `rehearse` does so with senders and a back end of its own. A faulty line, or a call for help, is
 //! answered on standard error with status 2, any other fault with status 1.
 #![tactic(auto)]

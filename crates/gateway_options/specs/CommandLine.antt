@@ -1,11 +1,16 @@
 -- The command line: its options, and the meaning of its words.
-use Rattle.std.specs.Prelude.{◌≡◌, ◌≤◌, ℕ, List, [], ◌∷◌, Option, Some, None, codes, pos, true, false, option_and_then}
+use Rattle.std.specs.Prelude.{◌≡◌, ◌≤◌, ℕ, List, [], ◌∷◌, Option, Some, None, codes, pos, true}
+use Rattle.std.specs.Prelude.{false, option_and_then}
 use Rattle.std.specs.Option.{option_map_or}
-use Rattle.clap.specs.Words.{App, Row, Rule, Text, app_of, first_of, new_app, new_rule, subcommand_of, with_rule, with_subcommand}
+use Rattle.clap.specs.Words.{App, Row, Rule, Text, app_of, first_of, new_app, new_rule}
+use Rattle.clap.specs.Words.{subcommand_of, with_rule, with_subcommand}
 use Rattle.clap.specs.declared.builder.command.Command.{Command, out-Command}
 use Rattle.clap.specs.declared.builder.value_parser.ValueParser.TheVariants as vp
 use Rattle.decimals.specs.Numbers.{number_up_to}
-use Rattle.gateway_options.specs.declared.command_line.TheConstants.{MAX_CONNECTIONS, MAX_RECEIVERS, MAX_FLUSHERS, MAX_FLUSH_SERIES, MAX_ROUND, MAX_SENDERS, MAX_BATCHES}
+use Rattle.gateway_options.specs.declared.command_line.TheConstants.{MAX_CONNECTIONS, MAX_RECEIVERS}
+use Rattle.gateway_options.specs.declared.command_line.TheConstants.{MAX_FLUSHERS, MAX_FLUSH_SERIES}
+use Rattle.gateway_options.specs.declared.command_line.TheConstants.{MAX_ROUND, MAX_SENDERS}
+use Rattle.gateway_options.specs.declared.command_line.TheConstants.{MAX_BATCHES}
 use Rattle.gateway_options.specs.declared.subcommand.Options.{Options}
 use Rattle.gateway_options.specs.declared.subcommand.Options.TheVariants.{Serve, Rehearse}
 use Rattle.gateway_options.specs.declared.serve_options.ServeOptions.{ServeOptions}
@@ -47,15 +52,18 @@ listen = record (new_rule (codes "listen")) {
 
 -- `--connections N`, which must be given
 abbrev pub connections : Number
-connections = record { name = codes "connections"; default = None; least = 0; most = MAX_CONNECTIONS }
+connections =
+    record { name = codes "connections"; default = None; least = 0; most = MAX_CONNECTIONS }
 
 -- `--receivers N`
 abbrev pub receivers : Number
-receivers = record { name = codes "receivers"; default = Some (codes "2"); least = 1; most = MAX_RECEIVERS }
+receivers =
+    record { name = codes "receivers"; default = Some (codes "2"); least = 1; most = MAX_RECEIVERS }
 
 -- `--flushers N`
 abbrev pub flushers : Number
-flushers = record { name = codes "flushers"; default = Some (codes "1"); least = 1; most = MAX_FLUSHERS }
+flushers =
+    record { name = codes "flushers"; default = Some (codes "1"); least = 1; most = MAX_FLUSHERS }
 
 -- `--flush-series N`
 abbrev pub flush_series : Number
@@ -72,11 +80,13 @@ round = record { name = codes "round"; default = Some (codes "32000"); least = 1
 
 -- `--senders N`
 abbrev pub senders : Number
-senders = record { name = codes "senders"; default = Some (codes "2"); least = 1; most = MAX_SENDERS }
+senders =
+    record { name = codes "senders"; default = Some (codes "2"); least = 1; most = MAX_SENDERS }
 
 -- `--batches N`
 abbrev pub batches : Number
-batches = record { name = codes "batches"; default = Some (codes "3"); least = 1; most = MAX_BATCHES }
+batches =
+    record { name = codes "batches"; default = Some (codes "3"); least = 1; most = MAX_BATCHES }
 
 -- the command with these numeric options too
 abbrev pub with_numbers : App → List Number → App

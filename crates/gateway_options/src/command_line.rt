@@ -2,7 +2,8 @@
 ghost use Rattle.std.specs.Prelude.{◌≡◌, IfOk, IfSome, false, map};
 ghost use Rattle.clap.specs.Words.{app_of, rule_of, found_of, rows_of, subcommand_rows_of};
 ghost use Rattle.gateway_options.specs.CommandLine as spec;
-ghost use Rattle.gateway_options.specs.CommandLine.{IsCommand, IsOwn, IsMeant, IsGiven, AreServed, AreRehearsed, with_numbers};
+ghost use Rattle.gateway_options.specs.CommandLine.{IsCommand, IsOwn, IsMeant, IsGiven, AreServed};
+ghost use Rattle.gateway_options.specs.CommandLine.{AreRehearsed, with_numbers};
 ghost use Rattle.gateway_options.specs.NumberOption.{described};
 
 use crate::line_fault::LineFault;
@@ -124,7 +125,8 @@ fn with_numbers<'a>(
     numbers: &[NumberOption<'static>],
 ) -> Result<Command<'a>, Error>
     requires own { IsOwn command }
-    ensures { IfOk result (IsCommand (with_numbers (app_of command.entry) (map described numbers.now))) }
+    ensures { IfOk result (IsCommand (with_numbers (app_of command.entry)
+        (map described numbers.now))) }
 {
     let mut command = command;
     for number in numbers {

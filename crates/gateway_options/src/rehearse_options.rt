@@ -1,5 +1,6 @@
 ghost use Rattle.std.specs.Prelude.{◌≤◌};
-ghost use Rattle.gateway_options.specs.declared.command_line.TheConstants.{MAX_SENDERS, MAX_BATCHES};
+ghost use Rattle.gateway_options.specs.declared.command_line.TheConstants.{MAX_SENDERS};
+ghost use Rattle.gateway_options.specs.declared.command_line.TheConstants.{MAX_BATCHES};
 
 /// The options of `rehearse`.
 #[derive(Clone, Copy, Debug)]

@@ -1,5 +1,9 @@
 ghost use Rattle.std.specs.Prelude.{◌≤◌, length};
-ghost use Rattle.gateway_options.specs.declared.command_line.TheConstants.{MAX_BACKEND, MAX_FLUSH_SERIES, MAX_FLUSHERS, MAX_RECEIVERS, MAX_ROUND};
+ghost use Rattle.gateway_options.specs.declared.command_line.TheConstants.{MAX_BACKEND};
+ghost use Rattle.gateway_options.specs.declared.command_line.TheConstants.{MAX_FLUSH_SERIES};
+ghost use Rattle.gateway_options.specs.declared.command_line.TheConstants.{MAX_FLUSHERS};
+ghost use Rattle.gateway_options.specs.declared.command_line.TheConstants.{MAX_RECEIVERS};
+ghost use Rattle.gateway_options.specs.declared.command_line.TheConstants.{MAX_ROUND};
 
 /// The options of `serve`.
 #[derive(Clone, Copy, Debug)]

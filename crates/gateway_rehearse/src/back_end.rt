@@ -28,8 +28,8 @@ fn answer(alloc: Global, stream: &TcpStream, text: &[u8]) -> bool {
     true
 }
 
-/// Answers requests, one connection after another, until the gateway has ended. The listener does not
-/// block, so that the end is seen.
+/// Answers requests, one connection after another, until the gateway has ended. The listener does
+/// not block, so that the end is seen.
 pub fn answer_all<R: Wait + Clock>(rt: &R, alloc: Global, listener: &TcpListener, stage: &Stage) {
     let mut text = REFUSAL;
     for _ in rt.forever() {

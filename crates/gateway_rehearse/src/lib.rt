@@ -1,6 +1,6 @@
 //! A rehearsal of the gateway: senders, gateway and back end in one process, over loopback.
-//! What the senders post is fixed to the byte. How the threads take turns is not, and yet the report
-//! at the end is the same each time. No contract says so: runs show it.
+//! What the senders post is fixed to the byte. How the threads take turns is not, and yet the
+//! report at the end is the same each time. No contract says so: runs show it.
 #![tactic(auto)]
 
 mod back_end;

@@ -12,7 +12,8 @@ fn put_between(
     number: u64,
     after: &[u8],
 ) -> Result<(), AllocError>
-    ensures { OnOk result (out.new.items ≡ out.old.items ++ spec.between before.now number after.now) }
+    ensures { OnOk result (out.new.items ≡ out.old.items
+        ++ spec.between before.now number after.now) }
 {
     out.extend_from_slice(before)?;
     put_number(out, number)?;

@@ -25,7 +25,8 @@ const LOOPBACK: &str = "127.0.0.1:0";
 /// The most bytes of the back end's address.
 const LONGEST_ADDRESS: usize = 64;
 
-/// How many connections the gateway gets: one for each batch and each flush, and one for the report.
+/// How many connections the gateway gets: one for each batch and each flush, and one for the
+/// report.
 fn connections_of(options: &RehearseOptions) -> u64
     ensures { result ≡ options.now.senders * options.now.batches + 7 }
 {
@@ -139,15 +140,15 @@ fn listen<F: Drop, R: Net<Listener = TcpListener, Stream = TcpStream>>(
     }
 }
 
-/// Plays senders, gateway and back end over loopback, and returns what the gateway prints at its end.
-/// The gateway is `serve_bound`: it serves the connections of a listener by the options that it is
-/// handed.
+/// Plays senders, gateway and back end over loopback, and returns what the gateway prints at its
+/// end. The gateway is `serve_bound`: it serves the connections of a listener by the options that
+/// it is handed.
 ///
-/// Each sender posts its batches one after the other while two flushes are ordered; then four more are,
-/// and the report is asked for. The back end refuses the first request that it gets and takes the
-/// others. The first fault that is met is returned: `Serving` with the gateway's own, `CannotListen`
-/// where there is no listener, `CannotStart` where there is no thread, and `NoMemory` where the
-/// allocation of a request fails.
+/// Each sender posts its batches one after the other while two flushes are ordered; then four more
+/// are, and the report is asked for. The back end refuses the first request that it gets and takes
+/// the others. The first fault that is met is returned: `Serving` with the gateway's own,
+/// `CannotListen` where there is no listener, `CannotStart` where there is no thread, and
+/// `NoMemory` where the allocation of a request fails.
 pub fn rehearse<
     F: Drop + Send,
     S: FnOnce(&TcpListener, &ServeOptions<'_>) -> Result<Vec<u8>, F> + Drop + Send,

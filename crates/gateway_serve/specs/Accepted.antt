@@ -16,14 +16,15 @@ abbrev pub IsEnded : ℕ → Option GatewayFault → Type 0
 IsEnded left None = left ≡ 0
 IsEnded left (Some fault) = Unit {0}
 
--- the fault behind a call that gave no connection: the one before; else, where some connections were
--- left, the next one could not be accepted
+-- the fault behind a call that gave no connection: the one before; else, where some connections
+-- were left, the next one could not be accepted
 abbrev pub next_fault : ℕ → Option GatewayFault → Option GatewayFault
 next_fault left (Some fault) = Some fault
 next_fault zero None = None
 next_fault (suc left) None = Some CannotAccept
 
 -- a fault comes first, and else this outcome counts
-abbrev pub or_fault : {X : Type 0} → Option GatewayFault → Result X GatewayFault → Result X GatewayFault
+abbrev pub or_fault : {X : Type 0} → Option GatewayFault → Result X GatewayFault
+    → Result X GatewayFault
 or_fault None outcome = outcome
 or_fault (Some fault) outcome = Err fault

@@ -11,7 +11,9 @@ use Rattle.gateway_serve.specs.Rounds.{ServedRound, IsRun}
 abbrev pub ending_text : Journal → Sums → List ℕ
 ending_text j sums = report_text (totals_rows (history j)) ++ last_line sums
 
--- what is printed behind these rounds of so many connections: the report of the latest, and the sums of all
+-- what is printed behind these rounds of so many connections: the report of the latest, and the
+-- sums of all
 abbrev pub IsEnding : ℕ → ℕ → ServedRound → List ServedRound → List ℕ → Type 0
 IsEnding connections most latest earlier text =
-    (j : Journal) × (sums : Sums) × IsRun connections most connections latest earlier j sums × (text ≡ ending_text j sums)
+    (j : Journal) × (sums : Sums) × IsRun connections most connections latest earlier j sums
+    × (text ≡ ending_text j sums)

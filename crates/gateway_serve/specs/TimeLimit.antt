@@ -25,20 +25,28 @@ abbrev pub IsFresh : Option Run → Instant → Type 0
 IsFresh None now = ⊥
 IsFresh (Some run) now = nanos_since run.told now < STANDS_MILLIS * 1_000_000
 
--- what a call answers at this moment, and how the limit runs then. Nothing: the time is over. No wait: a fresh one stands. Else what is left
-abbrev pub IsWaitAt : Duration → Option Run → Instant → Option (Option Duration) → Option Run → Type 0
+-- what a call answers at this moment, and how the limit runs then. Nothing: the time is over. No
+-- wait: a fresh one stands. Else what is left
+abbrev pub IsWaitAt : Duration → Option Run → Instant → Option (Option Duration) → Option Run
+    → Type 0
 IsWaitAt whole run now None next = (left_at whole run now < LEAST_NANOS) × (next ≡ run)
-IsWaitAt whole run now (Some None) next = (LEAST_NANOS ≤ left_at whole run now) × IsFresh run now × (next ≡ run)
+IsWaitAt whole run now (Some None) next =
+    (LEAST_NANOS ≤ left_at whole run now) × IsFresh run now × (next ≡ run)
 IsWaitAt whole run now (Some (Some wait)) next =
-    (LEAST_NANOS ≤ left_at whole run now) × ¬ (IsFresh run now) × (as_nanos wait ≡ left_at whole run now) × (next ≡ Some (record { begun = begun_at run now; told = now }))
+    (LEAST_NANOS ≤ left_at whole run now) × ¬ (IsFresh run now)
+    × (as_nanos wait ≡ left_at whole run now)
+    × (next ≡ Some (record { begun = begun_at run now; told = now }))
 
 -- the same by a clock: where it fails, the call fails and the limit runs as before
-abbrev pub IsWait : Duration → Option Run → Option Instant → Option (Option Duration) → Option Run → Type 0
+abbrev pub IsWait : Duration → Option Run → Option Instant → Option (Option Duration) → Option Run
+    → Type 0
 IsWait whole run None answer next = (answer ≡ None) × (next ≡ run)
 IsWait whole run (Some now) answer next = IsWaitAt whole run now answer next
 
--- a call of an end with a limit asks it once, and fails where the time is over; where it has a wait to tell, it goes on only once that was told
-abbrev pub IsTimed : {X E : Type 0} → Option (Option Duration) → (Duration → Type 0) → Result X E → Type 0
+-- a call of an end with a limit asks it once, and fails where the time is over; where it has a wait
+-- to tell, it goes on only once that was told
+abbrev pub IsTimed : {X E : Type 0} → Option (Option Duration) → (Duration → Type 0) → Result X E
+    → Type 0
 IsTimed None told result = IsErr result
 IsTimed (Some None) told result = Unit {0}
 IsTimed (Some (Some wait)) told result = OnOk result (told wait)

@@ -34,10 +34,13 @@ impl<'a, D: Dial> Backend<'a, D> {
 
 impl<D: Dial> Uplink for Backend<'_, D> {
     /// One connection is made, and at most one request is written to it.
-    ghost sends = { λ before bytes answer after. (line : Option (D.Reader × D.Writer)) × D.dials before.dialler line after.dialler × IsCalled D.Reader.remaining D.Writer.contents line (post_text before.host.now bytes) answer × (after.host.now ≡ before.host.now) };
+    ghost sends = { λ before bytes answer after. (line : Option (D.Reader × D.Writer))
+        × D.dials before.dialler line after.dialler
+        × IsCalled D.Reader.remaining D.Writer.contents line
+        (post_text before.host.now bytes) answer × (after.host.now ≡ before.host.now) };
 
-    /// Unknown where there is no connection, and where it breaks. An answer is waited for as long as it
-    /// takes: a flush that was given back meanwhile might be counted twice.
+    /// Unknown where there is no connection, and where it breaks. An answer is waited for as long
+    /// as it takes: a flush that was given back meanwhile might be counted twice.
     fn send(&mut self, bytes: &[u8]) -> Answer {
         let Some((reader, writer)) = self.dialler.dial() else {
             return Answer::Unknown;

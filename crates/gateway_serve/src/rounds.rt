@@ -30,16 +30,20 @@ fn next_count(left: u64, round: u64) -> u64
 }
 
 /// Has all connections served over a new book, and gives it with the sums of the audits: a round is
-/// closed after so many connections, unless none is left. So the number of the last round is how many
-/// rounds these connections fill.
+/// closed after so many connections, unless none is left. So the number of the last round is how
+/// many rounds these connections fill.
 pub fn serve_rounds<F: FnMut(Book, u64) -> Result<(Book, Audit), GatewayFault>>(
     serve_round: &mut F,
     alloc: Global,
     options: &ServeOptions<'_>,
 ) -> Result<(Book, Sums), GatewayFault>
     requires { CanServe F.pre F.step }
-    ensures run { IfOk result (λ r. (latest : ServedRound) × (earlier : List ServedRound) × AreServed F.step serve_round.old (latest ∷ earlier) serve_round.new × IsRun options.now.connections options.now.round options.now.connections latest earlier r.0 r.1) }
-    ensures last { IfOk result (λ r. IsLastRound options.now.connections options.now.round r.0.opening.round) }
+    ensures run { IfOk result (λ r. (latest : ServedRound) × (earlier : List ServedRound)
+        × AreServed F.step serve_round.old (latest ∷ earlier) serve_round.new
+        × IsRun options.now.connections options.now.round options.now.connections latest earlier r.0
+        r.1) }
+    ensures last { IfOk result (λ r. IsLastRound options.now.connections options.now.round
+        r.0.opening.round) }
 {
     let Ok(new) = Book::new(alloc) else {
         return Err(GatewayFault::NoMemory);

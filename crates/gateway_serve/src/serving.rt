@@ -28,15 +28,17 @@ fn ending_of(alloc: Global, book: &Book, sums: Sums) -> Result<Vec<u8>, AllocErr
     Ok(text)
 }
 
-/// Has all connections served in rounds, and gives what is to be printed: the report of the last round,
-/// and the sums of all audits.
+/// Has all connections served in rounds, and gives what is to be printed: the report of the last
+/// round, and the sums of all audits.
 fn tell_rounds<F: FnMut(Book, u64) -> Result<(Book, Audit), GatewayFault>>(
     serve_round: &mut F,
     alloc: Global,
     options: &ServeOptions<'_>,
 ) -> Result<Vec<u8>, GatewayFault>
     requires { CanServe F.pre F.step }
-    ensures { IfOk result (λ text. (latest : ServedRound) × (earlier : List ServedRound) × AreServed F.step serve_round.old (latest ∷ earlier) serve_round.new × IsEnding options.now.connections options.now.round latest earlier text.items) }
+    ensures { IfOk result (λ text. (latest : ServedRound) × (earlier : List ServedRound)
+        × AreServed F.step serve_round.old (latest ∷ earlier) serve_round.new
+        × IsEnding options.now.connections options.now.round latest earlier text.items) }
 {
     let (book, sums) = serve_rounds(serve_round, alloc, options)?;
     match ending_of(alloc, &book, sums) {
@@ -45,13 +47,15 @@ fn tell_rounds<F: FnMut(Book, u64) -> Result<(Book, Audit), GatewayFault>>(
     }
 }
 
-/// Serves so many connections of a listener by its workers, each flush on a connection of its own to the
-/// back end, and gives what is to be printed: the report of the last round, and the sums of all audits.
+/// Serves so many connections of a listener by its workers, each flush on a connection of its own
+/// to the back end, and gives what is to be printed: the report of the last round, and the sums of
+/// all audits.
 ///
-/// `CannotAccept` where a connection is refused, `CannotStart` where there is no thread for a worker,
-/// `AuditFailed` where what the workers were told is not what the book holds, and `NoMemory` where a
-/// growth was refused outside a request. Then nothing is given; what was served before that stands with
-/// its senders.
+/// `CannotAccept` where a connection is refused, `CannotStart` where there is no thread for a
+/// worker,
+/// `AuditFailed` where what the workers were told is not what the book holds, and `NoMemory` where
+/// a growth was refused outside a request. Then nothing is given; what was served before that
+/// stands with its senders.
 pub fn serve_bound<
     R: Net<Listener = TcpListener, Stream = TcpStream> + Threads + Wait + Clock + Sync,
 >(
@@ -60,7 +64,8 @@ pub fn serve_bound<
     listener: &TcpListener,
     options: &ServeOptions<'_>,
 ) -> Result<Vec<u8>, GatewayFault>
-    ensures { IfOk result (λ text. (latest : ServedRound) × (earlier : List ServedRound) × IsEnding options.now.connections options.now.round latest earlier text.items) }
+    ensures { IfOk result (λ text. (latest : ServedRound) × (earlier : List ServedRound)
+        × IsEnding options.now.connections options.now.round latest earlier text.items) }
 {
     let mut serve_round = |book: Book, connections: u64| -> Result<(Book, Audit), GatewayFault>
         requires { book.entries ≡ [] }
@@ -73,7 +78,8 @@ pub fn serve_bound<
 pub fn serve_all<
     R: Net<Listener = TcpListener, Stream = TcpStream> + Threads + Wait + Clock + Sync,
 >(rt: &R, alloc: Global, options: &ServeOptions<'_>) -> Result<Vec<u8>, GatewayFault>
-    ensures { IfOk result (λ text. (latest : ServedRound) × (earlier : List ServedRound) × IsEnding options.now.connections options.now.round latest earlier text.items) }
+    ensures { IfOk result (λ text. (latest : ServedRound) × (earlier : List ServedRound)
+        × IsEnding options.now.connections options.now.round latest earlier text.items) }
 {
     let Ok(listener) = TcpListener::bind(rt, options.listen) else {
         return Err(GatewayFault::CannotListen);

@@ -26,7 +26,8 @@ impl Sums {
     /// With those of one more round.
     pub fn and(self, audit: Audit) -> Sums
         ensures admitted { result.admitted ≡ min (self.admitted + audit.admitted) (2 ^ 128 - 1) }
-        ensures acknowledged { result.acknowledged ≡ min (self.acknowledged + audit.acknowledged) (2 ^ 128 - 1) }
+        ensures acknowledged { result.acknowledged ≡ min (self.acknowledged + audit.acknowledged)
+            (2 ^ 128 - 1) }
     {
         Sums {
             admitted: self.admitted.saturating_add(audit.admitted),

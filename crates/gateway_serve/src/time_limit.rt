@@ -20,8 +20,8 @@ pub const ANSWER_SECONDS: u64 = 30;
 /// For how many seconds what still comes of a refused request is read and thrown away.
 pub const REFUSED_SECONDS: u64 = 5;
 
-/// For how many milliseconds a wait that a socket was told stands before the socket is told anew, so
-/// that what comes at once costs no further call. A wait may end so much behind the limit.
+/// For how many milliseconds a wait that a socket was told stands before the socket is told anew,
+/// so that what comes at once costs no further call. A wait may end so much behind the limit.
 const STANDS_MILLIS: u64 = 10;
 
 /// The least wait that a socket takes, in nanoseconds.
@@ -69,10 +69,12 @@ impl<M: Moments> TimeLimit<M> {
         }
     }
 
-    /// How long the socket may wait at its next call, where it has to be told: what is left. `TimedOut`
-    /// once nothing is. A clock that fails fails the call: without one nothing would bound the wait.
+    /// How long the socket may wait at its next call, where it has to be told: what is left.
+    /// `TimedOut` once nothing is. A clock that fails fails the call: without one nothing would
+    /// bound the wait.
     pub fn next_wait(&mut self) -> io::Result<Option<Duration>>
-        ensures wait { (now : Option Instant) × M.tells self.old.moments now self.new.moments × IsWait self.old.whole self.old.run now (result_ok result) self.new.run }
+        ensures wait { (now : Option Instant) × M.tells self.old.moments now self.new.moments
+            × IsWait self.old.whole self.old.run now (result_ok result) self.new.run }
         ensures whole { self.new.whole ≡ self.old.whole }
     {
         let now = self.moments.now()?;

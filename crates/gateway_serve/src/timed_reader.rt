@@ -11,9 +11,9 @@ use crate::waits::Waits;
 use std::io;
 use std::io::Read;
 
-/// A reader that has so many seconds for all its reads, from the first on, however the bytes trickle.
-/// Once they are over each read fails and moves no byte. What the stream says of its bytes, this reader
-/// says.
+/// A reader that has so many seconds for all its reads, from the first on, however the bytes
+/// trickle. Once they are over each read fails and moves no byte. What the stream says of its
+/// bytes, this reader says.
 #[derive(Drop)]
 pub struct TimedReader<S, M> {
     stream: S,
@@ -38,8 +38,12 @@ impl<S: Read + Waits, M: Moments> Read for TimedReader<S, M> {
     /// Fails also where the stream takes no bound: no wait is without one.
     fn read(&mut self, buf: &mut [u8]) -> io::Result<usize>
         ensures bound { ReadsAtMost result buf.new }
-        ensures bytes { ReadConsumes (S.remaining self.old.stream) (S.remaining self.new.stream) result buf.new }
-        ensures timed { (now : Option Instant) × (answer : Option (Option Duration)) × M.tells self.old.limit.moments now self.new.limit.moments × IsWait self.old.limit.whole self.old.limit.run now answer self.new.limit.run × IsTimed answer (S.bounds_reads self.old.stream) result }
+        ensures bytes { ReadConsumes (S.remaining self.old.stream)
+            (S.remaining self.new.stream) result buf.new }
+        ensures timed { (now : Option Instant) × (answer : Option (Option Duration))
+            × M.tells self.old.limit.moments now self.new.limit.moments
+            × IsWait self.old.limit.whole self.old.limit.run now answer self.new.limit.run
+            × IsTimed answer (S.bounds_reads self.old.stream) result }
     {
         if let Some(wait) = self.limit.next_wait()? {
             self.stream.bound_reads(wait)?;

@@ -12,8 +12,8 @@ use std::io;
 use std::io::Write;
 
 /// A writer that has so many seconds for all its writes, from the first on, however slowly they are
-/// taken. Once they are over each write fails and moves no byte. What the stream says of its bytes, this
-/// writer says.
+/// taken. Once they are over each write fails and moves no byte. What the stream says of its bytes,
+/// this writer says.
 #[derive(Drop)]
 pub struct TimedWriter<S, M> {
     stream: S,
@@ -38,8 +38,12 @@ impl<S: Write + Waits, M: Moments> Write for TimedWriter<S, M> {
     /// Fails also where the stream takes no bound: no wait is without one.
     fn write(&mut self, bytes: &[u8]) -> io::Result<usize>
         ensures bound { WritesAtMost result bytes.now }
-        ensures bytes { WriteAppends (S.contents self.old.stream) (S.contents self.new.stream) result bytes.now }
-        ensures timed { (now : Option Instant) × (answer : Option (Option Duration)) × M.tells self.old.limit.moments now self.new.limit.moments × IsWait self.old.limit.whole self.old.limit.run now answer self.new.limit.run × IsTimed answer (S.bounds_writes self.old.stream) result }
+        ensures bytes { WriteAppends (S.contents self.old.stream)
+            (S.contents self.new.stream) result bytes.now }
+        ensures timed { (now : Option Instant) × (answer : Option (Option Duration))
+            × M.tells self.old.limit.moments now self.new.limit.moments
+            × IsWait self.old.limit.whole self.old.limit.run now answer self.new.limit.run
+            × IsTimed answer (S.bounds_writes self.old.stream) result }
     {
         if let Some(wait) = self.limit.next_wait()? {
             self.stream.bound_writes(wait)?;

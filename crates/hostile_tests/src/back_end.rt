@@ -1,4 +1,5 @@
-//! A back end that breaks off, over scripted ends: what the exchange answers, and what becomes of the flush.
+//! A back end that breaks off, over scripted ends: what the exchange answers, and what becomes of
+//! the flush.
 use crate::gate::bytewise;
 use back_answers::Answer;
 use byte_ends::{Script, Step, Tape};
@@ -80,8 +81,8 @@ fn a_reader_that_fails_or_ends_after_any_byte(rt: HostRuntime) -> Result<(), Fai
     Ok(())
 }
 
-/// Posts a point and orders a flush to this back end, whose answer to the order ends by this text; the
-/// book has then so many entries.
+/// Posts a point and orders a flush to this back end, whose answer to the order ends by this text;
+/// the book has then so many entries.
 fn flushed<R: Abort>(rt: &R, backend: Scripted, text: &[u8]) -> Result<(), Fail> {
     let alloc = backend.alloc;
     let mut keeper = BookKeeper::new(alloc, Book::new(alloc)?, 0, backend, 1000);

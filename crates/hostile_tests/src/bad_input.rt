@@ -41,8 +41,8 @@ const NUMBER_POINT: &[u8] =
     b"{\"resourceMetrics\":[{\"scopeMetrics\":[{\"metrics\":[{\"sum\":{\"dataPoints\":[{},\
         5]}}]}]}]}";
 
-/// The request is answered by this text, of this status, and nothing is entered. Gives how many of its
-/// bytes were not read.
+/// The request is answered by this text, of this status, and nothing is entered. Gives how many of
+/// its bytes were not read.
 fn answered<R: Abort>(
     rt: &R,
     alloc: Global,

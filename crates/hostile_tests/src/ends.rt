@@ -7,8 +7,8 @@ use std::process::Abort;
 use std::test::Fail;
 use test_support::{ACCEPTED, POSTED};
 
-/// The batch ended so, after so much of the answer was written: its admission and its end are the two
-/// entries, and as many series are there.
+/// The batch ended so, after so much of the answer was written: its admission and its end are the
+/// two entries, and as many series are there.
 fn expect<R: Abort>(
     rt: &R,
     got: &Outcome,

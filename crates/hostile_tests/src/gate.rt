@@ -26,8 +26,8 @@ pub const MALFORMED: &[u8] = b"HTTP/1.1 400 Bad Request\r\n\
         Connection: close\r\n\r\n\
         {\"message\":\"malformed request\"}";
 
-/// What became of a request: the answer, what was written of it, how many bytes were left unread, and
-/// the book after it.
+/// What became of a request: the answer, what was written of it, how many bytes were left unread,
+/// and the book after it.
 #[derive(Drop)]
 pub struct Outcome<'a> {
     pub served: Served,

@@ -1,8 +1,12 @@
 -- What is answered about the bytes of a request.
-use Rattle.std.specs.Prelude.{◌≡◌, ◌≢◌, ◌⊎◌, ℕ, List, [], Bool, true, false, None, Result, Ok, Err, ⊤}
+use Rattle.std.specs.Prelude.{◌≡◌, ◌≢◌, ◌⊎◌, ℕ, List, [], Bool, true, false, None, Result, Ok, Err}
+use Rattle.std.specs.Prelude.{⊤}
 use Rattle.httparse.specs.Grammar.{RequestHead, NeverHasRequest}
 use Rattle.http_edge.specs.declared.fault.HttpFault.{HttpFault}
-use Rattle.http_edge.specs.declared.fault.HttpFault.TheVariants.{Closed, BadHead, TooManyHeaders, HeadTooLong, BadLength, BodyTooLong, BadChunk, Truncated, Io, NoMemory}
+use Rattle.http_edge.specs.declared.fault.HttpFault.TheVariants.{Closed, BadHead, TooManyHeaders}
+use Rattle.http_edge.specs.declared.fault.HttpFault.TheVariants.{HeadTooLong, BadLength}
+use Rattle.http_edge.specs.declared.fault.HttpFault.TheVariants.{BodyTooLong, BadChunk, Truncated}
+use Rattle.http_edge.specs.declared.fault.HttpFault.TheVariants.{Io, NoMemory}
 use Rattle.http_edge.specs.declared.request.Request.{Request}
 use Rattle.http_edge.specs.Form.{Form, IsLasting}
 use Rattle.http_edge.specs.Message.{Message, IsHeadAt}
@@ -12,11 +16,14 @@ use Rattle.http_edge.specs.Request.{message_in}
 
 -- the head is whole, and its fields frame no body
 abbrev pub HasBadLength : List ℕ → Type 0
-HasBadLength bytes = (head : RequestHead) × (after : List ℕ) × IsHeadAt bytes head after × (framing_in head ≡ None)
+HasBadLength bytes =
+    (head : RequestHead) × (after : List ℕ) × IsHeadAt bytes head after × (framing_in head ≡ None)
 
 -- the head is whole and frames a body, and whatever follows, no message begins so
 abbrev pub HasBadBody : List ℕ → Type 0
-HasBadBody bytes = (head : RequestHead) × (after : List ℕ) × IsHeadAt bytes head after × (framing_in head ≢ None) × Never bytes
+HasBadBody bytes =
+    (head : RequestHead) × (after : List ℕ) × IsHeadAt bytes head after × (framing_in head ≢ None)
+    × Never bytes
 
 -- what each fault says of the bytes; NoMemory says nothing of them, and Io is none of theirs
 abbrev pub Explains : HttpFault → List ℕ → Type 0
@@ -33,7 +40,8 @@ Explains NoMemory bytes = ⊤
 
 -- a request as a form of message
 abbrev pub request_form : Form Message Request
-request_form = record { begins = BeginsWith; view = message_in; not_yet = NotYet; explains = Explains }
+request_form =
+    record { begins = BeginsWith; view = message_in; not_yet = NotYet; explains = Explains }
 
 -- the fault lasts, and this is what it says
 abbrev pub Fails : HttpFault → List ℕ → Type 0

@@ -1,15 +1,18 @@
 -- What a body that is being read can still become.
-use Rattle.std.specs.Prelude.{◌≡◌, ℕ, ◌+◌, ◌-◌, ◌*◌, ◌<◌, ◌≤◌, Bool, true, false, List, [], ◌∷◌, ◌++◌, length, take, Option, Some, None, Result, Ok, Err, ⊤}
+use Rattle.std.specs.Prelude.{◌≡◌, ℕ, ◌+◌, ◌-◌, ◌*◌, ◌<◌, ◌≤◌, Bool, true, false, List, [], ◌∷◌}
+use Rattle.std.specs.Prelude.{◌++◌, length, take, Option, Some, None, Result, Ok, Err, ⊤}
 use Rattle.httparse.specs.Grammar.{HasNoChunkLine, HasNoSection}
 use Rattle.http_edge.specs.declared.fault.HttpFault.{HttpFault}
 use Rattle.http_edge.specs.declared.fault.HttpFault.TheVariants.{BodyTooLong, BadChunk, NoMemory}
 use Rattle.http_edge.specs.declared.phase.Phase.{Phase}
-use Rattle.http_edge.specs.declared.phase.Phase.TheVariants.{Counted, Line, Content, Return, LineFeed, Trailer, Whole}
+use Rattle.http_edge.specs.declared.phase.Phase.TheVariants.{Counted, Line, Content, Return}
+use Rattle.http_edge.specs.declared.phase.Phase.TheVariants.{LineFeed, Trailer, Whole}
 use Rattle.http_edge.specs.declared.body.Body.{Body}
 use Rattle.http_edge.specs.declared.limits.TheConstants.{MAX_BODY, MAX_LINE, MAX_TRAILER}
 use Rattle.http_edge.specs.Chunks.{room, HasTrailer, HasChunks}
 
--- how far a body was read: the phase, the content so far, and the part so far of a size line or of the trailer section
+-- how far a body was read: the phase, the content so far, and the part so far of a size line or of
+-- the trailer section
 pub record BodyState : Type 0 where
   pub phase : Phase
   pub content : List ℕ
@@ -18,14 +21,20 @@ pub record BodyState : Type 0 where
 abbrev pub body_state : Body → BodyState
 body_state b = record { phase = b.phase; content = b.content.items; part = b.part.items }
 
--- with more behind it, the content so far becomes that body, or None where a size is the first thing that is wrong
+-- with more behind it, the content so far becomes that body, or None where a size is the first
+-- thing that is wrong
 abbrev pub Grows : Phase → List ℕ → List ℕ → List ℕ → Option (List ℕ) → Type 0
-Grows (Counted n) content part more (Some body) = (y : List ℕ) × (rest : List ℕ) × (length y ≡ n) × (more ≡ y ++ rest) × (body ≡ content ++ y)
+Grows (Counted n) content part more (Some body) =
+    (y : List ℕ) × (rest : List ℕ) × (length y ≡ n) × (more ≡ y ++ rest) × (body ≡ content ++ y)
 Grows (Counted n) content part more None = ⊥
 Grows Line content part more body = HasChunks content (part ++ more) body
-Grows (Content n) content part more body = (y : List ℕ) × (after : List ℕ) × (length y ≡ n) × (more ≡ y ++ 13 ∷ 10 ∷ after) × HasChunks (content ++ y) after body
-Grows Return content part more body = (after : List ℕ) × (more ≡ 13 ∷ 10 ∷ after) × HasChunks content after body
-Grows LineFeed content part more body = (after : List ℕ) × (more ≡ 10 ∷ after) × HasChunks content after body
+Grows (Content n) content part more body =
+    (y : List ℕ) × (after : List ℕ) × (length y ≡ n) × (more ≡ y ++ 13 ∷ 10 ∷ after)
+    × HasChunks (content ++ y) after body
+Grows Return content part more body =
+    (after : List ℕ) × (more ≡ 13 ∷ 10 ∷ after) × HasChunks content after body
+Grows LineFeed content part more body =
+    (after : List ℕ) × (more ≡ 10 ∷ after) × HasChunks content after body
 Grows Trailer content part more (Some body) = HasTrailer (part ++ more) × (body ≡ content)
 Grows Trailer content part more None = ⊥
 Grows Whole content part more (Some body) = body ≡ content
@@ -37,11 +46,13 @@ Becomes s more body = Grows s.phase s.content s.part more body
 -- what is kept in each phase
 abbrev pub Fits : Phase → List ℕ → List ℕ → Type 0
 Fits (Counted n) content part = (0 < n) × (length content + n ≤ MAX_BODY) × (part ≡ [])
-Fits Line content part = (length part < MAX_LINE) × (length content ≤ MAX_BODY) × HasNoChunkLine part
+Fits Line content part =
+    (length part < MAX_LINE) × (length content ≤ MAX_BODY) × HasNoChunkLine part
 Fits (Content n) content part = (0 < n) × (length content + n ≤ MAX_BODY) × (part ≡ [])
 Fits Return content part = (length content ≤ MAX_BODY) × (part ≡ [])
 Fits LineFeed content part = (length content ≤ MAX_BODY) × (part ≡ [])
-Fits Trailer content part = (length part < MAX_TRAILER) × (length content ≤ MAX_BODY) × HasNoSection part
+Fits Trailer content part =
+    (length part < MAX_TRAILER) × (length content ≤ MAX_BODY) × HasNoSection part
 Fits Whole content part = (length content ≤ MAX_BODY) × (part ≡ [])
 
 abbrev pub IsOpen : BodyState → Type 0
@@ -56,7 +67,8 @@ is_whole Return = false
 is_whole LineFeed = false
 is_whole Trailer = false
 
--- the most bytes of chunks that have so much room, up to the end: a chunk has a byte, a line and two line ends
+-- the most bytes of chunks that have so much room, up to the end: a chunk has a byte, a line and
+-- two line ends
 abbrev pub most_of_chunks : ℕ → ℕ
 most_of_chunks n = MAX_TRAILER + (MAX_LINE + 3) * n + MAX_LINE
 
@@ -75,8 +87,10 @@ most_left s = most_at s.phase s.content s.part
 
 -- any bytes become from new what they become behind these from old
 pub record Steps (old new : BodyState) (bytes : List ℕ) : Type 0 where
-  pub forward : (more : List ℕ) (body : Option (List ℕ)) → Becomes old (bytes ++ more) body → Becomes new more body
-  pub backward : (more : List ℕ) (body : Option (List ℕ)) → Becomes new more body → Becomes old (bytes ++ more) body
+  pub forward : (more : List ℕ) (body : Option (List ℕ)) → Becomes old (bytes ++ more) body
+      → Becomes new more body
+  pub backward : (more : List ℕ) (body : Option (List ℕ)) → Becomes new more body
+      → Becomes old (bytes ++ more) body
 
 -- the bytes lead from old to new, which is open and has so many bytes less to come
 pub record Reaches (old new : BodyState) (bytes : List ℕ) : Type 0 where
@@ -85,14 +99,17 @@ pub record Reaches (old new : BodyState) (bytes : List ℕ) : Type 0 where
   pub kept : is_whole new.phase ≡ false → is_whole old.phase ≡ false
   pub less : is_whole new.phase ≡ false → most_left new + length bytes ≤ most_left old
 
--- why the bytes lead nowhere: there is no body, whatever follows; or a size over the room, whatever follows
+-- why the bytes lead nowhere: there is no body, whatever follows; or a size over the room, whatever
+-- follows
 abbrev pub Refuses : HttpFault → BodyState → List ℕ → Type 0
-Refuses BadChunk old bytes = (more : List ℕ) (body : Option (List ℕ)) → ¬ (Becomes old (bytes ++ more) body)
+Refuses BadChunk old bytes =
+    (more : List ℕ) (body : Option (List ℕ)) → ¬ (Becomes old (bytes ++ more) body)
 Refuses BodyTooLong old bytes = (more : List ℕ) → Becomes old (bytes ++ more) None
 Refuses NoMemory old bytes = ⊤
 Refuses e old bytes = ⊥
 
--- n bytes of the piece were taken, at least one, and lead from old to new; or the piece leads nowhere
+-- n bytes of the piece were taken, at least one, and lead from old to new; or the piece leads
+-- nowhere
 abbrev pub IsStep : BodyState → BodyState → List ℕ → Result ℕ HttpFault → Type 0
 IsStep old new piece (Ok n) = (0 < n) × (n ≤ length piece) × Reaches old new (take n piece)
 IsStep old new piece (Err e) = Refuses e old piece

@@ -8,7 +8,8 @@ use Rattle.http_edge.specs.Form.{FaultSays, AnswerSays}
 use Rattle.http_edge.specs.Reading.{IsTooLong, NotYet}
 use Rattle.http_edge.specs.Answer.{request_form, ReportsTooLong}
 
--- there is a byte, the bytes begin with no message, and the size is not the first thing that is wrong
+-- there is a byte, the bytes begin with no message, and the size is not the first thing that is
+-- wrong
 abbrev pub IsMalformed : List ℕ → Type 0
 IsMalformed bytes = (bytes ≢ []) × NotYet bytes
 
@@ -20,10 +21,14 @@ SaysFault e bytes = FaultSays request_form e bytes
 abbrev pub Says : List ℕ → Result Request HttpFault → Type 0
 Says bytes r = AnswerSays request_form bytes r
 
--- what was read before the last call, which gave so many bytes, is Open: nothing was read once it was not
+-- what was read before the last call, which gave so many bytes, is Open: nothing was read once it
+-- was not
 abbrev pub StopsReading : (List ℕ → Type 0) → Option (List ℕ) → Option (List ℕ) → ℕ → Type 0
-StopsReading Open old new given = (before : List ℕ) × (last : List ℕ) × Consumes old new (before ++ last) × (length last ≤ given) × Open before
+StopsReading Open old new given =
+    (before : List ℕ) × (last : List ℕ) × Consumes old new (before ++ last) × (length last ≤ given)
+    × Open before
 
--- BodyTooLong is answered where a size is the first thing that is wrong, unless a call failed or memory ran out
+-- BodyTooLong is answered where a size is the first thing that is wrong, unless a call failed or
+-- memory ran out
 abbrev pub ReportsSize : List ℕ → Result Request HttpFault → Type 0
 ReportsSize bytes r = IsTooLong bytes → (r ≡ Err Io) ⊎ ReportsTooLong r

@@ -11,7 +11,8 @@ unfoldable pub first_in : List ℕ → List Header → Option (List ℕ × List 
 first_in name [] = None
 first_in name (h ∷ hs) = if is_named name h then Some (h.1, hs) else first_in name hs
 
--- the values of the fields of that name are that value and those of the fields after it, or there are none
+-- the values of the fields of that name are that value and those of the fields after it, or there
+-- are none
 abbrev pub HasValues : List ℕ → List Header → Option (List ℕ × List Header) → Type 0
 HasValues name hs None = values_of name hs ≡ []
 HasValues name hs (Some found) = values_of name hs ≡ found.0 ∷ values_of name found.1

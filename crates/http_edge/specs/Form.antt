@@ -1,9 +1,11 @@
 -- What is answered about bytes, for each form of message: a request, and the head of a response.
 use Rattle.std.specs.Prelude.{◌≡◌, ◌≢◌, ◌⊎◌, ℕ, List, [], Result, Ok, Err, ⊤}
 use Rattle.http_edge.specs.declared.fault.HttpFault.{HttpFault}
-use Rattle.http_edge.specs.declared.fault.HttpFault.TheVariants.{Closed, BodyTooLong, Truncated, Io, NoMemory}
+use Rattle.http_edge.specs.declared.fault.HttpFault.TheVariants.{Closed, BodyTooLong, Truncated, Io}
+use Rattle.http_edge.specs.declared.fault.HttpFault.TheVariants.{NoMemory}
 
--- what bytes begin with, and what of it a value has; when they begin with nothing yet; and what a fault says of them
+-- what bytes begin with, and what of it a value has; when they begin with nothing yet; and what a
+-- fault says of them
 pub record Form (M R : Type 0) : Type 1 where
   pub begins : List ℕ → M → Type 0
   pub view : R → M

@@ -1,5 +1,6 @@
 -- Where a head says that its body ends, and what is answered for it.
-use Rattle.std.specs.Prelude.{◌≡◌, ◌==◌, ℕ, ◌<◌, ◌≤◌, Bool, ◌&&◌, List, [], ◌∷◌, map, filter, Option, Some, None, option_map, Result, Ok, Err, codes, if◌then◌else◌}
+use Rattle.std.specs.Prelude.{◌≡◌, ◌==◌, ℕ, ◌<◌, ◌≤◌, Bool, ◌&&◌, List, [], ◌∷◌, map, filter}
+use Rattle.std.specs.Prelude.{Option, Some, None, option_map, Result, Ok, Err, codes, if◌then◌else◌}
 use Rattle.std.specs.Str.{str_eq_ignore_ascii_case}
 use Rattle.decimals.specs.Numbers.{number}
 use Rattle.http_edge.specs.declared.fault.HttpFault.{HttpFault}
@@ -23,7 +24,8 @@ framing_by_length v = option_map (λ n. Sized n) (number v)
 
 -- the one coding that is known, and only in HTTP/1.1
 abbrev pub framing_by_coding : ℕ → List ℕ → Option Framing
-framing_by_coding minor v = if str_eq_ignore_ascii_case v (codes "chunked") && (minor == 1) then Some Chunked else None
+framing_by_coding minor v =
+    if str_eq_ignore_ascii_case v (codes "chunked") && (minor == 1) then Some Chunked else None
 
 -- one coding and no length, or one length and no coding, or neither
 abbrev pub framing_of : ℕ → List (List ℕ) → List (List ℕ) → Option Framing
@@ -36,9 +38,12 @@ framing_of minor (c ∷ d ∷ cs) vs = None
 
 -- how the fields of a head of HTTP/1.minor frame the body
 abbrev pub framing_by : ℕ → List Header → Option Framing
-framing_by minor hs = framing_of minor (values_of (codes "transfer-encoding") hs) (values_of (codes "content-length") hs)
+framing_by minor hs =
+    framing_of minor (values_of (codes "transfer-encoding") hs)
+    (values_of (codes "content-length") hs)
 
--- the framing itself where its size is within the limit; BadLength where there is none, BodyTooLong over the limit
+-- the framing itself where its size is within the limit; BadLength where there is none, BodyTooLong
+-- over the limit
 abbrev pub Frames : Option Framing → Result Framing HttpFault → Type 0
 Frames framing (Ok (Sized n)) = (framing ≡ Some (Sized n)) × (n ≤ MAX_BODY)
 Frames framing (Ok Chunked) = framing ≡ Some Chunked

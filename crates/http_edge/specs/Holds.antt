@@ -1,5 +1,6 @@
 -- What a decoder keeps of the bytes that it was fed.
-use Rattle.std.specs.Prelude.{◌≡◌, ◌≢◌, ℕ, ◌+◌, ◌-◌, ◌<◌, ◌≤◌, Bool, true, false, List, [], ◌++◌, length, take, Option, Some, None, Result, Ok, Err, IfOk, IfErr, ⊤}
+use Rattle.std.specs.Prelude.{◌≡◌, ◌≢◌, ℕ, ◌+◌, ◌-◌, ◌<◌, ◌≤◌, Bool, true, false, List, [], ◌++◌}
+use Rattle.std.specs.Prelude.{length, take, Option, Some, None, Result, Ok, Err, IfOk, IfErr, ⊤}
 use Rattle.httparse.specs.Grammar.{RequestHead, HasNoRequest}
 use Rattle.http_edge.specs.declared.fault.HttpFault.{HttpFault}
 use Rattle.http_edge.specs.declared.framing.Framing.{Framing}
@@ -9,10 +10,12 @@ use Rattle.http_edge.specs.declared.machine.Machine.TheVariants.{InHead, InBody,
 use Rattle.http_edge.specs.declared.limits.TheConstants.{MAX_BODY, MAX_HEAD}
 use Rattle.http_edge.specs.Message.{IsHeadAt}
 use Rattle.http_edge.specs.Reading.{HasBody, framing_in}
-use Rattle.http_edge.specs.Body.{BodyState, body_state, Becomes, IsOpen, is_whole, most_left, most_of_chunks}
+use Rattle.http_edge.specs.Body.{BodyState, body_state, Becomes, IsOpen, is_whole, most_left}
+use Rattle.http_edge.specs.Body.{most_of_chunks}
 use Rattle.http_edge.specs.Answer.{Fails}
 
--- how far a message was read: the bytes of the head so far; or the head, and the state of its body; or a fault
+-- how far a message was read: the bytes of the head so far; or the head, and the state of its body;
+-- or a fault
 pub data Progress : Type 0 where
   in_head : List ℕ → Progress
   in_body : List ℕ → BodyState → Progress
@@ -37,19 +40,24 @@ IsSound (failed e) = ⊤
 abbrev pub most_of_a_message : ℕ
 most_of_a_message = MAX_HEAD + most_of_chunks MAX_BODY
 
--- bytes are a whole head and what was fed of its body: with any more bytes the body is what it becomes from here
-pub record IsBehind (head : List ℕ) (body : BodyState) (bytes : List ℕ) (k : RequestHead) (fed : List ℕ) : Type 0 where
+-- bytes are a whole head and what was fed of its body: with any more bytes the body is what it
+-- becomes from here
+pub record IsBehind (head : List ℕ) (body : BodyState) (bytes : List ℕ) (k : RequestHead)
+    (fed : List ℕ) : Type 0 where
   pub at : IsHeadAt head k []
   pub bytes_are : bytes ≡ head ++ fed
   pub framed : framing_in k ≢ None
   pub bounded : is_whole body.phase ≡ false → length bytes + most_left body ≤ most_of_a_message
-  pub forward : (more : List ℕ) (o : Option (List ℕ)) → HasBody (framing_in k) (fed ++ more) o → Becomes body more o
-  pub backward : (more : List ℕ) (o : Option (List ℕ)) → Becomes body more o → HasBody (framing_in k) (fed ++ more) o
+  pub forward : (more : List ℕ) (o : Option (List ℕ)) → HasBody (framing_in k) (fed ++ more) o
+      → Becomes body more o
+  pub backward : (more : List ℕ) (o : Option (List ℕ)) → Becomes body more o
+      → HasBody (framing_in k) (fed ++ more) o
 
 -- after these bytes, however they were cut, this is how far the message was read
 abbrev pub Holds : Progress → List ℕ → Type 0
 Holds (in_head head) bytes = bytes ≡ head
-Holds (in_body head body) bytes = (k : RequestHead) × (fed : List ℕ) × IsBehind head body bytes k fed
+Holds (in_body head body) bytes =
+    (k : RequestHead) × (fed : List ℕ) × IsBehind head body bytes k fed
 Holds (failed e) bytes = Fails e bytes
 
 -- the fault that was returned, if one was
@@ -64,7 +72,8 @@ content_in (in_head head) = []
 content_in (in_body head body) = body.content
 content_in (failed e) = []
 
--- how many bytes are kept: of the head, the body so far, and the part so far of a size line or of the trailers
+-- how many bytes are kept: of the head, the body so far, and the part so far of a size line or of
+-- the trailers
 abbrev pub kept_len : Progress → ℕ
 kept_len (in_head head) = length head
 kept_len (in_body head body) = length head + length body.content + length body.part
@@ -90,8 +99,10 @@ IsFramed Chunked = ⊤
 -- a body of that framing begins in that phase
 pub record Starts (framing : Framing) (body : BodyState) : Type 0 where
   pub opened : IsOpen body
-  pub forward : (more : List ℕ) (o : Option (List ℕ)) → HasBody (Some framing) more o → Becomes body more o
-  pub backward : (more : List ℕ) (o : Option (List ℕ)) → Becomes body more o → HasBody (Some framing) more o
+  pub forward : (more : List ℕ) (o : Option (List ℕ)) → HasBody (Some framing) more o
+      → Becomes body more o
+  pub backward : (more : List ℕ) (o : Option (List ℕ)) → Becomes body more o
+      → HasBody (Some framing) more o
   pub less : most_left body ≤ most_of_chunks MAX_BODY
 
 -- the head ends n bytes into the piece, and frames the body so
@@ -121,7 +132,8 @@ pub record Advances (old new : Progress) (piece : List ℕ) (done : Bool) : Type
 abbrev pub Stops : Progress → List ℕ → HttpFault → Type 0
 Stops old piece e = (bytes : List ℕ) → Holds old bytes → Fails e (bytes ++ piece)
 
--- a feed of the piece: it leads from old to new, or can't be fed; an earlier fault comes again, and a whole message stays
+-- a feed of the piece: it leads from old to new, or can't be fed; an earlier fault comes again, and
+-- a whole message stays
 pub record IsFed (old new : Progress) (piece : List ℕ) (r : Result Bool HttpFault) : Type 0 where
   pub ok : IfOk r (Advances old new piece)
   pub fault : IfErr r (Stops old piece)

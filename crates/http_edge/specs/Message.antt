@@ -22,4 +22,5 @@ pub record IsHeadAt (buf : List ℕ) (head : RequestHead) (after : List ℕ) : T
 
 -- whatever bytes follow, they do not begin with a head within the limits
 abbrev pub NeverHead : List ℕ → Type 0
-NeverHead buf = (more : List ℕ) (head : RequestHead) (after : List ℕ) → ¬ (IsHeadAt (buf ++ more) head after)
+NeverHead buf =
+    (more : List ℕ) (head : RequestHead) (after : List ℕ) → ¬ (IsHeadAt (buf ++ more) head after)

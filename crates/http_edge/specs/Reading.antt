@@ -11,7 +11,8 @@ use Rattle.http_edge.specs.Chunks.{HasChunks}
 
 -- the body of a sized message, or None where its size is over the limit
 abbrev pub HasSized : ℕ → List ℕ → Option (List ℕ) → Type 0
-HasSized n after (Some body) = (n ≤ MAX_BODY) × (length body ≡ n) × ((rest : List ℕ) × (after ≡ body ++ rest))
+HasSized n after (Some body) =
+    (n ≤ MAX_BODY) × (length body ≡ n) × ((rest : List ℕ) × (after ≡ body ++ rest))
 HasSized n after None = MAX_BODY < n
 
 -- the body behind a head, or None where its size is the first thing that is wrong
@@ -26,10 +27,17 @@ framing_in head = framing_by head.minor (map name_and_value head.fields)
 
 -- the message of a head and a body
 abbrev pub message_of : RequestHead → List ℕ → Message
-message_of head body = record { method = head.method; target = head.target; headers = map name_and_value head.fields; body = body }
+message_of head body =
+    record {
+      method = head.method;
+      target = head.target;
+      headers = map name_and_value head.fields;
+      body = body;
+    }
 
 -- a head and what its body is
-pub record IsMessageOf (buf : List ℕ) (head : RequestHead) (after : List ℕ) (body : Option (List ℕ)) : Type 0 where
+pub record IsMessageOf (buf : List ℕ) (head : RequestHead) (after : List ℕ)
+    (body : Option (List ℕ)) : Type 0 where
   pub at : IsHeadAt buf head after
   pub has : HasBody (framing_in head) after body
 
@@ -38,7 +46,8 @@ Reads buf head body = (after : List ℕ) × IsMessageOf buf head after body
 
 -- the bytes begin with the message m
 abbrev pub BeginsWith : List ℕ → Message → Type 0
-BeginsWith buf m = (head : RequestHead) × (body : List ℕ) × Reads buf head (Some body) × (m ≡ message_of head body)
+BeginsWith buf m =
+    (head : RequestHead) × (body : List ℕ) × Reads buf head (Some body) × (m ≡ message_of head body)
 
 -- the head is whole, and the first thing that is wrong after it is the size
 abbrev pub IsTooLong : List ℕ → Type 0

@@ -1,9 +1,12 @@
 -- The head of a response, and what is answered about its bytes.
-use Rattle.std.specs.Prelude.{◌≡◌, ◌≢◌, ℕ, ◌<◌, ◌≤◌, List, [], ◌∷◌, ◌++◌, length, map, Option, Some, None, option_map, Result, Ok, Err, codes, ⊤}
-use Rattle.httparse.specs.Grammar.{ResponseHead, print_response, ReadsResponse, HasNoResponse, NeverHasResponse, status_code}
+use Rattle.std.specs.Prelude.{◌≡◌, ◌≢◌, ℕ, ◌<◌, ◌≤◌, List, [], ◌∷◌, ◌++◌, length, map, Option, Some}
+use Rattle.std.specs.Prelude.{None, option_map, Result, Ok, Err, codes, ⊤}
+use Rattle.httparse.specs.Grammar.{ResponseHead, print_response, ReadsResponse, HasNoResponse}
+use Rattle.httparse.specs.Grammar.{NeverHasResponse, status_code}
 use Rattle.httparse.specs.Spans.{name_and_value, ResponseOverflows, ResponseExceeds}
 use Rattle.http_edge.specs.declared.fault.HttpFault.{HttpFault}
-use Rattle.http_edge.specs.declared.fault.HttpFault.TheVariants.{Closed, BadHead, TooManyHeaders, HeadTooLong, Truncated, NoMemory}
+use Rattle.http_edge.specs.declared.fault.HttpFault.TheVariants.{Closed, BadHead, TooManyHeaders}
+use Rattle.http_edge.specs.declared.fault.HttpFault.TheVariants.{HeadTooLong, Truncated, NoMemory}
 use Rattle.http_edge.specs.declared.reply.Reply.{Reply}
 use Rattle.http_edge.specs.declared.limits.TheConstants.{MAX_FIELDS, MAX_HEAD}
 use Rattle.http_edge.specs.Form.{Form, IsLasting, AnswerSays}
@@ -21,7 +24,11 @@ first_of (v ∷ vs) = Some v
 
 -- what a head says: its status, and the value of its first Retry-After
 abbrev pub reply_of : ResponseHead → ReplyHead
-reply_of k = record { status = status_code k; retry_after = first_of (values_of (codes "retry-after") (map name_and_value k.fields)) }
+reply_of k =
+    record {
+      status = status_code k;
+      retry_after = first_of (values_of (codes "retry-after") (map name_and_value k.fields));
+    }
 
 -- what a reply says
 abbrev pub reply_in : Reply → ReplyHead
@@ -35,7 +42,8 @@ pub record IsResponseAt (buf : List ℕ) (k : ResponseHead) (after : List ℕ) :
 
 -- the bytes begin with a head that says t
 abbrev pub BeginsWithReply : List ℕ → ReplyHead → Type 0
-BeginsWithReply buf t = (k : ResponseHead) × (after : List ℕ) × IsResponseAt buf k after × (t ≡ reply_of k)
+BeginsWithReply buf t =
+    (k : ResponseHead) × (after : List ℕ) × IsResponseAt buf k after × (t ≡ reply_of k)
 
 -- the bytes begin with no head
 abbrev pub NoReply : List ℕ → Type 0
@@ -45,15 +53,24 @@ NoReply buf = (k : ResponseHead) (after : List ℕ) → ¬ (IsResponseAt buf k a
 abbrev pub ExplainsReply : HttpFault → List ℕ → Type 0
 ExplainsReply Closed bytes = bytes ≡ []
 ExplainsReply BadHead bytes = NeverHasResponse bytes
-ExplainsReply TooManyHeaders bytes = ResponseOverflows MAX_FIELDS bytes × ResponseExceeds MAX_FIELDS bytes
-ExplainsReply HeadTooLong bytes = (MAX_HEAD ≤ length bytes) × ((more : List ℕ) (k : ResponseHead) (after : List ℕ) → ReadsResponse (bytes ++ more) k after → MAX_HEAD < length (print_response k))
+ExplainsReply TooManyHeaders bytes =
+    ResponseOverflows MAX_FIELDS bytes × ResponseExceeds MAX_FIELDS bytes
+ExplainsReply HeadTooLong bytes =
+    (MAX_HEAD ≤ length bytes) × ((more : List ℕ) (k : ResponseHead) (after : List ℕ)
+    → ReadsResponse (bytes ++ more) k after → MAX_HEAD < length (print_response k))
 ExplainsReply Truncated bytes = (bytes ≢ []) × NoReply bytes
 ExplainsReply NoMemory bytes = ⊤
 ExplainsReply e bytes = ⊥
 
 -- the head of a response as a form of message
 abbrev pub reply_form : Form ReplyHead Reply
-reply_form = record { begins = BeginsWithReply; view = reply_in; not_yet = NoReply; explains = ExplainsReply }
+reply_form =
+    record {
+      begins = BeginsWithReply;
+      view = reply_in;
+      not_yet = NoReply;
+      explains = ExplainsReply;
+    }
 
 -- what a look for a reply answers
 abbrev pub LooksForReply : List ℕ → Result (Option Reply) HttpFault → Type 0

@@ -14,8 +14,20 @@ abbrev pub headers_in : List kept.Header → List Header
 headers_in hs = map header_in hs
 
 abbrev pub message_in : Request → Message
-message_in r = record { method = r.method; target = r.target.items; headers = headers_in r.headers.items; body = r.body.items }
+message_in r =
+    record {
+      method = r.method;
+      target = r.target.items;
+      headers = headers_in r.headers.items;
+      body = r.body.items;
+    }
 
 -- the message of that body whose head the spans cover
 abbrev pub message_at : List ℕ → List HeaderSpan → RequestSpans → List ℕ → Message
-message_at buf spans r body = record { method = span_bytes buf r.method; target = span_bytes buf r.path; headers = map (header_bytes buf) (take r.headers spans); body = body }
+message_at buf spans r body =
+    record {
+      method = span_bytes buf r.method;
+      target = span_bytes buf r.path;
+      headers = map (header_bytes buf) (take r.headers spans);
+      body = body;
+    }

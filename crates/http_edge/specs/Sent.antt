@@ -10,7 +10,8 @@ Sent old new text All = Appends old new text
 Sent old new text None_ = Keeps old new
 Sent old new text (Part n) = Appends old new (take n text) × (0 < n) × (n < length text)
 
--- the count of failed calls before and after: none failed at All, and else one, so nothing was tried again
+-- the count of failed calls before and after: none failed at All, and else one, so nothing was
+-- tried again
 abbrev pub Failed : (ℕ → ℕ) → ℕ → ℕ → Written → Type 0
 Failed one_more old new All = new ≡ old
 Failed one_more old new None_ = new ≡ one_more old
@@ -22,7 +23,8 @@ cut_after zero = None_
 cut_after (suc n) = Part (suc n)
 
 -- the sink took some of the bytes, not all, behind those that were sent, and that is the answer
-pub record IsCut (old new : Option (List ℕ)) (sent : ℕ) (bytes : List ℕ) (answer : Written) : Type 0 where
+pub record IsCut (old new : Option (List ℕ)) (sent : ℕ) (bytes : List ℕ)
+    (answer : Written) : Type 0 where
   pub many : ℕ
   pub fewer : many < length bytes
   pub taken : Appends old new (take many bytes)

@@ -8,7 +8,8 @@ abbrev pub waiting_bytes : WriteBuffer → List ℕ
 waiting_bytes j = take j.len j.bytes
 
 -- the sink took the first of the bytes, behind so many that were sent, and the others wait
-pub record Passes (old new : Option (List ℕ)) (sent : ℕ) (to : WriteBuffer) (bytes : List ℕ) : Type 0 where
+pub record Passes (old new : Option (List ℕ)) (sent : ℕ) (to : WriteBuffer)
+    (bytes : List ℕ) : Type 0 where
   pub done : List ℕ
   pub taken : Appends old new done
   pub rest : bytes ≡ done ++ waiting_bytes to

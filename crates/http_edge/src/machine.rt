@@ -82,7 +82,8 @@ impl Machine {
     /// The request, where the bytes end here.
     pub fn finish(self, alloc: Global) -> Result<Request, HttpFault>
         requires { IsSound (progress_of self) }
-        ensures answers { (bytes : List ℕ) → Holds (progress_of self) bytes → IsAnswer request_form bytes result }
+        ensures answers { (bytes : List ℕ) → Holds (progress_of self) bytes
+            → IsAnswer request_form bytes result }
         ensures again { (e : HttpFault) → fault_in (progress_of self) ≡ Some e → result ≡ Err e }
         ensures closed { Holds (progress_of self) [] → fault_in (progress_of self) ≡ None
             → result ≡ Err HttpFault.Closed }

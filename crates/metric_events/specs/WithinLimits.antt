@@ -6,7 +6,8 @@ use Rattle.metric_events.specs.History.{History, entries}
 use Rattle.metric_events.specs.Points.{points}
 use Rattle.metric_events.specs.Running.{open_batches, live_flushes, held_senders, owed}
 use Rattle.metric_events.specs.Series.{series_count, sum_of}
-use Rattle.metric_events.specs.declared.limits.TheConstants.{MAX_SERIES, MAX_OPEN, MAX_LIVE, MAX_HELD, MAX_ENTRIES}
+use Rattle.metric_events.specs.declared.limits.TheConstants.{MAX_SERIES, MAX_OPEN, MAX_LIVE}
+use Rattle.metric_events.specs.declared.limits.TheConstants.{MAX_HELD, MAX_ENTRIES}
 
 -- series, open batches, live flushes and quarantined senders are few; there is room to end them
 -- all; sums are within their limits

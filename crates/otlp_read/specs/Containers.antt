@@ -1,5 +1,6 @@
 -- Containers: objects, arrays of objects, and the error for one of another type.
-use Rattle.std.specs.Prelude.{◌≡◌, List, [], ◌∷◌, Bool, if◌then◌else◌, Option, Some, None, is_some, Result, Ok, Err, ⊤}
+use Rattle.std.specs.Prelude.{◌≡◌, List, [], ◌∷◌, Bool, if◌then◌else◌, Option, Some, None, is_some}
+use Rattle.std.specs.Prelude.{Result, Ok, Err, ⊤}
 use Rattle.std.specs.List.{list_all}
 use Rattle.serde_json.specs.Data.{Data, Items, no_items, item}
 use Rattle.serde_json.specs.Find.{as_object, as_array}
@@ -36,7 +37,8 @@ is_object d = is_some (as_object d)
 -- the elements of an array, if all of them are objects
 abbrev pub each_object : Place → Option Items → Result (List Data) Place
 each_object place None = Err place
-each_object place (Some ds) = if list_all is_object (elements ds) then Ok (elements ds) else Err place
+each_object place (Some ds) =
+    if list_all is_object (elements ds) then Ok (elements ds) else Err place
 
 -- an array of objects; an absent one has no elements
 unfoldable pub objects : Place → Option Data → Result (List Data) Place

@@ -1,5 +1,6 @@
 -- Metrics: their five data fields, and the points in them.
-use Rattle.std.specs.Prelude.{ℕ, ◌+◌, List, length, Bool, nat_le, if◌then◌else◌, Option, Some, None, Result, Ok, codes}
+use Rattle.std.specs.Prelude.{ℕ, ◌+◌, List, length, Bool, nat_le, if◌then◌else◌, Option, Some, None}
+use Rattle.std.specs.Prelude.{Result, Ok, codes}
 use Rattle.serde_json.specs.Data.{Data}
 use Rattle.otlp_read.specs.declared.place.Place.{Place}
 use Rattle.otlp_read.specs.declared.place.Place.TheVariants.{DataField, DataPoints}
@@ -43,7 +44,13 @@ parts metric = do
   histogram ← part (codes "histogram") metric
   exponential ← part (codes "exponentialHistogram") metric
   summary ← part (codes "summary") metric
-  Ok (record { gauge = gauge; sum = sum; histogram = histogram; exponential = exponential; summary = summary })
+  Ok (record {
+    gauge = gauge;
+    sum = sum;
+    histogram = histogram;
+    exponential = exponential;
+    summary = summary;
+  })
 
 -- 1 for a data field that is present
 abbrev pub one_if : Option Part → ℕ
@@ -52,7 +59,9 @@ one_if (Some p) = 1
 
 -- there is at most one data field
 unfoldable pub is_single : Parts → Bool
-is_single ps = nat_le (one_if ps.gauge + one_if ps.sum + one_if ps.histogram + one_if ps.exponential + one_if ps.summary) 1
+is_single ps =
+    nat_le (one_if ps.gauge + one_if ps.sum + one_if ps.histogram + one_if ps.exponential
+    + one_if ps.summary) 1
 
 -- all points of a data field are foreign
 abbrev pub add_all : Option Part → Tally → Tally
@@ -62,12 +71,14 @@ add_all (Some p) t = add_foreign (length p.points) t
 -- the points of a sum
 abbrev pub add_sum : Option Scope → Data → Option Part → Tally → Tally
 add_sum scope metric None t = t
-add_sum scope metric (Some p) t = each_point (sum_point_in (sum_stream_in scope metric p.whole)) p.points t
+add_sum scope metric (Some p) t =
+    each_point (sum_point_in (sum_stream_in scope metric p.whole)) p.points t
 
 -- the points of a histogram
 abbrev pub add_histogram : Option Scope → Data → Option Part → Tally → Tally
 add_histogram scope metric None t = t
-add_histogram scope metric (Some p) t = each_point (histogram_point_in (stream_in scope metric p.whole)) p.points t
+add_histogram scope metric (Some p) t =
+    each_point (histogram_point_in (stream_in scope metric p.whole)) p.points t
 
 -- sums and histograms are read if they are the only data field; else all points are foreign
 unfoldable pub add_profile : Option Scope → Data → Parts → Tally → Tally
@@ -77,7 +88,8 @@ add_profile scope metric ps t =
 
 -- gauges, exponential histograms and summaries are foreign
 unfoldable pub add_parts : Option Scope → Data → Parts → Tally → Tally
-add_parts scope metric ps t = add_all ps.summary (add_all ps.exponential (add_profile scope metric ps (add_all ps.gauge t)))
+add_parts scope metric ps t =
+    add_all ps.summary (add_all ps.exponential (add_profile scope metric ps (add_all ps.gauge t)))
 
 -- a metric
 unfoldable pub metric : Option Scope → Data → Tally → Result Tally Place

@@ -1,6 +1,7 @@
 -- What a request says: its points of the profile in order, the count of foreign points and that
 -- of metrics; or its first wrong container.
-use Rattle.std.specs.Prelude.{◌≡◌, ℕ, List, [], ◌∷◌, if◌then◌else◌, Option, Some, None, option_map, Result, Ok, Err, ⊤, codes}
+use Rattle.std.specs.Prelude.{◌≡◌, ℕ, List, [], ◌∷◌, if◌then◌else◌, Option, Some, None, option_map}
+use Rattle.std.specs.Prelude.{Result, Ok, Err, ⊤, codes}
 use Rattle.std.specs.Str.{is_utf8}
 use Rattle.serde_json.specs.Data.{Data}
 use Rattle.serde_json.specs.Read.{read}
@@ -27,7 +28,8 @@ unfoldable pub scope_metrics : Option (List Attribute) → Data → Tally → Re
 scope_metrics resource d t = do
   scope ← object_in place.Scope (field (codes "scope") d)
   metrics ← objects place.Metrics (field (codes "metrics") d)
-  each (metric (scope_in resource scope (attributes_in (inner (codes "attributes") scope)))) metrics t
+  each (metric (scope_in resource scope (attributes_in (inner (codes "attributes") scope)))) metrics
+      t
 
 -- a resource and its scopes
 unfoldable pub resource_metrics : Data → Tally → Result Tally Place

@@ -1,5 +1,6 @@
 -- The parts of an identity that points share: resource, scope and metric; and series.
-use Rattle.std.specs.Prelude.{ℕ, Bool, List, Option, Some, None, if◌then◌else◌, option_and_then, codes}
+use Rattle.std.specs.Prelude.{ℕ, Bool, List, Option, Some, None, if◌then◌else◌, option_and_then}
+use Rattle.std.specs.Prelude.{codes}
 use Rattle.std.specs.Result.{result_ok}
 use Rattle.serde_json.specs.Data.{Data}
 use Rattle.series_id.specs.declared.attributes.Attribute.{Attribute}
@@ -31,7 +32,8 @@ unfoldable pub inner : List ℕ → Option Data → Option Data
 inner name found = found >>= field name
 
 -- name, version and attributes of a scope, with its resource's attributes
-unfoldable pub scope_in : Option (List Attribute) → Option Data → Option (List Attribute) → Option Scope
+unfoldable pub scope_in : Option (List Attribute) → Option Data → Option (List Attribute)
+    → Option Scope
 scope_in resource scope attributes = do
   above ← resource
   name ← text_in (inner (codes "name") scope)
@@ -45,7 +47,11 @@ stream_in scope metric part = do
   above ← scope
   name ← text_in (field (codes "name") metric)
   unit ← text_in (field (codes "unit") metric)
-  if is_delta (field (codes "aggregationTemporality") part) then Some (record { scope = above; name = name; unit = unit }) else None
+  if is_delta (field (codes "aggregationTemporality") part) then Some (record {
+    scope = above;
+    name = name;
+    unit = unit;
+  }) else None
 
 -- a stream of sums, and whether they are monotonic
 pub record SumStream : Type 0 where

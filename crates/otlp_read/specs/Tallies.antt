@@ -33,7 +33,8 @@ add_metric t = record { points = t.points; foreign = t.foreign; metrics = plus t
 -- one more point: of the profile, or foreign
 abbrev pub add_point : Option DataPoint → Tally → Tally
 add_point None t = add_foreign 1 t
-add_point (Some p) t = record { points = t.points ++ p ∷ []; foreign = t.foreign; metrics = t.metrics }
+add_point (Some p) t =
+    record { points = t.points ++ p ∷ []; foreign = t.foreign; metrics = t.metrics }
 
 -- the points of a data field in order
 unfoldable pub each_point : (Data → Option DataPoint) → List Data → Tally → Tally

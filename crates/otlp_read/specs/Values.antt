@@ -1,5 +1,6 @@
 -- Values of attributes (`AnyValue` of the standard): one scalar, or a list of scalars.
-use Rattle.std.specs.Prelude.{List, Bool, ◌||◌, if◌then◌else◌, Option, Some, None, option_map, is_some, codes}
+use Rattle.std.specs.Prelude.{List, Bool, ◌||◌, if◌then◌else◌, Option, Some, None, option_map}
+use Rattle.std.specs.Prelude.{is_some, codes}
 use Rattle.serde_json.specs.Data.{Data}
 use Rattle.serde_json.specs.Find.{as_str, as_bool}
 use Rattle.series_id.specs.declared.scalars.Scalar.{Scalar}
@@ -21,7 +22,9 @@ pub record ValueFields : Type 0 where
 
 -- a double, a map or bytes
 unfoldable pub has_other : Data → Bool
-has_other d = is_some (field (codes "doubleValue") d) || is_some (field (codes "kvlistValue") d) || is_some (field (codes "bytesValue") d)
+has_other d =
+    is_some (field (codes "doubleValue") d) || is_some (field (codes "kvlistValue") d)
+    || is_some (field (codes "bytesValue") d)
 
 -- the fields of a value
 unfoldable pub fields_of : Data → ValueFields
@@ -46,7 +49,9 @@ only_of None (Some d) (Some e) = None
 
 -- a scalar, if there is neither a list nor one of the other values
 unfoldable pub scalar_of : ValueFields → Option Scalar
-scalar_of fields = if fields.other || is_some fields.list then None else only_of fields.text fields.truth fields.int
+scalar_of fields =
+    if fields.other || is_some fields.list then None
+    else only_of fields.text fields.truth fields.int
 
 -- the scalar of an element of a list, which is an object
 unfoldable pub scalar_in : Data → Option Scalar
@@ -58,7 +63,9 @@ scalars_of d = if is_object d then list_in scalar_in (field (codes "values") d) 
 
 -- a list, if there is no other value
 unfoldable pub many_of : ValueFields → Data → Option AttrValue
-many_of fields list = if fields.other || is_some fields.text || is_some fields.truth || is_some fields.int then None else option_map Many (scalars_of list)
+many_of fields list =
+    if fields.other || is_some fields.text || is_some fields.truth || is_some fields.int then None
+    else option_map Many (scalars_of list)
 
 -- a list if its field is present, else a scalar
 abbrev pub value_of_fields : ValueFields → Option Data → Option AttrValue

@@ -1,5 +1,6 @@
 -- Whole numbers, as JSON numbers or as decimal texts.
-use Rattle.std.specs.Prelude.{ℕ, suc, ◌-◌, ◌^◌, ℤ, pos, negsuc, neg_ℤ, List, [], ◌∷◌, Option, Some, None, option_map, nat_le, if◌then◌else◌, ◌==◌}
+use Rattle.std.specs.Prelude.{ℕ, suc, ◌-◌, ◌^◌, ℤ, pos, negsuc, neg_ℤ, List, [], ◌∷◌, Option, Some}
+use Rattle.std.specs.Prelude.{None, option_map, nat_le, if◌then◌else◌, ◌==◌}
 use Rattle.decimals.specs.Numbers.{number_up_to}
 use Rattle.serde_json.specs.Data.{Data, null, boolean, number, string, array, object}
 use Rattle.serde_json.specs.Find.{as_integer}
@@ -11,7 +12,9 @@ magnitude ds = number_up_to (2 ^ 64 - 1) ds
 -- an optional minus, and digits
 abbrev pub text_whole : List ℕ → Option ℤ
 text_whole [] = None
-text_whole (b ∷ bs) = if b == 45 then option_map (λ n. neg_ℤ (pos n)) (magnitude bs) else option_map pos (magnitude (b ∷ bs))
+text_whole (b ∷ bs) =
+    if b == 45 then option_map (λ n. neg_ℤ (pos n)) (magnitude bs)
+    else option_map pos (magnitude (b ∷ bs))
 
 -- the whole number of a value: a number without fraction and exponent, or a text of digits
 abbrev pub whole : Data → Option ℤ

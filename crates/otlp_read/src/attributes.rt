@@ -1,6 +1,7 @@
 //! Reads attribute lists (`KeyValue` of `opentelemetry/proto/common/v1/common.proto`).
 
-ghost use Rattle.std.specs.Prelude.{◌≡◌, ◌≢◌, codes, map, option_map, IfOk, IfSome, OnErr, OnOk, Some};
+ghost use Rattle.std.specs.Prelude.{◌≡◌, ◌≢◌, codes, map, option_map, IfOk, IfSome, OnErr, OnOk};
+ghost use Rattle.std.specs.Prelude.{Some};
 ghost use Rattle.std.specs.Result.{result_ok};
 ghost use Rattle.serde_json.specs.Data.{object};
 ghost use Rattle.serde_json.specs.View.{view, members_view};
@@ -27,8 +28,10 @@ struct PairFields<'v> {
 
 /// The fields of an attribute, in one pass over its members.
 fn pair_fields<'v>(members: &'v Map<String, Value>) -> PairFields<'v>
-    ensures key { found_data result.key ≡ field (codes "key") (object (members_view members.now.entries)) }
-    ensures value { found_data result.value ≡ field (codes "value") (object (members_view members.now.entries)) }
+    ensures key { found_data result.key ≡ field (codes "key")
+        (object (members_view members.now.entries)) }
+    ensures value { found_data result.value ≡ field (codes "value")
+        (object (members_view members.now.entries)) }
 {
     let mut key = None;
     let mut value = None;
@@ -57,7 +60,8 @@ pub fn attributes_in(alloc: Global, found: Option<&Value>) -> Result<Option<Attr
 
 /// The keys and values of an attribute list; `None` if an element is no attribute.
 fn pairs(alloc: Global, values: &[Value]) -> Result<Option<Vec<(Text, AttrValue)>>, AllocError>
-    ensures { IfOk result (λ o. option_map (λ v. v.items) o ≡ all_of pair_of (map view values.now)) }
+    ensures { IfOk result (λ o. option_map (λ v. v.items) o ≡ all_of pair_of
+        (map view values.now)) }
 {
     let mut found = Vec::with_capacity(alloc, values.len())?;
     for value in values {

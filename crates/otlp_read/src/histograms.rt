@@ -1,7 +1,8 @@
 //! Reads the points of histograms (`HistogramDataPoint` of
 //! `opentelemetry/proto/metrics/v1/metrics.proto`).
 
-ghost use Rattle.std.specs.Prelude.{◌≡◌, ◌≢◌, codes, option_map, option_and_then, IfOk, IfSome, OnErr, OnOk};
+ghost use Rattle.std.specs.Prelude.{◌≡◌, ◌≢◌, codes, option_map, option_and_then, IfOk, IfSome};
+ghost use Rattle.std.specs.Prelude.{OnErr, OnOk};
 ghost use Rattle.std.specs.Result.{result_ok};
 ghost use Rattle.serde_json.specs.Data.{object};
 ghost use Rattle.serde_json.specs.View.{view, members_view};
@@ -10,7 +11,8 @@ ghost use Rattle.series_id.specs.declared.limits.TheConstants.{MAX_BOUND};
 ghost use Rattle.otlp_read.specs.Whole.{signed_in};
 ghost use Rattle.otlp_read.specs.Lists.{list_in};
 ghost use Rattle.otlp_read.specs.Fields.{field};
-ghost use Rattle.otlp_read.specs.Histograms.{count_in, total_in, histogram_fields, histogram_point, histogram_point_in};
+ghost use Rattle.otlp_read.specs.Histograms.{count_in, total_in, histogram_fields, histogram_point};
+ghost use Rattle.otlp_read.specs.Histograms.{histogram_point_in};
 ghost use Rattle.otlp_read.specs.PointViews.{histogram_fields_data};
 ghost use Rattle.otlp_read.specs.StreamViews.{stream_data};
 ghost use Rattle.otlp_read.specs.RefViews.{found_data};
@@ -55,14 +57,22 @@ struct HistogramFields<'v> {
 
 /// The fields of a point, in one pass over its members.
 fn histogram_members<'v>(members: &'v Map<String, Value>) -> HistogramMembers<'v>
-    ensures start { found_data result.start ≡ field (codes "startTimeUnixNano") (object (members_view members.now.entries)) }
-    ensures end { found_data result.end ≡ field (codes "timeUnixNano") (object (members_view members.now.entries)) }
-    ensures count { found_data result.count ≡ field (codes "count") (object (members_view members.now.entries)) }
-    ensures total { found_data result.total ≡ field (codes "sum") (object (members_view members.now.entries)) }
-    ensures flags { found_data result.flags ≡ field (codes "flags") (object (members_view members.now.entries)) }
-    ensures buckets { found_data result.buckets ≡ field (codes "bucketCounts") (object (members_view members.now.entries)) }
-    ensures bounds { found_data result.bounds ≡ field (codes "explicitBounds") (object (members_view members.now.entries)) }
-    ensures attributes { found_data result.attributes ≡ field (codes "attributes") (object (members_view members.now.entries)) }
+    ensures start { found_data result.start ≡ field (codes "startTimeUnixNano")
+        (object (members_view members.now.entries)) }
+    ensures end { found_data result.end ≡ field (codes "timeUnixNano")
+        (object (members_view members.now.entries)) }
+    ensures count { found_data result.count ≡ field (codes "count")
+        (object (members_view members.now.entries)) }
+    ensures total { found_data result.total ≡ field (codes "sum")
+        (object (members_view members.now.entries)) }
+    ensures flags { found_data result.flags ≡ field (codes "flags")
+        (object (members_view members.now.entries)) }
+    ensures buckets { found_data result.buckets ≡ field (codes "bucketCounts")
+        (object (members_view members.now.entries)) }
+    ensures bounds { found_data result.bounds ≡ field (codes "explicitBounds")
+        (object (members_view members.now.entries)) }
+    ensures attributes { found_data result.attributes ≡ field (codes "attributes")
+        (object (members_view members.now.entries)) }
 {
     let mut start = None;
     let mut end = None;
@@ -121,9 +131,12 @@ fn total_in(found: Option<&Value>) -> Option<Option<u64>>
 #[tactic(auto, unfolding(crate::specs::Histograms::histogram_fields))]
 fn histogram_fields<'v>(value: &'v Value) -> Option<HistogramFields<'v>>
     ensures fields { option_map histogram_fields_data result ≡ histogram_fields (view value.now) }
-    ensures buckets { IfSome result (λ f. found_data f.buckets ≡ field (codes "bucketCounts") (view value.now)) }
-    ensures bounds { IfSome result (λ f. found_data f.bounds ≡ field (codes "explicitBounds") (view value.now)) }
-    ensures attributes { IfSome result (λ f. found_data f.attributes ≡ field (codes "attributes") (view value.now)) }
+    ensures buckets { IfSome result (λ f. found_data f.buckets ≡ field (codes "bucketCounts")
+        (view value.now)) }
+    ensures bounds { IfSome result (λ f. found_data f.bounds ≡ field (codes "explicitBounds")
+        (view value.now)) }
+    ensures attributes { IfSome result (λ f. found_data f.attributes ≡ field (codes "attributes")
+        (view value.now)) }
 {
     let members = histogram_members(value.as_object()?);
     let start = nanos_in(members.start)?;
@@ -147,7 +160,8 @@ fn histogram_fields<'v>(value: &'v Value) -> Option<HistogramFields<'v>>
 
 /// The kind of a histogram with these bounds; `None` if they are no bounds.
 fn kind_of(alloc: Global, bounds: Option<&Value>) -> Result<Option<Kind>, AllocError>
-    ensures { IfOk result (λ o. o ≡ option_and_then (λ found. result_ok (histogram_of found)) (list_in (signed_in MAX_BOUND MAX_BOUND) (found_data bounds.entry))) }
+    ensures { IfOk result (λ o. o ≡ option_and_then (λ found. result_ok (histogram_of found))
+        (list_in (signed_in MAX_BOUND MAX_BOUND) (found_data bounds.entry))) }
 {
     let Some(found) = signed_list(alloc, bounds, MAX_BOUND)? else {
         return Ok(None);
@@ -162,7 +176,8 @@ pub fn histogram_point_in(
     stream: Option<Stream<'_>>,
     value: &Value,
 ) -> Result<Option<Point>, AllocError>
-    ensures { IfOk result (λ o. o ≡ histogram_point_in (option_map stream_data stream.entry) (view value.now)) }
+    ensures { IfOk result (λ o. o ≡ histogram_point_in (option_map stream_data stream.entry)
+        (view value.now)) }
 {
     match stream {
         None => Ok(None),

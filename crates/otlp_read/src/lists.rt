@@ -29,7 +29,8 @@ pub fn unsigned_list(
     found: Option<&Value>,
     most: u64,
 ) -> Result<Option<Vec<u64>>, AllocError>
-    ensures { IfOk result (λ o. option_map (λ v. v.items) o ≡ list_in (unsigned_in most) (found_data found.entry)) }
+    ensures { IfOk result (λ o. option_map (λ v. v.items) o ≡ list_in (unsigned_in most)
+        (found_data found.entry)) }
 {
     match elements_in(found) {
         None => Ok(None),
@@ -45,7 +46,8 @@ pub fn signed_list(
     size: u64,
 ) -> Result<Option<Vec<i64>>, AllocError>
     requires { size < 2 ^ 63 }
-    ensures { IfOk result (λ o. option_map (λ v. v.items) o ≡ list_in (signed_in size size) (found_data found.entry)) }
+    ensures { IfOk result (λ o. option_map (λ v. v.items) o ≡ list_in (signed_in size size)
+        (found_data found.entry)) }
 {
     match elements_in(found) {
         None => Ok(None),
@@ -59,7 +61,8 @@ fn unsigned_numbers(
     values: &[Value],
     most: u64,
 ) -> Result<Option<Vec<u64>>, AllocError>
-    ensures { IfOk result (λ o. option_map (λ v. v.items) o ≡ all_of (unsigned_in most) (map view values.now)) }
+    ensures { IfOk result (λ o. option_map (λ v. v.items) o ≡ all_of (unsigned_in most)
+        (map view values.now)) }
 {
     let mut found = Vec::with_capacity(alloc, values.len())?;
     for value in values {
@@ -78,7 +81,8 @@ fn signed_numbers(
     size: u64,
 ) -> Result<Option<Vec<i64>>, AllocError>
     requires { size < 2 ^ 63 }
-    ensures { IfOk result (λ o. option_map (λ v. v.items) o ≡ all_of (signed_in size size) (map view values.now)) }
+    ensures { IfOk result (λ o. option_map (λ v. v.items) o ≡ all_of (signed_in size size)
+        (map view values.now)) }
 {
     let mut found = Vec::with_capacity(alloc, values.len())?;
     for value in values {

@@ -11,7 +11,8 @@ use serde_json::Value;
 /// Sets `slot` to the member if the member has the wanted name. `null` counts as absent.
 #[inline(always)]
 pub fn take_named<'v>(slot: &mut Option<&'v Value>, wanted: &str, name: &str, member: &'v Value)
-    ensures { found_data slot.new ≡ (if bytes_eq wanted.now name.now then present (Some (view member.now)) else found_data slot.old) }
+    ensures { found_data slot.new ≡ (if bytes_eq wanted.now name.now then present
+        (Some (view member.now)) else found_data slot.old) }
 {
     if wanted == name {
         *slot = if member.is_null() { None } else { Some(member) };

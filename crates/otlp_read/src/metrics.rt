@@ -8,7 +8,8 @@ ghost use Rattle.otlp_read.specs.StreamViews.{scope_data, stream_data, sum_strea
 ghost use Rattle.otlp_read.specs.Sums.{sum_point_in};
 ghost use Rattle.otlp_read.specs.Histograms.{histogram_point_in};
 ghost use Rattle.otlp_read.specs.Tallies.{tally, add_metric, add_point, each_point};
-ghost use Rattle.otlp_read.specs.Metrics.{part, parts, one_if, is_single, add_all, add_sum, add_histogram, add_profile, add_parts, metric};
+ghost use Rattle.otlp_read.specs.Metrics.{part, parts, one_if, is_single, add_all, add_sum};
+ghost use Rattle.otlp_read.specs.Metrics.{add_histogram, add_profile, add_parts, metric};
 ghost use Rattle.otlp_read.specs.PartViews.{part_data, parts_data};
 
 use crate::containers::{object_in, objects};
@@ -50,7 +51,8 @@ pub fn metric(
     scope: Option<Scope<'_>>,
     value: &Value,
 ) -> Result<(), ReadFault>
-    ensures { Gives (λ _. tally out.new) result (metric (option_map scope_data scope.entry) (view value.now) (tally out.old)) }
+    ensures { Gives (λ _. tally out.new) result (metric (option_map scope_data scope.entry)
+        (view value.now) (tally out.old)) }
 {
     let parts = parts_of(value)?;
     out.metrics = out.metrics.saturating_add(1);
@@ -99,7 +101,8 @@ fn add_parts(
     metric: &Value,
     parts: Parts<'_>,
 ) -> Result<(), AllocError>
-    ensures { OnOk result (tally out.new ≡ add_parts (option_map scope_data scope.entry) (view metric.now) (parts_data parts.entry) (tally out.old)) }
+    ensures { OnOk result (tally out.new ≡ add_parts (option_map scope_data scope.entry)
+        (view metric.now) (parts_data parts.entry) (tally out.old)) }
 {
     add_all(out, parts.gauge);
     add_profile(alloc, memo, out, scope, metric, parts)?;
@@ -118,7 +121,8 @@ fn add_profile(
     metric: &Value,
     parts: Parts<'_>,
 ) -> Result<(), AllocError>
-    ensures { OnOk result (tally out.new ≡ add_profile (option_map scope_data scope.entry) (view metric.now) (parts_data parts.entry) (tally out.old)) }
+    ensures { OnOk result (tally out.new ≡ add_profile (option_map scope_data scope.entry)
+        (view metric.now) (parts_data parts.entry) (tally out.old)) }
 {
     if is_single(parts) {
         add_sum(alloc, memo, out, scope, metric, parts.sum)?;
@@ -172,7 +176,8 @@ fn add_sum(
     metric: &Value,
     part: Option<Part<'_>>,
 ) -> Result<(), AllocError>
-    ensures { OnOk result (tally out.new ≡ add_sum (option_map scope_data scope.entry) (view metric.now) (option_map part_data part.entry) (tally out.old)) }
+    ensures { OnOk result (tally out.new ≡ add_sum (option_map scope_data scope.entry)
+        (view metric.now) (option_map part_data part.entry) (tally out.old)) }
 {
     let Some(part) = part else {
         return Ok(());
@@ -190,7 +195,8 @@ fn add_histogram(
     metric: &Value,
     part: Option<Part<'_>>,
 ) -> Result<(), AllocError>
-    ensures { OnOk result (tally out.new ≡ add_histogram (option_map scope_data scope.entry) (view metric.now) (option_map part_data part.entry) (tally out.old)) }
+    ensures { OnOk result (tally out.new ≡ add_histogram (option_map scope_data scope.entry)
+        (view metric.now) (option_map part_data part.entry) (tally out.old)) }
 {
     let Some(part) = part else {
         return Ok(());
@@ -207,7 +213,8 @@ fn sum_points(
     sum: Option<SumStream<'_>>,
     points: &[Value],
 ) -> Result<(), AllocError>
-    ensures { OnOk result (tally out.new ≡ each_point (sum_point_in (option_map sum_stream_data sum.entry)) (map view points.now) (tally out.old)) }
+    ensures { OnOk result (tally out.new ≡ each_point (sum_point_in
+        (option_map sum_stream_data sum.entry)) (map view points.now) (tally out.old)) }
 {
     for value in points {
         let point = sum_point_in(alloc, memo, sum, value)?;
@@ -224,7 +231,8 @@ fn histogram_points(
     stream: Option<Stream<'_>>,
     points: &[Value],
 ) -> Result<(), AllocError>
-    ensures { OnOk result (tally out.new ≡ each_point (histogram_point_in (option_map stream_data stream.entry)) (map view points.now) (tally out.old)) }
+    ensures { OnOk result (tally out.new ≡ each_point (histogram_point_in
+        (option_map stream_data stream.entry)) (map view points.now) (tally out.old)) }
 {
     for value in points {
         let point = histogram_point_in(alloc, memo, stream, value)?;

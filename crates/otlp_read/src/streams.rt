@@ -3,8 +3,10 @@
 
 ghost use Rattle.std.specs.Prelude.{◌≡◌, option_map, IfOk};
 ghost use Rattle.serde_json.specs.View.{view};
-ghost use Rattle.otlp_read.specs.Streams.{inner, scope_in, stream_in, sum_stream_in, series_in, series_of};
-ghost use Rattle.otlp_read.specs.StreamViews.{resource_data, scope_data, stream_data, sum_stream_data};
+ghost use Rattle.otlp_read.specs.Streams.{inner, scope_in, stream_in, sum_stream_in, series_in};
+ghost use Rattle.otlp_read.specs.Streams.{series_of};
+ghost use Rattle.otlp_read.specs.StreamViews.{resource_data, scope_data, stream_data};
+ghost use Rattle.otlp_read.specs.StreamViews.{sum_stream_data};
 ghost use Rattle.otlp_read.specs.RefViews.{found_data};
 
 use crate::attributes::attributes_in;
@@ -75,7 +77,8 @@ pub fn scope_in<'a>(
     scope: Option<&'a Value>,
     attributes: Option<&'a AttrSet>,
 ) -> Option<Scope<'a>>
-    ensures { option_map scope_data result ≡ scope_in (option_map resource_data resource.entry) (found_data scope.entry) (option_map (λ s. s.now) attributes.entry) }
+    ensures { option_map scope_data result ≡ scope_in (option_map resource_data resource.entry)
+        (found_data scope.entry) (option_map (λ s. s.now) attributes.entry) }
 {
     let resource = resource?;
     let name = text_in(inner(scope, "name"))?;
@@ -101,7 +104,8 @@ pub fn stream_in<'a>(
     metric: &'a Value,
     part: &Value,
 ) -> Option<Stream<'a>>
-    ensures { option_map stream_data result ≡ stream_in (option_map scope_data scope.entry) (view metric.now) (view part.now) }
+    ensures { option_map stream_data result ≡ stream_in (option_map scope_data scope.entry)
+        (view metric.now) (view part.now) }
 {
     let scope = scope?;
     let name = text_in(field(metric, "name"))?;
@@ -128,7 +132,8 @@ pub fn sum_stream_in<'a>(
     metric: &'a Value,
     sum: &Value,
 ) -> Option<SumStream<'a>>
-    ensures { option_map sum_stream_data result ≡ sum_stream_in (option_map scope_data scope.entry) (view metric.now) (view sum.now) }
+    ensures { option_map sum_stream_data result ≡ sum_stream_in (option_map scope_data scope.entry)
+        (view metric.now) (view sum.now) }
 {
     let stream = stream_in(scope, metric, sum)?;
     let monotonic = truth_in(field(sum, "isMonotonic"))?;
@@ -145,7 +150,8 @@ pub fn series_of(
     kind: Kind,
     found: Option<&Value>,
 ) -> Result<Option<SharedId>, AllocError>
-    ensures { IfOk result (λ o. o ≡ series_of (stream_data stream.entry) kind (found_data found.entry)) }
+    ensures { IfOk result (λ o. o ≡ series_of (stream_data stream.entry) kind
+        (found_data found.entry)) }
 {
     if let Some(series) = look_up(memo, stream, &kind, found) {
         return Ok(Some(series));

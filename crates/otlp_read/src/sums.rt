@@ -43,12 +43,18 @@ struct SumFields<'v> {
 
 /// The fields of a point, in one pass over its members.
 fn sum_members<'v>(members: &'v Map<String, Value>) -> SumMembers<'v>
-    ensures start { found_data result.start ≡ field (codes "startTimeUnixNano") (object (members_view members.now.entries)) }
-    ensures end { found_data result.end ≡ field (codes "timeUnixNano") (object (members_view members.now.entries)) }
-    ensures number { found_data result.number ≡ field (codes "asInt") (object (members_view members.now.entries)) }
-    ensures double { found_data result.double ≡ field (codes "asDouble") (object (members_view members.now.entries)) }
-    ensures flags { found_data result.flags ≡ field (codes "flags") (object (members_view members.now.entries)) }
-    ensures attributes { found_data result.attributes ≡ field (codes "attributes") (object (members_view members.now.entries)) }
+    ensures start { found_data result.start ≡ field (codes "startTimeUnixNano")
+        (object (members_view members.now.entries)) }
+    ensures end { found_data result.end ≡ field (codes "timeUnixNano")
+        (object (members_view members.now.entries)) }
+    ensures number { found_data result.number ≡ field (codes "asInt")
+        (object (members_view members.now.entries)) }
+    ensures double { found_data result.double ≡ field (codes "asDouble")
+        (object (members_view members.now.entries)) }
+    ensures flags { found_data result.flags ≡ field (codes "flags")
+        (object (members_view members.now.entries)) }
+    ensures attributes { found_data result.attributes ≡ field (codes "attributes")
+        (object (members_view members.now.entries)) }
 {
     let mut start = None;
     let mut end = None;
@@ -85,7 +91,8 @@ fn number_in(found: Option<&Value>) -> Option<i64>
 
 /// Whether the point has a recorded value that is no double.
 fn is_whole_value(members: SumMembers<'_>) -> bool
-    ensures { result ≡ (flags_fit (found_data members.entry.flags) && not (is_some (found_data members.entry.double))) }
+    ensures { result ≡ (flags_fit (found_data members.entry.flags)
+        && not (is_some (found_data members.entry.double))) }
 {
     flags_fit(members.flags) && members.double.is_none()
 }
@@ -94,7 +101,8 @@ fn is_whole_value(members: SumMembers<'_>) -> bool
 #[tactic(auto, unfolding(crate::specs::Sums::sum_fields))]
 fn sum_fields<'v>(value: &'v Value) -> Option<SumFields<'v>>
     ensures fields { option_map sum_fields_data result ≡ sum_fields (view value.now) }
-    ensures attributes { IfSome result (λ f. found_data f.attributes ≡ field (codes "attributes") (view value.now)) }
+    ensures attributes { IfSome result (λ f. found_data f.attributes ≡ field (codes "attributes")
+        (view value.now)) }
 {
     let members = sum_members(value.as_object()?);
     let start = nanos_in(members.start)?;
@@ -119,7 +127,8 @@ pub fn sum_point_in(
     sum: Option<SumStream<'_>>,
     value: &Value,
 ) -> Result<Option<Point>, AllocError>
-    ensures { IfOk result (λ o. o ≡ sum_point_in (option_map sum_stream_data sum.entry) (view value.now)) }
+    ensures { IfOk result (λ o. o ≡ sum_point_in (option_map sum_stream_data sum.entry)
+        (view value.now)) }
 {
     match sum {
         None => Ok(None),

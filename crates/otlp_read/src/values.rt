@@ -6,7 +6,8 @@ ghost use Rattle.serde_json.specs.Data.{object};
 ghost use Rattle.serde_json.specs.View.{view, members_view};
 ghost use Rattle.series_id.specs.declared.values.AttrValue.TheVariants.{One};
 ghost use Rattle.otlp_read.specs.Lists.{all_of};
-ghost use Rattle.otlp_read.specs.Values.{fields_of, scalar_of, scalar_in, scalars_of, many_of, value_of, value_in};
+ghost use Rattle.otlp_read.specs.Values.{fields_of, scalar_of, scalar_in, scalars_of, many_of};
+ghost use Rattle.otlp_read.specs.Values.{value_of, value_in};
 ghost use Rattle.otlp_read.specs.ValueViews.{fields_data};
 ghost use Rattle.otlp_read.specs.RefViews.{found_data, scalar_data};
 
@@ -62,7 +63,8 @@ fn fields_of<'v>(members: &'v Map<String, Value>) -> ValueFields<'v>
 
 /// Whether one of three fields is present.
 fn has_any(one: Option<&Value>, another: Option<&Value>, third: Option<&Value>) -> bool
-    ensures { result ≡ (is_some (found_data one.entry) || is_some (found_data another.entry) || is_some (found_data third.entry)) }
+    ensures { result ≡ (is_some (found_data one.entry) || is_some (found_data another.entry)
+        || is_some (found_data third.entry)) }
 {
     one.is_some() || another.is_some() || third.is_some()
 }

@@ -6,7 +6,8 @@ ghost use Rattle.otlp_read.specs.Containers.{Gives};
 ghost use Rattle.otlp_read.specs.StreamViews.{resource_data, scope_data};
 ghost use Rattle.otlp_read.specs.Tallies.{tally};
 ghost use Rattle.otlp_read.specs.Metrics.{metric};
-ghost use Rattle.otlp_read.specs.Reading.{each, scope_metrics, resource_metrics, body, reading, Answers};
+ghost use Rattle.otlp_read.specs.Reading.{each, scope_metrics, resource_metrics, body, reading};
+ghost use Rattle.otlp_read.specs.Reading.{Answers};
 
 use crate::attributes::attributes_in;
 use crate::containers::{object_in, objects};
@@ -87,7 +88,8 @@ fn resources(
     out: &mut Reading,
     values: &[Value],
 ) -> Result<(), ReadFault>
-    ensures { Gives (λ _. tally out.new) result (each resource_metrics (map view values.now) (tally out.old)) }
+    ensures { Gives (λ _. tally out.new) result (each resource_metrics (map view values.now)
+        (tally out.old)) }
 {
     for value in values {
         resource_metrics(alloc, memo, out, value)?;
@@ -103,7 +105,8 @@ fn resource_metrics(
     out: &mut Reading,
     value: &Value,
 ) -> Result<(), ReadFault>
-    ensures { Gives (λ _. tally out.new) result (resource_metrics (view value.now) (tally out.old)) }
+    ensures { Gives (λ _. tally out.new) result (resource_metrics (view value.now)
+        (tally out.old)) }
 {
     let resource = object_in(field(value, "resource"), Place::Resource)?;
     let values = objects(field(value, "scopeMetrics"), Place::ScopeMetrics)?;
@@ -119,7 +122,8 @@ fn scopes(
     resource: Option<Resource<'_>>,
     values: &[Value],
 ) -> Result<(), ReadFault>
-    ensures { Gives (λ _. tally out.new) result (each (scope_metrics (option_map resource_data resource.entry)) (map view values.now) (tally out.old)) }
+    ensures { Gives (λ _. tally out.new) result (each (scope_metrics
+        (option_map resource_data resource.entry)) (map view values.now) (tally out.old)) }
 {
     for value in values {
         scope_metrics(alloc, memo, out, resource, value)?;
@@ -136,7 +140,8 @@ fn scope_metrics(
     resource: Option<Resource<'_>>,
     value: &Value,
 ) -> Result<(), ReadFault>
-    ensures { Gives (λ _. tally out.new) result (scope_metrics (option_map resource_data resource.entry) (view value.now) (tally out.old)) }
+    ensures { Gives (λ _. tally out.new) result (scope_metrics
+        (option_map resource_data resource.entry) (view value.now) (tally out.old)) }
 {
     let scope = object_in(field(value, "scope"), Place::Scope)?;
     let values = objects(field(value, "metrics"), Place::Metrics)?;
@@ -158,7 +163,8 @@ fn metrics(
     scope: Option<Scope<'_>>,
     values: &[Value],
 ) -> Result<(), ReadFault>
-    ensures { Gives (λ _. tally out.new) result (each (metric (option_map scope_data scope.entry)) (map view values.now) (tally out.old)) }
+    ensures { Gives (λ _. tally out.new) result (each (metric (option_map scope_data scope.entry))
+        (map view values.now) (tally out.old)) }
 {
     for value in values {
         metric(alloc, memo, out, scope, value)?;

@@ -2,7 +2,8 @@
 
 ghost use Rattle.std.specs.Prelude.{◌≡◌, ◌<◌, ◌≤◌, ◌^◌};
 ghost use Rattle.serde_json.specs.View.{view};
-ghost use Rattle.otlp_read.specs.Whole.{magnitude, text_whole, whole, unsigned_in, unsigned_64, signed_in, signed_64};
+ghost use Rattle.otlp_read.specs.Whole.{magnitude, text_whole, whole, unsigned_in, unsigned_64};
+ghost use Rattle.otlp_read.specs.Whole.{signed_in, signed_64};
 
 use decimals::number_up_to;
 use serde_json::Value;

@@ -20,7 +20,9 @@ partial_success foreign = object (
 
 -- a success; it says nothing if no point was left out
 unfoldable pub success_value : ℕ → Data
-success_value foreign = if foreign == 0 then object no_members else object (member (codes "partialSuccess") (partial_success foreign) no_members)
+success_value foreign =
+    if foreign == 0 then object no_members
+    else object (member (codes "partialSuccess") (partial_success foreign) no_members)
 
 abbrev pub success_text : ℕ → List ℕ
 success_text foreign = compact_text (success_value foreign)

@@ -19,11 +19,15 @@ scalar_value (Text t) = object (member (codes "stringValue") (string t) no_membe
 -- a single value, or a list of them
 unfoldable pub attr_value : AttrValue → Data
 attr_value (One x) = scalar_value x
-attr_value (Many xs) = object (member (codes "arrayValue") (object (member (codes "values") (array (items_of (map scalar_value xs))) no_members)) no_members)
+attr_value (Many xs) =
+    object (member (codes "arrayValue") (object (member (codes "values")
+    (array (items_of (map scalar_value xs))) no_members)) no_members)
 
 -- a key and its value
 unfoldable pub attribute_value : Attribute → Data
-attribute_value a = object (member (codes "key") (string a.key) (member (codes "value") (attr_value a.value) no_members))
+attribute_value a =
+    object (member (codes "key") (string a.key) (member (codes "value")
+    (attr_value a.value) no_members))
 
 -- the attributes of a set, in key order
 unfoldable pub attributes_value : List Attribute → Data

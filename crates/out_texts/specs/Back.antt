@@ -25,4 +25,9 @@ IsTextOf d bytes = IsUtf8 bytes × (read bytes ≡ Some d)
 
 -- the bytes are a request with these points, in order, and no foreign one
 abbrev pub ReadsBack : List ℕ → List DataPoint → Type 0
-ReadsBack bytes ps = (metrics : ℕ) × (text_reading bytes ≡ Some (Ok (record { points = map point_read ps; foreign = 0; metrics = metrics })))
+ReadsBack bytes ps =
+    (metrics : ℕ) × (text_reading bytes ≡ Some (Ok (record {
+      points = map point_read ps;
+      foreign = 0;
+      metrics = metrics;
+    })))

@@ -13,8 +13,13 @@ AreApart same (g ∷ gs) = AllByRecursion (λ k. same g.0 k.0 ≡ false) gs × A
 
 -- no two scopes are the same, and in none of them are two metrics
 abbrev pub HasScopesOnce : List DataPoint → Type 0
-HasScopesOnce ps = AreApart (same Scope) (groups (same Scope) ps) × AllByRecursion (λ g. AreApart (same Metric) (groups (same Metric) (members g))) (groups (same Scope) ps)
+HasScopesOnce ps =
+    AreApart (same Scope) (groups (same Scope) ps)
+    × AllByRecursion (λ g. AreApart (same Metric) (groups (same Metric) (members g)))
+    (groups (same Scope) ps)
 
 -- no two resources are the same, in none of them are two scopes, and in none of these two metrics
 abbrev pub HasEachOnce : List DataPoint → Type 0
-HasEachOnce ps = AreApart (same Resource) (groups (same Resource) ps) × AllByRecursion (λ g. HasScopesOnce (members g)) (groups (same Resource) ps)
+HasEachOnce ps =
+    AreApart (same Resource) (groups (same Resource) ps)
+    × AllByRecursion (λ g. HasScopesOnce (members g)) (groups (same Resource) ps)

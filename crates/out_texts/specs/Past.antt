@@ -11,7 +11,8 @@ past_head p = codes "past " ++ series_name p.series ++ codes " " ++ kind_text p.
 
 -- what was acknowledged, and what was dropped
 unfoldable pub past_rows : PastRow → List ℕ
-past_rows p = labeled_row (codes " acknowledged ") p.acknowledged ++ labeled_row (codes " dropped ") p.dropped
+past_rows p =
+    labeled_row (codes " acknowledged ") p.acknowledged ++ labeled_row (codes " dropped ") p.dropped
 
 -- a series' line
 unfoldable pub past_line : PastRow → List ℕ

@@ -1,5 +1,6 @@
 -- Points as JSON.
-use Rattle.std.specs.Prelude.{ℕ, ℤ, pos, ◌-ℤ◌, ◌==◌, List, map, sum, codes, decimal, slice_index, if◌then◌else◌, Option, Some, None}
+use Rattle.std.specs.Prelude.{ℕ, ℤ, pos, ◌-ℤ◌, ◌==◌, List, map, sum, codes, decimal, slice_index}
+use Rattle.std.specs.Prelude.{if◌then◌else◌, Option, Some, None}
 use Rattle.std.specs.Fmt.{signed_decimal}
 use Rattle.serde_json.specs.Data.{Data, number, unsigned, string, array, object, no_members, member}
 use Rattle.serde_json.specs.Find.{of_integer}
@@ -55,7 +56,10 @@ histogram_data attributes counts count bounds start (Some total) end = object (
 -- a histogram's point: its attributes, its buckets, their sum as its count, its bounds, its span
 -- and its sum
 abbrev pub histogram_point_value : List ℤ → DataPoint → Data
-histogram_point_value bounds p = histogram_data (attributes_value p.series.attrs) (counts_value (buckets_of p.row)) (decimal (sum (buckets_of p.row))) (bounds_value bounds) (decimal p.span.start) (total_of p.row) (decimal p.span.end)
+histogram_point_value bounds p =
+    histogram_data (attributes_value p.series.attrs) (counts_value (buckets_of p.row))
+    (decimal (sum (buckets_of p.row))) (bounds_value bounds) (decimal p.span.start) (total_of p.row)
+    (decimal p.span.end)
 
 -- the point of a series of this kind
 abbrev pub point_of_kind : Kind → DataPoint → Data

@@ -7,15 +7,22 @@ use Rattle.out_texts.specs.SeriesNames.{series_name, kind_text}
 
 -- what identifies the series' line: its name and kind; and its owner and its frontier
 unfoldable pub series_head : SeriesTotals → List ℕ
-series_head t = codes "series " ++ series_name t.series ++ codes " " ++ kind_text t.series.kind ++ codes " owner " ++ t.owner ++ codes " frontier " ++ decimal t.frontier
+series_head t =
+    codes "series " ++ series_name t.series ++ codes " " ++ kind_text t.series.kind
+    ++ codes " owner " ++ t.owner ++ codes " frontier " ++ decimal t.frontier
 
 -- what was accepted, and what of it was acknowledged and dropped
 unfoldable pub ended_rows : SeriesTotals → List ℕ
-ended_rows t = labeled_row (codes " accepted ") t.accepted ++ labeled_row (codes " acknowledged ") t.acknowledged ++ labeled_row (codes " dropped ") t.dropped
+ended_rows t =
+    labeled_row (codes " accepted ") t.accepted
+    ++ labeled_row (codes " acknowledged ") t.acknowledged
+    ++ labeled_row (codes " dropped ") t.dropped
 
 -- what is in flight, stored and quarantined
 unfoldable pub kept_rows : SeriesTotals → List ℕ
-kept_rows t = labeled_row (codes " in-flight ") t.in_flight ++ labeled_row (codes " stored ") t.stored ++ labeled_row (codes " quarantined ") t.quarantined
+kept_rows t =
+    labeled_row (codes " in-flight ") t.in_flight ++ labeled_row (codes " stored ") t.stored
+    ++ labeled_row (codes " quarantined ") t.quarantined
 
 -- a series' line
 unfoldable pub series_line : SeriesTotals → List ℕ

@@ -1,6 +1,7 @@
 -- The request that forwards points. Neighbours of one resource, scope or metric share its element.
 use Rattle.std.specs.Prelude.{ℕ, List, map, codes}
-use Rattle.serde_json.specs.Data.{Data, boolean, number, unsigned, string, array, object, no_members, member}
+use Rattle.serde_json.specs.Data.{Data, boolean, number, unsigned, string, array, object}
+use Rattle.serde_json.specs.Data.{no_members, member}
 use Rattle.serde_json.specs.View.{items_of}
 use Rattle.serde_json.specs.Written.{compact_text}
 use Rattle.series_id.specs.declared.kinds.Kind.{Kind}
@@ -36,7 +37,8 @@ metric_value x ps = metric_of_kind x.kind x (map point_value ps)
 -- the scope of the series x, with the metrics of these points
 unfoldable pub scope_value : Identity → List DataPoint → Data
 scope_value x ps = object (
-    member (codes "metrics") (array (items_of (map (λ g. metric_value g.0.series (members g)) (groups (same Metric) ps)))) (
+    member (codes "metrics") (array (items_of (map (λ g. metric_value g.0.series (members g))
+    (groups (same Metric) ps)))) (
     member (codes "scope") (object (
     member (codes "attributes") (attributes_value x.scope_attrs) (
     member (codes "name") (string x.scope_name) (
@@ -45,12 +47,16 @@ scope_value x ps = object (
 -- the resource of the series x, with the scopes of these points
 unfoldable pub resource_value : Identity → List DataPoint → Data
 resource_value x ps = object (
-    member (codes "resource") (object (member (codes "attributes") (attributes_value x.resource) no_members)) (
-    member (codes "scopeMetrics") (array (items_of (map (λ g. scope_value g.0.series (members g)) (groups (same Scope) ps)))) no_members))
+    member (codes "resource") (object (member (codes "attributes")
+    (attributes_value x.resource) no_members)) (
+    member (codes "scopeMetrics") (array (items_of (map (λ g. scope_value g.0.series (members g))
+    (groups (same Scope) ps)))) no_members))
 
 -- the resources of these points
 unfoldable pub request_value : List DataPoint → Data
-request_value ps = object (member (codes "resourceMetrics") (array (items_of (map (λ g. resource_value g.0.series (members g)) (groups (same Resource) ps)))) no_members)
+request_value ps =
+    object (member (codes "resourceMetrics") (array (items_of
+    (map (λ g. resource_value g.0.series (members g)) (groups (same Resource) ps)))) no_members)
 
 -- the text of the request
 unfoldable pub request_text : List DataPoint → List ℕ

@@ -3,7 +3,8 @@
 
 ghost use Rattle.std.specs.Prelude.{◌≡◌, map, IfOk, codes, string_bytes};
 ghost use Rattle.serde_json.specs.View.{view, items_view, items_of};
-ghost use Rattle.out_texts.specs.Attributes.{scalar_value, attr_value, attribute_value, attributes_value};
+ghost use Rattle.out_texts.specs.Attributes.{scalar_value, attr_value, attribute_value};
+ghost use Rattle.out_texts.specs.Attributes.{attributes_value};
 
 use crate::objects::Object;
 use serde_json::{Value, json};

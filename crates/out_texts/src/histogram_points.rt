@@ -29,7 +29,8 @@ fn count_of(buckets: &[u64]) -> u64
 
 /// The counts, as texts.
 fn count_values(alloc: Global, counts: &[u64]) -> Result<Vec<Value>, AllocError>
-    ensures { IfOk result (λ vs. items_view vs.items ≡ items_of (map (λ n. string (decimal n)) counts.now)) }
+    ensures { IfOk result (λ vs. items_view vs.items ≡ items_of
+        (map (λ n. string (decimal n)) counts.now)) }
 {
     let mut values = Vec::new(alloc);
     for count in counts {
@@ -40,7 +41,8 @@ fn count_values(alloc: Global, counts: &[u64]) -> Result<Vec<Value>, AllocError>
 
 /// The bounds, as numbers.
 fn bound_values(alloc: Global, bounds: &[i64]) -> Result<Vec<Value>, AllocError>
-    ensures { IfOk result (λ vs. items_view vs.items ≡ items_of (map (λ b. number (of_integer b)) bounds.now)) }
+    ensures { IfOk result (λ vs. items_view vs.items ≡ items_of
+        (map (λ b. number (of_integer b)) bounds.now)) }
 {
     let mut values = Vec::new(alloc);
     for bound in bounds {
@@ -71,7 +73,9 @@ fn histogram_data(
     total: Option<u64>,
     end: String,
 ) -> Result<Value, AllocError>
-    ensures { IfOk result (λ v. view v ≡ spec.histogram_data (view attributes) (array (items_view counts.items)) (string_bytes count) (array (items_view bounds.items)) (string_bytes start) total (string_bytes end)) }
+    ensures { IfOk result (λ v. view v ≡ spec.histogram_data (view attributes)
+        (array (items_view counts.items)) (string_bytes count) (array (items_view bounds.items))
+        (string_bytes start) total (string_bytes end)) }
 {
     let point = Object::new(alloc)
         .value("attributes", attributes)

@@ -15,7 +15,8 @@ use std::alloc::{AllocError, Global};
 pub(crate) fn text_of(alloc: Global, value: Value) -> Result<Vec<u8>, AllocError>
     requires { has_float (view value) ≡ false }
     ensures text { IfOk result (λ text. text.items ≡ compact_text (view value)) }
-    ensures back { depth (view value) ≤ max_depth → IfOk result (λ text. IsTextOf (view value) text.items) }
+    ensures back { depth (view value) ≤ max_depth
+        → IfOk result (λ text. IsTextOf (view value) text.items) }
 {
     value.to_vec(alloc)
 }

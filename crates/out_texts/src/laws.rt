@@ -9,5 +9,6 @@ ghost use Rattle.out_texts.specs.Once.{HasEachOnce};
 /// In the request for a flush that `Book::take` returns, no resource occurs twice, no scope occurs
 /// twice in a resource, and no metric occurs twice in a scope.
 pub fn grouping()
-    ensures once { (old new : Journal) (seat max : ℕ) (flush : Flush) → IsTaken old new seat max flush → HasEachOnce flush.points.items }
+    ensures once { (old new : Journal) (seat max : ℕ) (flush : Flush)
+        → IsTaken old new seat max flush → HasEachOnce flush.points.items }
 {}

@@ -37,7 +37,8 @@ impl Object {
 
     /// Adds a member.
     pub(crate) fn value(self, key: &str, value: Value) -> Object
-        ensures { (ms : Members) → HasMembers self ms → HasMembers result (put key.now (view value) ms) }
+        ensures { (ms : Members) → HasMembers self ms
+            → HasMembers result (put key.now (view value) ms) }
     {
         let Object { alloc, map } = self;
         let Some(mut map) = map else {
@@ -54,7 +55,8 @@ impl Object {
 
     /// Adds a text.
     pub(crate) fn text(self, key: &str, text: &str) -> Object
-        ensures { (ms : Members) → HasMembers self ms → HasMembers result (put key.now (string text.now) ms) }
+        ensures { (ms : Members) → HasMembers self ms
+            → HasMembers result (put key.now (string text.now) ms) }
     {
         match Value::try_from_str(self.alloc, text) {
             Ok(value) => self.value(key, value),
@@ -64,7 +66,8 @@ impl Object {
 
     /// Adds a number as a decimal text.
     pub(crate) fn decimal(self, key: &str, number: u64) -> Object
-        ensures { (ms : Members) → HasMembers self ms → HasMembers result (put key.now (string (decimal number)) ms) }
+        ensures { (ms : Members) → HasMembers self ms
+            → HasMembers result (put key.now (string (decimal number)) ms) }
     {
         match number.to_string(self.alloc) {
             Ok(text) => self.value(key, Value::from(text)),
@@ -74,7 +77,8 @@ impl Object {
 
     /// Adds a number as a decimal text, with `-` before it if it is negative.
     pub(crate) fn signed(self, key: &str, number: i64) -> Object
-        ensures { (ms : Members) → HasMembers self ms → HasMembers result (put key.now (string (signed_decimal number)) ms) }
+        ensures { (ms : Members) → HasMembers self ms
+            → HasMembers result (put key.now (string (signed_decimal number)) ms) }
     {
         match number.to_string(self.alloc) {
             Ok(text) => self.value(key, Value::from(text)),
@@ -84,7 +88,8 @@ impl Object {
 
     /// Adds an object.
     pub(crate) fn object(self, key: &str, inner: Object) -> Object
-        ensures { (ms more : Members) → HasMembers self ms → HasMembers inner more → HasMembers result (put key.now (object more) ms) }
+        ensures { (ms more : Members) → HasMembers self ms → HasMembers inner more
+            → HasMembers result (put key.now (object more) ms) }
     {
         match inner.finish() {
             Ok(value) => self.value(key, value),

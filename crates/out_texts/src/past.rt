@@ -52,7 +52,8 @@ fn put_line(out: &mut Vec<u8>, past: &PastTotals) -> Result<(), AllocError>
 /// Appends a line for each series, in the order of the rows, and a line `end`.
 #[tactic(auto, unfolding(crate::specs::Past::past_text))]
 pub fn put_past(out: &mut Vec<u8>, rows: &[PastTotals]) -> Result<(), AllocError>
-    ensures { OnOk result (out.new.items ≡ out.old.items ++ spec.past_text (map past_row rows.now)) }
+    ensures { OnOk result (out.new.items ≡ out.old.items
+        ++ spec.past_text (map past_row rows.now)) }
 {
     for past in rows {
         put_line(out, past)?;

@@ -48,7 +48,9 @@ fn metric_value(
 
 /// The metrics of these points. Neighbours of one metric share it.
 fn metric_values(alloc: Global, points: &[FlushPoint]) -> Result<Vec<Value>, AllocError>
-    ensures { IfOk result (λ vs. items_view vs.items ≡ items_of (map (λ g. spec.metric_value g.0.series (members g)) (groups (same level.Metric) points.now))) }
+    ensures { IfOk result (λ vs. items_view vs.items ≡ items_of
+        (map (λ g. spec.metric_value g.0.series (members g))
+        (groups (same level.Metric) points.now))) }
 {
     let mut values = Vec::new(alloc);
     let mut left = points;
@@ -80,7 +82,9 @@ fn scope_value(alloc: Global, series: &SeriesId, points: &[FlushPoint]) -> Resul
 
 /// The scopes of these points. Neighbours of one scope share it.
 fn scope_values(alloc: Global, points: &[FlushPoint]) -> Result<Vec<Value>, AllocError>
-    ensures { IfOk result (λ vs. items_view vs.items ≡ items_of (map (λ g. spec.scope_value g.0.series (members g)) (groups (same level.Scope) points.now))) }
+    ensures { IfOk result (λ vs. items_view vs.items ≡ items_of
+        (map (λ g. spec.scope_value g.0.series (members g)) (groups
+        (same level.Scope) points.now))) }
 {
     let mut values = Vec::new(alloc);
     let mut left = points;
@@ -113,7 +117,9 @@ fn resource_value(
 
 /// The resources of these points. Neighbours of one resource share it.
 fn resource_values(alloc: Global, points: &[FlushPoint]) -> Result<Vec<Value>, AllocError>
-    ensures { IfOk result (λ vs. items_view vs.items ≡ items_of (map (λ g. spec.resource_value g.0.series (members g)) (groups (same level.Resource) points.now))) }
+    ensures { IfOk result (λ vs. items_view vs.items ≡ items_of
+        (map (λ g. spec.resource_value g.0.series (members g))
+        (groups (same level.Resource) points.now))) }
 {
     let mut values = Vec::new(alloc);
     let mut left = points;
@@ -149,7 +155,8 @@ fn request_value(alloc: Global, points: &[FlushPoint]) -> Result<Value, AllocErr
 pub fn request_text(alloc: Global, flush: &Flush) -> Result<Vec<u8>, AllocError>
     ensures text { IfOk result (λ text. text.items ≡ spec.request_text flush.now.points.items) }
     ensures back { IfOk result (λ text. ReadsBack text.items flush.now.points.items) }
-    ensures once { is_ascending (map (λ p. p.series) flush.now.points.items) ≡ true → HasEachOnce flush.now.points.items }
+    ensures once { is_ascending (map (λ p. p.series) flush.now.points.items) ≡ true
+        → HasEachOnce flush.now.points.items }
 {
     let points = flush.points.as_slice();
     keep_limits(points);

@@ -30,7 +30,8 @@ fn put_scalar(out: &mut Vec<u8>, scalar: &Scalar) -> Result<(), AllocError>
 
 /// Appends values, with a semicolon before each.
 fn put_more_scalars(out: &mut Vec<u8>, scalars: &[Scalar]) -> Result<(), AllocError>
-    ensures { OnOk result (out.new.items ≡ out.old.items ++ flat_map (λ s. 59 ∷ spec.scalar_text s) scalars.now) }
+    ensures { OnOk result (out.new.items ≡ out.old.items
+        ++ flat_map (λ s. 59 ∷ spec.scalar_text s) scalars.now) }
 {
     for scalar in scalars {
         out.push(b';')?;
@@ -78,7 +79,8 @@ pub fn put_attribute(out: &mut Vec<u8>, attribute: &Attribute) -> Result<(), All
 
 /// Appends attributes, with a comma before each.
 fn put_more_attributes(out: &mut Vec<u8>, attributes: &[Attribute]) -> Result<(), AllocError>
-    ensures { OnOk result (out.new.items ≡ out.old.items ++ flat_map (λ a. 44 ∷ spec.attribute_text a) attributes.now) }
+    ensures { OnOk result (out.new.items ≡ out.old.items
+        ++ flat_map (λ a. 44 ∷ spec.attribute_text a) attributes.now) }
 {
     for attribute in attributes {
         out.push(b',')?;
@@ -112,7 +114,8 @@ pub fn put_series_name(out: &mut Vec<u8>, series: &SeriesId) -> Result<(), Alloc
 
 /// Appends bounds, with a semicolon before each.
 fn put_more_bounds(out: &mut Vec<u8>, bounds: &[i64]) -> Result<(), AllocError>
-    ensures { OnOk result (out.new.items ≡ out.old.items ++ flat_map (λ n. 59 ∷ signed_decimal n) bounds.now) }
+    ensures { OnOk result (out.new.items ≡ out.old.items
+        ++ flat_map (λ n. 59 ∷ signed_decimal n) bounds.now) }
 {
     for bound in bounds {
         out.push(b';')?;

@@ -16,7 +16,8 @@ fn put_wide(out: &mut Vec<u8>, number: u128) -> Result<(), AllocError>
 
 /// Appends words in decimal, with a comma before each.
 fn put_more_words(out: &mut Vec<u8>, words: &[u128]) -> Result<(), AllocError>
-    ensures { OnOk result (out.new.items ≡ out.old.items ++ flat_map (λ n. 44 ∷ decimal n) words.now) }
+    ensures { OnOk result (out.new.items ≡ out.old.items
+        ++ flat_map (λ n. 44 ∷ decimal n) words.now) }
 {
     for word in words {
         out.push(b',')?;

@@ -25,7 +25,8 @@ pub(crate) fn put_signed(out: &mut Vec<u8>, number: i64) -> Result<(), AllocErro
 
 /// Appends words in decimal, with a comma before each.
 fn put_more_words(out: &mut Vec<u8>, words: &[u64]) -> Result<(), AllocError>
-    ensures { OnOk result (out.new.items ≡ out.old.items ++ flat_map (λ n. 44 ∷ decimal n) words.now) }
+    ensures { OnOk result (out.new.items ≡ out.old.items
+        ++ flat_map (λ n. 44 ∷ decimal n) words.now) }
 {
     for word in words {
         out.push(b',')?;

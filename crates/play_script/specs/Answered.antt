@@ -4,12 +4,17 @@ use Rattle.metric_events.specs.History.{History}
 use Rattle.delta_book.specs.PastRows.{past_row}
 use Rattle.play_script.specs.Commands.{Asked}
 use Rattle.play_script.specs.Refused.{refusal_text}
-use Rattle.play_script.specs.Replies.{said, batch_and_foreign, flush_text, wired_text, flush_and_wait}
+use Rattle.play_script.specs.Replies.{said, batch_and_foreign, flush_text, wired_text}
+use Rattle.play_script.specs.Replies.{flush_and_wait}
 use Rattle.out_texts.specs.Report.{report_text}
 use Rattle.out_texts.specs.Past.{past_text}
 use Rattle.play_script.specs.Run.{Mark, marked_answer, may_stand}
 use Rattle.play_script.specs.declared.reply.Reply.{Reply}
-use Rattle.play_script.specs.declared.reply.Reply.TheVariants.{BadCommand, Refused, Nothing, Batch, Posted, OnlyForeign, Flushed, Settled, Returned, Undone, Confirmed, Dropped, Quarantined, Lifted, Report, Round, Past, Wired, Waits}
+use Rattle.play_script.specs.declared.reply.Reply.TheVariants.{BadCommand, Refused, Nothing, Batch}
+use Rattle.play_script.specs.declared.reply.Reply.TheVariants.{Posted, OnlyForeign, Flushed}
+use Rattle.play_script.specs.declared.reply.Reply.TheVariants.{Settled, Returned, Undone, Confirmed}
+use Rattle.play_script.specs.declared.reply.Reply.TheVariants.{Dropped, Quarantined, Lifted, Report}
+use Rattle.play_script.specs.declared.reply.Reply.TheVariants.{Round, Past, Wired, Waits}
 
 -- the text of a reply
 abbrev pub reply_text : Reply → List ℕ
@@ -34,7 +39,8 @@ reply_text (Wired f request) = wired_text f request.items
 reply_text (Waits f seconds) = said (codes "returned ") (flush_and_wait f seconds)
 
 -- this text and this history are the command's answer, for this mark
-pub record IsMarkedReply (E : History) (asked : Asked) (text : List ℕ) (F : History) (mark : Mark) : Type 0 where
+pub record IsMarkedReply (E : History) (asked : Asked) (text : List ℕ) (F : History)
+    (mark : Mark) : Type 0 where
   pub allowed : may_stand mark asked ≡ true
   pub text_is : text ≡ (marked_answer E asked mark).text
   pub after_is : F ≡ (marked_answer E asked mark).after

@@ -13,7 +13,10 @@ use Rattle.play_script.specs.PointLines.{PointWords, point_words, name_of}
 use Rattle.play_script.specs.declared.pieces.TheConstants.{SPACE}
 use Rattle.metric_events.specs.declared.limits.TheConstants.{MAX_TAKEN}
 use Rattle.play_script.specs.declared.verb.Verb.{Verb}
-use Rattle.play_script.specs.declared.verb.Verb.TheVariants.{Admit, Take, Settle, GiveBack, Report, Undo, Confirm, Discard, Quarantine, Lift, Post, Round, Past, Wire, Answered}
+use Rattle.play_script.specs.declared.verb.Verb.TheVariants.{Admit, Take, Settle, GiveBack, Report}
+use Rattle.play_script.specs.declared.verb.Verb.TheVariants.{Undo, Confirm, Discard, Quarantine}
+use Rattle.play_script.specs.declared.verb.Verb.TheVariants.{Lift, Post, Round, Past, Wire}
+use Rattle.play_script.specs.declared.verb.Verb.TheVariants.{Answered}
 
 pub data Asked : Type 0 where
   AdmitLine : (sender : List ℕ) (points : List PointWords) → Asked
@@ -118,7 +121,8 @@ with_status code retry_after = option_map (λ s. answer_of s retry_after) code
 -- the back end's answer: unknown, a status, or a status and the value of `Retry-After`
 abbrev pub answer_in : List (List ℕ) → Option Answer
 answer_in [] = None
-answer_in (word ∷ []) = if bytes_eq word (codes "none") then Some Unknown else with_status (status word) None
+answer_in (word ∷ []) =
+    if bytes_eq word (codes "none") then Some Unknown else with_status (status word) None
 answer_in (word ∷ [] ∷ []) = None
 answer_in (word ∷ (b ∷ bs) ∷ []) = with_status (status word) (Some (b ∷ bs))
 answer_in (word ∷ next ∷ more ∷ others) = None

@@ -1,10 +1,12 @@
 -- What is read and written.
-use Rattle.std.specs.Prelude.{◌≡◌, ℕ, ◌<◌, Bool, true, false, List, ◌++◌, length, Some, None, Ok, Err, ⊤}
+use Rattle.std.specs.Prelude.{◌≡◌, ℕ, ◌<◌, Bool, true, false, List, ◌++◌, length, Some, None, Ok}
+use Rattle.std.specs.Prelude.{Err, ⊤}
 use Rattle.std.specs.declared.option.Option.{Option}
 use Rattle.std.specs.declared.result.Result.{Result}
 use Rattle.std.specs.Io.KnownBytes.{Appends}
 use Rattle.play_script.specs.declared.fault.PlayFault.{PlayFault}
-use Rattle.play_script.specs.declared.fault.PlayFault.TheVariants.{CannotRead, TooLong, CannotWrite, NoMemory}
+use Rattle.play_script.specs.declared.fault.PlayFault.TheVariants.{CannotRead, TooLong, CannotWrite}
+use Rattle.play_script.specs.declared.fault.PlayFault.TheVariants.{NoMemory}
 
 -- there are more bytes than that, where they are known
 abbrev pub HasMore : Option (List ℕ) → ℕ → Type 0
@@ -13,7 +15,8 @@ HasMore (Some xs) most = most < length xs
 
 -- known bytes grow by a front part of the text
 abbrev pub AppendsPart : Option (List ℕ) → Option (List ℕ) → List ℕ → Type 0
-AppendsPart old new text = (part : List ℕ) × (rest : List ℕ) × (part ++ rest ≡ text) × Appends old new part
+AppendsPart old new text =
+    (part : List ℕ) × (rest : List ℕ) × (part ++ rest ≡ text) × Appends old new part
 
 -- the fault is that of a reader, or of a writer
 abbrev pub cannot_read : {T : Type 0} → Result T PlayFault → Bool

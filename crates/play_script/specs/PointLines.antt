@@ -23,7 +23,8 @@ name_of word = if is_sender_name word then Some word else None
 
 -- the point of four words, where each of them can be read
 abbrev pub with_words : Option (List ℕ) → Option ℕ → Option ℕ → Option ℤ → Option PointWords
-with_words (Some name) (Some start) (Some end) (Some value) = Some (record { name = name; start = start; end = end; value = value })
+with_words (Some name) (Some start) (Some end) (Some value) =
+    Some (record { name = name; start = start; end = end; value = value })
 with_words name start end value = None
 
 abbrev pub point_of_words : List ℕ → List ℕ → List ℕ → List ℕ → Option PointWords
@@ -42,10 +43,25 @@ point_words words = None
 
 -- the series of a name: the plain sum with this metric name, all else empty
 abbrev pub series_named : List ℕ → Identity
-series_named name = record { resource = []; scope_name = []; scope_version = []; scope_attrs = []; name = name; unit = []; kind = Sum false; attrs = [] }
+series_named name =
+    record {
+      resource = [];
+      scope_name = [];
+      scope_version = [];
+      scope_attrs = [];
+      name = name;
+      unit = [];
+      kind = Sum false;
+      attrs = [];
+    }
 
 abbrev pub point_of : PointWords → DataPoint
-point_of p = record { series = series_named p.name; span = record { start = p.start; end = p.end }; row = sum_row p.value }
+point_of p =
+    record {
+      series = series_named p.name;
+      span = record { start = p.start; end = p.end };
+      row = sum_row p.value;
+    }
 
 -- why the point can't be made
 abbrev pub fault_of : PointWords → Option PointFault

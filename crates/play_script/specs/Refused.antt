@@ -15,7 +15,13 @@ use Rattle.otlp_read.specs.declared.fault.ReadFault.TheVariants as read
 use Rattle.metric_events.specs.declared.point.PointFault.{PointFault}
 use Rattle.metric_events.specs.declared.point.PointFault.TheVariants as point
 use Rattle.play_script.specs.declared.refusal.Refusal.{Refusal}
-use Rattle.play_script.specs.declared.refusal.Refusal.TheVariants.{BadSpan, PointTooLarge, Quarantined, Full, OtherWriter, OutOfOrder, TooManySeries, TooLarge, NotOpen, Taken, NotLive, Already, NotQuarantined, NotJson, WrongShape, BatchOpen, FlushLive, LastRound, NoMemory}
+use Rattle.play_script.specs.declared.refusal.Refusal.TheVariants.{BadSpan, PointTooLarge}
+use Rattle.play_script.specs.declared.refusal.Refusal.TheVariants.{Quarantined, Full, OtherWriter}
+use Rattle.play_script.specs.declared.refusal.Refusal.TheVariants.{OutOfOrder, TooManySeries}
+use Rattle.play_script.specs.declared.refusal.Refusal.TheVariants.{TooLarge, NotOpen, Taken}
+use Rattle.play_script.specs.declared.refusal.Refusal.TheVariants.{NotLive, Already, NotQuarantined}
+use Rattle.play_script.specs.declared.refusal.Refusal.TheVariants.{NotJson, WrongShape, BatchOpen}
+use Rattle.play_script.specs.declared.refusal.Refusal.TheVariants.{FlushLive, LastRound, NoMemory}
 
 -- a point's index, and the frontier of its series
 abbrev pub place_text : ℕ → ℕ → List ℕ

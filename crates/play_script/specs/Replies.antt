@@ -20,11 +20,14 @@ span_text span = codes " (" ++ decimal span.start ++ codes "," ++ decimal span.e
 
 -- a point of a flush: its series, its span, its row
 unfoldable pub point_line : DataPoint → List ℕ
-point_line p = codes "point " ++ series_name p.series ++ span_text p.span ++ row_text p.row ++ codes "\n"
+point_line p =
+    codes "point " ++ series_name p.series ++ span_text p.span ++ row_text p.row ++ codes "\n"
 
 -- a flush with its points
 unfoldable pub flush_text : ℕ → List DataPoint → List ℕ
-flush_text number points = codes "flush " ++ decimal number ++ codes " points " ++ decimal (length points) ++ codes "\n" ++ flat_map point_line points
+flush_text number points =
+    codes "flush " ++ decimal number ++ codes " points " ++ decimal (length points) ++ codes "\n"
+    ++ flat_map point_line points
 
 -- a line with the number of a flush, and a line with the request that forwards it
 unfoldable pub wired_text : ℕ → List ℕ → List ℕ

@@ -1,5 +1,6 @@
 -- The run of a script: a reply for each line, by the rules over the history so far.
-use Rattle.std.specs.Prelude.{◌≡◌, ◌⊎◌, ℕ, ◌+◌, Bool, true, false, ◌&&◌, List, [], ◌∷◌, ◌++◌, map, codes, decimal, Some, None, Ok, Err}
+use Rattle.std.specs.Prelude.{◌≡◌, ◌⊎◌, ℕ, ◌+◌, Bool, true, false, ◌&&◌, List, [], ◌∷◌, ◌++◌, map}
+use Rattle.std.specs.Prelude.{codes, decimal, Some, None, Ok, Err}
 use Rattle.std.specs.declared.option.Option.{Option}
 use Rattle.std.specs.declared.result.Result.{Result}
 use Rattle.back_answers.specs.Answers.{act_of}
@@ -26,14 +27,20 @@ use Rattle.delta_book.specs.Totals.{totals_rows}
 use Rattle.delta_book.specs.Rounds.{round_refusal}
 use Rattle.delta_book.specs.PastRows.{past_rows}
 use Rattle.play_script.specs.PointLines.{PointWords, point_of, first_fault}
-use Rattle.play_script.specs.Commands.{Asked, AdmitLine, TakeLine, OkLine, BackLine, ReportLine, UndoLine, ConfirmLine, DropLine, QuarantineLine, LiftLine, PostLine, RoundLine, PastLine, WireLine, AnswerLine, BadLine, command}
-use Rattle.play_script.specs.Refused.{refusal_text, of_point, of_admit, of_take, of_undo, of_quarantine, of_round}
-use Rattle.play_script.specs.Replies.{said, batch_and_foreign, flush_text, wired_text, flush_and_wait}
+use Rattle.play_script.specs.Commands.{Asked, AdmitLine, TakeLine, OkLine, BackLine, ReportLine}
+use Rattle.play_script.specs.Commands.{UndoLine, ConfirmLine, DropLine, QuarantineLine, LiftLine}
+use Rattle.play_script.specs.Commands.{PostLine, RoundLine, PastLine, WireLine, AnswerLine, BadLine}
+use Rattle.play_script.specs.Commands.{command}
+use Rattle.play_script.specs.Refused.{refusal_text, of_point, of_admit, of_take, of_undo}
+use Rattle.play_script.specs.Refused.{of_quarantine, of_round}
+use Rattle.play_script.specs.Replies.{said, batch_and_foreign, flush_text, wired_text}
+use Rattle.play_script.specs.Replies.{flush_and_wait}
 use Rattle.out_texts.specs.Report.{report_text}
 use Rattle.out_texts.specs.Past.{past_text}
 use Rattle.out_texts.specs.Request.{request_text}
 use Rattle.play_script.specs.declared.refusal.Refusal.{Refusal}
-use Rattle.play_script.specs.declared.refusal.Refusal.TheVariants.{NotOpen, NotLive, NotQuarantined, NotJson, WrongShape, NoMemory}
+use Rattle.play_script.specs.declared.refusal.Refusal.TheVariants.{NotOpen, NotLive, NotQuarantined}
+use Rattle.play_script.specs.declared.refusal.Refusal.TheVariants.{NotJson, WrongShape, NoMemory}
 
 -- the reply to a line, and the history after it
 pub record Answer : Type 0 where
@@ -78,7 +85,8 @@ event_text E (event.Quarantine s) = said (codes "held ") s
 event_text E (event.Lift s) = said (codes "lifted ") s
 
 -- the texts of a fault and of an event, by which of them is the outcome
-abbrev pub answer_by : {F : Type 0} → History → (F → List ℕ) → (Event → List ℕ) → Result Event F → Answer
+abbrev pub answer_by : {F : Type 0} → History → (F → List ℕ) → (Event → List ℕ) → Result Event F
+    → Answer
 answer_by E of_fault of_event (Ok e) = happens E e (of_event e)
 answer_by E of_fault of_event (Err fault) = only_says E (of_fault fault)
 
@@ -107,7 +115,8 @@ posted_text b foreign e = said (codes "batch ") (batch_and_foreign b foreign)
 -- the points of the profile are one batch; without any the book is not asked
 abbrev pub posted : History → List ℕ → List DataPoint → ℕ → Answer
 posted E sender [] foreign = only_says E (said (codes "nothing foreign ") (decimal foreign))
-posted E sender (p ∷ ps) foreign = called_as E (posted_text (admits E + 1) foreign) (book.Admit (posted_batch sender (p ∷ ps)))
+posted E sender (p ∷ ps) foreign =
+    called_as E (posted_text (admits E + 1) foreign) (book.Admit (posted_batch sender (p ∷ ps)))
 
 -- a body that can't be read is refused before the book is asked
 abbrev pub read_or : History → List ℕ → Option (Result Tally Place) → Answer
@@ -118,7 +127,8 @@ read_or E sender (Some (Ok t)) = posted E sender t.points t.foreign
 -- the request of a flush, or no memory for it: then the flush is given back
 abbrev pub IsForwarded : History → History → ℕ → List DataPoint → List ℕ → Type 0
 IsForwarded E F f points text =
-    ((text ≡ wired_text f (request_text points)) × (F ≡ E)) ⊎ ((text ≡ refused_text NoMemory) × (F ≡ E ▸ event.GiveBack f))
+    ((text ≡ wired_text f (request_text points)) × (F ≡ E)) ⊎ ((text ≡ refused_text NoMemory)
+    × (F ≡ E ▸ event.GiveBack f))
 
 -- the request of the flush that an event takes
 abbrev pub request_after : History → ℕ → Event → List ℕ
@@ -137,7 +147,8 @@ ended_text back f e = act_text (act_of back) (asked_wait back) f
 -- a round that may be closed is, and the next one begins
 abbrev pub closed_or : History → Option RoundFault → Answer
 closed_or E (Some fault) = refused E (of_round fault)
-closed_or E None = record { text = said (codes "round ") (decimal (close E).round); after = Opened (close E) }
+closed_or E None =
+    record { text = said (codes "round ") (decimal (close E).round); after = Opened (close E) }
 
 -- what a command answers after a history
 abbrev pub answer : History → Asked → Answer
@@ -158,19 +169,22 @@ answer E (WireLine max) = called_as E (request_after E (takes E + 1)) (book.Take
 answer E (AnswerLine f back) = called_as E (ended_text back f) (book.End (act_of back) f)
 answer E BadLine = only_says E (codes "bad command\n")
 
--- whether the allocations of a line went well: all, not all, or not that of a request after its flush was taken
+-- whether the allocations of a line went well: all, not all, or not that of a request after its
+-- flush was taken
 pub data Mark : Type 0 where
   Found : Mark
   Missed : Mark
   MissedText : Mark
 
 -- a flush f that an event takes is given back, without memory for its request
-abbrev pub returned_by : History → ℕ → (Option TakeFault → List ℕ) → Result Event (Option TakeFault) → Answer
+abbrev pub returned_by : History → ℕ → (Option TakeFault → List ℕ) → Result Event (Option TakeFault)
+    → Answer
 returned_by E f of_fault (Ok e) = refused (E ▸ e ▸ event.GiveBack f) NoMemory
 returned_by E f of_fault (Err fault) = only_says E (of_fault fault)
 
 abbrev pub without_text : History → Asked → Answer
-without_text E (WireLine max) = returned_by E (takes E + 1) (fault_text (book.Take max)) (book.outcome E (book.Take max))
+without_text E (WireLine max) =
+    returned_by E (takes E + 1) (fault_text (book.Take max)) (book.outcome E (book.Take max))
 without_text E asked = answer E asked
 
 -- what a command answers, with the memory that it found
@@ -224,13 +238,15 @@ are_marks (line ∷ lines) (mark ∷ marks) = may_stand mark (command line) && a
 abbrev pub replies : History → List (List ℕ) → List Mark → List ℕ
 replies E [] marks = []
 replies E (line ∷ lines) [] = []
-replies E (line ∷ lines) (mark ∷ marks) = (line_answer E line mark).text ++ replies (line_answer E line mark).after lines marks
+replies E (line ∷ lines) (mark ∷ marks) =
+    (line_answer E line mark).text ++ replies (line_answer E line mark).after lines marks
 
 -- the history after them
 abbrev pub history_after : History → List (List ℕ) → List Mark → History
 history_after E [] marks = E
 history_after E (line ∷ lines) [] = E
-history_after E (line ∷ lines) (mark ∷ marks) = history_after (line_answer E line mark).after lines marks
+history_after E (line ∷ lines) (mark ∷ marks) =
+    history_after (line_answer E line mark).after lines marks
 
 -- the replies of a script
 abbrev pub run : List (List ℕ) → List Mark → List ℕ

@@ -6,11 +6,16 @@ use Rattle.std.specs.declared.alloc.Global.{Global}
 use denote.Ref.{Bor}
 use Rattle.play_script.specs.Pieces.{words}
 use Rattle.play_script.specs.PointLines.{PointWords, point_words}
-use Rattle.play_script.specs.Commands.{Asked, AdmitLine, TakeLine, OkLine, BackLine, ReportLine, UndoLine, ConfirmLine, DropLine, QuarantineLine, LiftLine, PostLine, RoundLine, PastLine, WireLine, AnswerLine, BadLine}
+use Rattle.play_script.specs.Commands.{Asked, AdmitLine, TakeLine, OkLine, BackLine, ReportLine}
+use Rattle.play_script.specs.Commands.{UndoLine, ConfirmLine, DropLine, QuarantineLine, LiftLine}
+use Rattle.play_script.specs.Commands.{PostLine, RoundLine, PastLine, WireLine, AnswerLine, BadLine}
 use Rattle.metric_events.specs.declared.limits.TheConstants.{MAX_TAKEN}
 use Rattle.play_script.specs.declared.point_line.PointLine.{PointLine}
 use Rattle.play_script.specs.declared.command.Command.{Command}
-use Rattle.play_script.specs.declared.command.Command.TheVariants.{Admit, Take, Settle, GiveBack, Report, Undo, Confirm, Discard, Quarantine, Lift, Post, Round, Past, Wire, Answered}
+use Rattle.play_script.specs.declared.command.Command.TheVariants.{Admit, Take, Settle, GiveBack}
+use Rattle.play_script.specs.declared.command.Command.TheVariants.{Report, Undo, Confirm, Discard}
+use Rattle.play_script.specs.declared.command.Command.TheVariants.{Quarantine, Lift, Post, Round}
+use Rattle.play_script.specs.declared.command.Command.TheVariants.{Past, Wire, Answered}
 
 abbrev pub words_of : PointLine → PointWords
 words_of p = record { name = p.name.now; start = p.start; end = p.end; value = p.value }

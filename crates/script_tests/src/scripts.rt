@@ -376,7 +376,8 @@ past
 "#,
         "batch 1 foreign 0\nconfirmed 1\nflush 1 points 1\npoint h (10,20] 1,1,0,18446744073709551615\nsettled 1\nrefused too-large\nround 2\nbatch 2 foreign 0\nconfirmed 2\nflush 2 points 1\npoint h (20,30] 1,1,0,1\nsettled 2\nround 3\npast h histogram[] acknowledged 2,2,0,18446744073709551616 dropped 0,0,0,0\nend\n",
     ),
-    // Behind a sum past 64 bits a later point still tells its own refusal, and nothing is left of it.
+    // Behind a sum past 64 bits a later point still tells its own refusal, and nothing is left of
+    // it.
     (
         r#"post A {"resourceMetrics":[{"scopeMetrics":[{"metrics":[{"name":"h","histogram":{"aggregationTemporality":1,"dataPoints":[{"count":"18446744073709551615","explicitBounds":[0],"bucketCounts":["18446744073709551615","0"],"startTimeUnixNano":"10","timeUnixNano":"20"}]}}]}]}]}
 post B {"resourceMetrics":[{"scopeMetrics":[{"metrics":[{"name":"b","sum":{"aggregationTemporality":1,"dataPoints":[{"asInt":"5","startTimeUnixNano":"10","timeUnixNano":"20"}]}}]}]}]}

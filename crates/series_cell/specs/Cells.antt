@@ -1,12 +1,14 @@
 -- A cell, and the points that it represents.
-use Rattle.std.specs.Prelude.{◌≡◌, ℕ, Bool, true, ◌||◌, ◌&&◌, List, [], ◌∷◌, ◌++◌, map, filter, length, drop, take, max, nat_le, if◌then◌else◌, ◌==◌, not, ◌⊎◌}
+use Rattle.std.specs.Prelude.{◌≡◌, ℕ, Bool, true, ◌||◌, ◌&&◌, List, [], ◌∷◌, ◌++◌, map, filter}
+use Rattle.std.specs.Prelude.{length, drop, take, max, nat_le, if◌then◌else◌, ◌==◌, not, ◌⊎◌}
 use Rattle.std.specs.List.{list_all}
 use Rattle.std.specs.declared.option.Option.{Option}
 use Rattle.series_id.specs.Identity.{Identity, row_length}
 use Rattle.metric_events.specs.Interval.{Interval, IsInterval}
 use Rattle.metric_events.specs.DataPoint.{DataPoint}
 use Rattle.metric_events.specs.Rows.{zeros}
-use Rattle.metric_events.specs.Points.{is_home, is_in_flight, is_acknowledged, is_dropped, at, admitted, mark, carried_of}
+use Rattle.metric_events.specs.Points.{is_home, is_in_flight, is_acknowledged, is_dropped, at}
+use Rattle.metric_events.specs.Points.{admitted, mark, carried_of}
 use Rattle.metric_events.specs.Legal.{is_batch_home}
 use Rattle.metric_events.specs.Series.{row_sum}
 use Rattle.metric_events.specs.Standing.{stands}

@@ -1,7 +1,8 @@
 ghost use Rattle.std.specs.Prelude.{◌≡◌, ◌≤◌, ◌-◌, length, drop, take, vec_capacity, vec_len};
 ghost use Rattle.std.specs.List.{list_any};
 ghost use Rattle.std.specs.List.Sorted.{IsNonDecreasingBy};
-ghost use Rattle.series_cell.specs.Spans.{is_span_of, place_of, end_of_spans, hull_of, joined_spans, AreInOrder};
+ghost use Rattle.series_cell.specs.Spans.{is_span_of, place_of, end_of_spans, hull_of};
+ghost use Rattle.series_cell.specs.Spans.{joined_spans, AreInOrder};
 
 use metric_events::span::Span;
 
@@ -39,7 +40,8 @@ pub fn has_batch(spans: &[BatchSpan], batch: u64) -> bool
 
 /// The index of the span with this start (in nanoseconds). Each span ends before the next starts.
 pub fn find_start(spans: &[BatchSpan], start: u64) -> usize
-    ensures value { IsNonDecreasingBy (λ m. m.span.end) spans.now → result ≡ place_of start spans.now }
+    ensures value { IsNonDecreasingBy (λ m. m.span.end) spans.now
+        → result ≡ place_of start spans.now }
     ensures inside { result ≤ length spans.now }
 {
     spans.partition_point(|of_batch| of_batch.span.end() <= start)
@@ -71,7 +73,8 @@ pub fn hull(spans: &[BatchSpan]) -> Option<Span>
 pub fn drop_first(spans: &mut Vec<BatchSpan>, count: usize)
     requires { count ≤ vec_len spans.old }
     ensures items { spans.new.items ≡ drop count spans.old.items }
-    ensures room { vec_capacity spans.old - vec_len spans.old ≤ vec_capacity spans.new - vec_len spans.new }
+    ensures room { vec_capacity spans.old - vec_len spans.old
+        ≤ vec_capacity spans.new - vec_len spans.new }
 {
     spans.rotate_left(count);
     spans.truncate(spans.len() - count);
@@ -80,8 +83,10 @@ pub fn drop_first(spans: &mut Vec<BatchSpan>, count: usize)
 /// Replaces spans in order of time by their covering span, of no batch, if there are any. Takes no
 /// memory.
 pub fn join_all(spans: &mut Vec<BatchSpan>)
-    ensures items { AreInOrder spans.old.items → spans.new.items ≡ joined_spans (hull_of spans.old.items) }
-    ensures room { vec_capacity spans.old - vec_len spans.old ≤ vec_capacity spans.new - vec_len spans.new }
+    ensures items { AreInOrder spans.old.items
+        → spans.new.items ≡ joined_spans (hull_of spans.old.items) }
+    ensures room { vec_capacity spans.old - vec_len spans.old
+        ≤ vec_capacity spans.new - vec_len spans.new }
 {
     match hull(spans.as_slice()) {
         None => {}

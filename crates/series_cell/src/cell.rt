@@ -1,5 +1,7 @@
 //! The cell of one series.
-ghost use Rattle.std.specs.Prelude.{◌≡◌, ℕ, ◌+◌, ◌-◌, ◌<◌, ◌≤◌, ◌^◌, ◌++◌, ◌∷◌, [], List, map, drop, take, length, slice_index, nat_lt, true, IfOk, OnOk, OnErr, IsOk};
+ghost use Rattle.std.specs.Prelude.{◌≡◌, ℕ, ◌+◌, ◌-◌, ◌<◌, ◌≤◌, ◌^◌, ◌++◌, ◌∷◌, [], List, map};
+ghost use Rattle.std.specs.Prelude.{drop, take, length, slice_index, nat_lt, true, IfOk, OnOk};
+ghost use Rattle.std.specs.Prelude.{OnErr, IsOk};
 ghost use Rattle.std.specs.List.{list_any};
 ghost use Rattle.bucket_lanes.specs.ByPlace.{Fits};
 ghost use Rattle.metric_events.specs.Points.{admitted, landed};
@@ -7,7 +9,9 @@ ghost use Rattle.metric_events.specs.Legal.{is_batch_home};
 ghost use Rattle.metric_events.specs.declared.place.Place.TheVariants.{Home, Acknowledged, Dropped};
 ghost use Rattle.metric_events.specs.declared.accepted.Accepted.{Accepted};
 ghost use Rattle.metric_events.specs.declared.opened_series.OpenedSeries.{OpenedSeries};
-ghost use Rattle.series_cell.specs.Cells.{Stands, IsOfSame, HasHome, HandsOn, AreTogether, is_of_batch, is_home_of, bare, end_of, home_hull, flight_hull, lifted, opened_with};
+ghost use Rattle.series_cell.specs.Cells.{Stands, IsOfSame, HasHome, HandsOn, AreTogether};
+ghost use Rattle.series_cell.specs.Cells.{is_of_batch, is_home_of, bare, end_of, home_hull};
+ghost use Rattle.series_cell.specs.Cells.{flight_hull, lifted, opened_with};
 
 use crate::batch_span::{
     BatchSpan, drop_first, end_or, find_start, has_batch, hull, join_all, spans_from, spans_to,
@@ -99,12 +103,14 @@ impl Cell {
         requires series { point.now.series ≡ self.old.id }
         requires order { end_of self.old ≤ point.now.span.start }
         requires fits { Fits (2 ^ 64 - 1) self.old.accepted point.now.row }
-        ensures ok { OnOk result ((qs : List Accepted) → Stands self.old qs → Stands self.new (qs ++ admitted batch self.old.owner point.now ∷ [])) }
+        ensures ok { OnOk result ((qs : List Accepted) → Stands self.old qs
+            → Stands self.new (qs ++ admitted batch self.old.owner point.now ∷ [])) }
         ensures same { IsOfSame self.old self.new }
         ensures flush { self.new.flush ≡ self.old.flush }
         ensures room { 1 ≤ self.old.spare → IsOk result }
         ensures spare { self.old.spare ≤ self.new.spare + 1 }
-        ensures err { OnErr result ((qs : List Accepted) → Stands self.old qs → Stands self.new qs) }
+        ensures err { OnErr result ((qs : List Accepted) → Stands self.old qs
+            → Stands self.new qs) }
     {
         let kept = self.kept.as_mut();
         kept.spans.reserve(1)?;
@@ -122,12 +128,14 @@ impl Cell {
     pub fn put_span(&mut self, point: &Point, batch: u64) -> Result<(), AllocError>
         requires series { point.now.series ≡ self.old.id }
         requires order { end_of self.old ≤ point.now.span.start }
-        ensures ok { OnOk result ((qs : List Accepted) → Stands self.old qs → Stands self.new (qs ++ admitted batch self.old.owner (bare point.now) ∷ [])) }
+        ensures ok { OnOk result ((qs : List Accepted) → Stands self.old qs
+            → Stands self.new (qs ++ admitted batch self.old.owner (bare point.now) ∷ [])) }
         ensures same { IsOfSame self.old self.new }
         ensures flush { self.new.flush ≡ self.old.flush }
         ensures room { 1 ≤ self.old.spare → IsOk result }
         ensures spare { self.old.spare ≤ self.new.spare + 1 }
-        ensures err { OnErr result ((qs : List Accepted) → Stands self.old qs → Stands self.new qs) }
+        ensures err { OnErr result ((qs : List Accepted) → Stands self.old qs
+            → Stands self.new qs) }
     {
         let kept = self.kept.as_mut();
         kept.spans.reserve(1)?;
@@ -141,8 +149,11 @@ impl Cell {
     /// Whether a point of the batch is pending here. If the batch has points here, and all of them
     /// are pending or none is, this says whether all of them are.
     pub fn can_remove(&self, batch: u64) -> bool
-        ensures exact { (qs : List Accepted) → Stands self.now qs → result ≡ list_any (is_home_of batch) qs }
-        ensures whole { (qs : List Accepted) → Stands self.now qs → list_any (is_of_batch batch) qs ≡ true → AreTogether batch qs → result ≡ is_batch_home batch qs }
+        ensures exact { (qs : List Accepted) → Stands self.now qs
+            → result ≡ list_any (is_home_of batch) qs }
+        ensures whole { (qs : List Accepted) → Stands self.now qs
+            → list_any (is_of_batch batch) qs ≡ true → AreTogether batch qs
+            → result ≡ is_batch_home batch qs }
     {
         let kept = self.kept.as_ref();
         has_batch(spans_from(&kept.spans, kept.cut), batch)
@@ -151,7 +162,9 @@ impl Cell {
     /// Removes a pending point of a batch, as if it had never been added.
     pub fn remove(&mut self, batch: u64, point: &Point)
         requires { HasHome self.old batch point.now }
-        ensures stands { (before after : List Accepted) → Stands self.old (before ++ admitted batch self.old.owner point.now ∷ after) → Stands self.new (before ++ after) }
+        ensures stands { (before after : List Accepted)
+            → Stands self.old (before ++ admitted batch self.old.owner point.now ∷ after)
+            → Stands self.new (before ++ after) }
         ensures same { IsOfSame self.old self.new }
         ensures spare { self.old.spare ≤ self.new.spare }
     {
@@ -167,7 +180,9 @@ impl Cell {
     /// Removes a pending point of a batch that was added by its span alone: the rows stay.
     pub fn remove_span(&mut self, batch: u64, point: &Point)
         requires { HasHome self.old batch (bare point.now) }
-        ensures stands { (before after : List Accepted) → Stands self.old (before ++ admitted batch self.old.owner (bare point.now) ∷ after) → Stands self.new (before ++ after) }
+        ensures stands { (before after : List Accepted)
+            → Stands self.old (before ++ admitted batch self.old.owner (bare point.now) ∷ after)
+            → Stands self.new (before ++ after) }
         ensures same { IsOfSame self.old self.new }
         ensures spare { self.old.spare ≤ self.new.spare }
     {
@@ -182,7 +197,8 @@ impl Cell {
     /// All pending points go into flight with this flush.
     pub fn lift_off(&mut self, flush: u64)
         requires { self.old.cut ≡ 0 }
-        ensures stands { (qs : List Accepted) → Stands self.old qs → Stands self.new (map (lifted flush) qs) }
+        ensures stands { (qs : List Accepted) → Stands self.old qs
+            → Stands self.new (map (lifted flush) qs) }
         ensures same { IsOfSame self.old self.new }
         ensures flush { self.new.flush ≡ flush }
         ensures spare { self.old.spare ≤ self.new.spare }
@@ -195,7 +211,8 @@ impl Cell {
 
     /// The points in flight are pending again.
     pub fn set_down(&mut self)
-        ensures stands { (qs : List Accepted) → Stands self.old qs → Stands self.new (map (landed self.old.flush Home) qs) }
+        ensures stands { (qs : List Accepted) → Stands self.old qs
+            → Stands self.new (map (landed self.old.flush Home) qs) }
         ensures same { IsOfSame self.old self.new }
         ensures spare { self.old.spare ≤ self.new.spare }
     {
@@ -206,7 +223,8 @@ impl Cell {
 
     /// The points in flight are acknowledged.
     pub fn acknowledge(&mut self)
-        ensures stands { (qs : List Accepted) → Stands self.old qs → Stands self.new (map (landed self.old.flush Acknowledged) qs) }
+        ensures stands { (qs : List Accepted) → Stands self.old qs
+            → Stands self.new (map (landed self.old.flush Acknowledged) qs) }
         ensures same { IsOfSame self.old self.new }
         ensures spare { self.old.spare ≤ self.new.spare }
     {
@@ -219,7 +237,8 @@ impl Cell {
 
     /// The points in flight are dropped.
     pub fn discard(&mut self)
-        ensures stands { (qs : List Accepted) → Stands self.old qs → Stands self.new (map (landed self.old.flush Dropped) qs) }
+        ensures stands { (qs : List Accepted) → Stands self.old qs
+            → Stands self.new (map (landed self.old.flush Dropped) qs) }
         ensures same { IsOfSame self.old self.new }
         ensures spare { self.old.spare ≤ self.new.spare }
     {
@@ -236,7 +255,8 @@ impl Cell {
     /// memory.
     pub fn carry(&mut self)
         requires { self.old.cut ≡ 0 }
-        ensures stands { (s : OpenedSeries) → HandsOn self.old s → 0 < end_of self.old → Stands self.new (opened_with s) }
+        ensures stands { (s : OpenedSeries) → HandsOn self.old s → 0 < end_of self.old
+            → Stands self.new (opened_with s) }
         ensures none { Stands self.old [] → Stands self.new [] }
         ensures same { IsOfSame self.old self.new }
         ensures spare { self.old.spare ≤ self.new.spare }

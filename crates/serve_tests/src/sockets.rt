@@ -32,7 +32,8 @@ fn answer_to<R: Abort, U: Uplink + Drop>(
     Ok(text)
 }
 
-/// Has the request of a client served that keeps its writing side open, and looks at how the answer begins.
+/// Has the request of a client served that keeps its writing side open, and looks at how the answer
+/// begins.
 fn answers_before_the_end<R: Abort>(
     rt: &R,
     net: &HostRuntime,

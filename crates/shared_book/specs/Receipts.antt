@@ -1,10 +1,12 @@
 -- The receipts of a seat, and those that it should have by a journal.
-use Rattle.std.specs.Prelude.{◌≡◌, ℕ, zero, suc, ◌+◌, ◌==◌, List, [], ◌∷◌, ◌++◌, drop, Some, None, if◌then◌else◌}
+use Rattle.std.specs.Prelude.{◌≡◌, ℕ, zero, suc, ◌+◌, ◌==◌, List, [], ◌∷◌, ◌++◌, drop, Some, None}
+use Rattle.std.specs.Prelude.{if◌then◌else◌}
 use Rattle.std.specs.declared.option.Option.{Option}
 use Rattle.metric_events.specs.declared.batch.Batch.{Batch}
 use Rattle.metric_events.specs.declared.entry.Entry.{Entry}
 use Rattle.metric_events.specs.declared.event.Event.{Event}
-use Rattle.metric_events.specs.declared.event.Event.TheVariants.{Admit, Undo, Confirm, Take, Settle, Drop, GiveBack, Quarantine, Lift}
+use Rattle.metric_events.specs.declared.event.Event.TheVariants.{Admit, Undo, Confirm, Take, Settle}
+use Rattle.metric_events.specs.declared.event.Event.TheVariants.{Drop, GiveBack, Quarantine, Lift}
 use Rattle.shared_book.specs.declared.receipt.Receipt.{Receipt}
 use Rattle.shared_book.specs.declared.receipt.EventKind.{EventKind}
 use Rattle.shared_book.specs.declared.receipt.EventKind.TheVariants as kind

@@ -4,7 +4,8 @@ ghost use Rattle.std.specs.List.{All, Any};
 ghost use Rattle.metric_events.specs.Standing.{standing};
 ghost use Rattle.delta_book.specs.Journal.{history};
 ghost use Rattle.delta_book.specs.Totals.{acknowledged_points};
-ghost use Rattle.shared_book.specs.Audits.{IsMatched, IsShort, AllSeated, points_in, admitted_points};
+ghost use Rattle.shared_book.specs.Audits.{IsMatched, IsShort, AllSeated, points_in};
+ghost use Rattle.shared_book.specs.Audits.{admitted_points};
 
 use crate::seat::{Seat, all_seated};
 use crate::tally::Tally;
@@ -42,9 +43,12 @@ pub enum AuditFault {
 /// batch. Takes no memory.
 pub fn check<L: Ledger>(book: &Book, seats: &[Seat<L>]) -> Result<(), AuditFault>
     ensures matched { OnOk result (All (IsMatched book.now.entries) seats.now) }
-    ensures missing { IfErr result (λ e. e ≡ AuditFault.MissingReceipt → Any (IsShort book.now.entries) seats.now) }
-    ensures long { IfErr result (λ e. e ≡ AuditFault.StrayEntry → All (λ s. ¬ (IsShort book.now.entries s)) seats.now) }
-    ensures stray { IfErr result (λ e. e ≡ AuditFault.StrayEntry → Any (λ s. ¬ (IsMatched book.now.entries s)) seats.now) }
+    ensures missing { IfErr result (λ e. e ≡ AuditFault.MissingReceipt
+        → Any (IsShort book.now.entries) seats.now) }
+    ensures long { IfErr result (λ e. e ≡ AuditFault.StrayEntry
+        → All (λ s. ¬ (IsShort book.now.entries s)) seats.now) }
+    ensures stray { IfErr result (λ e. e ≡ AuditFault.StrayEntry
+        → Any (λ s. ¬ (IsMatched book.now.entries s)) seats.now) }
     ensures either { IfErr result (λ e. e ≢ AuditFault.SeatOut) }
 {
     let tally = Tally::of(book.journal(), seats);
@@ -76,9 +80,12 @@ pub(crate) fn check_seated<L: Ledger>(
     ensures matched { OnOk result (All (IsMatched book.now.entries) seats.now) }
     ensures out { IfErr result (λ e. e ≡ AuditFault.SeatOut → ¬ (AllSeated count seats.now)) }
     ensures here { IfErr result (λ e. e ≢ AuditFault.SeatOut → AllSeated count seats.now) }
-    ensures missing { IfErr result (λ e. e ≡ AuditFault.MissingReceipt → Any (IsShort book.now.entries) seats.now) }
-    ensures long { IfErr result (λ e. e ≡ AuditFault.StrayEntry → All (λ s. ¬ (IsShort book.now.entries s)) seats.now) }
-    ensures stray { IfErr result (λ e. e ≡ AuditFault.StrayEntry → Any (λ s. ¬ (IsMatched book.now.entries s)) seats.now) }
+    ensures missing { IfErr result (λ e. e ≡ AuditFault.MissingReceipt
+        → Any (IsShort book.now.entries) seats.now) }
+    ensures long { IfErr result (λ e. e ≡ AuditFault.StrayEntry
+        → All (λ s. ¬ (IsShort book.now.entries s)) seats.now) }
+    ensures stray { IfErr result (λ e. e ≡ AuditFault.StrayEntry
+        → Any (λ s. ¬ (IsMatched book.now.entries s)) seats.now) }
 {
     if !all_seated(seats, count) {
         return Err(AuditFault::SeatOut);
@@ -149,7 +156,8 @@ pub(crate) fn audit_of<L: Ledger>(
     ensures receipts { result.events ≡ sum_by (λ s. length s.receipts) seats.items }
     ensures once { length seats.items ≡ L.parts }
     ensures admitted { result.admitted ≡ admitted_points book.now.entries }
-    ensures acknowledged { result.acknowledged ≡ acknowledged_points (standing (history book.now)).series }
+    ensures acknowledged { result.acknowledged ≡ acknowledged_points
+        (standing (history book.now)).series }
 {
     let admitted = points_admitted(book.journal());
     Audit {

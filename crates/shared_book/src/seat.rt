@@ -34,7 +34,8 @@ impl<L: Ledger> Model for Seat<L> {
 
     ghost view = { λ s. seat_view s.number s.receipts.items };
 
-    ghost invariant = { λ s. IsSeat L.parts s.number s.share.parts s.share.amount (vec_len s.receipts) (vec_capacity s.receipts) };
+    ghost invariant = { λ s. IsSeat L.parts s.number s.share.parts s.share.amount
+        (vec_len s.receipts) (vec_capacity s.receipts) };
 }
 
 impl<L: Ledger> Seat<L> {

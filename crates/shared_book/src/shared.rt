@@ -1,9 +1,11 @@
-ghost use Rattle.std.specs.Prelude.{◌≡◌, ◌≢◌, ◌<◌, ◌≤◌, [], length, sum_by, IfOk, IfErr, IfSome, IfNone, OnOk, OnErr, unwrap_or, if◌then◌else◌, Some};
+ghost use Rattle.std.specs.Prelude.{◌≡◌, ◌≢◌, ◌<◌, ◌≤◌, [], length, sum_by, IfOk, IfErr, IfSome};
+ghost use Rattle.std.specs.Prelude.{IfNone, OnOk, OnErr, unwrap_or, if◌then◌else◌, Some};
 ghost use Rattle.std.specs.List.{All, Any};
 ghost use Rattle.metric_events.specs.Choice.{pick};
 ghost use Rattle.metric_events.specs.Standing.{standing};
 ghost use Rattle.delta_book.specs.Journal.{Journal, history};
-ghost use Rattle.delta_book.specs.Refusals.{admit_refusal, undo_refusal, confirm_refusal, flush_refusal, quarantine_refusal, lift_refusal};
+ghost use Rattle.delta_book.specs.Refusals.{admit_refusal, undo_refusal, confirm_refusal};
+ghost use Rattle.delta_book.specs.Refusals.{flush_refusal, quarantine_refusal, lift_refusal};
 ghost use Rattle.delta_book.specs.Flushes.{is_full};
 ghost use Rattle.delta_book.specs.Totals.{totals_rows, acknowledged_points};
 ghost use Rattle.shared_book.specs.Receipts.{fresh_seats};
@@ -96,8 +98,10 @@ impl<L: Round> SharedBook<L> {
         body: Batch,
     ) -> Result<u64, (AdmitFault, Batch)>
         requires { 0 < length body.points }
-        ensures recorded { IfOk result (λ n. IsRecorded L.parts L.opening seat.old seat.new (Event.Admit n body)) }
-        ensures fault { IfErr result (λ e. e.0 ≢ AdmitFault.NoMemory → AsOf L.parts L.opening seat.old (λ E. admit_refusal E body ≡ Some e.0)) }
+        ensures recorded { IfOk result (λ n. IsRecorded L.parts L.opening seat.old seat.new
+            (Event.Admit n body)) }
+        ensures fault { IfErr result (λ e. e.0 ≢ AdmitFault.NoMemory
+            → AsOf L.parts L.opening seat.old (λ E. admit_refusal E body ≡ Some e.0)) }
         ensures returned { IfErr result (λ e. e.1 ≡ body) }
         ensures err { OnErr result (seat.new ≡ seat.old) }
     {
@@ -109,8 +113,10 @@ impl<L: Round> SharedBook<L> {
 
     /// As `Book::undo`. Takes no memory.
     pub fn undo(&self, rt: &impl Wait, seat: &mut Seat<L>, batch: u64) -> Result<(), UndoFault>
-        ensures recorded { OnOk result (IsRecorded L.parts L.opening seat.old seat.new (Event.Undo batch)) }
-        ensures fault { IfErr result (λ e. AsOf L.parts L.opening seat.old (λ E. undo_refusal E batch ≡ Some e)) }
+        ensures recorded { OnOk result (IsRecorded L.parts L.opening seat.old seat.new
+            (Event.Undo batch)) }
+        ensures fault { IfErr result (λ e. AsOf L.parts L.opening seat.old
+            (λ E. undo_refusal E batch ≡ Some e)) }
         ensures err { OnErr result (seat.new ≡ seat.old) }
     {
         self.lock.lock(rt).undo(seat, batch)
@@ -118,8 +124,10 @@ impl<L: Round> SharedBook<L> {
 
     /// As `Book::confirm`. Takes no memory.
     pub fn confirm(&self, rt: &impl Wait, seat: &mut Seat<L>, batch: u64) -> Result<(), NotOpen>
-        ensures recorded { OnOk result (IsRecorded L.parts L.opening seat.old seat.new (Event.Confirm batch)) }
-        ensures fault { IfErr result (λ e. AsOf L.parts L.opening seat.old (λ E. confirm_refusal E batch ≡ Some e)) }
+        ensures recorded { OnOk result (IsRecorded L.parts L.opening seat.old seat.new
+            (Event.Confirm batch)) }
+        ensures fault { IfErr result (λ e. AsOf L.parts L.opening seat.old
+            (λ E. confirm_refusal E batch ≡ Some e)) }
         ensures err { OnErr result (seat.new ≡ seat.old) }
     {
         self.lock.lock(rt).confirm(seat, batch)
@@ -134,10 +142,13 @@ impl<L: Round> SharedBook<L> {
     ) -> Result<Option<Flush>, TakeFault>
         requires low { 1 ≤ max }
         requires high { max ≤ MAX_TAKEN }
-        ensures some { IfOk result (λ o. IfSome o (λ flush. IsTakenFor L.parts L.opening seat.old seat.new max flush)) }
-        ensures nothing { IfOk result (λ o. IfNone o (AsOf L.parts L.opening seat.old (λ E. pick E max ≡ []))) }
+        ensures some { IfOk result (λ o. IfSome o (λ flush. IsTakenFor L.parts L.opening seat.old
+            seat.new max flush)) }
+        ensures nothing { IfOk result (λ o. IfNone o (AsOf L.parts L.opening seat.old
+            (λ E. pick E max ≡ []))) }
         ensures none { IfOk result (λ o. IfNone o (seat.new ≡ seat.old)) }
-        ensures fault { IfErr result (λ e. AsOf L.parts L.opening seat.old (λ E. (pick E max ≢ []) × (e ≡ (if is_full E then TakeFault.Full else TakeFault.NoMemory)))) }
+        ensures fault { IfErr result (λ e. AsOf L.parts L.opening seat.old (λ E. (pick E max ≢ [])
+            × (e ≡ (if is_full E then TakeFault.Full else TakeFault.NoMemory)))) }
         ensures err { OnErr result (seat.new ≡ seat.old) }
     {
         self.lock.lock(rt).take(seat, max)
@@ -145,8 +156,10 @@ impl<L: Round> SharedBook<L> {
 
     /// As `Book::settle`. Takes no memory.
     pub fn settle(&self, rt: &impl Wait, seat: &mut Seat<L>, flush: u64) -> Result<(), NotLive>
-        ensures recorded { OnOk result (IsRecorded L.parts L.opening seat.old seat.new (Event.Settle flush)) }
-        ensures fault { IfErr result (λ e. AsOf L.parts L.opening seat.old (λ E. flush_refusal E flush ≡ Some e)) }
+        ensures recorded { OnOk result (IsRecorded L.parts L.opening seat.old seat.new
+            (Event.Settle flush)) }
+        ensures fault { IfErr result (λ e. AsOf L.parts L.opening seat.old
+            (λ E. flush_refusal E flush ≡ Some e)) }
         ensures err { OnErr result (seat.new ≡ seat.old) }
     {
         self.lock.lock(rt).settle(seat, flush)
@@ -154,8 +167,10 @@ impl<L: Round> SharedBook<L> {
 
     /// As `Book::drop_flush`. Takes no memory.
     pub fn drop_flush(&self, rt: &impl Wait, seat: &mut Seat<L>, flush: u64) -> Result<(), NotLive>
-        ensures recorded { OnOk result (IsRecorded L.parts L.opening seat.old seat.new (Event.Drop flush)) }
-        ensures fault { IfErr result (λ e. AsOf L.parts L.opening seat.old (λ E. flush_refusal E flush ≡ Some e)) }
+        ensures recorded { OnOk result (IsRecorded L.parts L.opening seat.old seat.new
+            (Event.Drop flush)) }
+        ensures fault { IfErr result (λ e. AsOf L.parts L.opening seat.old
+            (λ E. flush_refusal E flush ≡ Some e)) }
         ensures err { OnErr result (seat.new ≡ seat.old) }
     {
         self.lock.lock(rt).drop_flush(seat, flush)
@@ -163,8 +178,10 @@ impl<L: Round> SharedBook<L> {
 
     /// As `Book::give_back`. Takes no memory.
     pub fn give_back(&self, rt: &impl Wait, seat: &mut Seat<L>, flush: u64) -> Result<(), NotLive>
-        ensures recorded { OnOk result (IsRecorded L.parts L.opening seat.old seat.new (Event.GiveBack flush)) }
-        ensures fault { IfErr result (λ e. AsOf L.parts L.opening seat.old (λ E. flush_refusal E flush ≡ Some e)) }
+        ensures recorded { OnOk result (IsRecorded L.parts L.opening seat.old seat.new
+            (Event.GiveBack flush)) }
+        ensures fault { IfErr result (λ e. AsOf L.parts L.opening seat.old
+            (λ E. flush_refusal E flush ≡ Some e)) }
         ensures err { OnErr result (seat.new ≡ seat.old) }
     {
         self.lock.lock(rt).give_back(seat, flush)
@@ -177,8 +194,10 @@ impl<L: Round> SharedBook<L> {
         seat: &mut Seat<L>,
         sender: SenderName,
     ) -> Result<(), QuarantineFault>
-        ensures recorded { OnOk result (IsRecorded L.parts L.opening seat.old seat.new (Event.Quarantine sender)) }
-        ensures fault { IfErr result (λ e. AsOf L.parts L.opening seat.old (λ E. e ≡ unwrap_or (quarantine_refusal E sender) QuarantineFault.NoMemory)) }
+        ensures recorded { OnOk result (IsRecorded L.parts L.opening seat.old seat.new
+            (Event.Quarantine sender)) }
+        ensures fault { IfErr result (λ e. AsOf L.parts L.opening seat.old
+            (λ E. e ≡ unwrap_or (quarantine_refusal E sender) QuarantineFault.NoMemory)) }
         ensures err { OnErr result (seat.new ≡ seat.old) }
     {
         self.lock.lock(rt).quarantine(seat, sender)
@@ -191,8 +210,10 @@ impl<L: Round> SharedBook<L> {
         seat: &mut Seat<L>,
         sender: &SenderName,
     ) -> Result<(), NotQuarantined>
-        ensures recorded { OnOk result (IsRecorded L.parts L.opening seat.old seat.new (Event.Lift sender.now)) }
-        ensures fault { IfErr result (λ e. AsOf L.parts L.opening seat.old (λ E. lift_refusal E sender.now ≡ Some e)) }
+        ensures recorded { OnOk result (IsRecorded L.parts L.opening seat.old seat.new
+            (Event.Lift sender.now)) }
+        ensures fault { IfErr result (λ e. AsOf L.parts L.opening seat.old
+            (λ E. lift_refusal E sender.now ≡ Some e)) }
         ensures err { OnErr result (seat.new ≡ seat.old) }
     {
         self.lock.lock(rt).lift(seat, sender)
@@ -204,7 +225,8 @@ impl<L: Round> SharedBook<L> {
         rt: &impl Wait,
         seat: &mut Seat<L>,
     ) -> Result<Vec<SeriesTotals>, AllocError>
-        ensures rows { IfOk result (λ v. AsOf L.parts L.opening seat.old (λ E. v.items ≡ totals_rows E)) }
+        ensures rows { IfOk result (λ v. AsOf L.parts L.opening seat.old
+            (λ E. v.items ≡ totals_rows E)) }
         ensures seat { seat.new ≡ seat.old }
     {
         self.lock.lock(rt).totals(seat)
@@ -223,13 +245,19 @@ impl<L: Round> SharedBook<L> {
         ensures once { IfOk result (λ r. length seats.items ≡ self) }
         ensures shared { IfOk result (λ r. IsShared L.parts L.opening r.0) }
         ensures events { IfOk result (λ r. r.1.events ≡ length r.0.entries) }
-        ensures receipts { IfOk result (λ r. r.1.events ≡ sum_by (λ s. length s.receipts) seats.items) }
+        ensures receipts { IfOk result (λ r. r.1.events ≡ sum_by
+            (λ s. length s.receipts) seats.items) }
         ensures admitted { IfOk result (λ r. r.1.admitted ≡ admitted_points r.0.entries) }
-        ensures acknowledged { IfOk result (λ r. r.1.acknowledged ≡ acknowledged_points (standing (history r.0)).series) }
-        ensures out { IfErr result (λ e. e.0 ≡ AuditFault.SeatOut → ¬ (AllSeated self seats.items)) }
+        ensures acknowledged { IfOk result (λ r. r.1.acknowledged ≡ acknowledged_points
+            (standing (history r.0)).series) }
+        ensures out { IfErr result (λ e. e.0 ≡ AuditFault.SeatOut
+            → ¬ (AllSeated self seats.items)) }
         ensures here { IfErr result (λ e. e.0 ≢ AuditFault.SeatOut → AllSeated self seats.items) }
-        ensures missing { IfErr result (λ e. e.0 ≡ AuditFault.MissingReceipt → (j : Journal) × IsShared L.parts L.opening j × Any (IsShort j.entries) seats.items) }
-        ensures stray { IfErr result (λ e. e.0 ≡ AuditFault.StrayEntry → (j : Journal) × IsShared L.parts L.opening j × All (λ s. ¬ (IsShort j.entries s)) seats.items × Any (λ s. ¬ (IsMatched j.entries s)) seats.items) }
+        ensures missing { IfErr result (λ e. e.0 ≡ AuditFault.MissingReceipt → (j : Journal)
+            × IsShared L.parts L.opening j × Any (IsShort j.entries) seats.items) }
+        ensures stray { IfErr result (λ e. e.0 ≡ AuditFault.StrayEntry → (j : Journal)
+            × IsShared L.parts L.opening j × All (λ s. ¬ (IsShort j.entries s)) seats.items
+            × Any (λ s. ¬ (IsMatched j.entries s)) seats.items) }
         ensures back { IfErr result (λ e. (e.1 ≡ self) × (e.2.items ≡ seats.items)) }
     {
         let SharedBook {

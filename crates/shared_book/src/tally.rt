@@ -104,8 +104,11 @@ fn is_next(receipts: &[Receipt], at: usize, index: u64, event: &Event) -> bool
 
 /// Whether each seat of this number has the receipt of an event at index `at`.
 fn are_next<L: Ledger>(seats: &[Seat<L>], number: u16, at: usize, index: u64, event: &Event) -> bool
-    ensures all { IsTrue result → All (λ s. s.number ≡ number → IsNext s.receipts at (receipt_of index event.now)) seats.now }
-    ensures any { result ≡ false → Any (λ s. (s.number ≡ number) × ¬ (IsNext s.receipts at (receipt_of index event.now))) seats.now }
+    ensures all { IsTrue result → All (λ s. s.number ≡ number
+        → IsNext s.receipts at (receipt_of index event.now)) seats.now }
+    ensures any { result ≡ false
+        → Any (λ s. (s.number ≡ number)
+        × ¬ (IsNext s.receipts at (receipt_of index event.now))) seats.now }
 {
     for seat in seats {
         if seat.number() == number && !is_next(seat.receipts(), at, index, event) {

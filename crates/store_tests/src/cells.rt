@@ -78,7 +78,8 @@ fn empty_cell(alloc: Global, id: SeriesId) -> Result<Cell, Fail>
 
 /// Puts a point of the cell's series, after its frontier, whose sums fit a word.
 fn put(rt: &impl Abort, cell: &mut Cell, point: &Point, batch: u64)
-    ensures stands { (qs : List Accepted) → Stands cell.old qs → Stands cell.new (qs ++ admitted batch cell.old.owner point.now ∷ []) }
+    ensures stands { (qs : List Accepted) → Stands cell.old qs
+        → Stands cell.new (qs ++ admitted batch cell.old.owner point.now ∷ []) }
     ensures same { IsOfSame cell.old cell.new }
     ensures flush { cell.new.flush ≡ cell.old.flush }
 {

@@ -1,4 +1,5 @@
-//! What the tests of requests share: posts with their response, and an uplink that gives one answer.
+//! What the tests of requests share: posts with their response, and an uplink that gives one
+//! answer.
 #![tactic(auto)]
 
 mod fixed;

@@ -15,7 +15,8 @@ use metric_events::sender_name::SenderName;
 
 impl Book {
     ghost use Rattle.delta_book.specs.Journal.{history, admits, Appends};
-    ghost use Rattle.delta_book.specs.Refusals.{admit_refusal, door_refusal, undo_refusal, confirm_refusal};
+    ghost use Rattle.delta_book.specs.Refusals.{admit_refusal, door_refusal, undo_refusal};
+    ghost use Rattle.delta_book.specs.Refusals.{confirm_refusal};
 
     /// The first refusal that does not depend on the batch's points.
     fn door_fault(&self, sender: &SenderName) -> Option<AdmitFault>
@@ -39,7 +40,8 @@ impl Book {
         ensures number { IfOk result (λ n. n ≡ admits (history self.old) + 1) }
         ensures ok { IfOk result (λ n. Appends self.old self.new seat (Event.Admit n body)) }
         ensures none { OnOk result (admit_refusal (history self.old) body ≡ None) }
-        ensures fault { IfErr result (λ e. e.0 ≡ unwrap_or (admit_refusal (history self.old) body) AdmitFault.NoMemory) }
+        ensures fault { IfErr result (λ e. e.0 ≡ unwrap_or (admit_refusal (history self.old) body)
+            AdmitFault.NoMemory) }
         ensures returned { IfErr result (λ e. e.1 ≡ body) }
         ensures err { OnErr result (self.new ≡ self.old) }
         ensures opened { IfOk result (λ n. confirm_refusal (history self.new) n ≡ None) }

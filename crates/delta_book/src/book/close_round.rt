@@ -74,9 +74,11 @@ impl Book {
         ensures number { IfOk result (λ n. n ≡ (close (history self.old)).round) }
         ensures ok { OnOk result (self.new ≡ closed self.old) }
         ensures none { OnOk result (round_refusal (history self.old) ≡ None) }
-        ensures fault { IfErr result (λ e. e ≡ unwrap_or (round_refusal (history self.old)) RoundFault.NoMemory) }
+        ensures fault { IfErr result (λ e. e ≡ unwrap_or (round_refusal (history self.old))
+            RoundFault.NoMemory) }
         ensures err { OnErr result (self.new ≡ self.old) }
-        ensures stands { OnOk result (standing (history self.new) ≡ renewed_standing (standing (history self.old))) }
+        ensures stands { OnOk result (standing (history self.new) ≡ renewed_standing
+            (standing (history self.old))) }
     {
         if let Some(fault) = self.round_fault() {
             return Err(fault);

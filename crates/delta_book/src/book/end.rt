@@ -30,7 +30,9 @@ impl Book {
         ensures none { OnOk result (flush_refusal (history self.old) flush ≡ None) }
         ensures fault { IfErr result (λ e. flush_refusal (history self.old) flush ≡ Some e) }
         ensures err { OnErr result (self.new ≡ self.old) }
-        ensures order { OnOk result ((f g : ℕ) (x : Identity) → is_taken_before (history self.new) f g ≡ true → is_settled_in (history self.new) f ≡ true → SendsBefore (history self.new) f g x) }
+        ensures order { OnOk result ((f g : ℕ) (x : Identity)
+            → is_taken_before (history self.new) f g ≡ true
+            → is_settled_in (history self.new) f ≡ true → SendsBefore (history self.new) f g x) }
         ensures struck { is_reversal event ≡ true → OnOk result (CanBeStruck (history self.new)) }
     {
         let Some(at) = find_entry(&self.live, flush) else {
@@ -50,7 +52,9 @@ impl Book {
         ensures fault { IfErr result (λ e. flush_refusal (history self.old) flush ≡ Some e) }
         ensures err { OnErr result (self.new ≡ self.old) }
         // What a settled flush sent of a series ends before what a later one sends begins.
-        ensures order { OnOk result ((f g : ℕ) (x : Identity) → is_taken_before (history self.new) f g ≡ true → is_settled_in (history self.new) f ≡ true → SendsBefore (history self.new) f g x) }
+        ensures order { OnOk result ((f g : ℕ) (x : Identity)
+            → is_taken_before (history self.new) f g ≡ true
+            → is_settled_in (history self.new) f ≡ true → SendsBefore (history self.new) f g x) }
     {
         self.end_flush(seat, flush, Place::Acknowledged, Event::Settle { flush })
     }

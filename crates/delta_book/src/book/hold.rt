@@ -1,6 +1,7 @@
 //! Quarantines a sender, or releases it. A release allocates nothing: `Book::new` has reserved the
 //! room for its entry.
-ghost use Rattle.std.specs.Prelude.{◌≡◌, ◌↔◌, ◌<◌, true, [], length, get_or, IfSome, IfErr, OnOk, OnErr, IsSome, IsTrue, unwrap_or, None, Some};
+ghost use Rattle.std.specs.Prelude.{◌≡◌, ◌↔◌, ◌<◌, true, [], length, get_or, IfSome, IfErr, OnOk};
+ghost use Rattle.std.specs.Prelude.{OnErr, IsSome, IsTrue, unwrap_or, None, Some};
 ghost use Rattle.metric_events.specs.Legal.{is_held};
 ghost use Rattle.metric_events.specs.Senders.{same_sender};
 ghost use Rattle.metric_events.specs.Strike.{CanBeStruck};
@@ -34,7 +35,8 @@ impl Book {
     pub fn quarantine(&mut self, seat: u16, sender: SenderName) -> Result<(), QuarantineFault>
         ensures ok { OnOk result (Appends self.old self.new seat (Event.Quarantine sender)) }
         ensures none { OnOk result (quarantine_refusal (history self.old) sender ≡ None) }
-        ensures fault { IfErr result (λ e. e ≡ unwrap_or (quarantine_refusal (history self.old) sender) QuarantineFault.NoMemory) }
+        ensures fault { IfErr result (λ e. e ≡ unwrap_or (quarantine_refusal
+            (history self.old) sender) QuarantineFault.NoMemory) }
         ensures err { OnErr result (self.new ≡ self.old) }
     {
         if let Some(fault) = self.quarantine_fault(&sender) {

@@ -1,5 +1,6 @@
 //! Takes a flush.
-ghost use Rattle.std.specs.Prelude.{◌≡◌, ◌≢◌, ◌≤◌, [], List, length, nat_lt, ◌&&◌, map, IfNone, IfSome, IfOk, IfErr, OnErr, if◌then◌else◌};
+ghost use Rattle.std.specs.Prelude.{◌≡◌, ◌≢◌, ◌≤◌, [], List, length, nat_lt, ◌&&◌, map, IfNone};
+ghost use Rattle.std.specs.Prelude.{IfSome, IfOk, IfErr, OnErr, if◌then◌else◌};
 ghost use Rattle.metric_events.specs.Choice.{present};
 ghost use Rattle.metric_events.specs.declared.accepted.Accepted.{Accepted};
 ghost use Rattle.delta_book.specs.AtHome.{home_point};
@@ -34,7 +35,9 @@ fn prepare(
 ) -> Result<Load, AllocError>
     requires { AreBooked cells.now }
     ensures series { IfOk result (λ l. l.series ≡ first_ready held.now max cells.now) }
-    ensures points { (qs : List Accepted) → AreCells cells.now qs → IfOk result (λ l. l.points.items ≡ present (map (home_point qs) (first_ready held.now max cells.now))) }
+    ensures points { (qs : List Accepted) → AreCells cells.now qs
+        → IfOk result (λ l. l.points.items ≡ present (map (home_point qs)
+        (first_ready held.now max cells.now))) }
 {
     let series = SeriesList::new(choose(alloc, cells, held, max)?);
     let points = home_sums(alloc, cells, series.as_slice())?;
@@ -58,7 +61,8 @@ impl Book {
 
     /// One more flush may be taken.
     fn can_take(&self) -> bool
-        ensures { result ≡ (nat_lt (length (live_flushes (history self.now))) MAX_LIVE && has_room (history self.now)) }
+        ensures { result ≡ (nat_lt (length (live_flushes (history self.now))) MAX_LIVE
+            && has_room (history self.now)) }
     {
         if self.has_few_live() {
             return self.has_room();
@@ -70,7 +74,8 @@ impl Book {
     fn take_ready(&mut self, seat: u16, max: usize) -> Result<Flush, TakeFault>
         requires { pick (history self.old) max ≢ [] }
         ensures some { IfOk result (λ flush. IsTaken self.old self.new seat max flush) }
-        ensures fault { IfErr result (λ e. e ≡ (if is_full (history self.old) then TakeFault.Full else TakeFault.NoMemory)) }
+        ensures fault { IfErr result (λ e. e ≡ (if is_full (history self.old) then TakeFault.Full
+            else TakeFault.NoMemory)) }
         ensures err { OnErr result (self.new ≡ self.old) }
     {
         if !self.can_take() {
@@ -105,9 +110,12 @@ impl Book {
     pub fn take(&mut self, seat: u16, max: usize) -> Result<Option<Flush>, TakeFault>
         requires low { 1 ≤ max }
         requires high { max ≤ MAX_TAKEN }
-        ensures nothing { IfOk result (λ o. IfNone o ((pick (history self.old) max ≡ []) × (self.new ≡ self.old))) }
-        ensures some { IfOk result (λ o. IfSome o (λ flush. IsTaken self.old self.new seat max flush)) }
-        ensures fault { IfErr result (λ e. e ≡ (if is_full (history self.old) then TakeFault.Full else TakeFault.NoMemory)) }
+        ensures nothing { IfOk result (λ o. IfNone o ((pick (history self.old) max ≡ [])
+            × (self.new ≡ self.old))) }
+        ensures some { IfOk result (λ o. IfSome o (λ flush. IsTaken self.old self.new seat max
+            flush)) }
+        ensures fault { IfErr result (λ e. e ≡ (if is_full (history self.old) then TakeFault.Full
+            else TakeFault.NoMemory)) }
         ensures err { OnErr result ((pick (history self.old) max ≢ []) × (self.new ≡ self.old)) }
     {
         if !has_ready(&self.cells, &self.held) {
