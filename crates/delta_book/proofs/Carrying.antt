@@ -1,12 +1,12 @@
 -- The cells go from one round to the next.
 use Rattle.std.proofs.Common.{◌≡◌, ℕ, ◌<◌, ◌≤◌, Bool, true, false, not, ◌==◌, List, [], ◌∷◌, ◌++◌, map, set, get_or, length, take, drop, refl, ap, sym, ◌∙◌, subst, arith, zero, suc, None}
 use Rattle.std.specs.Prelude.{nat_lt}
-use Rattle.std.specs.List.{list_any, list_all}
-use Rattle.std.proofs.lemmas.Bool.{and_parts, or_left, or_right, ltb-false}
+use Rattle.std.specs.List.{list_any}
+use Rattle.std.proofs.lemmas.Bool.{or_left, or_right, ltb-false}
 use Rattle.std.proofs.lemmas.List.{append-nil}
 use Rattle.series_id.specs.Identity.{Identity}
-use Rattle.series_id.specs.Order.{same_series, series_before}
-use Rattle.series_id.proofs.Order.{same_series-refl, before-apart}
+use Rattle.series_id.specs.Order.{same_series}
+use Rattle.series_id.proofs.Order.{same_series-refl}
 use Rattle.metric_events.specs.Opening.{IsOpening, series_of}
 use Rattle.metric_events.specs.declared.opening.Opening.{Opening}
 use Rattle.metric_events.specs.declared.opened_series.OpenedSeries.{OpenedSeries}
@@ -21,8 +21,8 @@ use Rattle.metric_events.specs.declared.accepted.Accepted.{Accepted}
 use Rattle.metric_events.specs.declared.flight.Flight.{Flight}
 use Rattle.metric_events.specs.declared.entry.Entry.{Entry}
 use Rattle.metric_events.specs.declared.limits.TheConstants.{MAX_ENTRIES, MAX_OPEN, MAX_LIVE}
-use Rattle.metric_events.proofs.Opened.{entries_of, none_of, opened_of}
-use Rattle.metric_events.proofs.Renewing.{opened_in_order}
+use Rattle.metric_events.proofs.Opened.{entries_of, opened_of}
+use Rattle.metric_events.proofs.Renewing.{Alone, alone, opened_in_order}
 use Rattle.metric_events.proofs.Closing.{home_row}
 use Rattle.series_cell.specs.Cells.{CellView, Stands, HandsOn, end_of, opened_with}
 use Rattle.series_cell.proofs.Reading.{tells}
@@ -148,22 +148,6 @@ hands_all : (before : List OpenedSeries) (cs : List CellView) (qs : List Accepte
 hands_all before cs qs held h = subst (λ xs. AllHandOn cs (map (handed_on before) (map (series_standing qs held) xs))) h.ids (hands_each before cs qs held h.stand (has_points cs qs h))
 
 -- what the next round begins with
-
-abbrev Alone : List OpenedSeries → List OpenedSeries → Type 0
-Alone all [] = Unit {0}
-Alone all (s ∷ ss) = (entries_of s.series all ≡ s ∷ []) × Alone all ss
-
-alone_more : (t : OpenedSeries) (all ss : List OpenedSeries) → list_all (series_before t.series) (series_of ss) ≡ true → Alone all ss → Alone (t ∷ all) ss
-alone_more t all [] h k = tt
-alone_more t all (s ∷ ss) h k =
-    let p = and_parts (series_before t.series s.series) (list_all (series_before t.series) (series_of ss)) h in
-    (rw (before-apart t.series s.series p.0) k.0, alone_more t all ss p.1 k.1)
-
-alone : (ss : List OpenedSeries) → is_ascending (series_of ss) ≡ true → Alone ss ss
-alone [] h = tt
-alone (s ∷ ss) h =
-    let p = and_parts (list_all (series_before s.series) (series_of ss)) (is_ascending (series_of ss)) h in
-    (rw (same_series-refl s.series) (ap (λ es. s ∷ es) (none_of s.series ss p.0)), alone_more s ss ss p.0 (alone ss p.1))
 
 ids_opened : (ds : List CellView) (ss : List OpenedSeries) → AllOpened ds ss → map id_of ds ≡ series_of ss
 ids_opened [] [] h = refl

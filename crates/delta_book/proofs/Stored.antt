@@ -31,9 +31,10 @@ use Rattle.metric_events.specs.Opening.{IsOpening}
 use Rattle.metric_events.specs.declared.opening.Opening.{Opening}
 use Rattle.metric_events.proofs.Room.{kept_room}
 use Rattle.metric_events.proofs.Numbers.{admits-le, takes-le}
+use Rattle.metric_events.proofs.Closing.{opening_is}
 use Rattle.delta_book.specs.Tables.{AreCells, AreBooked, AreOpen, AreFlights, are_full, is_full, series_named, entry_of, on_series, is_other_open}
 use Rattle.delta_book.specs.declared.open.Open.{Open}
-use Rattle.delta_book.proofs.Journaled.{after_push, legal_push, entries-history, opening-history, opening_is}
+use Rattle.delta_book.proofs.Journaled.{after_push, legal_push, entries-history, opening-history}
 use Rattle.delta_book.proofs.Opened.{open_length, open_more, open_closed}
 use Rattle.metric_events.specs.Running.{owed}
 use Rattle.delta_book.proofs.Tables.{landed-on}

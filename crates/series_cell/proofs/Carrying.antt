@@ -4,7 +4,7 @@ use Rattle.std.specs.declared.option.Option.{Option}
 use Rattle.std.specs.List.{list_all}
 use Rattle.std.proofs.lemmas.Option.{none-some, same_Some}
 use Rattle.series_id.specs.Identity.{Identity, row_length}
-use Rattle.metric_events.specs.Interval.{Interval, IsInterval, joined, joined_to}
+use Rattle.metric_events.specs.Interval.{Interval, IsInterval, joined_to}
 use Rattle.metric_events.specs.Rows.{add_rows, zeros}
 use Rattle.metric_events.specs.Points.{is_home, mark, carried_of}
 use Rattle.metric_events.specs.Opening.{up_to_frontier}
@@ -13,6 +13,8 @@ use Rattle.metric_events.specs.Standing.{stands}
 use Rattle.metric_events.specs.declared.accepted.Accepted.{Accepted}
 use Rattle.metric_events.specs.declared.opened_series.OpenedSeries.{OpenedSeries}
 use Rattle.metric_events.proofs.Intervals.{starts, ends_after, interval_is}
+use Rattle.metric_events.proofs.Fits.{joined_is}
+use Rattle.metric_events.proofs.Closing.{no_hull}
 use Rattle.metric_events.proofs.Sums.{add_rows-comm, add_rows-zeros, length-zeros}
 use Rattle.series_cell.specs.Cells.{CellView, Stands, IsCell, AllOwn, InOrder, greatest_end, end_of, home_hull, HandsOn, opened_with}
 use Rattle.series_cell.specs.Spans.{span_of, hull_of, joined_spans}
@@ -28,19 +30,9 @@ pub hull_at_home : (c : CellView) (qs : List Accepted) (h : Stands c qs) → hom
 hull_at_home c qs h = ap hull_of (home_spans c qs h) ∙ spans_hull h.home
 
 -- a hull of points is an interval, and there is none only of no points
-joined_is : (p : Interval) (o : Option Interval) → IsInterval p → ((q : Interval) → o ≡ Some q → IsInterval q) → IsInterval (joined_to p o)
-joined_is p None h k = h
-joined_is p (Some q) h k =
-    let j = k q refl in
-    interval_is (joined p q) (omega (arith, starts p h, starts q j)) (omega (arith, ends_after p h, ends_after q j)) (omega (arith, h.fits, j.fits))
-
 hull_is_interval : (s : List ℕ) (x : Identity) (qs : List Accepted) → AllOwn s x qs → (span : Interval) → hull qs ≡ Some span → IsInterval span
 hull_is_interval s x [] h span e = absurd (none-some span e)
 hull_is_interval s x (a ∷ qs) h span e = subst IsInterval (same_Some (joined_to a.point.span (hull qs)) span e) (joined_is a.point.span (hull qs) h.0.span (λ q f. hull_is_interval s x qs h.1 q f))
-
-no_hull : (n : ℕ) (qs : List Accepted) → hull qs ≡ None → row_sum n qs ≡ zeros n
-no_hull n [] h = refl
-no_hull n (a ∷ qs) h = absurd (none-some _ (sym h))
 
 -- an end is after the first moment, and below 2^64
 ends_below : (s : List ℕ) (x : Identity) (qs : List Accepted) → AllOwn s x qs → greatest_end qs < 2 ^ 64
