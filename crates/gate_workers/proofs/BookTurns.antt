@@ -105,21 +105,21 @@ returned_turn sends seat max J M J' u u' flush r h e same_uplink =
 
 -- the points of a flush that was taken
 sent_points : (seat max : ℕ) (J M : Journal) (flush : Flush) → IsTaken J M seat max flush
-    → flush.points.items ≡ flush_points (history J ▸ Take (takes (history J) + 1) (pick (history J) max)) (takes (history J) + 1)
+    → flush.points ≡ flush_points (history J ▸ Take (takes (history J) + 1) (pick (history J) max)) (takes (history J) + 1)
 sent_points seat max J M flush h =
     h.points ∙ ap (λ E. flush_points E flush.number) (grows J M seat _ h.entry) ∙ ap (λ n. flush_points (history J ▸ Take n (pick (history J) max)) n) h.number
 
 -- a flush was sent and ended
 sent_turn : {U : Type 0} (sends : U → List ℕ → Answer → U → Type 0) (seat max : ℕ) (J M J' : Journal) (u u' : U) (flush : Flush) (answer : Answer) (r : Result (Unit {0}) NotLive)
-    → IsTaken J M seat max flush → sends u (request_text flush.points.items) answer u' → Ends seat M J' flush.number (book.event_of (act_of answer) flush.number) r
-    → IsMade sends seat max J J' u u' (Done flush.number (length flush.points.items) answer (act_of answer))
+    → IsTaken J M seat max flush → sends u (request_text flush.points) answer u' → Ends seat M J' flush.number (book.event_of (act_of answer) flush.number) r
+    → IsMade sends seat max J J' u u' (Done flush.number (length flush.points) answer (act_of answer))
 sent_turn {U} sends seat max J M J' u u' flush answer r h sent e =
     let f = takes (history J) + 1 in
     let points = flush_points (history J ▸ Take f (pick (history J) max)) f in
     let P : List DataPoint → Type 0 = λ ps. sends u (request_text ps) answer u' in
-    let turn : Done flush.number (length flush.points.items) answer (act_of answer) ≡ Done f (length points) answer (act_of answer) =
-    ap (λ n. Done n (length flush.points.items) answer (act_of answer)) h.number ∙ ap (λ ps. Done f (length ps) answer (act_of answer)) (sent_points seat max J M flush h) in
-    made sends seat max J J' u u' (Done flush.number (length flush.points.items) answer (act_of answer)) answer Nowhere (sending f (Take f (pick (history J) max)) points answer)
+    let turn : Done flush.number (length flush.points) answer (act_of answer) ≡ Done f (length points) answer (act_of answer) =
+    ap (λ n. Done n (length flush.points) answer (act_of answer)) h.number ∙ ap (λ ps. Done f (length ps) answer (act_of answer)) (sent_points seat max J M flush h) in
+    made sends seat max J J' u u' (Done flush.number (length flush.points) answer (act_of answer)) answer Nowhere (sending f (Take f (pick (history J) max)) points answer)
     (rw (not_full (is_full (history J)) h.refused) (taken_by (history J) f (pick (history J) max) answer Nowhere h.some)) turn
     (both_added seat max J M J' flush (book.event_of (act_of answer)) r h e)
     (u', subst P (sent_points seat max J M flush h) sent, refl)

@@ -52,9 +52,9 @@ IsTurn gives sends max k k' u u' Full = IsIdleTurn gives max k k' Full × (u ≡
 IsTurn gives sends max k k' u u' NoMemory = IsIdleTurn gives max k k' NoMemory × (u ≡ u')
 IsTurn {K} {U} gives sends max k k' u u' (Done number points answer act) =
     (flush : Flush) × (m : K) × gives k (take max (Ok (Some flush))) m
-    × sends u (request_text flush.points.items) answer u'
+    × sends u (request_text flush.points) answer u'
     × IsClosing gives (act_of answer) flush.number m k'
-    × (number ≡ flush.number) × (points ≡ length flush.points.items) × (act ≡ act_of answer)
+    × (number ≡ flush.number) × (points ≡ length flush.points) × (act ≡ act_of answer)
 
 -- where a turn is out of memory: nowhere, at its flush, or at the flush's text
 pub data Want : Type 0 where

@@ -123,7 +123,7 @@ fn take<L: Round, R: Print + Wait>(
     for _ in 0..2 {
         match shared.take(rt, seat, 4) {
             Ok(Some(flush)) => {
-                print_number(rt, "SharedBook::take", flush.points.len() as u64);
+                print_number(rt, "SharedBook::take", flush.points.as_slice().len() as u64);
                 compare_index(rt, seat, &before);
                 return Ok(());
             }

@@ -66,7 +66,7 @@ picked_in_order E f max =
     (ascending_take max (series_in_order (eligible E)) (series_ascend (eligible E)))
 
 -- in the request for what a flush takes, nothing that is shared occurs twice
-pub taken_once : (old new : Journal) (seat max : ℕ) (flush : Flush) → IsTaken old new seat max flush → HasEachOnce flush.points.items
+pub taken_once : (old new : Journal) (seat max : ℕ) (flush : Flush) → IsTaken old new seat max flush → HasEachOnce flush.points
 taken_once old new seat max flush h =
-    each_once flush.points.items
+    each_once flush.points
     (ap (λ (ps : List DataPoint). is_ascending (series_of ps)) (h.points ∙ ap (λ (E : History). flush_points E flush.number) (grows old new seat _ h.entry)) ∙ picked_in_order (history old) flush.number max)

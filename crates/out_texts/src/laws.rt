@@ -10,5 +10,5 @@ ghost use Rattle.out_texts.specs.Once.{HasEachOnce};
 /// twice in a resource, and no metric occurs twice in a scope.
 pub fn grouping()
     ensures once { (old new : Journal) (seat max : ℕ) (flush : Flush)
-        → IsTaken old new seat max flush → HasEachOnce flush.points.items }
+        → IsTaken old new seat max flush → HasEachOnce flush.points }
 {}

@@ -1,9 +1,7 @@
 //! Builds the points of a flush as JSON.
 
 ghost use Rattle.std.specs.Prelude.{◌≡◌, map, IfOk};
-ghost use Rattle.std.specs.List.{AllByRecursion};
 ghost use Rattle.serde_json.specs.View.{view, items_view, items_of};
-ghost use Rattle.metric_events.specs.DataPoint.{IsMerged};
 ghost use Rattle.out_texts.specs.Points as spec;
 
 use crate::histogram_points::histogram_point_value;
@@ -33,14 +31,4 @@ pub(crate) fn point_values(alloc: Global, points: &[FlushPoint]) -> Result<Vec<V
         values.push(point_value(alloc, point)?)?;
     }
     Ok(values)
-}
-
-/// Does nothing. Its contract says of a list what the type says of each point: that its row has the
-/// length and the limits of its series.
-pub(crate) fn keep_limits(points: &[FlushPoint])
-    ensures { AllByRecursion IsMerged points.now }
-{
-    for point in points {
-        let _row = point.row();
-    }
 }

@@ -14,7 +14,7 @@ use crate::attributes::attributes_value;
 use crate::json_text::text_of;
 use crate::level::Level;
 use crate::objects::Object;
-use crate::points::{keep_limits, point_values};
+use crate::points::point_values;
 use crate::runs::run;
 use delta_book::flush::{Flush, FlushPoint};
 use serde_json::{Value, json};
@@ -153,13 +153,12 @@ fn request_value(alloc: Global, points: &[FlushPoint]) -> Result<Value, AllocErr
 /// resource, and no metric occurs twice in a scope.
 #[tactic(auto, unfolding(crate::specs::Request::request_text))]
 pub fn request_text(alloc: Global, flush: &Flush) -> Result<Vec<u8>, AllocError>
-    ensures text { IfOk result (λ text. text.items ≡ spec.request_text flush.now.points.items) }
-    ensures back { IfOk result (λ text. ReadsBack text.items flush.now.points.items) }
-    ensures once { is_ascending (map (λ p. p.series) flush.now.points.items) ≡ true
-        → HasEachOnce flush.now.points.items }
+    ensures text { IfOk result (λ text. text.items ≡ spec.request_text flush.now.points) }
+    ensures back { IfOk result (λ text. ReadsBack text.items flush.now.points) }
+    ensures once { is_ascending (map (λ p. p.series) flush.now.points) ≡ true
+        → HasEachOnce flush.now.points }
 {
     let points = flush.points.as_slice();
-    keep_limits(points);
     let value = request_value(alloc, points)?;
     text_of(alloc, value)
 }

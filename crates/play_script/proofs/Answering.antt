@@ -111,7 +111,7 @@ full_answer E max text fault some full = rw full (ap (answer_by E (fault_text (b
 
 -- a flush was taken
 pub flush_taken : (old new : Journal) (seat max : ℕ) (flush : Flush) → IsTaken old new seat max flush
-    → IsReply (history old) (TakeLine max) (flush_text flush.number flush.points.items) (history new)
+    → IsReply (history old) (TakeLine max) (flush_text flush.number flush.points) (history new)
 flush_taken old new seat max flush h =
     let E = history old in
     let is = take_answer E max (event_text E) h.some h.refused in
@@ -195,7 +195,7 @@ returned_some E max some none = rw none (ap (returned_by E (takes E + 1) (fault_
 
 -- the request of a flush that was taken was told, or the flush was given back
 pub flush_wired : (old new : Journal) (seat max : ℕ) (flush : Flush) (F : History) (text : List ℕ) → IsTaken old new seat max flush
-    → IsForwarded (history new) F flush.number flush.points.items text → IsReply (history old) (WireLine max) text F
+    → IsForwarded (history new) F flush.number flush.points text → IsReply (history old) (WireLine max) text F
 flush_wired old new seat max flush F text h (inl (said_is, same)) =
     let E = history old in
     let is = take_answer E max (request_after E (takes E + 1)) h.some h.refused in

@@ -208,7 +208,7 @@ fn return_flush(book: &mut Book, flush: u64)
 fn forward(alloc: Global, book: &mut Book, flush: &Flush) -> Reply<'static>
     requires { flush_refusal (history book.old) flush.now.number ≡ None }
     ensures { IsForwarded (history book.old) (history book.new) flush.now.number
-        flush.now.points.items (reply_text result) }
+        flush.now.points (reply_text result) }
 {
     match request_text(alloc, flush) {
         Ok(request) => Reply::Wired {

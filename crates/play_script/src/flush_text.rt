@@ -34,7 +34,7 @@ fn put_point(out: &mut Vec<u8>, point: &FlushPoint) -> Result<(), AllocError>
 #[tactic(auto, unfolding(crate::specs::Replies::flush_text))]
 pub fn put_flush(out: &mut Vec<u8>, flush: &Flush) -> Result<(), AllocError>
     ensures { OnOk result (out.new.items ≡ out.old.items ++ spec.flush_text flush.now.number
-        flush.now.points.items) }
+        flush.now.points) }
 {
     let points = flush.points.as_slice();
     out.extend_from_slice(b"flush ")?;

@@ -45,7 +45,7 @@ fn take_and_settle<L: Round, R: Wait + Abort>(
     seat: &mut Seat<L>,
 ) -> Result<(), Fail> {
     let flush = shared.take(rt, seat, 10)?.ok_or("nothing was taken")?;
-    assert_eq!(rt; flush.points.len(), 2);
+    assert_eq!(rt; flush.points.as_slice().len(), 2);
     assert_eq!(rt; shared.settle(rt, seat, flush.number), Ok(()));
     Ok(())
 }

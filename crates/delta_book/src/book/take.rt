@@ -10,7 +10,7 @@ ghost use Rattle.delta_book.specs.Ready.{first_ready};
 use crate::book::Book;
 use crate::cells::take_off;
 use crate::faults::TakeFault;
-use crate::flush::{Flush, FlushPoint, choose, has_ready, home_sums};
+use crate::flush::{Flush, FlushPoints, choose, has_ready, home_sums};
 use crate::open::Open;
 use metric_events::entry::Entry;
 use metric_events::event::Event;
@@ -24,7 +24,7 @@ use std::alloc::{AllocError, Global};
 #[derive(Drop)]
 struct Load {
     series: SeriesList,
-    points: Vec<FlushPoint>,
+    points: FlushPoints,
 }
 
 fn prepare(
@@ -36,7 +36,7 @@ fn prepare(
     requires { AreBooked cells.now }
     ensures series { IfOk result (λ l. l.series ≡ first_ready held.now max cells.now) }
     ensures points { (qs : List Accepted) → AreCells cells.now qs
-        → IfOk result (λ l. l.points.items ≡ present (map (home_point qs)
+        → IfOk result (λ l. l.points ≡ present (map (home_point qs)
         (first_ready held.now max cells.now))) }
 {
     let series = SeriesList::new(choose(alloc, cells, held, max)?);

@@ -6,4 +6,4 @@ use Rattle.delta_book.specs.Tables.{AreCells}
 use Rattle.delta_book.proofs.flush.home_sums.Given as goal
 
 abbrev pub invariant-loop-x : goal.invariant-loop-x
-invariant-loop-x l = (qs : List Accepted) → AreCells l.cells qs → l.all.items ≡ present (map (home_point qs) (take l.x-index l.series))
+invariant-loop-x l = (qs : List Accepted) → AreCells l.cells qs → l.all ≡ present (map (home_point qs) (take l.x-index l.series))

@@ -1,7 +1,10 @@
-use Rattle.std.proofs.Common.{◌≤◌, subst, arith}
+use Rattle.std.proofs.Common.{◌≤◌, subst, sym, arith}
+use Rattle.std.specs.List.{All}
+use Rattle.std.proofs.lemmas.List.Elements.{recursion_from_All}
 use Rattle.std.proofs.lemmas.Result.{IfOk-weaker}
 use Rattle.serde_json.specs.Data.{depth}
 use Rattle.serde_json.specs.Read.{max_depth}
+use Rattle.metric_events.specs.DataPoint.{IsMerged}
 use Rattle.out_texts.specs.Request.{request_value}
 use Rattle.out_texts.specs.Back.{ReadsBack}
 use Rattle.out_texts.proofs.Whole.{request_whole, request_shallow}
@@ -15,9 +18,10 @@ text_of-requires c = rw c.in_ok-value.ensures (request_whole _)
 pub returns-clause-back : goal.returns-clause-back
 returns-clause-back c =
     let ps = c.as_slice-points.result.now in
+    let merged = recursion_from_All IsMerged ps (subst (All IsMerged) (sym c.as_slice-points.ensures.value) c.as_slice-points.ensures.made) in
     let shallow : depth (request_value ps) ≤ max_depth = omega (arith, request_shallow ps) in
     let json = (rw c.in_ok-value.ensures at c.text_of.ensures.back) shallow in
-    IfOk-weaker c.text_of.result _ _ (λ text is. subst (ReadsBack text.items) c.as_slice-points.ensures.value (text_again ps text.items c.keep_limits.ensures is)) json
+    IfOk-weaker c.text_of.result _ _ (λ text is. subst (ReadsBack text.items) c.as_slice-points.ensures.value (text_again ps text.items merged is)) json
 
 pub returns-clause-once : goal.returns-clause-once
 returns-clause-once c = each_once _
