@@ -5,7 +5,7 @@ use Rattle.series_id.specs.Identity.{Identity}
 use Rattle.series_id.specs.declared.kinds.Kind.TheVariants.{Sum}
 use Rattle.metric_events.specs.Senders.{is_sender_name}
 use Rattle.metric_events.specs.DataPoint.{DataPoint}
-use Rattle.metric_events.specs.Rows.{sum_row}
+use Rattle.metric_events.specs.NewPoints.{point_of_sum}
 use Rattle.metric_events.specs.PointFaults.{sum_fault}
 use Rattle.metric_events.specs.declared.point.PointFault.{PointFault}
 use Rattle.play_script.specs.Numbers.{number, value}
@@ -55,13 +55,9 @@ series_named name =
       attrs = [];
     }
 
+-- the point that the words make
 abbrev pub point_of : PointWords → DataPoint
-point_of p =
-    record {
-      series = series_named p.name;
-      span = record { start = p.start; end = p.end };
-      row = sum_row p.value;
-    }
+point_of p = point_of_sum (series_named p.name) p.start p.end p.value
 
 -- why the point can't be made
 abbrev pub fault_of : PointWords → Option PointFault
