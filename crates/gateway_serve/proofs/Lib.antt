@@ -1,2 +1,3 @@
 mod SameEnds
 mod ServedRounds
+mod Pieces

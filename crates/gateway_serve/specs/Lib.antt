@@ -5,3 +5,4 @@ pub mod Rounds
 pub mod Dialled
 pub mod Passed
 pub mod Accepted
+pub mod CutOff

@@ -19,6 +19,7 @@ mod last_line;
 mod moments;
 mod one_round;
 mod order_channel;
+mod piece_source;
 mod rounds;
 mod serving;
 mod shared_acceptor;

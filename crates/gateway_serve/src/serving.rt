@@ -52,10 +52,9 @@ fn tell_rounds<F: FnMut(Book, u64) -> Result<(Book, Audit), GatewayFault>>(
 /// all audits.
 ///
 /// `CannotAccept` where a connection is refused, `CannotStart` where there is no thread for a
-/// worker,
-/// `AuditFailed` where what the workers were told is not what the book holds, and `NoMemory` where
-/// a growth was refused outside a request. Then nothing is given; what was served before that
-/// stands with its senders.
+/// worker, `AuditFailed` where what the workers were told is not what the book holds, and
+/// `NoMemory` where a growth was refused outside a request. Then nothing is given; what was served
+/// before that stands with its senders.
 pub fn serve_bound<
     R: Net<Listener = TcpListener, Stream = TcpStream> + Threads + Wait + Clock + Sync,
 >(

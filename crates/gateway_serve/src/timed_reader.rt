@@ -32,6 +32,15 @@ impl<S: Read + Waits, M: Moments> TimedReader<S, M> {
     }
 }
 
+impl<S, M: Drop> TimedReader<S, M> {
+    /// The stream, as the reads have left it.
+    pub fn into_stream(self) -> S
+        ensures { result ≡ self.stream }
+    {
+        self.stream
+    }
+}
+
 impl<S: Read + Waits, M: Moments> Read for TimedReader<S, M> {
     ghost remaining = { λ r. S.remaining r.stream };
 
