@@ -1,7 +1,8 @@
 -- Requests that were refused before all of them was read.
 use Rattle.std.specs.Prelude.{◌==◌, ◌||◌, Bool, false}
 use Rattle.gate_workers.specs.Refusals.{refusal_status}
-use Rattle.gate_workers.specs.declared.refusal.Refusal.TheVariants.{Malformed, BodyTooLong, NoMemory}
+use Rattle.gate_workers.specs.declared.refusal.Refusal.TheVariants.{Malformed, BodyTooLong}
+use Rattle.gate_workers.specs.declared.refusal.Refusal.TheVariants.{NoMemory}
 use Rattle.gate_workers.specs.declared.service.Served.{Served}
 use Rattle.gate_workers.specs.declared.service.Served.TheVariants.{Closed, Broken, Replied}
 
