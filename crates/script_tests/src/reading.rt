@@ -2,6 +2,7 @@
 
 use metric_events::point::Point;
 use otlp_read::{Memo, Place, ReadFault, Reading, read_request, read_request_with};
+use series_id::SeriesId;
 use std::alloc::{AllocError, Global};
 use std::process::Abort;
 use std::test::Fail;
@@ -257,6 +258,49 @@ fn counts_points_and_metrics(rt: HostRuntime) -> Result<(), Fail> {
     Ok(())
 }
 
+/// Reads a body of one point, and looks at whether it is outside the profile.
+fn reads_one<R: Abort + AllocGlobal>(
+    rt: &R,
+    body: &str,
+    foreign: u64,
+    what: &str,
+) -> Result<(), Fail> {
+    let reading = read_request(rt.alloc(), body.as_bytes())?;
+    assert_eq!(rt; reading.foreign, foreign, "at {what}");
+    let read = if foreign == 0 { 1 } else { 0 };
+    assert_eq!(rt; reading.points.as_slice().len(), read, "at {what}");
+    Ok(())
+}
+
+/// Reads a sum of one point of these attributes, and looks at whether it is outside the profile.
+fn reads_about<R: Abort + AllocGlobal>(
+    rt: &R,
+    attributes: &str,
+    foreign: u64,
+    what: &str,
+) -> Result<(), Fail> {
+    let body = sum_about(rt.alloc(), attributes)?;
+    reads_one(rt, body.as_str(), foreign, what)
+}
+
+/// Reads a body, and looks at the row of its first point and at its span, from 10 to 20.
+fn reads_row<R: Abort + AllocGlobal>(
+    rt: &R,
+    body: &str,
+    row: &[u64],
+    what: &str,
+) -> Result<(), Fail> {
+    let reading = read_request(rt.alloc(), body.as_bytes())?;
+    let found = first(&reading).ok_or("a point")?;
+    assert_eq!(rt; found.row(), row, "at {what}");
+    assert_eq!(rt;
+        (found.span().start(), found.span().end()),
+        (10, 20),
+        "at {what}"
+    );
+    Ok(())
+}
+
 /// Values of a sum's point, with what they add and take.
 const VALUES: [(&str, u64, u64); 8] = [
     (r#""5""#, 5, 0),
@@ -291,16 +335,11 @@ fn reads_whole_numbers(rt: HostRuntime) -> Result<(), Fail> {
     let alloc = rt.alloc();
     for (value, added, taken) in VALUES {
         let body = sum_with(alloc, value)?;
-        let reading = read_request(alloc, body.as_bytes())?;
-        let row = [1, added, taken];
-        let found = first(&reading).ok_or("a point")?;
-        assert_eq!(rt; found.row(), row.as_slice(), "at {value}");
-        assert_eq!(rt; (found.span().start(), found.span().end()), (10, 20));
+        reads_row(&rt, body.as_str(), &[1, added, taken], value)?;
     }
     for value in NO_VALUES {
         let body = sum_with(alloc, value)?;
-        let reading = read_request(alloc, body.as_bytes())?;
-        assert_eq!(rt; reading.foreign, 1, "at {value}");
+        reads_one(&rt, body.as_str(), 1, value)?;
     }
     Ok(())
 }
@@ -360,11 +399,7 @@ const FIELDS: [(&str, u64); 15] = [
 /// Reads a sum of one point, and looks at whether it is outside the profile.
 fn reads_point<R: Abort + AllocGlobal>(rt: &R, point: &str, foreign: u64) -> Result<(), Fail> {
     let body = sum_of(rt.alloc(), point)?;
-    let reading = read_request(rt.alloc(), body.as_bytes())?;
-    assert_eq!(rt; reading.foreign, foreign, "at {point}");
-    let read = if foreign == 0 { 1 } else { 0 };
-    assert_eq!(rt; reading.points.as_slice().len(), read, "at {point}");
-    Ok(())
+    reads_one(rt, body.as_str(), foreign, point)
 }
 
 #[test]
@@ -432,15 +467,29 @@ fn reads_histograms(rt: HostRuntime) -> Result<(), Fail> {
     let alloc = rt.alloc();
     for (fields, row) in HISTOGRAMS {
         let body = histogram_with(alloc, fields)?;
-        let reading = read_request(alloc, body.as_bytes())?;
-        let found = first(&reading).ok_or("a point")?;
-        assert_eq!(rt; found.row(), row, "at {fields}");
+        reads_row(&rt, body.as_str(), row, fields)?;
     }
     for fields in NO_HISTOGRAMS {
         let body = histogram_with(alloc, fields)?;
-        let reading = read_request(alloc, body.as_bytes())?;
-        assert_eq!(rt; reading.foreign, 1, "at {fields}");
+        reads_one(&rt, body.as_str(), 1, fields)?;
     }
+    Ok(())
+}
+
+/// The names of the series below.
+fn expect_names(rt: &impl Abort, series: &SeriesId) {
+    assert_eq!(rt; series.scope_name().as_str(), "n");
+    assert_eq!(rt; series.scope_version().as_str(), "v");
+    assert_eq!(rt; series.name().as_str(), "m");
+    assert_eq!(rt; series.unit().as_str(), "By");
+}
+
+/// The sets of the series below.
+fn expect_sets(rt: &impl Abort, series: &SeriesId) -> Result<(), Fail> {
+    assert_eq!(rt; series.resource().pairs().len(), 1);
+    assert_eq!(rt; series.scope_attrs().pairs().len(), 1);
+    let first = series.attrs().pairs().first().ok_or("an attribute")?;
+    assert_eq!(rt; first.key.as_str(), "a");
     Ok(())
 }
 
@@ -450,21 +499,13 @@ fn reads_identities(rt: HostRuntime) -> Result<(), Fail> {
     let body =
         r#"{"resourceMetrics":[{"resource":{"attributes":[{"key":"r"}]},"scopeMetrics":[{"scope":{"name":"n","version":"v","attributes":[{"key":"s"}]},"metrics":[{"name":"m","unit":"By","sum":{"aggregationTemporality":1,"dataPoints":[{"asInt":1,"startTimeUnixNano":10,"timeUnixNano":20,"attributes":[{"key":"b","value":{"intValue":1}},{"key":"a","value":{"stringValue":"x"}}]},{"asInt":2,"startTimeUnixNano":20,"timeUnixNano":30,"attributes":[{"key":"a","value":{"stringValue":"x"}},{"key":"b","value":{"intValue":"1"}}]},{"asInt":3,"startTimeUnixNano":30,"timeUnixNano":40,"attributes":[{"key":"a"},{"key":"a"}]}]}}]}]}]}"#;
     let reading = read_request(alloc, body.as_bytes())?;
-    assert_eq!(rt; (reading.points.as_slice().len(), reading.foreign), (2, 1));
+    assert_eq!(rt; reading.foreign, 1);
     let [one, other] = reading.points.as_slice() else {
         return Err(Fail::from("two points"));
     };
-    let series = one.series();
-    assert!(rt; series.is_same(other.series()));
-    assert_eq!(rt; series.scope_name().as_str(), "n");
-    assert_eq!(rt; series.scope_version().as_str(), "v");
-    assert_eq!(rt; series.name().as_str(), "m");
-    assert_eq!(rt; series.unit().as_str(), "By");
-    assert_eq!(rt; series.resource().pairs().len(), 1);
-    assert_eq!(rt; series.scope_attrs().pairs().len(), 1);
-    let first = series.attrs().pairs().first().ok_or("an attribute")?;
-    assert_eq!(rt; first.key.as_str(), "a");
-    Ok(())
+    assert!(rt; one.series().is_same(other.series()));
+    expect_names(&rt, one.series());
+    expect_sets(&rt, one.series())
 }
 
 /// What the points of one metric have in common is made once.
@@ -549,6 +590,24 @@ fn a_memo_shares_what_comes_again(rt: HostRuntime) -> Result<(), Fail> {
     Ok(())
 }
 
+/// Reads a body by a memo as without one: its first point is of another series than this one, and
+/// the memo alone shares it.
+fn reads_another<R: Abort + AllocGlobal>(
+    rt: &R,
+    body: &str,
+    memo: &mut Memo,
+    point: &Point,
+    what: &str,
+) -> Result<(), Fail> {
+    let reading = read_request_with(rt.alloc(), body.as_bytes(), memo)?;
+    let plain = read_request(rt.alloc(), body.as_bytes())?;
+    assert!(rt; reading.points.is_same(&plain.points), "at {what}");
+    let other = first(&reading).ok_or("a point")?;
+    assert!(rt; !other.series().is_same(point.series()), "at {what}");
+    assert_eq!(rt; other.shared_series().owners(), 2, "at {what}");
+    Ok(())
+}
+
 /// A memo is not taken in by series that differ in a part of the identity alone.
 #[test]
 fn a_memo_keeps_series_apart(rt: HostRuntime) -> Result<(), Fail> {
@@ -581,12 +640,7 @@ fn a_memo_keeps_series_apart(rt: HostRuntime) -> Result<(), Fail> {
         (r#""key":"b""#, r#""key":"c""#),
     ] {
         let body = body.replace(alloc, old, new)?;
-        let other = read_request_with(alloc, body.as_bytes(), &mut memo)?;
-        let plain = read_request(alloc, body.as_bytes())?;
-        assert!(rt; other.points.is_same(&plain.points), "at {new}");
-        let other = first(&other).ok_or("a point")?;
-        assert!(rt; !other.series().is_same(point.series()), "at {new}");
-        assert_eq!(rt; other.shared_series().owners(), 2, "at {new}");
+        reads_another(&rt, body.as_str(), &mut memo, point, new)?;
     }
     Ok(())
 }
@@ -625,67 +679,78 @@ fn a_memo_keeps_no_large_series(rt: HostRuntime) -> Result<(), Fail> {
     Ok(())
 }
 
+/// That many attributes, each of its own key.
+fn attributes_of(alloc: Global, count: usize) -> Result<String, AllocError> {
+    let mut attributes = String::new(alloc);
+    for i in 0..count {
+        let comma = if i > 0 { "," } else { "" };
+        write!(attributes, r#"{comma}{{"key":"{i}"}}"#)?;
+    }
+    Ok(attributes)
+}
+
+/// An attribute whose value is a list of that many elements.
+fn attribute_of_list(alloc: Global, count: usize) -> Result<String, AllocError> {
+    let values = list_of(alloc, count, r#"{"intValue":1}"#)?;
+    format!(in alloc; r#"{{"value":{{"arrayValue":{{"values":[{values}]}}}}}}"#)
+}
+
 #[test]
 fn reads_sets_and_lists_up_to_their_limits(rt: HostRuntime) -> Result<(), Fail> {
     let alloc = rt.alloc();
     for (count, foreign) in [(128, 0), (129, 1)] {
-        let mut attributes = String::new(alloc);
-        for i in 0..count {
-            let comma = if i > 0 { "," } else { "" };
-            write!(attributes, r#"{comma}{{"key":"{i}"}}"#)?;
-        }
-        let body = sum_about(alloc, attributes.as_str())?;
-        let reading = read_request(alloc, body.as_bytes())?;
-        assert_eq!(rt; reading.foreign, foreign, "{count} attributes");
-
-        let values = list_of(alloc, count, r#"{"intValue":1}"#)?;
-        let attribute = format!(in alloc;
-            r#"{{"value":{{"arrayValue":{{"values":[{values}]}}}}}}"#
-        )?;
-        let body = sum_about(alloc, attribute.as_str())?;
-        let reading = read_request(alloc, body.as_bytes())?;
-        assert_eq!(rt; reading.foreign, foreign, "{count} values");
+        let attributes = attributes_of(alloc, count)?;
+        reads_about(&rt, attributes.as_str(), foreign, "attributes")?;
+        let attribute = attribute_of_list(alloc, count)?;
+        reads_about(&rt, attribute.as_str(), foreign, "values")?;
     }
     Ok(())
+}
+
+/// Reads a sum whose name is this text, one of a key that is, and one of a value that is.
+fn reads_text<R: Abort + AllocGlobal>(rt: &R, text: &str, foreign: u64) -> Result<(), Fail> {
+    let alloc = rt.alloc();
+    let metric = format!(in alloc;
+        r#"{{"name":"{text}","sum":{{"aggregationTemporality":1,"dataPoints":[{{"asInt":1,"startTimeUnixNano":1,"timeUnixNano":2}}]}}}}"#
+    )?;
+    let body = request_of(alloc, metric.as_str())?;
+    reads_one(rt, body.as_str(), foreign, "a name")?;
+    let key = format!(in alloc; r#"{{"key":"{text}"}}"#)?;
+    reads_about(rt, key.as_str(), foreign, "a key")?;
+    let value = format!(in alloc; r#"{{"value":{{"stringValue":"{text}"}}}}"#)?;
+    reads_about(rt, value.as_str(), foreign, "a value")
 }
 
 #[test]
 fn reads_texts_up_to_their_limit(rt: HostRuntime) -> Result<(), Fail> {
-    let alloc = rt.alloc();
     for (length, foreign) in [(4096, 0), (4097, 1)] {
-        let text = letters(alloc, length)?;
-        for body in [
-            format!(in alloc;
-                r#"{{"resourceMetrics":[{{"scopeMetrics":[{{"metrics":[{{"name":"{text}","sum":{{"aggregationTemporality":1,"dataPoints":[{{"asInt":1,"startTimeUnixNano":1,"timeUnixNano":2}}]}}}}]}}]}}]}}"#
-            )?,
-            sum_about(alloc, format!(in alloc; r#"{{"key":"{text}"}}"#)?.as_str())?,
-            sum_about(
-                alloc,
-                format!(in alloc; r#"{{"value":{{"stringValue":"{text}"}}}}"#)?.as_str(),
-            )?,
-        ] {
-            let reading = read_request(alloc, body.as_bytes())?;
-            assert_eq!(rt; reading.foreign, foreign, "{length} bytes");
-            assert_eq!(rt; reading.points.as_slice().len() as u64, 1 - foreign);
-        }
+        let text = letters(rt.alloc(), length)?;
+        reads_text(&rt, text.as_str(), foreign)?;
     }
     Ok(())
 }
 
+/// The fields of a histogram's point of that many bounds, with zeros as its counts.
+fn fields_of_bounds(alloc: Global, count: usize) -> Result<String, AllocError> {
+    let mut fields = String::from_str(alloc, r#""count":0,"explicitBounds":["#)?;
+    for i in 0..count {
+        let comma = if i > 0 { "," } else { "" };
+        write!(fields, "{comma}{i}")?;
+    }
+    fields.push_str(r#"],"bucketCounts":[0"#)?;
+    for _ in 0..count {
+        fields.push_str(",0")?;
+    }
+    fields.push(']')?;
+    Ok(fields)
+}
+
 #[test]
 fn reads_bounds_up_to_their_limit(rt: HostRuntime) -> Result<(), Fail> {
-    let alloc = rt.alloc();
     for (count, foreign) in [(255, 0), (256, 1)] {
-        let mut fields = String::from_str(alloc, r#""count":0,"explicitBounds":["#)?;
-        for i in 0..count {
-            let comma = if i > 0 { "," } else { "" };
-            write!(fields, "{comma}{i}")?;
-        }
-        let zeros = list_of(alloc, count + 1, "0")?;
-        write!(fields, r#"],"bucketCounts":[{zeros}]"#)?;
-        let body = histogram_with(alloc, fields.as_str())?;
-        let reading = read_request(alloc, body.as_bytes())?;
-        assert_eq!(rt; reading.foreign, foreign, "{count} bounds");
+        let fields = fields_of_bounds(rt.alloc(), count)?;
+        let body = histogram_with(rt.alloc(), fields.as_str())?;
+        reads_one(&rt, body.as_str(), foreign, "bounds")?;
     }
     Ok(())
 }
