@@ -87,7 +87,7 @@ def main(words):
     threading.Thread(target=back_end.serve_forever, daemon=True).start()
     for it in (signal.SIGINT, signal.SIGTERM, signal.SIGHUP):
         signal.signal(it, interrupt)
-    print("building the gateway with no proof: this takes up to a minute", flush=True)
+    print("building the gateway with no proof: this takes a minute, and more on a busy machine", flush=True)
     serve = ["serve", "--connections", CONNECTIONS, "--listen", f"127.0.0.1:{port}"]
     serve += ["--backend", f"127.0.0.1:{back_end.server_port}"]
     # A group of its own, so that an interrupt comes here alone; `rt` ends all that it has started.
