@@ -11,6 +11,8 @@ runs the crowd of 24 too, which takes three minutes.
   - 8 stalled senders hold 8 receivers: the next sender is served once their seconds are over; with `all`
     so many thrice.
   - Bodies of 9, 20 and 50 MB are refused, each read by a client that sends all before it reads.
+  - A refused sender that keeps its side open reads the end of its answer at once, and holds its receiver
+    for five seconds.
   - Two orders to a back end that hangs: posts and the report are answered by the receivers that are left.
 All run side by side, in a little more than a minute, nearly all of it waiting. Each line is one check;
 the last line counts those that passed and failed, and the status is 0 where none failed.
@@ -29,6 +31,7 @@ from shipped import listens, wait_until
 # What a request and an answer may take, as docs/FORMATS.md has it, and what the test allows beside.
 REQUEST_SECONDS = 60
 ANSWER_SECONDS = 30
+REFUSED_SECONDS = 5
 SLACK = 6
 AT_ONCE = 5
 
@@ -217,6 +220,22 @@ def long_bodies(program, checks):
     checks.same("long bodies: the end", (0, b"end\nadmitted 0 acknowledged 0\n", b""), end_of(gateway))
 
 
+def refused_sender(program, checks):
+    """A sender that is refused, keeps its side open and says nothing more."""
+    gateway = Gateway(program, NOBODY, 2, options=["--receivers", "1"])
+    with gateway.connect() as connection:
+        begin = time.monotonic()
+        connection.settimeout(REQUEST_SECONDS)
+        connection.sendall(b"no request\r\n\r\n")
+        answer = read_all(connection)
+        checks.true("a refused sender: it is answered", answer.startswith(b"HTTP/1.1 400 "), answer)
+        checks.between("a refused sender: its answer ends at once", 0, REFUSED_SECONDS / 2, time.monotonic() - begin)
+        checks.same("a refused sender: the next one is answered", DONE, asked(gateway, batch(0))[0])
+        checks.between("a refused sender: once its seconds are over", REFUSED_SECONDS - 1, REFUSED_SECONDS + SLACK,
+                       time.monotonic() - begin)
+    checks.same("a refused sender: the end", (0, report(1), b""), end_of(gateway))
+
+
 class HungBackEnd(BackEnd):
     """A back end that takes requests and answers none until it is released."""
 
@@ -264,6 +283,7 @@ def main(program, long):
         (slow_reader,),
         (crowd, 8, REQUEST_SECONDS),
         (long_bodies,),
+        (refused_sender,),
         (hung_back_end,),
     ]
     if long:
