@@ -148,9 +148,9 @@ def late_sender(program, checks):
 
 
 def never_reads(connection):
-    """Asks for the report and reads nothing for as long as an answer may take."""
+    """Asks for the report and reads nothing until long after an answer's time is over."""
     connection.sendall(ordered("GET /report"))
-    time.sleep(ANSWER_SECONDS + SLACK)
+    time.sleep(ANSWER_SECONDS + 3 * SLACK)
 
 
 def narrow(gateway):
