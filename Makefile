@@ -20,6 +20,6 @@ build:
 test:
 	@tools/gate.py
 
-# Tries all edits, those too that the gate leaves out: make edits, or make edits NAME=delta_book.
+# Tries all edits, those too that the gate leaves out, many in one check: make edits, or make edits NAME=delta_book.
 edits:
 	@tools/edits.py $(NAME)

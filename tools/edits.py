@@ -1,160 +1,248 @@
 #!/usr/bin/env python3
 """Tries every edit of the crates, those of must-fail/ and those of more-edits/: the prover must refuse each.
 
-    tools/edits.py [--kept] [CRATE ..]
+    tools/edits.py [CRATE ..]
 
-All crates, or those that are named. The libraries below them are proved and built first, where they are
-not; the crates' edits are then tried side by side, by `rt must-fail`: from nothing, so the first edit of a
-crate takes as long as its first check. With --kept each edit is tried over a copy of what the crate's own
-checks have kept, which takes seconds where the crate is proved and has not changed since.
+All crates, or those that are named. What is not proved yet is proved and built first. The edits of a crate
+are then tried over a copy of what its own check has kept. Edits that each change the bodies of other
+functions are tried together, since a proof reads of other functions their contracts alone; such an edit
+counts as refused where its own function is not proved. An edit that changes more than bodies, or that was
+not refused among others, is tried alone. At the end the crate as it is must be proved over the same, which
+shows that this is sound.
 
-The last lines name the edits that were not refused, and, but for --kept, those that were refused only
-since a proof names what they take away; the very last one counts. The status is 0 where all were refused.
-What `rt` said of each is in out/logs/edits-CRATE.log.
+The last lines name the edits that were not refused, and those that were refused for no value: since a proof
+names what they take away. The very last one counts. The status is 0 where all were refused. What `rt` said
+is in out/logs/edits-CRATE.log.
 """
 import os
 import re
 import shutil
 import sys
 
-from build import Building, steps_for
+from build import MOST_JOBS, Building, steps_for
 from crates import content, read_crates
+from functions import functions_of
 from steps import GIGABYTE, Failed, Step, Steps
 from workspace import Workspace, lock_room
 
-VERDICT = re.compile(r"rt: must-fail \S+/(\S+)\.edit: (refused, as it must be|NOT REFUSED|BAD EDIT)(.*)")
-NAME_ALONE = "only because a proof file names"
+# With it, a function is also checked over others that are not proved.
+EACH_FUNCTION = "--allow-holes"
+# A goal that no search proves, with a line of its function; and a written proof that does not hold, but for
+# one that names what is gone, or stands on such a proof.
+UNPROVED = re.compile(r"note: (?:\./)?(src/\S+?):(\d+):\d+: it is not proved ")
+NAME_ALONE = r"has no field|is not in scope|has no `|was not admitted"
+WRONG = re.compile(rf"(?:\./)?proofs/(\S+)/Answers\.antt:\d+:\d+: error: (?!.*(?:{NAME_ALONE}))")
 # The last line of a check that the prover has ended, and lines that say that it could not read the edit.
-REFUSED = re.compile(r"^logic=not-proved", re.MULTILINE)
+REFUSED = re.compile(r"logic=not-proved")
 UNREADABLE = re.compile(
-    r"^(?:\./)?(?:src|specs)/\S+: error(?:\[|: [^`]|: `.*(?:is not in scope|has no field|is no name))",
-    re.MULTILINE,
+    r"(?:\./)?(?:src|specs)/\S+: error(?:\[|: [^`]|: `.*(?:is not in scope|has no field|is no name))"
 )
 MEMORY = 4 * GIGABYTE
+
+
+class BadEdit(Exception):
+    """Why an edit can't be made."""
+
+
+class Edit:
+    """An edit, with the texts of the files that it changes."""
+
+    def __init__(self, file, folder):
+        self.name = os.path.basename(file).removesuffix(".edit")
+        self.texts = {}
+        for line in content(file).decode().splitlines():
+            key, _, text = line.partition(":")
+            text = text.removeprefix(" ")
+            if key == "file":
+                path = text
+                self.texts.setdefault(path, text_of(folder, path))
+            elif key == "old":
+                old = text
+            elif key == "new":
+                found = self.texts[path].count(old)
+                if found != 1:
+                    raise BadEdit(f"its old text is in the file {found} times: {old}")
+                self.texts[path] = self.texts[path].replace(old, text)
+        self.bodies = self.bodies_of(folder)
+
+    def bodies_of(self, folder):
+        """The bodies that it changes, by their functions; none where it changes anything else."""
+        bodies = {}
+        for path, text in self.texts.items():
+            before, after = text_of(folder, path).split("\n"), text.split("\n")
+            places = functions_of(before), functions_of(after)
+            if [it.head(before) for it in places[0]] != [it.head(after) for it in places[1]]:
+                return {}
+            if outside(before, places[0]) != outside(after, places[1]):
+                return {}
+            for place, (old, new) in enumerate(zip(*places)):
+                if old.inner(before) != new.inner(after):
+                    if (path, new.name) in bodies:
+                        return {}
+                    bodies[path, new.name] = place, new.inner(after)
+        return bodies
+
+
+def outside(lines, functions):
+    """The lines of a file that are in none of these functions."""
+    inside = {k for it in functions for k in range(it.start, it.end + 1)}
+    return [line for k, line in enumerate(lines) if k not in inside]
+
+
+def groups_of(edits):
+    """Edits of bodies, in groups that are tried together: of each function, one at most."""
+    groups = []
+    for edit in edits:
+        for group in groups:
+            if all(edit.bodies.keys().isdisjoint(other.bodies) for other in group):
+                group.append(edit)
+                break
+        else:
+            groups.append([edit])
+    return groups
 
 
 class Edits:
     """The edits of one crate, and which of them were not refused."""
 
-    def __init__(self, crate, kept):
+    def __init__(self, crate):
         self.crate = crate
-        self.kept = kept
         self.files = crate.edits()
         self.refused = 0
         self.notes = []
 
     def step(self, among):
         name = self.crate.name
-        below = {it.name for it in self.crate.all_below()}
         return Step(
             f"edits of {name}",
-            self.work_over_kept if self.kept else self.work,
-            f"tools/edits.py --kept {name}" if self.kept else f"make edits NAME={name}",
-            after=[step.name for step in among if step.name in below],
-            # An edit takes a fraction of the crate's own check, which is tried with them once.
+            self.work,
+            f"make edits NAME={name}",
+            after=[step.name for step in among if step.name == name],
+            # An edit takes a fraction of the crate's own check.
             weight=self.crate.lines() * (1 + len(self.files) // 6),
             memory=MEMORY,
+            most_jobs=MOST_JOBS,
             log=f"edits-{name}",
         )
 
     def work(self, step):
+        kept = f"{self.crate.folder}/out/incremental"
+        if not os.path.isdir(kept):
+            raise Failed("its check has kept nothing: remove its folder out/, and call make edits again")
         with Workspace(self.crate) as space:
-            os.mkdir(f"{space.folder}/must-fail")
-            for file in self.files:
-                shutil.copy(file, f"{space.folder}/must-fail")
-            step.run(["rt", "must-fail", self.crate.name], space.top, self.hear)
-        return self.outcome()
-
-    def hear(self, line):
-        verdict = VERDICT.match(line)
-        if verdict:
-            name, said, why = verdict.groups()
-            self.count(name, said.startswith("refused"), said.lower() + why[:120], NAME_ALONE in why)
-
-    def count(self, name, is_refused, said, is_by_name=False):
-        self.refused += is_refused
-        if not is_refused or is_by_name:
-            self.notes.append(f"{self.crate.name}/{name}: {'refused for a name' if is_by_name else said}")
-
-    def outcome(self):
+            shutil.copytree(kept, f"{space.folder}/out/incremental")
+            trial = Trial(step, space.folder)
+            self.try_all(trial)
+            if trial.check({})[0] != 0:
+                raise Failed("the crate itself is not proved")
         others = len(self.files) - self.refused
         if others:
             raise Failed(f"{self.refused} refused, {others} not")
         return f"{self.refused} refused"
 
-    def work_over_kept(self, step):
-        """Tries each edit on a copy of the crate with what its own checks have kept. That the crate without an
-        edit is proved over the same shows that this is sound."""
-        kept = f"{self.crate.folder}/out/incremental"
-        if not os.path.isdir(kept):
-            raise Failed(f"no check has kept anything: cd crates/{self.crate.name} && rt check")
-        with Workspace(self.crate) as space:
-            shutil.copytree(kept, f"{space.folder}/out/incremental")
-            for file in self.files:
-                name = os.path.basename(file).removesuffix(".edit")
-                step.count = name
-                self.count(name, *verdict_on(file, space.folder, step))
-            if step.run(["rt", "check", "--jobs", "1"], space.folder) != 0:
-                raise Failed("the crate itself is not proved")
-        return self.outcome()
+    def try_all(self, trial):
+        edits = self.read(trial.folder)
+        alone = [edit for edit in edits if not edit.bodies]
+        for group in groups_of([edit for edit in edits if edit.bodies]):
+            refused = trial.together(group) if len(group) > 1 else set()
+            self.refused += len(refused)
+            alone += [edit for edit in group if edit not in refused]
+            self.show(trial.step)
+        for edit in alone:
+            is_refused, note = trial.alone(edit)
+            self.refused += is_refused
+            if note:
+                self.note(edit.name, note)
+            self.show(trial.step)
+
+    def read(self, folder):
+        edits = []
+        for file in self.files:
+            try:
+                edits.append(Edit(file, folder))
+            except BadEdit as fault:
+                self.note(os.path.basename(file).removesuffix(".edit"), f"bad edit: {fault}")
+        return edits
+
+    def note(self, name, text):
+        self.notes.append(f"{self.crate.name}/{name}: {text}")
+
+    def show(self, step):
+        step.count = f"{self.refused} of {len(self.files)}"
 
 
-def verdict_on(file, folder, step):
-    """Whether the prover refuses a crate with an edit, and what to say where it does not."""
-    try:
-        texts = texts_of(file, folder)
-    except ValueError as fault:
-        return False, f"bad edit: {fault}"
-    before = {path: content(path) for path in texts}
-    lines = []
-    write(texts)
-    status = step.run(["rt", "check", "--jobs", "1"], folder, lines.append)
-    write(before)
-    said = "".join(lines)
-    if status == 0:
-        return False, "not refused"
-    if UNREADABLE.search(said) or not REFUSED.search(said):
-        return False, "bad edit: the prover could not read it"
-    return True, ""
+class Trial:
+    """The folder in which edits of a crate are tried."""
+
+    def __init__(self, step, folder):
+        self.step = step
+        self.folder = folder
+
+    def together(self, group):
+        """Those of a group that are refused for a value of a function that they change."""
+        texts = {}
+        for edit in group:
+            for (path, _), (place, body) in edit.bodies.items():
+                lines = texts.get(path) or text_of(self.folder, path).split("\n")
+                function = functions_of(lines)[place]
+                texts[path] = lines[: function.body] + body + lines[function.end + 1 :]
+        _, said = self.check({path: "\n".join(lines) for path, lines in texts.items()}, EACH_FUNCTION)
+        return {edit for edit in group if any(is_unproved(it, said, texts) for it in edit.bodies)}
+
+    def alone(self, edit):
+        """Whether an edit is refused, and what to say of it."""
+        status, said = self.check(edit.texts)
+        if status == 0:
+            return False, "not refused"
+        if not any(map(REFUSED.match, said)) or any(map(UNREADABLE.match, said)):
+            return False, "bad edit: the prover could not read it"
+        is_value = any(UNPROVED.match(line) or WRONG.match(line) for line in said)
+        return True, "" if is_value else "refused for a name"
+
+    def check(self, texts, *flags):
+        """The status of a check of the crate with other texts in some files, and what it says."""
+        command = ["rt", "check", "--jobs", str(self.step.jobs), *flags]
+        before = {path: text_of(self.folder, path) for path in texts}
+        said = []
+        self.write(texts)
+        status = self.step.run(command, self.folder, said.append)
+        self.write(before)
+        return status, said
+
+    def write(self, texts):
+        for path, text in texts.items():
+            with open(f"{self.folder}/{path}", "w", encoding="utf-8") as file:
+                file.write(text)
 
 
-def texts_of(file, folder):
-    """The files that an edit changes, by their paths, with their texts behind it."""
-    texts = {}
-    for line in content(file).decode().splitlines():
-        key, _, text = line.partition(":")
-        text = text.removeprefix(" ")
-        if key == "file":
-            path = f"{folder}/{text}"
-            texts.setdefault(path, content(path))
-        elif key == "old":
-            old = text.encode()
-        elif key == "new":
-            found = texts[path].count(old)
-            if found != 1:
-                raise ValueError(f"its old text is in the file {found} times: {old.decode()}")
-            texts[path] = texts[path].replace(old, text.encode())
-    return texts
+def is_unproved(function, said, texts):
+    """Whether a check says that something of a function is not proved for a value."""
+    path, name = function
+    bodies = [it for it in functions_of(texts[path]) if it.name == name]
+    module = [it for it in path.removesuffix(".rt").split("/")[1:] if it not in ("lib", "main")]
+    proofs = re.compile("/".join([*module, rf"(?:[A-Z]\w*/)?{name}"]))
+    for line in said:
+        goal, proof = UNPROVED.match(line), WRONG.match(line)
+        if goal and goal[1] == path and any(it.start < int(goal[2]) <= it.end + 1 for it in bodies):
+            return True
+        if proof and proofs.fullmatch(proof[1]):
+            return True
+    return False
 
 
-def write(texts):
-    for path, text in texts.items():
-        with open(path, "wb") as file:
-            file.write(text)
+def text_of(folder, path):
+    return content(f"{folder}/{path}").decode()
 
 
-def main(words):
-    kept = words[:1] == ["--kept"]
-    names = words[kept:]
+def main(names):
     known = read_crates()
     unknown = [name for name in names if name not in known]
     if unknown:
         sys.exit(f"crates.txt lists no crate {' '.join(unknown)}")
     crates = [known[name] for name in names] or known.values()
-    tried = [Edits(crate, kept) for crate in crates if crate.edits()]
+    tried = [Edits(crate) for crate in crates if crate.edits()]
     held = lock_room()
-    below = {it.name: it for edits in tried for it in edits.crate.all_below()}
-    steps, _ = steps_for(below.values(), Building())
+    steps, _ = steps_for([edits.crate for edits in tried], Building())
     passed = Steps(steps + [edits.step(steps) for edits in tried]).run()
     os.close(held)
     for edits in tried:
