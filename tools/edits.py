@@ -29,7 +29,7 @@ from workspace import Workspace, lock_room
 EACH_FUNCTION = "--allow-holes"
 # A goal that no search proves, with a line of its function; and a written proof that does not hold, but for
 # one that names what is gone, or stands on such a proof.
-UNPROVED = re.compile(r"note: (?:\./)?(src/\S+?):(\d+):\d+: it is not proved ")
+UNPROVED = re.compile(r"note: (?:\./)?(src/\S+?):(\d+):\d+: (?:it is not proved|`search` found no proof) ")
 NAME_ALONE = r"has no field|is not in scope|has no `|was not admitted"
 WRONG = re.compile(rf"(?:\./)?proofs/(\S+)/Answers\.antt:\d+:\d+: error: (?!.*(?:{NAME_ALONE}))")
 # The last line of a check that the prover has ended, and lines that say that it could not read the edit.
