@@ -1,5 +1,5 @@
-//! Tests of what a text means: the reading of a request's body, scripts with their replies, and
-//! the texts that are written.
+//! Tests of what a text means: the reading of a request's body, the ends of a script, and the texts
+//! of answers.
 #![tactic(auto)]
 
 #[cfg(test)]
