@@ -4,23 +4,21 @@
     tools/build.py [CRATE ..]
 
 The crates are play and gateway, or those that are named. Crates that don't use each other are proved
-side by side, as many as processors and memory carry; what is proved and has not changed since is not
-proved again, also not after an interrupt. The logs are in out/logs.
+side by side, as many as processors and memory carry; a crate that is proved and has not changed since,
+nor one below it, is not proved again, also not after an interrupt. The logs are in out/logs.
 """
 import hashlib
 import os
-import re
 import shlex
 import shutil
 import sys
 import time
 
-from crates import ROOT, Digests, content, read_crates
-from steps import GIGABYTE, Failed, Step, Steps, shown
-from workspace import BuildSpace, lock_room
+from crates import OUT, ROOT, Digests, content, read_crates
+from prover import Prover, made_by, room_of
+from steps import GIGABYTE, Failed, Step, Steps, locked, shown
 
 PROGRAMS = ["play", "gateway"]
-SO_FAR = re.compile(r"so far: (\d+ of \d+) functions checked")
 # A check of a crate takes a gigabyte or two for what it loads, and about a megabyte a line.
 LEAST_MEMORY = 3 * GIGABYTE // 2
 LINE_MEMORY = GIGABYTE // 1000
@@ -34,22 +32,29 @@ class Building:
 
     def __init__(self):
         self.digests = Digests()
+        self.prover = Prover()
+        self.known = {}
 
     def is_built(self, crate):
-        return content(mark_of(crate)) == self.mark(crate)
+        """Whether what is built was made of the crate as it is, over what is built of the crates below."""
+        if crate.name not in self.known:
+            is_made = all(map(self.is_built, crate.below)) and os.path.exists(made_by(crate))
+            self.known[crate.name] = is_made and content(mark_of(crate)).startswith(self.inputs(crate))
+        return self.known[crate.name]
 
-    def mark(self, crate):
-        """What is kept beside a built crate: what it was made of, and what was made."""
-        made = hashlib.sha256(content(made_by(crate))).hexdigest()
-        return f"{self.digests.of(crate)} {made}\n".encode()
+    def inputs(self, crate):
+        """What a crate is built of, as one word: its text, and each library below as it was built."""
+        whole = hashlib.sha256(self.digests.of(crate).encode())
+        for below in crate.below:
+            whole.update(content(mark_of(below)))
+        return whole.hexdigest().encode()
 
     def step(self, crate, among):
         lines = crate.lines()
-        verb = f"rt run -- {' '.join(args_of(crate))}".removesuffix(" -- ") if crate.is_program else "rt check"
         return Step(
             crate.name,
             lambda step: self.build(crate, step),
-            f"cd crates/{crate.name} && {verb}",
+            f"tools/build.py {crate.name}",
             after=[it.name for it in crate.below if it in among],
             weight=lines,
             memory=min(LEAST_MEMORY + LINE_MEMORY * lines, MOST_MEMORY),
@@ -57,41 +62,22 @@ class Building:
         )
 
     def build(self, crate, step):
-        """Proves a crate and builds it over what the proof has kept."""
-        # Either command proves what it builds; a check before it would only load all of it once more.
-        verb, why = ("run", "not proved, or it did not run") if crate.is_program else ("lib", "not proved")
-        words = ["--", *args_of(crate)] if args_of(crate) else []
-        with BuildSpace(crate) as space:
-            call(step, ["rt", verb, "--jobs", str(step.jobs), *words], space.folder, why)
-        with open(mark_of(crate), "wb") as file:
-            file.write(self.mark(crate))
+        """Proves a crate and builds it."""
+        # No two builds have one mark: a library fits those alone over which it was built.
+        mark = b"%s %d\n" % (self.inputs(crate), time.time_ns())
+        with locked(crate.folder):
+            shutil.rmtree(room_of(crate), ignore_errors=True)
+            os.makedirs(room_of(crate))
+            for command in self.prover.build(crate, step.jobs):
+                if step.run(command, crate.folder) != 0:
+                    raise Failed("not proved")
+            with open(mark_of(crate), "wb") as file:
+                file.write(mark)
         return "proved"
 
 
-def call(step, command, folder, why):
-    if step.run(command, folder, lambda line: count(step, line)) != 0:
-        raise Failed(why)
-
-
-def count(step, line):
-    """Shows how many functions of a large crate are checked."""
-    found = SO_FAR.match(line)
-    if found:
-        step.count = found[1]
-
-
-def args_of(crate):
-    """The words that a program is called with where it is tried."""
-    return content(f"{crate.folder}/args").decode().splitlines()
-
-
 def mark_of(crate):
-    return f"{crate.folder}/out/built"
-
-
-def made_by(crate):
-    """The file that `rt` leaves for a built crate: the program, or the stamp of the library."""
-    return f"{crate.folder}/out/{crate.name if crate.is_program else 'rlib/stamp'}"
+    return f"{room_of(crate)}/mark"
 
 
 def steps_for(crates, building):
@@ -117,14 +103,12 @@ def main(names):
         sys.exit(f"crates.txt lists no crate {' '.join(unknown)}")
     crates = [known[name] for name in names or PROGRAMS]
     begun = time.monotonic()
-    held = lock_room()
-    steps, whole = steps_for(crates, Building())
-    if len(steps) < whole:
-        print(f"{whole - len(steps)} of {whole} crates are proved and have not changed", flush=True)
-    passed = Steps(steps).run()
-    os.close(held)
-    if not passed:
-        return 1
+    with locked(OUT):
+        steps, whole = steps_for(crates, Building())
+        if len(steps) < whole:
+            print(f"{whole - len(steps)} of {whole} crates are proved and have not changed", flush=True)
+        if not Steps(steps).run():
+            return 1
     programs = [crate for crate in crates if crate.is_program]
     for crate in programs:
         install(crate)

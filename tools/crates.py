@@ -4,6 +4,8 @@ import os
 import subprocess
 
 ROOT = os.path.dirname(os.path.dirname(os.path.realpath(__file__)))
+# What commands leave, but for bin/ and what lies in the folders of crates. Git ignores it.
+OUT = f"{ROOT}/out"
 # What a check of a crate reads.
 PARTS = ("src", "specs", "proofs")
 
@@ -17,6 +19,11 @@ class Crate:
         self.below = below
         self.folder = f"{ROOT}/crates/{name}"
         self.is_program = os.path.isfile(f"{self.folder}/src/main.rt")
+
+    def uses(self):
+        """The names of the toolchain's libraries that it uses, but for the standard one."""
+        own = [it.name for it in self.below]
+        return [it for it in self.line.partition(":")[2].split() if it not in own]
 
     def all_below(self):
         """Every crate that this one is built over, lowest first."""

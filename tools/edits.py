@@ -3,27 +3,27 @@
 
     tools/edits.py [CRATE ..]
 
-All crates, or those that are named. What is not proved yet is proved and built first. The edits of a crate
-are then tried over a copy of what its own check has kept. Edits that each change the bodies of other
+All crates, or those that are named. What stands below them is proved and built first. The edits of a crate
+are tried over a copy of what a check of the crate as it is has kept. Edits that each change the bodies of other
 functions are tried together, since a proof reads of other functions their contracts alone; such an edit
 counts as refused where its own function is not proved. An edit that changes more than bodies, or that was
 not refused among others, is tried alone. At the end the crate as it is must be proved over the same, which
 shows that this is sound.
 
 The last lines name the edits that were not refused, and those that were refused for no value: since a proof
-names what they take away. The very last one counts. The status is 0 where all were refused. What `rt` said
-is in out/logs/edits-CRATE.log.
+names what they take away. The very last one counts. The status is 0 where all were refused. What the prover
+said is in out/logs/edits-CRATE.log.
 """
 import os
 import re
 import shutil
 import sys
+import tempfile
 
 from build import MOST_JOBS, Building, steps_for
-from crates import content, read_crates
+from crates import OUT, PARTS, content, read_crates
 from functions import functions_of
-from steps import GIGABYTE, Failed, Step, Steps
-from workspace import Workspace, lock_room
+from steps import GIGABYTE, Failed, Step, Steps, locked
 
 # With it, a function is also checked over others that are not proved.
 EACH_FUNCTION = "--allow-holes"
@@ -105,8 +105,9 @@ def groups_of(edits):
 class Edits:
     """The edits of one crate, and which of them were not refused."""
 
-    def __init__(self, crate):
+    def __init__(self, crate, prover):
         self.crate = crate
+        self.prover = prover
         self.files = crate.edits()
         self.refused = 0
         self.notes = []
@@ -117,7 +118,7 @@ class Edits:
             f"edits of {name}",
             self.work,
             f"make edits NAME={name}",
-            after=[step.name for step in among if step.name == name],
+            after=[it.name for it in self.crate.below if it.name in among],
             # An edit takes a fraction of the crate's own check.
             weight=self.crate.lines() * (1 + len(self.files) // 6),
             memory=MEMORY,
@@ -126,15 +127,15 @@ class Edits:
         )
 
     def work(self, step):
-        kept = f"{self.crate.folder}/out/incremental"
-        if not os.path.isdir(kept):
-            raise Failed("its check has kept nothing: remove its folder out/, and call make edits again")
-        with Workspace(self.crate) as space:
-            shutil.copytree(kept, f"{space.folder}/out/incremental")
-            trial = Trial(step, space.folder)
+        kept = f"{OUT}/edits/{self.crate.name}"
+        with tempfile.TemporaryDirectory(prefix=f"edits-{self.crate.name}-") as room:
+            trial = Trial(self.crate, self.prover, step, room)
+            if trial.check({}, kept)[0] != 0:
+                raise Failed("the crate itself is not proved")
+            shutil.copytree(kept, trial.kept)
             self.try_all(trial)
             if trial.check({})[0] != 0:
-                raise Failed("the crate itself is not proved")
+                raise Failed("the crate itself is not proved over what the edits have left")
         others = len(self.files) - self.refused
         if others:
             raise Failed(f"{self.refused} refused, {others} not")
@@ -172,11 +173,17 @@ class Edits:
 
 
 class Trial:
-    """The folder in which edits of a crate are tried."""
+    """A copy of a crate in which its edits are tried, over what checks have kept."""
 
-    def __init__(self, step, folder):
+    def __init__(self, crate, prover, step, room):
+        self.crate = crate
+        self.prover = prover
         self.step = step
-        self.folder = folder
+        self.folder = f"{room}/{crate.name}"
+        self.kept = f"{room}/kept"
+        for part in PARTS:
+            if os.path.isdir(f"{crate.folder}/{part}"):
+                shutil.copytree(f"{crate.folder}/{part}", f"{self.folder}/{part}")
 
     def together(self, group):
         """Those of a group that are refused for a value of a function that they change."""
@@ -186,7 +193,7 @@ class Trial:
                 lines = texts.get(path) or text_of(self.folder, path).split("\n")
                 function = functions_of(lines)[place]
                 texts[path] = lines[: function.body] + body + lines[function.end + 1 :]
-        _, said = self.check({path: "\n".join(lines) for path, lines in texts.items()}, EACH_FUNCTION)
+        _, said = self.check({path: "\n".join(lines) for path, lines in texts.items()}, flags=[EACH_FUNCTION])
         return {edit for edit in group if any(is_unproved(it, said, texts) for it in edit.bodies)}
 
     def alone(self, edit):
@@ -199,9 +206,9 @@ class Trial:
         is_value = any(UNPROVED.match(line) or WRONG.match(line) for line in said)
         return True, "" if is_value else "refused for a name"
 
-    def check(self, texts, *flags):
+    def check(self, texts, kept=None, flags=()):
         """The status of a check of the crate with other texts in some files, and what it says."""
-        command = ["rt", "check", "--jobs", str(self.step.jobs), *flags]
+        command = [*self.prover.check(self.crate, self.step.jobs, kept or self.kept), *flags]
         before = {path: text_of(self.folder, path) for path in texts}
         said = []
         self.write(texts)
@@ -240,11 +247,12 @@ def main(names):
     if unknown:
         sys.exit(f"crates.txt lists no crate {' '.join(unknown)}")
     crates = [known[name] for name in names] or known.values()
-    tried = [Edits(crate) for crate in crates if crate.edits()]
-    held = lock_room()
-    steps, _ = steps_for([edits.crate for edits in tried], Building())
-    passed = Steps(steps + [edits.step(steps) for edits in tried]).run()
-    os.close(held)
+    building = Building()
+    tried = [Edits(crate, building.prover) for crate in crates if crate.edits()]
+    with locked(OUT):
+        steps, _ = steps_for([below for edits in tried for below in edits.crate.below], building)
+        among = {step.name for step in steps}
+        passed = Steps(steps + [edits.step(among) for edits in tried]).run()
     for edits in tried:
         print("".join(f"{note}\n" for note in edits.notes), end="")
     refused = sum(edits.refused for edits in tried)

@@ -14,9 +14,8 @@ import subprocess
 import sys
 import time
 
-from crates import ROOT, content, read_crates
-from steps import Failed, Step, Steps, end_of, end_of_lines, shown
-from workspace import lock_room
+from crates import OUT, ROOT, content, read_crates
+from steps import Failed, Step, Steps, end_of, end_of_lines, locked, shown
 
 PLAY = "crates/play/out/play"
 GATEWAY = "crates/gateway/out/gateway"
@@ -130,10 +129,8 @@ def main(words):
     prover = Prover()
     passed = failed = 0
     if not words:
-        # The gate of the prover refuses what a build that was killed has left.
-        held = lock_room()
-        Steps([prover.step()]).run()
-        os.close(held)
+        with locked(OUT):
+            Steps([prover.step()]).run()
         passed, failed = prover.passed, prover.failed
     if not failed:
         before = [OWN_NETWORK] if has_networks() else []

@@ -3,6 +3,8 @@
 A line for each step when it ends. On a terminal a last line moves with what runs. Of a step that fails
 the end of its log is shown, and the command that repeats it.
 """
+import contextlib
+import fcntl
 import os
 import queue
 import re
@@ -13,9 +15,9 @@ import sys
 import threading
 import time
 
-from crates import ROOT
+from crates import OUT, ROOT
 
-LOGS = f"{ROOT}/out/logs"
+LOGS = f"{OUT}/logs"
 GIGABYTE = 1_000_000_000
 # What each further job of a check may take, and how much of a processor: a check begins and ends with one job.
 JOB_MEMORY = 3 * GIGABYTE // 2
@@ -55,6 +57,7 @@ class Step:
         self.alone = alone
         self.jobs = 1
         self.count = ""
+        self.begun = time.monotonic()
         self.say = print
         self.log = f"{LOGS}/{log or name}.log"
 
@@ -142,7 +145,8 @@ class Board:
     def show(self, running):
         """The line that moves."""
         if self.moves:
-            words = ", ".join(f"{step.name} {step.count}".rstrip() for step in running)
+            now = time.monotonic()
+            words = ", ".join(f"{step.name} {step.count or shown(now - step.begun)}" for step in running)
             line = f"{self.ended} of {self.whole} in {shown(time.monotonic() - self.begun)}: {words}"
             width = shutil.get_terminal_size().columns - 1
             print(f"\r\033[K{line[:width]}", end="", flush=True)
@@ -275,7 +279,7 @@ class Steps:
         return jobs if not self.running or step.needs(jobs) <= room else 0
 
     def work(self, step):
-        begun = time.monotonic()
+        step.begun = time.monotonic()
         try:
             with open(step.log, "w", encoding="utf-8"):
                 pass
@@ -284,7 +288,7 @@ class Steps:
             end = (False, str(why))
         except BaseException as fault:
             end = (False, f"{type(fault).__name__}: {fault}")
-        self.ended.put((step, time.monotonic() - begun, *end))
+        self.ended.put((step, time.monotonic() - step.begun, *end))
 
     def hear(self, step, seconds, passed, note):
         del self.running[step]
@@ -304,6 +308,22 @@ def chains(steps):
         for name in step.after:
             behind[name] = max(behind[name], weight[step.name] + behind[step.name])
     return {name: weight[name] + behind[name] for name in behind}
+
+
+@contextlib.contextmanager
+def locked(folder):
+    """Waits until nothing else works in a folder, and keeps others out for as long as a `with` lasts, as `rt` does."""
+    os.makedirs(folder, exist_ok=True)
+    held = os.open(folder, os.O_RDONLY)
+    try:
+        try:
+            fcntl.flock(held, fcntl.LOCK_EX | fcntl.LOCK_NB)
+        except BlockingIOError:
+            print(f"waiting for another run in {os.path.relpath(folder)}", flush=True)
+            fcntl.flock(held, fcntl.LOCK_EX)
+        yield
+    finally:
+        os.close(held)
 
 
 def interrupt(*_):

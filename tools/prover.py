@@ -1,0 +1,60 @@
+"""The prover's command for one crate, over libraries that were built by it here.
+
+`rt check` and `rt lib` keep all that they have checked, for whoever changes one function, and a library of
+theirs holds whole proofs, which every check above it loads. From nothing that takes up to twice as long.
+Here a library holds its statements alone, as where `rt ci` builds it, and nothing is kept but what is built.
+"""
+import os
+import subprocess
+
+
+class Prover:
+    """The toolchain's prover, compiler and linker."""
+
+    def __init__(self):
+        page = subprocess.run(["rt", "doc"], stdout=subprocess.PIPE, text=True, check=True)
+        self.kit = os.path.dirname(page.stdout.strip())
+
+    def check(self, crate, jobs, kept):
+        """The command that checks a crate in its folder, over what an earlier check of it has kept."""
+        return [f"{self.kit}/bin/rattle", "check", *self.words(crate, jobs), "--incremental", kept]
+
+    def build(self, crate, jobs):
+        """The commands that prove a crate in its folder and build it."""
+        proving = [f"{self.kit}/bin/rattle", "build", *self.words(crate, jobs)]
+        if not crate.is_program:
+            return [[*proving, "--statements", "-o", made_by(crate)]]
+        tools = ["--toolchain", f"{self.kit}/toolchain"]
+        module = f"{made_by(crate)}.o"
+        system = [f"{self.kit}/c/{name}" for name in ("libos_c.a", "liblibc_c.a")]
+        linking = [f"{self.kit}/bin/rattle-link", "--target", "x86_64-unknown-linux-gnu", *tools]
+        return [
+            [*proving, *tools, "--backend", "llvm", "-o", module],
+            [*linking, "-o", made_by(crate), module, *system],
+        ]
+
+    def words(self, crate, jobs):
+        """What a check of a crate reads, with so many jobs."""
+        libraries = f"{self.kit}/rlibs"
+        words = ["--crate-name", crate.name, f"src/{'main' if crate.is_program else 'lib'}.rt"]
+        for use in ("std", *crate.uses()):
+            words += ["--extern", f"{use}={libraries}/{use}.rlib"]
+        for below in crate.below:
+            words += ["--extern", f"{below.name}={made_by(below)}"]
+        for folder in (libraries, *map(room_of, crate.all_below())):
+            words += ["-L", f"dependency={folder}"]
+        words += ["--antt-project", f"{self.kit}/rattle/logic/antt-project.json"]
+        words += ["--logic-built", f"{self.kit}/logic_built"]
+        return [*words, "--links", f"{crate.name}=", "--jobs", str(jobs)]
+
+
+def room_of(crate):
+    """The folder of a crate for what is built of it: the only one where `rt` lets a library lie."""
+    return f"{crate.folder}/out/rlib/statements"
+
+
+def made_by(crate):
+    """What is built of a crate: a program, or the folder of a library."""
+    if crate.is_program:
+        return f"{crate.folder}/out/{crate.name}"
+    return f"{room_of(crate)}/{crate.name}.rlib"
