@@ -108,6 +108,8 @@ class Proxy:
 
     def kill(self):
         end_group(self.process)
+        # A worker of nginx may outlive the process that started it by a moment, and listens until then.
+        wait_until(lambda: not listens(self.plain))
 
     def handover(self, old, new):
         """The words of operate/handover behind the two addresses."""
