@@ -1,7 +1,7 @@
 """The prover's command for one crate, over libraries that were built by it here.
 
 `rt check` and `rt lib` keep all that they have checked, for whoever changes one function, and a library of
-theirs holds whole proofs, which every check above it loads. From nothing that takes up to twice as long.
+theirs holds whole proofs, which every check above it loads. From nothing that takes longer.
 Here a library holds its statements alone, as where `rt ci` builds it, and nothing is kept but what is built.
 """
 import os
