@@ -2,7 +2,7 @@
 
 .PHONY: run serve build test edits
 
-# Runs the script program on its stored script, with no proof: it needs less than a minute.
+# Runs the script program on its stored script, with no proof, in about a minute at most.
 run:
 	@cd crates/play && mkdir -p out && rt try < stdin 2> out/run.log || { cat out/run.log; exit 1; }
 	@echo 'This run proved nothing: make build proves what it builds, make test everything.'
