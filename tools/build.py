@@ -23,8 +23,8 @@ PROGRAMS = ["play", "gateway"]
 LEAST_MEMORY = 3 * GIGABYTE // 2
 LINE_MEMORY = GIGABYTE // 1000
 MOST_MEMORY = 4 * GIGABYTE
-# No check has been faster by more jobs.
-MOST_JOBS = 4
+# More jobs save little, and each takes memory.
+MOST_JOBS = 3
 
 
 class Building:

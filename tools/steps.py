@@ -19,9 +19,10 @@ from crates import OUT, ROOT
 
 LOGS = f"{OUT}/logs"
 GIGABYTE = 1_000_000_000
-# What each further job of a check may take, and how much of a processor: a check begins and ends with one job.
+# What each further job of a check may take.
 JOB_MEMORY = 3 * GIGABYTE // 2
-JOB_SHARE = 0.5
+# A chain that is at least this part of the longest one may become the longest.
+NEARLY = 0.75
 END_OF_LOG = 30
 MOST_ERRORS = 10
 # For what an interrupted step puts back, in seconds.
@@ -56,14 +57,11 @@ class Step:
         self.lane = lane
         self.alone = alone
         self.jobs = 1
+        self.yields = False
         self.count = ""
         self.begun = time.monotonic()
         self.say = print
         self.log = f"{LOGS}/{log or name}.log"
-
-    def share(self):
-        """How many processors it keeps busy."""
-        return 1 + JOB_SHARE * (self.jobs - 1)
 
     def needs(self, jobs):
         return self.memory + JOB_MEMORY * (jobs - 1) if self.memory else 0
@@ -72,7 +70,7 @@ class Step:
         """Runs a command with its output in the log, each line read as it comes, and returns its status. It is
         ended after so many seconds, if there is a limit."""
         with open(self.log, "a", encoding="utf-8") as log:
-            child = CHILDREN.start(command, folder)
+            child = CHILDREN.start(["nice", *command] if self.yields else command, folder)
             clock = threading.Timer(limit or threading.TIMEOUT_MAX, CHILDREN.stop, [child])
             clock.daemon = True
             clock.start()
@@ -102,7 +100,7 @@ class Children:
             if self.is_ending:
                 raise Failed("interrupted")
             child = subprocess.Popen(
-                command, cwd=folder, text=True, errors="replace", start_new_session=True, **how
+                command, cwd=folder, text=True, errors="replace", process_group=0, **how
             )
             self.running.add(child)
         return child
@@ -248,35 +246,40 @@ class Steps:
     def begin_some(self):
         """Begins what can begin now, and returns whether anything did."""
         begun = False
-        ready = [step for step in self.waiting if self.passed.issuperset(step.after)]
-        for place, step in enumerate(ready):
-            jobs = self.jobs_for(step, len(ready) - place - 1)
+        for step in [it for it in self.waiting if self.passed.issuperset(it.after)]:
+            jobs = self.jobs_for(step)
             if jobs:
                 begun = True
                 step.jobs = jobs
+                step.yields = step.most_jobs > 1 and not self.leads(step)
                 step.say = self.board.say
                 self.waiting.remove(step)
                 self.running[step] = threading.Thread(target=self.work, args=(step,), daemon=True)
                 self.running[step].start()
         return begun
 
-    def jobs_for(self, step, behind):
-        """How many jobs a step gets: none where it has to wait, and more than one where processors would
-        be idle or all that is left waits for its chain, whatever runs beside it."""
-        idle = self.processors - sum(it.share() for it in self.running)
-        is_apart = step.alone or any(it.alone for it in self.running)
-        if self.running and (is_apart or any(it.lane and it.lane == step.lane for it in self.running)):
+    def jobs_for(self, step):
+        """How many jobs a step gets: none where it has to wait. A step that leads gets all that it may
+        have, another what is left of the processors, and at least one, as far as memory carries them."""
+        if self.running and self.has_to_wait(step):
             return 0
-        if idle < JOB_SHARE:
-            return 0
-        rest = [*self.running, *self.waiting]
-        leads = self.chain[step.name] == max(self.chain[it.name] for it in rest)
-        left = 1 + int((idle - behind - 1) / JOB_SHARE)
-        jobs = min(max(left, self.processors - 1 if leads else 1, 1), step.most_jobs)
+        left = self.processors - sum(it.jobs for it in self.running)
+        jobs = step.most_jobs if self.leads(step) else max(1, min(left, step.most_jobs))
         room = self.memory - sum(it.needs(it.jobs) for it in self.running)
         while jobs > 1 and step.needs(jobs) > room:
             jobs -= 1
         return jobs if not self.running or step.needs(jobs) <= room else 0
+
+    def has_to_wait(self, step):
+        """Whether a step can't begin beside those that run, whatever memory there is."""
+        is_apart = step.alone or any(it.alone for it in self.running)
+        is_in_lane = any(it.lane and it.lane == step.lane for it in self.running)
+        return is_apart or is_in_lane or len(self.running) >= self.processors
+
+    def leads(self, step):
+        """Whether its chain is nearly the longest of what is left. The others leave such steps the processors."""
+        longest = max(self.chain[it.name] for it in [*self.running, *self.waiting])
+        return self.chain[step.name] >= NEARLY * longest
 
     def work(self, step):
         step.begun = time.monotonic()
