@@ -21,8 +21,8 @@ LOGS = f"{OUT}/logs"
 GIGABYTE = 1_000_000_000
 # What each further job of a check may take.
 JOB_MEMORY = 3 * GIGABYTE // 2
-# A chain that is at least this part of the longest one may become the longest.
-NEARLY = 0.75
+# A step whose chain is a smaller part of the longest one leaves the processors to others.
+HAS_TIME = 0.75
 END_OF_LOG = 30
 MOST_ERRORS = 10
 # For what an interrupted step puts back, in seconds.
@@ -251,7 +251,7 @@ class Steps:
             if jobs:
                 begun = True
                 step.jobs = jobs
-                step.yields = step.most_jobs > 1 and not self.leads(step)
+                step.yields = step.most_jobs > 1 and self.part(step) < HAS_TIME
                 step.say = self.board.say
                 self.waiting.remove(step)
                 self.running[step] = threading.Thread(target=self.work, args=(step,), daemon=True)
@@ -259,12 +259,12 @@ class Steps:
         return begun
 
     def jobs_for(self, step):
-        """How many jobs a step gets: none where it has to wait. A step that leads gets all that it may
-        have, another what is left of the processors, and at least one, as far as memory carries them."""
+        """How many jobs a step gets: none where it has to wait, all that it may have where its chain is
+        the longest, and else what is left of the processors, and at least one; as far as memory carries them."""
         if self.running and self.has_to_wait(step):
             return 0
         left = self.processors - sum(it.jobs for it in self.running)
-        jobs = step.most_jobs if self.leads(step) else max(1, min(left, step.most_jobs))
+        jobs = step.most_jobs if self.part(step) == 1 else max(1, min(left, step.most_jobs))
         room = self.memory - sum(it.needs(it.jobs) for it in self.running)
         while jobs > 1 and step.needs(jobs) > room:
             jobs -= 1
@@ -276,10 +276,9 @@ class Steps:
         is_in_lane = any(it.lane and it.lane == step.lane for it in self.running)
         return is_apart or is_in_lane or len(self.running) >= self.processors
 
-    def leads(self, step):
-        """Whether its chain is nearly the longest of what is left. The others leave such steps the processors."""
-        longest = max(self.chain[it.name] for it in [*self.running, *self.waiting])
-        return self.chain[step.name] >= NEARLY * longest
+    def part(self, step):
+        """What part of the longest chain that is left its own is."""
+        return self.chain[step.name] / max(self.chain[it.name] for it in [*self.running, *self.waiting])
 
     def work(self, step):
         step.begun = time.monotonic()
