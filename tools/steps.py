@@ -21,8 +21,9 @@ LOGS = f"{OUT}/logs"
 GIGABYTE = 1_000_000_000
 # What each further job of a check may take.
 JOB_MEMORY = 3 * GIGABYTE // 2
-# A step whose chain is a smaller part of the longest one leaves the processors to others.
-HAS_TIME = 0.75
+# A step whose chain is nearly the longest gets several jobs; one whose chain is short yields to all others.
+NEARLY = 0.9
+SHORT = 0.5
 END_OF_LOG = 30
 MOST_ERRORS = 10
 # For what an interrupted step puts back, in seconds.
@@ -251,7 +252,7 @@ class Steps:
             if jobs:
                 begun = True
                 step.jobs = jobs
-                step.yields = step.most_jobs > 1 and self.part(step) < HAS_TIME
+                step.yields = step.most_jobs > 1 and self.part(step) < SHORT
                 step.say = self.board.say
                 self.waiting.remove(step)
                 self.running[step] = threading.Thread(target=self.work, args=(step,), daemon=True)
@@ -259,12 +260,12 @@ class Steps:
         return begun
 
     def jobs_for(self, step):
-        """How many jobs a step gets: none where it has to wait, all that it may have where its chain is
+        """How many jobs a step gets: none where it has to wait, all that it may have where its chain is nearly
         the longest, and else what is left of the processors, and at least one; as far as memory carries them."""
         if self.running and self.has_to_wait(step):
             return 0
         left = self.processors - sum(it.jobs for it in self.running)
-        jobs = step.most_jobs if self.part(step) == 1 else max(1, min(left, step.most_jobs))
+        jobs = step.most_jobs if self.part(step) >= NEARLY else max(1, min(left, step.most_jobs))
         room = self.memory - sum(it.needs(it.jobs) for it in self.running)
         while jobs > 1 and step.needs(jobs) > room:
             jobs -= 1
