@@ -45,6 +45,7 @@ class Step:
     `work` is a function of this step; it returns what its line says at the end, or raises Failed.
     `after` names the steps that end well before it begins; `weight` is how long it takes beside others.
     No two steps of one `lane` run at the same time, and a step that is `alone` has none beside it.
+    What a step runs that `yields` has a lower priority.
     """
 
     def __init__(self, name, work, again, after=(), weight=1, memory=0, most_jobs=1, lane=None, alone=False, log=None):
@@ -88,7 +89,9 @@ class Step:
 
 
 class Children:
-    """The processes that run for the steps. Each leads a group, so that an interrupt ends what it has started too."""
+    """The processes that run for the steps. Each leads a group, so that an interrupt ends what it has started too.
+    All are in one session: Linux shares the processors among sessions first, and within one by priority.
+    """
 
     def __init__(self):
         self.lock = threading.Lock()
@@ -100,9 +103,7 @@ class Children:
         with self.lock:
             if self.is_ending:
                 raise Failed("interrupted")
-            child = subprocess.Popen(
-                command, cwd=folder, text=True, errors="replace", process_group=0, **how
-            )
+            child = subprocess.Popen(command, cwd=folder, text=True, errors="replace", process_group=0, **how)
             self.running.add(child)
         return child
 
