@@ -1,6 +1,6 @@
 # The commands of the README. Their scripts are in tools/; what they log is in out/logs.
 
-.PHONY: run serve build test edits
+.PHONY: run serve build check test edits
 
 # Runs the script program on its stored script, with no proof, in about a minute at most.
 run:
@@ -14,6 +14,10 @@ serve:
 # Proves the programs and builds them into bin/, crates side by side. What has not changed is not proved again.
 build:
 	@tools/build.py
+
+# Checks one crate over what make build has kept: make check NAME=delta_book, or NAME="delta_book --allow-holes".
+check:
+	@tools/check.py $(NAME)
 
 # The gate: every proof from nothing, the must-fail edits, the tests and the programs; and then what
 # the prover can't see, by the steps that tools/gate.py lists, with the programs that the gate has built.

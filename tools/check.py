@@ -1,0 +1,35 @@
+#!/usr/bin/env python3
+"""Checks one crate over the libraries that `make build` has kept, and over what its last check kept.
+
+    tools/check.py CRATE [FLAG ..]
+
+What the crate uses and is not built yet is proved and built first. The flags go to the prover: `--allow-holes`
+goes past open goals and prints each, `--only PATH` checks one function. A check where nothing changed takes
+seconds. It is not the gate: `make test` proves from nothing.
+"""
+import os
+import subprocess
+import sys
+
+from build import MOST_JOBS, Building, steps_for
+from crates import OUT, read_crates
+from steps import Steps, locked
+
+
+def main(words):
+    known = read_crates()
+    if not words or words[0] not in known:
+        sys.exit("usage: tools/check.py CRATE [FLAG ..], with a crate of crates.txt")
+    crate = known[words[0]]
+    building = Building()
+    with locked(OUT):
+        steps, _ = steps_for(crate.below, building)
+        if not Steps(steps).run():
+            return 1
+    kept = f"{OUT}/check/{crate.name}"
+    os.makedirs(kept, exist_ok=True)
+    return subprocess.run([*building.prover.check(crate, MOST_JOBS, kept), *words[1:]], cwd=crate.folder).returncode
+
+
+if __name__ == "__main__":
+    sys.exit(main(sys.argv[1:]))
