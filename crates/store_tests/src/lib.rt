@@ -18,4 +18,6 @@ mod lanes;
 #[cfg(test)]
 mod look;
 #[cfg(test)]
+mod recovery;
+#[cfg(test)]
 mod series;
