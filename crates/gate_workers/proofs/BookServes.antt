@@ -9,6 +9,7 @@ use Rattle.back_answers.specs.declared.answer.Answer.TheVariants.{Unknown}
 use Rattle.delta_book.specs.Journal.{Journal, journal_of, appended, history, admits, Appends}
 use Rattle.delta_book.specs.Refusals.{admit_refusal, undo_refusal, confirm_refusal, quarantine_refusal}
 use Rattle.delta_book.specs.Totals.{totals_rows}
+use Rattle.delta_book.proofs.Journaled.{grows}
 use Rattle.delta_book.specs.Outcomes as book
 use Rattle.delta_book.specs.declared.totals.SeriesTotals.{SeriesTotals}
 use Rattle.delta_book.specs.declared.faults.AdmitFault.{AdmitFault}
@@ -112,14 +113,14 @@ kept_held sends written k k' response end s (Ok x) h says ends = record {
   seat = h.0;
   max = h.1;
   one = one_of sends k.desk.seat k.max (ask.Quarantine s) written k.desk.book k'.desk.book k.uplink k'.uplink response end Unknown false Nowhere (done (Quarantine s))
-      (ap (λ o. by_call of_quarantine done (book.unless (Quarantine s) o)) h.2.1.0) says ends h.2.1.1 h.2.0;
+      (ap (λ o. by_call of_quarantine done (book.unless (Quarantine s) o)) h.2.1.answers) says ends h.2.1.journal h.2.0;
 }
 kept_held sends written k k' response end s (Err fault) h says ends =
-    let m = refused_or of_quarantine holding.NoMemory fault (quarantine_refusal (history k.desk.book) s) (λ o. by_call of_quarantine done (book.unless (Quarantine s) o)) says.0 (λ f. refl) refl h.2.1.0 in
+    let m = refused_or of_quarantine holding.NoMemory fault (quarantine_refusal (history k.desk.book) s) (λ o. by_call of_quarantine done (book.unless (Quarantine s) o)) says.0 (λ f. refl) refl h.2.1.answers in
     record {
       seat = h.0;
       max = h.1;
-      one = silent sends k.desk.seat k.max (ask.Quarantine s) written k.desk.book k'.desk.book k.uplink k'.uplink response end m.0 (or_no_memory says.0 (refusal_response (of_quarantine fault))) m.1 says.1 ends h.2.1.1 h.2.0;
+      one = silent sends k.desk.seat k.max (ask.Quarantine s) written k.desk.book k'.desk.book k.uplink k'.uplink response end m.0 (or_no_memory says.0 (refusal_response (of_quarantine fault))) m.1 says.1 ends h.2.1.journal h.2.0;
     }
 
 kept_lifted : {U : Type 0} (sends : U → List ℕ → Answer → U → Type 0) (written : Written) (k k' : BookKeeper U) (response : Response) (end : End) (s : List ℕ) (r : Result (Unit {0}) NotQuarantined)
@@ -128,13 +129,13 @@ kept_lifted sends written k k' response end s (Ok x) h says ends = record {
   seat = h.0;
   max = h.1;
   one = one_of sends k.desk.seat k.max (ask.Lift s) written k.desk.book k'.desk.book k.uplink k'.uplink response end Unknown false Nowhere (done (Lift s))
-      (ap (λ o. by_call of_lift done (book.unless (Lift s) o)) h.2.1.0) says ends h.2.1.1 h.2.0;
+      (ap (λ o. by_call of_lift done (book.unless (Lift s) o)) h.2.1.answers) says ends h.2.1.journal h.2.0;
 }
 kept_lifted sends written k k' response end s (Err fault) h says ends = record {
   seat = h.0;
   max = h.1;
   one = silent sends k.desk.seat k.max (ask.Lift s) written k.desk.book k'.desk.book k.uplink k'.uplink response end says.0 (or_no_memory says.0 (refusal_response (of_lift fault)))
-      (ap (λ o. unless_marked says.0 (by_call of_lift done (book.unless (Lift s) o))) h.2.1.0 ∙ marked_only says.0 (refusal_response (of_lift fault))) says.1 ends h.2.1.1 h.2.0;
+      (ap (λ o. unless_marked says.0 (by_call of_lift done (book.unless (Lift s) o))) h.2.1.answers ∙ marked_only says.0 (refusal_response (of_lift fault))) says.1 ends h.2.1.journal h.2.0;
 }
 
 kept_ordered : {U : Type 0} (sends : U → List ℕ → Answer → U → Type 0) (written : Written) (k k' : BookKeeper U) (response : Response) (end : End) (r : Result Turn OrderFault)
@@ -154,13 +155,13 @@ kept_report : {U : Type 0} (sends : U → List ℕ → Answer → U → Type 0) 
 kept_report sends written k k' response end None h says ends = record {
   seat = h.0;
   max = h.1;
-  one = silent sends k.desk.seat k.max ask.Report written k.desk.book k'.desk.book k.uplink k'.uplink response end true (refusal_response NoMemory) refl (says.1 ∙ marked_memory says.0) ends h.2.1 h.2.0;
+  one = silent sends k.desk.seat k.max ask.Report written k.desk.book k'.desk.book k.uplink k'.uplink response end true (refusal_response NoMemory) refl (says.1 ∙ marked_memory says.0) ends h.2.1.journal h.2.0;
 }
 kept_report sends written k k' response end (Some rows) h says ends = record {
   seat = h.0;
   max = h.1;
   one = silent sends k.desk.seat k.max ask.Report written k.desk.book k'.desk.book k.uplink k'.uplink response end says.0 (or_no_memory says.0 (report_response (Some (totals_rows (history k.desk.book)))))
-      (marked_only says.0 _) (says.1 ∙ ap (λ x. or_no_memory says.0 (report_response (Some x))) h.2.1.0) ends h.2.1.1 h.2.0;
+      (marked_only says.0 _) (says.1 ∙ ap (λ x. or_no_memory says.0 (report_response (Some x))) h.2.1.answers) ends h.2.1.journal h.2.0;
 }
 
 -- a batch that was just admitted is closed by what was written
@@ -173,8 +174,8 @@ pub record IsClosedBook {U : Type 0} (k k' : BookKeeper U) (n : ℕ) (written : 
 
 confirmed : {U : Type 0} (sends : U → List ℕ → Answer → U → Type 0) (k k' : BookKeeper U) (n : ℕ) (r : Result (Unit {0}) NotOpen) → confirm_refusal (history k.desk.book) n ≡ None
     → KeeperOver sends k (confirm n r) k' → Appends k.desk.book k'.desk.book k.desk.seat (Confirm n)
-confirmed sends k k' n (Ok x) opened h = h.2.1
-confirmed sends k k' n (Err x) opened h = let no : None ≡ Some x = sym opened ∙ h.2.1.0 in cc
+confirmed sends k k' n (Ok x) opened h = h.2.1.journal
+confirmed sends k k' n (Err x) opened h = let no : None ≡ Some x = sym opened ∙ h.2.1.answers in cc
 
 confirmed_uplink : {U : Type 0} (sends : U → List ℕ → Answer → U → Type 0) (k k' : BookKeeper U) (n : ℕ) (r : Result (Unit {0}) NotOpen) → KeeperOver sends k (confirm n r) k' → k'.uplink ≡ k.uplink
 confirmed_uplink sends k k' n r h = h.2.0
@@ -185,10 +186,10 @@ undone {U} sends k m k' n end (Ok x) can h e = record {
   seat = ap (λ (x : BookKeeper U). x.desk.seat) (sym e.0) ∙ h.0;
   max = ap (λ (x : BookKeeper U). x.max) (sym e.0) ∙ h.1;
   uplink = ap (λ (x : BookKeeper U). x.uplink) (sym e.0) ∙ h.2.0;
-  entry = ap (λ (x : BookKeeper U). x.desk.book) (sym e.0) ∙ h.2.1;
+  entry = ap (λ (x : BookKeeper U). x.desk.book) (sym e.0) ∙ h.2.1.journal;
   ends = e.1;
 }
-undone sends k m k' n end (Err fault) can h e = let no : None ≡ Some fault = sym can ∙ h.2.1.0 in cc
+undone sends k m k' n end (Err fault) can h e = let no : None ≡ Some fault = sym can ∙ h.2.1.answers in cc
 
 closed : {U : Type 0} (sends : U → List ℕ → Answer → U → Type 0) (k k' : BookKeeper U) (n : ℕ) (end : End) (written : Written) → confirm_refusal (history k.desk.book) n ≡ None
     → undo_refusal (history k.desk.book) n ≡ None → IsClosed (KeeperOver sends) n written k k' end → IsClosedBook k k' n written end
@@ -206,10 +207,13 @@ kept_admitted {U} sends written k m k' response end body text p ps (Ok n) opened
     let J = k.desk.book in
     let E = history J in
     let batch = batch_of body.sender (p ∷ ps) in
-    let is_in = h.2.1 in
-    let c = closed sends m k' n end written is_in.opened is_in.undoable (closes sends written m k' end opened n a.1 e) in
+    let is_in = h.2.1.answers in
+    let grown = grows J m.desk.book k.desk.seat (Admit n batch) h.2.1.journal in
+    let opened_then = ap (λ F. confirm_refusal F n) grown ∙ is_in.opened in
+    let undoable_then = ap (λ F. undo_refusal F n) grown ∙ is_in.undoable in
+    let c = closed sends m k' n end written opened_then undoable_then (closes sends written m k' end opened n a.1 e) in
     let entry : Appends m.desk.book k'.desk.book k.desk.seat (closed_by written n) = c.entry ∙ ap (λ s. appended m.desk.book (entry_of s (closed_by written n))) h.0 in
-    let adds : Adds k.desk.seat J k'.desk.book (Admit n batch ∷ closed_by written n ∷ []) = two_added k.desk.seat J m.desk.book k'.desk.book (Admit n batch) (closed_by written n) is_in.entry entry in
+    let adds : Adds k.desk.seat J k'.desk.book (Admit n batch ∷ closed_by written n ∷ []) = two_added k.desk.seat J m.desk.book k'.desk.book (Admit n batch) (closed_by written n) h.2.1.journal entry in
     let is : served (ask.Metrics body text) E k.max Unknown written false Nowhere ≡ admission_effects (admits E + 1) text written (Admit (admits E + 1) batch) =
     ap (λ xs. post_effects E body.sender xs text written) some ∙ ap (λ o. by_call of_admit (admission_effects (admits E + 1) text written) (book.unless (Admit (admits E + 1) batch) o)) is_in.none in
     record {
@@ -222,14 +226,14 @@ kept_admitted {U} sends written k m k' response end body text p ps (Err fault) o
     let J = k.desk.book in
     let E = history J in
     let batch = batch_of body.sender (p ∷ ps) in
-    let x = refused_or of_admit admission.NoMemory fault.0 (admit_refusal E batch) (λ o. by_call of_admit (admission_effects (admits E + 1) text written) (book.unless (Admit (admits E + 1) batch) o)) a.0.0 (λ f. refl) refl h.2.1.0 in
+    let x = refused_or of_admit admission.NoMemory fault.0 (admit_refusal E batch) (λ o. by_call of_admit (admission_effects (admits E + 1) text written) (book.unless (Admit (admits E + 1) batch) o)) a.0.0 (λ f. refl) refl h.2.1.answers.0 in
     let same = unended sends written m k' end opened a.1 e in
     record {
       seat = ap (λ (w : BookKeeper U). w.desk.seat) (sym same.0) ∙ h.0;
       max = ap (λ (w : BookKeeper U). w.max) (sym same.0) ∙ h.1;
       one = silent sends k.desk.seat k.max (ask.Metrics body text) written J k'.desk.book k.uplink k'.uplink response end x.0 (or_no_memory a.0.0 (refusal_response (of_admit fault.0)))
           (ap (λ xs. unless_marked x.0 (post_effects E body.sender xs text written)) some ∙ x.1) a.0.1 same.1
-          (ap (λ (w : BookKeeper U). w.desk.book) (sym same.0) ∙ h.2.1.1) (ap (λ (w : BookKeeper U). w.uplink) (sym same.0) ∙ h.2.0);
+          (ap (λ (w : BookKeeper U). w.desk.book) (sym same.0) ∙ h.2.1.journal) (ap (λ (w : BookKeeper U). w.uplink) (sym same.0) ∙ h.2.0);
     }
 
 kept_posted : {U : Type 0} (sends : U → List ℕ → Answer → U → Type 0) (written : Written) (k m k' : BookKeeper U) (response : Response) (end : End) (body : Batch) (text : List ℕ) (points : List DataPoint) (opened : Option ℕ)

@@ -1,17 +1,16 @@
 -- What a call on a shared book says of the journal, which other threads change too.
-use Rattle.std.specs.Prelude.{◌≡◌, ℕ, ◌<◌, ◌≤◌, length}
+use Rattle.std.specs.Prelude.{◌≡◌, ◌≢◌, ℕ, ◌<◌, ◌≤◌, length, Some, None, Err}
+use Rattle.std.specs.declared.option.Option.{Option}
 use Rattle.std.specs.List.{All}
-use Rattle.metric_events.specs.History.{History}
 use Rattle.metric_events.specs.Legal.{IsLegal}
-use Rattle.metric_events.specs.Choice.{pick}
 use Rattle.metric_events.specs.declared.limits.TheConstants.{MAX_ENTRIES}
 use Rattle.metric_events.specs.declared.opening.Opening.{Opening}
 use Rattle.metric_events.specs.declared.entry.Entry.{Entry}
 use Rattle.metric_events.specs.declared.event.Event.{Event}
-use Rattle.metric_events.specs.declared.event.Event.TheVariants.{Take}
-use Rattle.delta_book.specs.Journal.{Journal, history, IsNumbered, Appends}
-use Rattle.delta_book.specs.Flushes.{IsTaken}
-use Rattle.delta_book.specs.declared.flush.Flush.{Flush}
+use Rattle.delta_book.specs.Journal.{Journal, history, IsNumbered}
+use Rattle.delta_book.specs.Refusals.{admit_refusal}
+use Rattle.delta_book.specs.Calls.{Call, admit, added, IsCall}
+use Rattle.delta_book.specs.declared.faults.AdmitFault.TheVariants.{NoMemory}
 use Rattle.shared_book.specs.declared.seat.TheConstants.{MAX_SEATS}
 use Rattle.shared_book.specs.Receipts.{SeatView, with_receipt, receipt_of}
 
@@ -48,34 +47,25 @@ pub record IsMoment (seats : ℕ) (opening : Opening) (t : SeatView) (j : Journa
   pub shared : IsShared seats opening j
   pub long : length t.receipts ≤ length j.entries
 
--- this holds for the history of such a journal
-abbrev pub AsOf : ℕ → Opening → SeatView → (History → Type 0) → Type 0
-AsOf seats opening t P = (j : Journal) × IsMoment seats opening t j × P (history j)
+-- the seat with the receipt of that event, at this index of the journal
+abbrev pub seat_with : SeatView → ℕ → Option Event → SeatView
+seat_with t index None = t
+seat_with t index (Some e) = with_receipt t (receipt_of index e)
 
--- the journal has one more entry, of this seat and this event, and the seat has its receipt
-pub record IsRecordedAt
-    (seats : ℕ) (opening : Opening) (before after : Journal) (old new : SeatView) (event : Event)
-    : Type 0 where
-  pub moment : IsMoment seats opening old before
-  pub entry : Appends before after old.number event
-  pub shared : IsShared seats opening after
-  pub receipt : new ≡ with_receipt old (receipt_of (length before.entries) event)
+-- a call from a seat, on such a journal: it is the call of a book with that journal, and the seat
+-- gets the receipt of the event that it adds
+pub record IsCallAt
+    (seats : ℕ) (opening : Opening) (J J' : Journal) (t t' : SeatView) (c : Call) : Type 0 where
+  pub moment : IsMoment seats opening t J
+  pub call : IsCall t.number J J' c
+  pub shared : IsShared seats opening J'
+  pub receipt : t' ≡ seat_with t (length J.entries) (added (history J) c)
 
--- the same, for some two journals
-abbrev pub IsRecorded : ℕ → Opening → SeatView → SeatView → Event → Type 0
-IsRecorded seats opening old new event =
-    (before : Journal) × (after : Journal) × IsRecordedAt seats opening before after old new event
-
--- a flush was taken from the journal, and the seat has its receipt
-pub record IsTakenAt
-    (seats : ℕ) (opening : Opening) (before after : Journal) (old new : SeatView)
-    (max : ℕ) (flush : Flush) : Type 0 where
-  pub taken : IsTaken before after old.number max flush
-  pub recorded :
-      IsRecordedAt seats opening before after old new
-      (Take flush.number (pick (history before) max))
-
--- the same, for some two journals
-abbrev pub IsTakenFor : ℕ → Opening → SeatView → SeatView → ℕ → Flush → Type 0
-IsTakenFor seats opening old new max flush =
-    (before : Journal) × (after : Journal) × IsTakenAt seats opening before after old new max flush
+-- the same, for some journal and the one that it becomes. An admission may also be out of memory
+-- before it looks at a journal
+abbrev pub IsSharedCall : ℕ → Opening → SeatView → SeatView → Call → Type 0
+IsSharedCall seats opening t t' (admit body (Err e)) =
+    (t' ≡ t) × (e.1 ≡ body) × (e.0 ≢ NoMemory
+    → (J : Journal) × IsMoment seats opening t J × (admit_refusal (history J) body ≡ Some e.0))
+IsSharedCall seats opening t t' c =
+    (J : Journal) × (J' : Journal) × IsCallAt seats opening J J' t t' c

@@ -1,13 +1,8 @@
 //! The value under the lock: the book and the ledger's count of its entries.
-ghost use Rattle.std.specs.Prelude.{◌≡◌, ◌≢◌, ◌+◌, ◌<◌, ◌≤◌, [], length, IfOk, IfErr, IfSome};
-ghost use Rattle.std.specs.Prelude.{IfNone, OnOk, OnErr, unwrap_or, if◌then◌else◌, None, Some};
-ghost use Rattle.metric_events.specs.Choice.{pick};
-ghost use Rattle.delta_book.specs.Journal.{history};
-ghost use Rattle.delta_book.specs.Refusals.{admit_refusal, undo_refusal, confirm_refusal};
-ghost use Rattle.delta_book.specs.Refusals.{flush_refusal, quarantine_refusal, lift_refusal};
-ghost use Rattle.delta_book.specs.Flushes.{is_full};
-ghost use Rattle.delta_book.specs.Totals.{totals_rows};
-ghost use Rattle.shared_book.specs.Moments.{IsMoment, IsRecordedAt, IsTakenAt};
+ghost use Rattle.std.specs.Prelude.{◌≡◌, ◌<◌, ◌≤◌, length, option_map};
+ghost use Rattle.std.specs.Result.{result_ok};
+ghost use Rattle.delta_book.specs.Calls as call;
+ghost use Rattle.shared_book.specs.Moments.{IsMoment, IsCallAt};
 
 use crate::receipt::EventKind;
 use crate::round::Round;
@@ -19,7 +14,6 @@ use delta_book::faults::{
 use delta_book::flush::Flush;
 use delta_book::totals::SeriesTotals;
 use metric_events::batch::Batch;
-use metric_events::event::Event;
 use metric_events::limits::MAX_TAKEN;
 use metric_events::sender_name::SenderName;
 use std::alloc::AllocError;
@@ -73,14 +67,8 @@ impl<L: Round> Locked<L> {
     ) -> Result<u64, (AdmitFault, Batch)>
         requires some { 0 < length body.points }
         requires copy { copy ≡ body }
-        ensures recorded { IfOk result (λ n. IsRecordedAt L.parts L.opening self.old self.new
-            seat.old seat.new (Event.Admit n body)) }
-        ensures none { OnOk result (admit_refusal (history self.old) body ≡ None) }
-        ensures fault { IfErr result (λ e. e.0 ≡ unwrap_or (admit_refusal (history self.old) body)
-            AdmitFault.NoMemory) }
-        ensures returned { IfErr result (λ e. e.1 ≡ body) }
-        ensures err { OnErr result ((self.new ≡ self.old) × (seat.new ≡ seat.old)) }
-        ensures moment { IsMoment L.parts L.opening seat.old self.old }
+        ensures { IsCallAt L.parts L.opening self.old self.new seat.old seat.new
+            (call.admit body result) }
     {
         let number = self.seat_number(seat);
         let Locked { book, events } = self;
@@ -91,12 +79,8 @@ impl<L: Round> Locked<L> {
 
     /// As `Book::undo`, from the seat, which stores a receipt.
     pub fn undo(&mut self, seat: &mut Seat<L>, batch: u64) -> Result<(), UndoFault>
-        ensures recorded { OnOk result (IsRecordedAt L.parts L.opening self.old self.new seat.old
-            seat.new (Event.Undo batch)) }
-        ensures none { OnOk result (undo_refusal (history self.old) batch ≡ None) }
-        ensures fault { IfErr result (λ e. undo_refusal (history self.old) batch ≡ Some e) }
-        ensures err { OnErr result ((self.new ≡ self.old) × (seat.new ≡ seat.old)) }
-        ensures moment { IsMoment L.parts L.opening seat.old self.old }
+        ensures { IsCallAt L.parts L.opening self.old self.new seat.old seat.new
+            (call.undo batch result) }
     {
         let number = self.seat_number(seat);
         let Locked { book, events } = self;
@@ -107,12 +91,8 @@ impl<L: Round> Locked<L> {
 
     /// As `Book::confirm`, from the seat, which stores a receipt.
     pub fn confirm(&mut self, seat: &mut Seat<L>, batch: u64) -> Result<(), NotOpen>
-        ensures recorded { OnOk result (IsRecordedAt L.parts L.opening self.old self.new seat.old
-            seat.new (Event.Confirm batch)) }
-        ensures none { OnOk result (confirm_refusal (history self.old) batch ≡ None) }
-        ensures fault { IfErr result (λ e. confirm_refusal (history self.old) batch ≡ Some e) }
-        ensures err { OnErr result ((self.new ≡ self.old) × (seat.new ≡ seat.old)) }
-        ensures moment { IsMoment L.parts L.opening seat.old self.old }
+        ensures { IsCallAt L.parts L.opening self.old self.new seat.old seat.new
+            (call.confirm batch result) }
     {
         let number = self.seat_number(seat);
         let Locked { book, events } = self;
@@ -125,15 +105,8 @@ impl<L: Round> Locked<L> {
     pub fn take(&mut self, seat: &mut Seat<L>, max: usize) -> Result<Option<Flush>, TakeFault>
         requires low { 1 ≤ max }
         requires high { max ≤ MAX_TAKEN }
-        ensures nothing { IfOk result (λ o. IfNone o ((pick (history self.old) max ≡ [])
-            × (self.new ≡ self.old) × (seat.new ≡ seat.old))) }
-        ensures some { IfOk result (λ o. IfSome o (λ flush. IsTakenAt L.parts L.opening self.old
-            self.new seat.old seat.new max flush)) }
-        ensures fault { IfErr result (λ e. e ≡ (if is_full (history self.old) then TakeFault.Full
-            else TakeFault.NoMemory)) }
-        ensures err { OnErr result ((pick (history self.old) max ≢ []) × (self.new ≡ self.old)
-            × (seat.new ≡ seat.old)) }
-        ensures moment { IsMoment L.parts L.opening seat.old self.old }
+        ensures { IsCallAt L.parts L.opening self.old self.new seat.old seat.new
+            (call.take max result) }
     {
         let number = self.seat_number(seat);
         let Locked { book, events } = self;
@@ -146,12 +119,8 @@ impl<L: Round> Locked<L> {
 
     /// As `Book::settle`, from the seat, which stores a receipt.
     pub fn settle(&mut self, seat: &mut Seat<L>, flush: u64) -> Result<(), NotLive>
-        ensures recorded { OnOk result (IsRecordedAt L.parts L.opening self.old self.new seat.old
-            seat.new (Event.Settle flush)) }
-        ensures none { OnOk result (flush_refusal (history self.old) flush ≡ None) }
-        ensures fault { IfErr result (λ e. flush_refusal (history self.old) flush ≡ Some e) }
-        ensures err { OnErr result ((self.new ≡ self.old) × (seat.new ≡ seat.old)) }
-        ensures moment { IsMoment L.parts L.opening seat.old self.old }
+        ensures { IsCallAt L.parts L.opening self.old self.new seat.old seat.new
+            (call.settle flush result) }
     {
         let number = self.seat_number(seat);
         let Locked { book, events } = self;
@@ -162,12 +131,8 @@ impl<L: Round> Locked<L> {
 
     /// As `Book::drop_flush`, from the seat, which stores a receipt.
     pub fn drop_flush(&mut self, seat: &mut Seat<L>, flush: u64) -> Result<(), NotLive>
-        ensures recorded { OnOk result (IsRecordedAt L.parts L.opening self.old self.new seat.old
-            seat.new (Event.Drop flush)) }
-        ensures none { OnOk result (flush_refusal (history self.old) flush ≡ None) }
-        ensures fault { IfErr result (λ e. flush_refusal (history self.old) flush ≡ Some e) }
-        ensures err { OnErr result ((self.new ≡ self.old) × (seat.new ≡ seat.old)) }
-        ensures moment { IsMoment L.parts L.opening seat.old self.old }
+        ensures { IsCallAt L.parts L.opening self.old self.new seat.old seat.new
+            (call.drop_flush flush result) }
     {
         let number = self.seat_number(seat);
         let Locked { book, events } = self;
@@ -178,12 +143,8 @@ impl<L: Round> Locked<L> {
 
     /// As `Book::give_back`, from the seat, which stores a receipt.
     pub fn give_back(&mut self, seat: &mut Seat<L>, flush: u64) -> Result<(), NotLive>
-        ensures recorded { OnOk result (IsRecordedAt L.parts L.opening self.old self.new seat.old
-            seat.new (Event.GiveBack flush)) }
-        ensures none { OnOk result (flush_refusal (history self.old) flush ≡ None) }
-        ensures fault { IfErr result (λ e. flush_refusal (history self.old) flush ≡ Some e) }
-        ensures err { OnErr result ((self.new ≡ self.old) × (seat.new ≡ seat.old)) }
-        ensures moment { IsMoment L.parts L.opening seat.old self.old }
+        ensures { IsCallAt L.parts L.opening self.old self.new seat.old seat.new
+            (call.give_back flush result) }
     {
         let number = self.seat_number(seat);
         let Locked { book, events } = self;
@@ -198,13 +159,8 @@ impl<L: Round> Locked<L> {
         seat: &mut Seat<L>,
         sender: SenderName,
     ) -> Result<(), QuarantineFault>
-        ensures recorded { OnOk result (IsRecordedAt L.parts L.opening self.old self.new seat.old
-            seat.new (Event.Quarantine sender)) }
-        ensures none { OnOk result (quarantine_refusal (history self.old) sender ≡ None) }
-        ensures fault { IfErr result (λ e. e ≡ unwrap_or (quarantine_refusal
-            (history self.old) sender) QuarantineFault.NoMemory) }
-        ensures err { OnErr result ((self.new ≡ self.old) × (seat.new ≡ seat.old)) }
-        ensures moment { IsMoment L.parts L.opening seat.old self.old }
+        ensures { IsCallAt L.parts L.opening self.old self.new seat.old seat.new
+            (call.quarantine sender result) }
     {
         let number = self.seat_number(seat);
         let Locked { book, events } = self;
@@ -215,12 +171,8 @@ impl<L: Round> Locked<L> {
 
     /// As `Book::lift`, from the seat, which stores a receipt.
     pub fn lift(&mut self, seat: &mut Seat<L>, sender: &SenderName) -> Result<(), NotQuarantined>
-        ensures recorded { OnOk result (IsRecordedAt L.parts L.opening self.old self.new seat.old
-            seat.new (Event.Lift sender.now)) }
-        ensures none { OnOk result (lift_refusal (history self.old) sender.now ≡ None) }
-        ensures fault { IfErr result (λ e. lift_refusal (history self.old) sender.now ≡ Some e) }
-        ensures err { OnErr result ((self.new ≡ self.old) × (seat.new ≡ seat.old)) }
-        ensures moment { IsMoment L.parts L.opening seat.old self.old }
+        ensures { IsCallAt L.parts L.opening self.old self.new seat.old seat.new
+            (call.lift sender.now result) }
     {
         let number = self.seat_number(seat);
         let Locked { book, events } = self;
@@ -231,10 +183,8 @@ impl<L: Round> Locked<L> {
 
     /// As `Book::totals`. The seat does not change.
     pub fn totals(&mut self, seat: &mut Seat<L>) -> Result<Vec<SeriesTotals>, AllocError>
-        ensures rows { IfOk result (λ v. v.items ≡ totals_rows (history self.old)) }
-        ensures kept { self.new ≡ self.old }
-        ensures seat { seat.new ≡ seat.old }
-        ensures moment { IsMoment L.parts L.opening seat.old self.old }
+        ensures { IsCallAt L.parts L.opening self.old self.new seat.old seat.new
+            (call.totals (option_map (λ v. v.items) (result_ok result))) }
     {
         // From this call it is known that the journal is one of this round.
         self.seat_number(seat);

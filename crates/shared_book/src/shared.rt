@@ -1,15 +1,13 @@
-ghost use Rattle.std.specs.Prelude.{◌≡◌, ◌≢◌, ◌<◌, ◌≤◌, [], length, sum_by, IfOk, IfErr, IfSome};
-ghost use Rattle.std.specs.Prelude.{IfNone, OnOk, OnErr, unwrap_or, if◌then◌else◌, Some};
+ghost use Rattle.std.specs.Prelude.{◌≡◌, ◌≢◌, ◌<◌, ◌≤◌, [], length, sum_by, option_map, IfOk};
+ghost use Rattle.std.specs.Prelude.{IfErr};
 ghost use Rattle.std.specs.List.{All, Any};
-ghost use Rattle.metric_events.specs.Choice.{pick};
+ghost use Rattle.std.specs.Result.{result_ok};
 ghost use Rattle.metric_events.specs.Standing.{standing};
+ghost use Rattle.delta_book.specs.Calls as call;
 ghost use Rattle.delta_book.specs.Journal.{Journal, history};
-ghost use Rattle.delta_book.specs.Refusals.{admit_refusal, undo_refusal, confirm_refusal};
-ghost use Rattle.delta_book.specs.Refusals.{flush_refusal, quarantine_refusal, lift_refusal};
-ghost use Rattle.delta_book.specs.Flushes.{is_full};
-ghost use Rattle.delta_book.specs.Totals.{totals_rows, acknowledged_points};
+ghost use Rattle.delta_book.specs.Totals.{acknowledged_points};
 ghost use Rattle.shared_book.specs.Receipts.{fresh_seats};
-ghost use Rattle.shared_book.specs.Moments.{AsOf, IsShared, IsRecorded, IsTakenFor};
+ghost use Rattle.shared_book.specs.Moments.{IsShared, IsSharedCall};
 ghost use Rattle.shared_book.specs.Audits.{IsMatched, IsShort, AllSeated, admitted_points};
 
 use crate::audit::{Audit, AuditFault, audit_of, check_seated};
@@ -23,7 +21,6 @@ use delta_book::faults::{
 use delta_book::flush::Flush;
 use delta_book::totals::SeriesTotals;
 use metric_events::batch::Batch;
-use metric_events::event::Event;
 use metric_events::limits::MAX_TAKEN;
 use metric_events::sender_name::SenderName;
 use std::alloc::{AllocError, Global};
@@ -98,12 +95,7 @@ impl<L: Round> SharedBook<L> {
         body: Batch,
     ) -> Result<u64, (AdmitFault, Batch)>
         requires { 0 < length body.points }
-        ensures recorded { IfOk result (λ n. IsRecorded L.parts L.opening seat.old seat.new
-            (Event.Admit n body)) }
-        ensures fault { IfErr result (λ e. e.0 ≢ AdmitFault.NoMemory
-            → AsOf L.parts L.opening seat.old (λ E. admit_refusal E body ≡ Some e.0)) }
-        ensures returned { IfErr result (λ e. e.1 ≡ body) }
-        ensures err { OnErr result (seat.new ≡ seat.old) }
+        ensures { IsSharedCall L.parts L.opening seat.old seat.new (call.admit body result) }
     {
         let Ok(copy) = body.copy(self.alloc) else {
             return Err((AdmitFault::NoMemory, body));
@@ -113,22 +105,14 @@ impl<L: Round> SharedBook<L> {
 
     /// As `Book::undo`. Takes no memory.
     pub fn undo(&self, rt: &impl Wait, seat: &mut Seat<L>, batch: u64) -> Result<(), UndoFault>
-        ensures recorded { OnOk result (IsRecorded L.parts L.opening seat.old seat.new
-            (Event.Undo batch)) }
-        ensures fault { IfErr result (λ e. AsOf L.parts L.opening seat.old
-            (λ E. undo_refusal E batch ≡ Some e)) }
-        ensures err { OnErr result (seat.new ≡ seat.old) }
+        ensures { IsSharedCall L.parts L.opening seat.old seat.new (call.undo batch result) }
     {
         self.lock.lock(rt).undo(seat, batch)
     }
 
     /// As `Book::confirm`. Takes no memory.
     pub fn confirm(&self, rt: &impl Wait, seat: &mut Seat<L>, batch: u64) -> Result<(), NotOpen>
-        ensures recorded { OnOk result (IsRecorded L.parts L.opening seat.old seat.new
-            (Event.Confirm batch)) }
-        ensures fault { IfErr result (λ e. AsOf L.parts L.opening seat.old
-            (λ E. confirm_refusal E batch ≡ Some e)) }
-        ensures err { OnErr result (seat.new ≡ seat.old) }
+        ensures { IsSharedCall L.parts L.opening seat.old seat.new (call.confirm batch result) }
     {
         self.lock.lock(rt).confirm(seat, batch)
     }
@@ -142,47 +126,28 @@ impl<L: Round> SharedBook<L> {
     ) -> Result<Option<Flush>, TakeFault>
         requires low { 1 ≤ max }
         requires high { max ≤ MAX_TAKEN }
-        ensures some { IfOk result (λ o. IfSome o (λ flush. IsTakenFor L.parts L.opening seat.old
-            seat.new max flush)) }
-        ensures nothing { IfOk result (λ o. IfNone o (AsOf L.parts L.opening seat.old
-            (λ E. pick E max ≡ []))) }
-        ensures none { IfOk result (λ o. IfNone o (seat.new ≡ seat.old)) }
-        ensures fault { IfErr result (λ e. AsOf L.parts L.opening seat.old (λ E. (pick E max ≢ [])
-            × (e ≡ (if is_full E then TakeFault.Full else TakeFault.NoMemory)))) }
-        ensures err { OnErr result (seat.new ≡ seat.old) }
+        ensures { IsSharedCall L.parts L.opening seat.old seat.new (call.take max result) }
     {
         self.lock.lock(rt).take(seat, max)
     }
 
     /// As `Book::settle`. Takes no memory.
     pub fn settle(&self, rt: &impl Wait, seat: &mut Seat<L>, flush: u64) -> Result<(), NotLive>
-        ensures recorded { OnOk result (IsRecorded L.parts L.opening seat.old seat.new
-            (Event.Settle flush)) }
-        ensures fault { IfErr result (λ e. AsOf L.parts L.opening seat.old
-            (λ E. flush_refusal E flush ≡ Some e)) }
-        ensures err { OnErr result (seat.new ≡ seat.old) }
+        ensures { IsSharedCall L.parts L.opening seat.old seat.new (call.settle flush result) }
     {
         self.lock.lock(rt).settle(seat, flush)
     }
 
     /// As `Book::drop_flush`. Takes no memory.
     pub fn drop_flush(&self, rt: &impl Wait, seat: &mut Seat<L>, flush: u64) -> Result<(), NotLive>
-        ensures recorded { OnOk result (IsRecorded L.parts L.opening seat.old seat.new
-            (Event.Drop flush)) }
-        ensures fault { IfErr result (λ e. AsOf L.parts L.opening seat.old
-            (λ E. flush_refusal E flush ≡ Some e)) }
-        ensures err { OnErr result (seat.new ≡ seat.old) }
+        ensures { IsSharedCall L.parts L.opening seat.old seat.new (call.drop_flush flush result) }
     {
         self.lock.lock(rt).drop_flush(seat, flush)
     }
 
     /// As `Book::give_back`. Takes no memory.
     pub fn give_back(&self, rt: &impl Wait, seat: &mut Seat<L>, flush: u64) -> Result<(), NotLive>
-        ensures recorded { OnOk result (IsRecorded L.parts L.opening seat.old seat.new
-            (Event.GiveBack flush)) }
-        ensures fault { IfErr result (λ e. AsOf L.parts L.opening seat.old
-            (λ E. flush_refusal E flush ≡ Some e)) }
-        ensures err { OnErr result (seat.new ≡ seat.old) }
+        ensures { IsSharedCall L.parts L.opening seat.old seat.new (call.give_back flush result) }
     {
         self.lock.lock(rt).give_back(seat, flush)
     }
@@ -194,11 +159,7 @@ impl<L: Round> SharedBook<L> {
         seat: &mut Seat<L>,
         sender: SenderName,
     ) -> Result<(), QuarantineFault>
-        ensures recorded { OnOk result (IsRecorded L.parts L.opening seat.old seat.new
-            (Event.Quarantine sender)) }
-        ensures fault { IfErr result (λ e. AsOf L.parts L.opening seat.old
-            (λ E. e ≡ unwrap_or (quarantine_refusal E sender) QuarantineFault.NoMemory)) }
-        ensures err { OnErr result (seat.new ≡ seat.old) }
+        ensures { IsSharedCall L.parts L.opening seat.old seat.new (call.quarantine sender result) }
     {
         self.lock.lock(rt).quarantine(seat, sender)
     }
@@ -210,11 +171,7 @@ impl<L: Round> SharedBook<L> {
         seat: &mut Seat<L>,
         sender: &SenderName,
     ) -> Result<(), NotQuarantined>
-        ensures recorded { OnOk result (IsRecorded L.parts L.opening seat.old seat.new
-            (Event.Lift sender.now)) }
-        ensures fault { IfErr result (λ e. AsOf L.parts L.opening seat.old
-            (λ E. lift_refusal E sender.now ≡ Some e)) }
-        ensures err { OnErr result (seat.new ≡ seat.old) }
+        ensures { IsSharedCall L.parts L.opening seat.old seat.new (call.lift sender.now result) }
     {
         self.lock.lock(rt).lift(seat, sender)
     }
@@ -225,9 +182,8 @@ impl<L: Round> SharedBook<L> {
         rt: &impl Wait,
         seat: &mut Seat<L>,
     ) -> Result<Vec<SeriesTotals>, AllocError>
-        ensures rows { IfOk result (λ v. AsOf L.parts L.opening seat.old
-            (λ E. v.items ≡ totals_rows E)) }
-        ensures seat { seat.new ≡ seat.old }
+        ensures { IsSharedCall L.parts L.opening seat.old seat.new
+            (call.totals (option_map (λ v. v.items) (result_ok result))) }
     {
         self.lock.lock(rt).totals(seat)
     }
