@@ -7,7 +7,8 @@ run:
 	@cd crates/play && mkdir -p out && rt try < stdin 2> out/run.log || { cat out/run.log; exit 1; }
 	@echo 'This run proved nothing: make build proves what it builds, make test everything.'
 
-# Serves on 127.0.0.1:4318, with no proof, beside a back end that prints what it is sent; Ctrl-C ends both.
+# Serves on 127.0.0.1:4318 with a SQLite file as the sink; builds what is missing, the gateway with no proof where
+# make build has not built it. Ctrl-C ends it.
 serve:
 	@tools/serve.py
 

@@ -1,9 +1,9 @@
 #!/usr/bin/env python3
-"""Proves programs and all crates below them, and builds them into bin/.
+"""Proves programs and all crates below them, and builds them into bin/; and the service, totxegun.
 
     tools/build.py [CRATE ..]
 
-The crates are play and gateway, or those that are named. Crates that don't use each other are proved
+The crates are play and gateway, or those that are named; then the service is not built. Crates that don't use each other are proved
 side by side, as many as processors and memory carry; a crate that is proved and has not changed since,
 nor one below it, is not proved again, also not after an interrupt. The logs are in out/logs.
 """
@@ -16,9 +16,13 @@ import time
 
 from crates import OUT, ROOT, Digests, content, read_crates
 from prover import Prover, made_by, room_of
-from steps import GIGABYTE, Failed, Step, Steps, locked, shown
+from steps import GIGABYTE, Failed, Step, Steps, end_of, locked, shown
 
 PROGRAMS = ["play", "gateway"]
+SERVICE = "totxegun"
+SERVICE_MADE = f"{os.environ.get('CARGO_TARGET_DIR', f'{ROOT}/service/target')}/release/{SERVICE}"
+# It takes about as long as a crate of so many lines.
+SERVICE_WEIGHT = 2000
 # A check of a crate takes a gigabyte or two for what it loads, and about a megabyte a line.
 LEAST_MEMORY = 3 * GIGABYTE // 2
 LINE_MEMORY = GIGABYTE // 1000
@@ -89,11 +93,24 @@ def steps_for(crates, building):
     return [building.step(crate, missing) for crate in missing], len(wanted)
 
 
-def install(crate):
+def service_step():
+    """The step that builds the service. Nothing of it is proved."""
+
+    def work(step):
+        for command in (["tools/needs", "service"], ["tools/cargo", "build", "--release"]):
+            if step.run(command) != 0:
+                raise Failed((end_of(step.log) or ["it printed nothing"])[-1])
+        install(SERVICE_MADE, SERVICE)
+        return "built, not proved"
+
+    return Step(SERVICE, work, "tools/cargo build --release", weight=SERVICE_WEIGHT, memory=GIGABYTE)
+
+
+def install(made, name):
     """Puts a program into bin/, also where the one that lies there is running."""
     os.makedirs(f"{ROOT}/bin", exist_ok=True)
-    shutil.copy2(made_by(crate), f"{ROOT}/bin/{crate.name}.new")
-    os.replace(f"{ROOT}/bin/{crate.name}.new", f"{ROOT}/bin/{crate.name}")
+    shutil.copy2(made, f"{ROOT}/bin/{name}.new")
+    os.replace(f"{ROOT}/bin/{name}.new", f"{ROOT}/bin/{name}")
 
 
 def main(names):
@@ -107,12 +124,13 @@ def main(names):
         steps, whole = steps_for(crates, Building())
         if len(steps) < whole:
             print(f"{whole - len(steps)} of {whole} crates are proved and have not changed", flush=True)
-        if not Steps(steps).run():
+        if not Steps([*steps, *([] if names else [service_step()])]).run():
             return 1
-    programs = [crate for crate in crates if crate.is_program]
-    for crate in programs:
-        install(crate)
-    built = " and ".join(shlex.quote(f"bin/{crate.name}") for crate in programs)
+    programs = [crate.name for crate in crates if crate.is_program]
+    for crate in crates:
+        if crate.is_program:
+            install(made_by(crate), crate.name)
+    built = " and ".join(shlex.quote(f"bin/{name}") for name in [*programs, *([] if names else [SERVICE])])
     print(f"{built or 'the libraries'}: built in {shown(time.monotonic() - begun)}")
     return 0
 

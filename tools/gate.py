@@ -14,6 +14,7 @@ import subprocess
 import sys
 import time
 
+from build import SERVICE_MADE
 from crates import OUT, ROOT, content, read_crates
 from steps import Failed, Step, Steps, end_of, end_of_lines, locked, shown
 
@@ -38,12 +39,26 @@ STEPS = (
     ("readme_examples.py", PLAY, 1, False),
     ("gateway_load.py", GATEWAY, 5, True),
 )
+# The service: cargo's steps, one after another over one folder, and scripts of tests/ with what they run.
+CARGO_STEPS = (
+    ("service_is_laid_out", ["fmt", "--check"]),
+    ("service_is_built", ["build", "--release"]),
+    ("service_is_linted", ["clippy", "--release", "--all-targets", "--", "-D", "warnings"]),
+    ("service_tests", ["test", "--release"]),
+)
+# Behind the program's name: further words, and about how many seconds it takes.
+SERVICE_STEPS = (
+    ("service_load.py", ["60"], 120),
+    ("service_interrupted.py", ["9"], 120),
+)
 STEP_LIMIT = 600
 # A network of its own for each step, so that none takes another's port.
 OWN_NETWORK = "tools/own_network.py"
 # The status of a script that lacks a program that it needs; its last line says which.
 LEFT_OUT = 77
 
+# A line of `cargo test` behind the tests of one file.
+TESTED = re.compile(r"test result: ok\. (\d+) passed")
 COUNTS = re.compile(r"(\d+) passed, (\d+) failed$")
 # Lines of `rt ci` as it goes: what a reader waits for, and what is wrong.
 PROVED = re.compile(r"rt: (\w+)(?:: (its tests) are)? proved$")
@@ -104,7 +119,7 @@ def has_tests(crate):
 
 def step_of(script, program, seconds, is_timed, before):
     """The step that runs a script of tests/ on a program, behind these words. With none, steps run in turn."""
-    command = [f"tests/{script}", program]
+    command = [f"tests/{script}", *program.split()]
 
     def work(step):
         status = step.run([*before, *command], limit=STEP_LIMIT)
@@ -116,6 +131,33 @@ def step_of(script, program, seconds, is_timed, before):
     name = script.partition(".")[0]
     lane = None if before else "ports"
     return Step(name, work, " ".join(command), weight=seconds, lane=lane, alone=is_timed)
+
+
+def cargo_steps():
+    """The steps of service/ that need no gateway, in order."""
+    steps = []
+    for name, words in CARGO_STEPS:
+        command = ["tools/cargo", *words]
+
+        def work(step, command=command):
+            if step.run(command, limit=STEP_LIMIT) != 0:
+                raise Failed((end_of(step.log) or ["it printed nothing"])[-1])
+            counts = [TESTED.match(line) for line in open(step.log, encoding="utf-8")]
+            passed = sum(int(it.group(1)) for it in counts if it)
+            return f"{passed} tests passed" if passed else "no fault"
+
+        steps.append(Step(name, work, " ".join(command), after=[it.name for it in steps[-1:]], weight=200))
+    return steps
+
+
+def service_steps(before):
+    """The steps that run the service around the gateway, behind the one that builds it."""
+    steps = [step_of("service_model.py", "", 60, False, [])]
+    for script, words, seconds in SERVICE_STEPS:
+        step = step_of(script, " ".join([SERVICE_MADE, GATEWAY, *words]), seconds, False, before)
+        step.after = ["service_is_built"]
+        steps.append(step)
+    return steps
 
 
 def has_networks():
@@ -134,7 +176,7 @@ def main(words):
         passed, failed = prover.passed, prover.failed
     if not failed:
         before = [OWN_NETWORK] if has_networks() else []
-        steps = Steps([step_of(*it, before) for it in STEPS])
+        steps = Steps([*[step_of(*it, before) for it in STEPS], *cargo_steps(), *service_steps(before)])
         steps.run()
         passed, failed = passed + len(steps.passed), len(steps.failed)
         print("beside the prover:" if words else "the gate, the prover's part and the steps beside it:")

@@ -1,0 +1,56 @@
+//! Orders to the running service: flush, renew, quarantine, lift.
+
+use super::{client, Form};
+use crate::slot::is_sender;
+use anyhow::Result;
+use clap::Args;
+
+/// Where the running service is asked.
+#[derive(Args, Clone, Debug)]
+pub struct Address {
+    /// The operator's address of the running service
+    #[arg(
+        long,
+        env = "TOTXEGUN_OPERATE",
+        value_name = "ADDRESS",
+        default_value = "127.0.0.1:4319"
+    )]
+    pub operate: String,
+}
+
+#[derive(Args)]
+pub struct Shown {
+    #[command(flatten)]
+    pub at: Address,
+    #[command(flatten)]
+    pub form: Form,
+}
+
+#[derive(Args)]
+pub struct OfSender {
+    /// The sender, as its header x-sender names it; `-` is who names none
+    #[arg(value_name = "NAME", value_parser = sender)]
+    pub sender: String,
+    #[command(flatten)]
+    pub at: Address,
+}
+
+fn sender(text: &str) -> Result<String, String> {
+    if is_sender(text) {
+        return Ok(text.to_string());
+    }
+    Err("a sender's name is 1 to 64 of A-Z a-z 0-9 . _ -".to_string())
+}
+
+/// Gives an order, and prints what came of it.
+pub fn order(at: &Address, path: &str) -> Result<()> {
+    let body = client::ask(&at.operate, "POST", path)?;
+    let read: serde_json::Value = serde_json::from_slice(&body)?;
+    match read["requests"].as_u64() {
+        Some(0) => println!("done: there was nothing to put into the outbox"),
+        Some(1) => println!("done: 1 request went into the outbox"),
+        Some(requests) => println!("done: {requests} requests went into the outbox"),
+        None => println!("done"),
+    }
+    Ok(())
+}

@@ -1,0 +1,270 @@
+//! `totxegun check`: what a start would find in a folder. Nothing of the folder is changed.
+//!
+//! The files are copied, and the copy is opened as a start opens it: so what is said is what a start would do.
+
+use super::table::Table;
+use super::{values, Failure, Form};
+use crate::files::{Durability, Fault, Folder, FolderFault, Journal, Outbox};
+use anyhow::{bail, Context};
+use clap::Args;
+use nix::fcntl::{flock, FlockArg};
+use serde::Serialize;
+use std::collections::HashSet;
+use std::fs::{DirBuilder, File};
+use std::os::fd::AsRawFd;
+use std::os::unix::fs::DirBuilderExt;
+use std::path::{Path, PathBuf};
+
+#[derive(Args)]
+pub struct Options {
+    /// The service's folder; the service must not run
+    #[arg(value_name = "DIR")]
+    data: PathBuf,
+    /// Where the files are copied to while they are read [default: the system's folder for temporary files]
+    #[arg(long, value_name = "DIR")]
+    temporary: Option<PathBuf>,
+    #[command(flatten)]
+    form: Form,
+}
+
+/// What a start would find.
+#[derive(Debug, Default, PartialEq, Eq, Serialize)]
+struct Found {
+    segments: u64,
+    journal_bytes: u64,
+    /// Posts that are in no group: a fresh gateway gets them.
+    posts: u64,
+    post_bytes: u64,
+    senders: usize,
+    /// Forwarded requests that the sink does not have.
+    waiting: u64,
+    outbox_bytes: u64,
+    series: usize,
+    series_without_owner: usize,
+    quarantined: Vec<String>,
+    dead: u64,
+}
+
+impl Options {
+    pub fn run(self) -> Result<(), Failure> {
+        let _kept_still = lock(&self.data)?;
+        let temporary = self.temporary.clone().unwrap_or_else(std::env::temp_dir);
+        let copy = Copy::of(&self.data, &temporary)?;
+        let found = found(&copy.0).map_err(|failure| in_the_original(failure, &copy.0, &self.data))?;
+        if self.form.json {
+            println!(
+                "{}",
+                serde_json::to_string(&found).context("the answer can't be written")?
+            );
+        } else {
+            print!("{}", text(&found, &self.data));
+        }
+        Ok(())
+    }
+}
+
+/// Keeps a service from starting on the folder while it is copied. Nothing is written.
+fn lock(data: &Path) -> anyhow::Result<File> {
+    let path = data.join("lock");
+    let file = File::open(&path)
+        .with_context(|| format!("{} is no folder of totxegun: {}", data.display(), path.display()))?;
+    if flock(file.as_raw_fd(), FlockArg::LockSharedNonblock).is_err() {
+        bail!(
+            "{} is in use by a running service: `totxegun status` shows how it is",
+            data.display()
+        );
+    }
+    Ok(file)
+}
+
+/// A copy of the journal, the outbox and the dead letters; removed when it is dropped.
+struct Copy(PathBuf);
+
+impl Copy {
+    fn of(data: &Path, temporary: &Path) -> anyhow::Result<Copy> {
+        let copy = Copy(temporary.join(format!("totxegun-check-{}", std::process::id())));
+        DirBuilder::new()
+            .mode(0o700)
+            .create(&copy.0)
+            .with_context(|| format!("{} can't be made", copy.0.display()))?;
+        for entry in std::fs::read_dir(data)? {
+            let name = entry?.file_name();
+            let is_ours = name
+                .to_str()
+                .is_some_and(|name| name == "version" || name == "dead" || name.starts_with("slot-"));
+            if is_ours {
+                copy_all(&data.join(&name), &copy.0.join(&name)).with_context(|| {
+                    format!(
+                        "{} can't be copied to {}: give --temporary",
+                        data.display(),
+                        temporary.display()
+                    )
+                })?;
+            }
+        }
+        Ok(copy)
+    }
+}
+
+impl Drop for Copy {
+    fn drop(&mut self) {
+        if let Err(error) = std::fs::remove_dir_all(&self.0) {
+            eprintln!("totxegun: {} could not be removed: {error}", self.0.display());
+        }
+    }
+}
+
+/// A file, or a folder with all in it.
+fn copy_all(from: &Path, to: &Path) -> std::io::Result<()> {
+    if !from.is_dir() {
+        return std::fs::copy(from, to).map(|_| ());
+    }
+    std::fs::create_dir(to)?;
+    for entry in std::fs::read_dir(from)? {
+        let name = entry?.file_name();
+        copy_all(&from.join(&name), &to.join(&name))?;
+    }
+    Ok(())
+}
+
+fn found(copy: &Path) -> Result<Found, Failure> {
+    let segments = segments(&copy.join("slot-0/journal"));
+    let folder = Folder::open(copy, Durability::Process).map_err(|fault| match fault {
+        FolderFault::Fault(fault) => Failure::Disk(fault),
+        in_use => Failure::Refused(in_use.into()),
+    })?;
+    let (journal, outbox) = folder.slot(0)?;
+    let (waiting, outbox_bytes, _) = outbox.waiting();
+    let owners: Vec<bool> = outbox
+        .series()
+        .values()
+        .map(|series| series.owner.is_some())
+        .collect();
+    let mut found = Found {
+        segments,
+        journal_bytes: journal.size().0,
+        waiting,
+        outbox_bytes,
+        series: owners.len(),
+        series_without_owner: owners.iter().filter(|is_owned| !**is_owned).count(),
+        quarantined: outbox.quarantined().into_iter().collect(),
+        dead: folder.dead()?.count(),
+        ..Found::default()
+    };
+    count_posts(&journal, &outbox, &mut found)?;
+    Ok(found)
+}
+
+fn count_posts(journal: &Journal, outbox: &Outbox, found: &mut Found) -> Result<(), Fault> {
+    let mut senders = HashSet::new();
+    let (end, _) = journal.turn();
+    journal.posts(outbox.journal(), end, |post| {
+        found.posts += 1;
+        found.post_bytes += post.body.len() as u64;
+        senders.insert(post.sender);
+        true
+    })?;
+    found.senders = senders.len();
+    Ok(())
+}
+
+fn segments(folder: &Path) -> u64 {
+    std::fs::read_dir(folder).map_or(0, |entries| entries.count() as u64)
+}
+
+/// A fault names the file in the folder that was asked for, not in the copy.
+fn in_the_original(failure: Failure, copy: &Path, data: &Path) -> Failure {
+    let original = |path: PathBuf| {
+        path.strip_prefix(copy)
+            .map(|rest| data.join(rest))
+            .unwrap_or(path)
+    };
+    match failure {
+        Failure::Disk(Fault::Io { path, source }) => Failure::Disk(Fault::Io {
+            path: original(path),
+            source,
+        }),
+        Failure::Disk(Fault::Damaged { path, at, what }) => Failure::Disk(Fault::Damaged {
+            path: original(path),
+            at,
+            what,
+        }),
+        other => other,
+    }
+}
+
+fn text(found: &Found, data: &Path) -> String {
+    let mut table = Table::new(&["folder".to_string(), data.display().to_string()]);
+    let mut row = |name: &str, text: String| table.row(&[name, text.as_str()]);
+    let bytes = values::bytes_shown;
+    row(
+        "journal",
+        format!("{} segments, {}", found.segments, bytes(found.journal_bytes)),
+    );
+    row(
+        "posts in no group",
+        format!(
+            "{} of {} senders, {}",
+            found.posts,
+            found.senders,
+            bytes(found.post_bytes)
+        ),
+    );
+    row(
+        "requests for the sink",
+        format!("{}, {}", found.waiting, bytes(found.outbox_bytes)),
+    );
+    row(
+        "series",
+        format!(
+            "{}, of {} the owner is in the journal alone",
+            found.series, found.series_without_owner
+        ),
+    );
+    row(
+        "quarantined",
+        if found.quarantined.is_empty() {
+            "none".into()
+        } else {
+            found.quarantined.join(", ")
+        },
+    );
+    row("refused for good", format!("{} requests", found.dead));
+    row("faults", "none".into());
+    let posts = found.posts;
+    format!("{table}\nA start primes a gateway with the series, gives it the {posts} posts, and delivers the requests in order.\n")
+}
+
+#[cfg(test)]
+mod tests {
+    use super::*;
+
+    #[test]
+    fn what_is_no_folder_is_named() {
+        let folder = tempfile::tempdir().unwrap();
+        let error = format!("{:#}", lock(folder.path()).unwrap_err());
+        assert!(error.contains("no folder of totxegun"), "{error}");
+    }
+
+    #[test]
+    fn a_folder_in_use_is_not_read() {
+        let folder = tempfile::tempdir().unwrap();
+        let file = File::create(folder.path().join("lock")).unwrap();
+        flock(file.as_raw_fd(), FlockArg::LockExclusiveNonblock).unwrap();
+        let error = lock(folder.path()).unwrap_err().to_string();
+        assert!(error.contains("totxegun status"), "{error}");
+    }
+
+    #[test]
+    fn a_copy_has_what_a_start_reads_and_goes_away() {
+        let (data, temporary) = (tempfile::tempdir().unwrap(), tempfile::tempdir().unwrap());
+        std::fs::create_dir_all(data.path().join("slot-0/journal")).unwrap();
+        std::fs::write(data.path().join("slot-0/journal/1"), "a").unwrap();
+        std::fs::write(data.path().join("metrics.db"), "not copied").unwrap();
+        let copy = Copy::of(data.path(), temporary.path()).unwrap();
+        assert_eq!(std::fs::read(copy.0.join("slot-0/journal/1")).unwrap(), b"a");
+        assert!(!copy.0.join("metrics.db").exists());
+        drop(copy);
+        assert_eq!(std::fs::read_dir(temporary.path()).unwrap().count(), 0);
+    }
+}

@@ -1,0 +1,160 @@
+//! The command line: what `totxegun` can be told, and the status that it ends with.
+//!
+//! 0: done. 1: refused, or not possible. 2: a faulty command line. 70: the disk, or what is on it.
+
+mod ask;
+mod check;
+mod client;
+mod letters;
+mod serve;
+mod status;
+mod table;
+mod totals;
+mod values;
+
+use crate::files::Fault;
+use crate::service::{init, Ended};
+use clap::{Args, Parser, Subcommand};
+use std::process::ExitCode;
+
+const REFUSED: u8 = 1;
+const DISK: u8 = 70;
+
+/// Takes OTLP metrics, keeps a journal and an outbox around the proved gateway, and delivers to a sink.
+#[derive(Parser)]
+#[command(name = "totxegun", version, about, max_term_width = 100)]
+struct Line {
+    #[command(subcommand)]
+    command: Command,
+}
+
+#[derive(Subcommand)]
+enum Command {
+    /// Takes posts and delivers what they add up to, until SIGTERM or SIGINT
+    Serve(Box<serve::Options>),
+    /// Shows how the running service is
+    Status(ask::Shown),
+    /// Shows what a SQLite sink has: a line for each series
+    Totals(totals::Options),
+    /// Puts all that was taken into the outbox now
+    #[command(visible_alias = "checkpoint")]
+    Flush(ask::Address),
+    /// Goes on with a fresh gateway
+    Renew(ask::Address),
+    /// Keeps a sender's points back, and refuses its posts
+    Quarantine(ask::OfSender),
+    /// Releases a quarantined sender
+    Lift(ask::OfSender),
+    /// Requests that the sink refused for good
+    #[command(subcommand)]
+    Dead(letters::Command),
+    /// Says what a start would find in a folder, and changes nothing
+    Check(check::Options),
+    /// Prints the version
+    Version,
+}
+
+/// Why a command did not do what it was told.
+#[derive(Debug, thiserror::Error)]
+enum Failure {
+    /// With what is wrong and what to do.
+    #[error("{0:#}")]
+    Refused(#[from] anyhow::Error),
+    #[error("{0}")]
+    Disk(#[from] Fault),
+}
+
+impl From<Ended> for Failure {
+    fn from(ended: Ended) -> Failure {
+        match ended {
+            Ended::Disk(fault) => Failure::Disk(fault),
+            Ended::Other(error) => Failure::Refused(error),
+        }
+    }
+}
+
+/// Runs the command of this process' command line.
+pub fn run() -> ExitCode {
+    let line = Line::parse(); // a faulty one ends here, with status 2
+    if init::is_process_1() {
+        return init::run().unwrap_or_else(|error| {
+            eprintln!("totxegun: as process 1: {error}");
+            ExitCode::from(REFUSED)
+        });
+    }
+    match line.command.run() {
+        Ok(()) => ExitCode::SUCCESS,
+        Err(failure) => {
+            eprintln!("totxegun: {failure}");
+            ExitCode::from(match failure {
+                Failure::Refused(_) => REFUSED,
+                Failure::Disk(_) => DISK,
+            })
+        }
+    }
+}
+
+impl Command {
+    fn run(self) -> Result<(), Failure> {
+        match self {
+            Command::Serve(options) => options.run(),
+            Command::Status(shown) => Ok(status::run(&shown)?),
+            Command::Totals(options) => Ok(totals::run(&options)?),
+            Command::Flush(at) => Ok(ask::order(&at, "/flush")?),
+            Command::Renew(at) => Ok(ask::order(&at, "/renew")?),
+            Command::Quarantine(of) => Ok(ask::order(&of.at, &format!("/quarantine/{}", of.sender))?),
+            Command::Lift(of) => Ok(ask::order(&of.at, &format!("/lift/{}", of.sender))?),
+            Command::Dead(command) => Ok(command.run()?),
+            Command::Check(options) => options.run(),
+            Command::Version => {
+                println!("totxegun {}", env!("CARGO_PKG_VERSION"));
+                Ok(())
+            }
+        }
+    }
+}
+
+/// Whether a program reads what is printed.
+#[derive(Args, Clone, Copy, Debug)]
+struct Form {
+    /// Prints JSON
+    #[arg(long)]
+    json: bool,
+}
+
+#[cfg(test)]
+mod tests {
+    use super::*;
+    use clap::CommandFactory;
+
+    #[test]
+    fn the_command_line_is_sound() {
+        Line::command().debug_assert();
+    }
+
+    #[test]
+    fn faulty_lines_are_refused_by_name() {
+        for (words, part) in [
+            ("serve --data d --slots 2", "--slots"),
+            ("serve --data d --flush-every 0s", "--flush-every"),
+            ("serve --data d --flush-every ten", "--flush-every"),
+            ("serve --data d --receivers 9", "--receivers"),
+            ("serve --data d --flushers 0", "--flushers"),
+            ("serve --data d --durable never", "--durable"),
+            ("serve --data d --memory 1X", "--memory"),
+            ("serve --data d --sink nats://h", "--sink"),
+            ("serve --datum d", "--datum"),
+            ("quarantine", "<NAME>"),
+            ("quarantine a/b", "<NAME>"),
+            ("dead burn", "burn"),
+        ] {
+            let error =
+                Line::try_parse_from([&["totxegun"], &words.split(' ').collect::<Vec<_>>()[..]].concat());
+            let text = error
+                .err()
+                .unwrap_or_else(|| panic!("{words} was taken"))
+                .to_string();
+            assert!(text.contains(part), "{words}: {text}");
+        }
+    }
+}

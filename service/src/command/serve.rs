@@ -1,0 +1,272 @@
+//! `totxegun serve`: its options, and its run.
+
+use super::values::{size, time, time_or_never, MayBeNever};
+use super::Failure;
+use crate::files::Durability;
+use crate::gateway;
+use crate::otlp::Dropped;
+use crate::service::{self, Settings};
+use crate::sinks::Address;
+use anyhow::{bail, Context};
+use clap::{value_parser, Args};
+use std::os::unix::fs::PermissionsExt;
+use std::path::{Path, PathBuf};
+use std::time::Duration;
+
+/// Threads for long work: reading long bodies, and calls of files that wait for a disk.
+const LONG_WORK: usize = 16;
+
+#[derive(Args)]
+pub struct Options {
+    /// The folder of all files; it is made where there is none
+    #[arg(long, env = "TOTXEGUN_DATA", value_name = "DIR")]
+    data: PathBuf,
+    /// Where senders post OTLP/HTTP
+    #[arg(
+        long,
+        env = "TOTXEGUN_LISTEN",
+        value_name = "ADDRESS",
+        default_value = "127.0.0.1:4318"
+    )]
+    listen: String,
+    /// Where operators ask: who reaches it can do all that this program can
+    #[arg(
+        long,
+        env = "TOTXEGUN_OPERATE",
+        value_name = "ADDRESS",
+        default_value = "127.0.0.1:4319"
+    )]
+    operate: String,
+    /// Where to deliver: sqlite:PATH, http://HOST:PORT/PATH or https://HOST/PATH [default: sqlite:DIR/metrics.db]
+    #[arg(long, env = "TOTXEGUN_SINK", value_name = "ADDRESS", hide_env_values = true)]
+    sink: Option<Address>,
+    #[command(flatten)]
+    of_sink: OfSink,
+    /// How long between two flushes
+    #[arg(long, env = "TOTXEGUN_FLUSH_EVERY", value_name = "TIME", default_value = "10s", value_parser = time)]
+    flush_every: Duration,
+    /// What a post survives once it is answered: `disk` a loss of power, `process` the end of the process
+    #[arg(
+        long,
+        env = "TOTXEGUN_DURABLE",
+        value_name = "WHAT",
+        default_value = "disk",
+        value_enum
+    )]
+    durable: Durability,
+    /// The gateway program [default: `gateway` beside this program, or in PATH]
+    #[arg(long, env = "TOTXEGUN_GATEWAY", value_name = "PATH")]
+    gateway: Option<PathBuf>,
+    /// A series that nobody has posted to for so long is forgotten, or never
+    #[arg(long, env = "TOTXEGUN_FORGET_SERIES", value_name = "TIME", default_value = "7d", value_parser = time_or_never)]
+    forget_series: MayBeNever,
+    /// A resource attribute that is left out of each request; may be given again
+    #[arg(
+        long = "drop-attribute",
+        env = "TOTXEGUN_DROP_ATTRIBUTE",
+        value_name = "NAME",
+        value_delimiter = ','
+    )]
+    drop_attributes: Vec<String>,
+    /// The most memory that all posts may take until they are answered
+    #[arg(long, env = "TOTXEGUN_MOST_BYTES", value_name = "BYTES", default_value = "256MiB", value_parser = size)]
+    most_bytes: u64,
+    /// How many connections senders may have at a time
+    #[arg(long, env = "TOTXEGUN_MOST_CONNECTIONS", value_name = "N", default_value_t = 1024, value_parser = value_parser!(u32).range(1..=100_000))]
+    most_connections: u32,
+    /// How many threads run the service
+    #[arg(long, env = "TOTXEGUN_THREADS", value_name = "N", default_value_t = 2, value_parser = value_parser!(u16).range(1..=64))]
+    threads: u16,
+    /// How many gateways there are: only 1 yet
+    #[arg(long, env = "TOTXEGUN_SLOTS", value_name = "N", default_value = "1", value_parser = one_slot)]
+    slots: u16,
+    #[command(flatten)]
+    of_gateway: OfGateway,
+}
+
+#[derive(Args)]
+#[command(next_help_heading = "Options of an OTLP sink")]
+struct OfSink {
+    /// Sends protobuf in the place of JSON
+    #[arg(long, env = "TOTXEGUN_SINK_PROTOBUF")]
+    sink_protobuf: bool,
+    /// Packs what it sends
+    #[arg(long, env = "TOTXEGUN_SINK_GZIP")]
+    sink_gzip: bool,
+    /// A header of each request; may be given again, in the environment a line each
+    #[arg(long = "sink-header", env = "TOTXEGUN_SINK_HEADER", value_name = "NAME: VALUE", hide_env_values = true, value_delimiter = '\n', value_parser = header)]
+    sink_headers: Vec<(String, String)>,
+}
+
+impl OfSink {
+    /// These options say how an OTLP sink is sent to; for another they are a mistake.
+    fn put_into(self, sink: Address) -> anyhow::Result<Address> {
+        match sink {
+            Address::Otlp { url, .. } => {
+                let (protobuf, gzip, headers) = (self.sink_protobuf, self.sink_gzip, self.sink_headers);
+                Ok(Address::Otlp {
+                    url,
+                    protobuf,
+                    gzip,
+                    headers,
+                })
+            }
+            Address::Sqlite(_) if self.sink_protobuf || self.sink_gzip || !self.sink_headers.is_empty() => {
+                bail!("--sink-protobuf, --sink-gzip and --sink-header are for a sink of OTLP: give --sink http://.. too")
+            }
+            Address::Sqlite(path) => Ok(Address::Sqlite(absolute(&path)?)),
+        }
+    }
+}
+
+fn header(text: &str) -> Result<(String, String), String> {
+    let (name, value) = text.split_once(':').ok_or("write a name, a colon and a value")?;
+    Ok((name.trim().to_string(), value.trim().to_string()))
+}
+
+#[derive(Args)]
+#[command(next_help_heading = "Options of the gateway")]
+struct OfGateway {
+    /// The most address space of the gateway, as by `ulimit -v`
+    #[arg(long, env = "TOTXEGUN_MEMORY", value_name = "BYTES", value_parser = size)]
+    memory: Option<u64>,
+    /// An allocator's library, preloaded
+    #[arg(long, env = "TOTXEGUN_ALLOCATOR", value_name = "LIB")]
+    allocator: Option<PathBuf>,
+    /// Its threads that take posts
+    #[arg(long, env = "TOTXEGUN_RECEIVERS", value_name = "N", default_value_t = 4, value_parser = value_parser!(u16).range(1..=8))]
+    receivers: u16,
+    /// Its threads that flush
+    #[arg(long, env = "TOTXEGUN_FLUSHERS", value_name = "N", default_value_t = 4, value_parser = value_parser!(u16).range(1..=4))]
+    flushers: u16,
+    /// Connections that it serves before a fresh one is started
+    #[arg(long, env = "TOTXEGUN_CONNECTIONS", value_name = "N", default_value_t = 1_000_000, value_parser = value_parser!(u64).range(100..=1_000_000))]
+    connections: u64,
+    /// Connections of one of its rounds
+    #[arg(long, env = "TOTXEGUN_ROUND", value_name = "N", default_value_t = 32_000, value_parser = value_parser!(u32).range(1..=32_000))]
+    round: u32,
+}
+
+impl Options {
+    pub fn run(self) -> Result<(), Failure> {
+        tracing_subscriber::fmt()
+            .with_writer(std::io::stderr)
+            .with_target(false)
+            .init();
+        raise_open_files();
+        let mut building = tokio::runtime::Builder::new_multi_thread();
+        building
+            .worker_threads(usize::from(self.threads))
+            .max_blocking_threads(LONG_WORK)
+            .enable_all();
+        let runtime = building.build().context("no threads could be started")?;
+        let ended = runtime.block_on(service::run(self.settings()?));
+        runtime.shutdown_background(); // who still waits for a disk or a sender is not waited for
+        Ok(ended?)
+    }
+
+    fn settings(self) -> Result<Settings, Failure> {
+        let program = program(self.gateway.as_deref())?;
+        if let Some(library) = self
+            .of_gateway
+            .allocator
+            .as_deref()
+            .filter(|library| !library.is_file())
+        {
+            return Err(anyhow::anyhow!("--allocator {}: there is no such file", library.display()).into());
+        }
+        let data = absolute(&self.data)?;
+        let sink = self
+            .sink
+            .unwrap_or_else(|| Address::Sqlite(data.join("metrics.db")));
+        let sink = self.of_sink.put_into(sink)?;
+        Ok(Settings {
+            data,
+            listen: self.listen,
+            operate: self.operate,
+            sink,
+            durability: self.durable,
+            gateway: gateway::Options {
+                program,
+                connections: self.of_gateway.connections,
+                receivers: self.of_gateway.receivers,
+                flushers: self.of_gateway.flushers,
+                round: self.of_gateway.round,
+                memory: self.of_gateway.memory,
+                allocator: self.of_gateway.allocator,
+            },
+            every: self.flush_every,
+            forget: self.forget_series.0,
+            dropped: Dropped {
+                attributes: self.drop_attributes,
+            },
+            most_bytes: usize::try_from(self.most_bytes).unwrap_or(usize::MAX),
+            most_connections: self.most_connections as usize,
+        })
+    }
+}
+
+/// Other programs are told where files are: their folder may be another.
+fn absolute(path: &Path) -> anyhow::Result<PathBuf> {
+    std::path::absolute(path).with_context(|| format!("{} is no path", path.display()))
+}
+
+fn one_slot(text: &str) -> Result<u16, String> {
+    match text {
+        "1" => Ok(1),
+        _ => Err("there is only 1 slot yet: for more series run another service, with --data, --listen and --operate of its own".into()),
+    }
+}
+
+/// The gateway program: as it was given, or beside this program, or in PATH.
+fn program(given: Option<&Path>) -> anyhow::Result<PathBuf> {
+    if let Some(path) = given {
+        if !is_program(path) {
+            bail!(
+                "--gateway {}: there is no program there; `make build` makes bin/gateway",
+                path.display()
+            );
+        }
+        return Ok(path.to_path_buf());
+    }
+    let beside = std::env::current_exe()
+        .ok()
+        .map(|own| own.with_file_name("gateway"));
+    let in_path = std::env::var_os("PATH").unwrap_or_default();
+    let mut places = beside
+        .into_iter()
+        .chain(std::env::split_paths(&in_path).map(|folder| folder.join("gateway")));
+    let found = places.find(|place| is_program(place));
+    found.context("there is no program `gateway` beside this one or in PATH: give it by --gateway PATH")
+}
+
+fn is_program(path: &Path) -> bool {
+    path.metadata()
+        .is_ok_and(|found| found.is_file() && found.permissions().mode() & 0o111 != 0)
+}
+
+/// As many open files as this process may have: each connection is one. Where it may not, there are fewer connections.
+fn raise_open_files() {
+    use nix::sys::resource::{getrlimit, setrlimit, Resource::RLIMIT_NOFILE};
+    if let Ok((soft, hard)) = getrlimit(RLIMIT_NOFILE) {
+        if soft < hard && setrlimit(RLIMIT_NOFILE, hard, hard).is_err() {
+            tracing::warn!("the limit of open files stays at {soft}");
+        }
+    }
+}
+
+#[cfg(test)]
+mod tests {
+    use super::*;
+
+    #[test]
+    fn a_missing_gateway_is_named() {
+        let error = program(Some(Path::new("/nowhere/gateway")))
+            .unwrap_err()
+            .to_string();
+        assert!(error.contains("--gateway /nowhere/gateway"), "{error}");
+        let error = program(Some(Path::new("/etc/passwd"))).unwrap_err().to_string();
+        assert!(error.contains("no program"), "{error}");
+        assert_eq!(program(Some(Path::new("/bin/sh"))).unwrap(), Path::new("/bin/sh"));
+    }
+}

@@ -1,0 +1,129 @@
+//! Values of options: times and sizes as people write them.
+
+use std::time::Duration;
+
+const TIMES: [(&str, u64); 5] = [
+    ("ms", 1),
+    ("s", 1000),
+    ("m", 60_000),
+    ("h", 3_600_000),
+    ("d", 86_400_000),
+];
+const SIZES: [(&str, u64); 8] = [
+    ("", 1),
+    ("B", 1),
+    ("k", 1 << 10),
+    ("M", 1 << 20),
+    ("G", 1 << 30),
+    ("KiB", 1 << 10),
+    ("MiB", 1 << 20),
+    ("GiB", 1 << 30),
+];
+
+/// `10s`, `500ms`, `7d`: a whole number and its unit, over zero.
+pub fn time(text: &str) -> Result<Duration, String> {
+    let milliseconds = scaled(text, &TIMES).filter(|milliseconds| *milliseconds > 0);
+    milliseconds
+        .map(Duration::from_millis)
+        .ok_or_else(|| "write a whole number and ms, s, m, h or d: 10s".to_string())
+}
+
+/// A time, or `never`.
+#[derive(Clone, Copy, Debug, PartialEq, Eq)]
+pub struct MayBeNever(pub Option<Duration>);
+
+pub fn time_or_never(text: &str) -> Result<MayBeNever, String> {
+    if text == "never" {
+        return Ok(MayBeNever(None));
+    }
+    time(text)
+        .map(|time| MayBeNever(Some(time)))
+        .map_err(|error| format!("{error}, or never"))
+}
+
+/// `256MiB`, `1G`, `1048576`: bytes.
+pub fn size(text: &str) -> Result<u64, String> {
+    scaled(text, &SIZES)
+        .ok_or_else(|| "write a whole number, and KiB, MiB or GiB behind it or nothing: 256MiB".to_string())
+}
+
+fn scaled(text: &str, units: &[(&str, u64)]) -> Option<u64> {
+    let digits = text
+        .find(|letter: char| !letter.is_ascii_digit())
+        .unwrap_or(text.len());
+    let (number, unit) = text.split_at(digits);
+    let (_, scale) = units.iter().find(|(name, _)| name.eq_ignore_ascii_case(unit))?;
+    number.parse::<u64>().ok()?.checked_mul(*scale)
+}
+
+/// Bytes as people read them.
+pub fn bytes_shown(bytes: u64) -> String {
+    let shown = bytes as f64;
+    match bytes {
+        0..=1023 => format!("{bytes} B"),
+        1024..=1_048_575 => format!("{:.1} KiB", shown / 1024.0),
+        1_048_576..=1_073_741_823 => format!("{:.1} MiB", shown / 1_048_576.0),
+        _ => format!("{:.1} GiB", shown / 1_073_741_824.0),
+    }
+}
+
+/// Seconds as people read them: two units at most.
+pub fn seconds_shown(seconds: u64) -> String {
+    match seconds {
+        0..=59 => format!("{seconds} s"),
+        60..=3599 => format!("{} min {} s", seconds / 60, seconds % 60),
+        3600..=86_399 => format!("{} h {} min", seconds / 3600, seconds / 60 % 60),
+        _ => format!("{} d {} h", seconds / 86_400, seconds / 3600 % 24),
+    }
+}
+
+#[cfg(test)]
+mod tests {
+    use super::*;
+
+    #[test]
+    fn times_are_read() {
+        assert_eq!(time("10s"), Ok(Duration::from_secs(10)));
+        assert_eq!(time("250ms"), Ok(Duration::from_millis(250)));
+        assert_eq!(
+            time_or_never("7d"),
+            Ok(MayBeNever(Some(Duration::from_secs(7 * 86_400))))
+        );
+        assert_eq!(time_or_never("never"), Ok(MayBeNever(None)));
+        for text in [
+            "",
+            "10",
+            "s",
+            "0s",
+            "-1s",
+            "1.5s",
+            "1 s",
+            "99999999999999999999s",
+            "18446744073709551615d",
+        ] {
+            assert!(time(text).is_err(), "{text}");
+        }
+    }
+
+    #[test]
+    fn sizes_are_read() {
+        assert_eq!(size("256MiB"), Ok(256 << 20));
+        assert_eq!(size("1g"), Ok(1 << 30));
+        assert_eq!(size("100"), Ok(100));
+        for text in ["", "MiB", "1.5M", "1T", "-1", "18446744073709551615G"] {
+            assert!(size(text).is_err(), "{text}");
+        }
+    }
+
+    #[test]
+    fn figures_are_shown() {
+        assert_eq!(
+            [bytes_shown(17), bytes_shown(1536), bytes_shown(5 << 20)],
+            ["17 B", "1.5 KiB", "5.0 MiB"]
+        );
+        assert_eq!(
+            [seconds_shown(59), seconds_shown(61), seconds_shown(90_000)],
+            ["59 s", "1 min 1 s", "1 d 1 h"]
+        );
+    }
+}

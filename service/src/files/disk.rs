@@ -1,0 +1,131 @@
+//! Calls that change the disk. A test may let each of them fail.
+
+use super::Fault;
+use std::fs::{DirBuilder, File, OpenOptions};
+use std::io;
+use std::os::unix::fs::{DirBuilderExt, FileExt, OpenOptionsExt};
+use std::path::Path;
+use std::sync::Arc;
+
+#[derive(Clone, Copy, Debug, PartialEq, Eq)]
+pub enum Call {
+    MakeFolder,
+    Create,
+    Write,
+    Sync,
+    SyncFolder,
+    Rename,
+    Remove,
+    Cut,
+}
+
+type Hook = dyn Fn(Call, &Path) -> io::Result<()> + Send + Sync;
+type End = dyn Fn(&Fault) + Send + Sync;
+
+/// The disk as it is, or as a test wants it to fail.
+#[derive(Clone, Default)]
+pub struct Disk {
+    hook: Option<Arc<Hook>>,
+    end: Option<Arc<End>>,
+}
+
+/// The exit status of a process that ends by its disk.
+pub const FAILED: i32 = 70;
+
+pub fn io_fault(path: &Path) -> impl FnOnce(io::Error) -> Fault + '_ {
+    move |source| Fault::Io {
+        path: path.into(),
+        source,
+    }
+}
+
+impl Disk {
+    /// Asks `hook` before each call; `end` is told instead of the process's end.
+    #[cfg(test)]
+    pub fn failing(
+        hook: impl Fn(Call, &Path) -> io::Result<()> + Send + Sync + 'static,
+        end: impl Fn(&Fault) + Send + Sync + 'static,
+    ) -> Disk {
+        Disk {
+            hook: Some(Arc::new(hook)),
+            end: Some(Arc::new(end)),
+        }
+    }
+
+    /// Ends the process: what is on disk is not known then, and only a start reads just that.
+    pub fn end(&self, fault: &Fault) -> ! {
+        match &self.end {
+            None => {
+                eprintln!("totxegun: the disk failed, so the service ends: {fault}");
+                std::process::exit(FAILED)
+            }
+            Some(end) => {
+                end(fault);
+                loop {
+                    std::thread::park();
+                }
+            }
+        }
+    }
+
+    fn call<T>(&self, call: Call, path: &Path, does: impl FnOnce() -> io::Result<T>) -> Result<T, Fault> {
+        let asked = self.hook.as_ref().map_or(Ok(()), |hook| hook(call, path));
+        asked.and_then(|()| does()).map_err(io_fault(path))
+    }
+
+    pub fn make_folder(&self, path: &Path) -> Result<(), Fault> {
+        self.call(Call::MakeFolder, path, || {
+            DirBuilder::new().recursive(true).mode(0o700).create(path)
+        })
+    }
+
+    /// Makes a file that is not there yet.
+    pub fn create(&self, path: &Path) -> Result<File, Fault> {
+        let mut options = OpenOptions::new();
+        self.call(Call::Create, path, || {
+            options
+                .read(true)
+                .write(true)
+                .create_new(true)
+                .mode(0o600)
+                .open(path)
+        })
+    }
+
+    pub fn write_at(&self, file: &File, path: &Path, bytes: &[u8], at: u64) -> Result<(), Fault> {
+        self.call(Call::Write, path, || file.write_all_at(bytes, at))
+    }
+
+    pub fn sync(&self, file: &File, path: &Path) -> Result<(), Fault> {
+        self.call(Call::Sync, path, || file.sync_data())
+    }
+
+    pub fn sync_folder(&self, path: &Path) -> Result<(), Fault> {
+        self.call(Call::SyncFolder, path, || File::open(path)?.sync_all())
+    }
+
+    pub fn rename(&self, from: &Path, to: &Path) -> Result<(), Fault> {
+        self.call(Call::Rename, to, || std::fs::rename(from, to))
+    }
+
+    pub fn remove(&self, path: &Path) -> Result<(), Fault> {
+        self.call(Call::Remove, path, || std::fs::remove_file(path))
+    }
+
+    pub fn cut(&self, file: &File, path: &Path, length: u64) -> Result<(), Fault> {
+        self.call(Call::Cut, path, || file.set_len(length))
+    }
+
+    /// Puts a whole file in the place of what may be there: durable when this returns, and never seen in part.
+    pub fn put_file(&self, path: &Path, bytes: &[u8]) -> Result<(), Fault> {
+        let draft = path.with_extension("draft");
+        if draft.exists() {
+            self.remove(&draft)?;
+        }
+        let file = self.create(&draft)?;
+        self.write_at(&file, &draft, bytes, 0)?;
+        self.sync(&file, &draft)?;
+        self.rename(&draft, path)?;
+        path.parent().map_or(Ok(()), |folder| self.sync_folder(folder))
+    }
+}

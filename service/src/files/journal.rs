@@ -1,0 +1,280 @@
+//! The journal: each post that the gateway took, in the order of its sender, in segments.
+//!
+//! | kind | bytes |
+//! |---|---|
+//! | 16 post, 17 copy | seconds since 1970 (u64), foreign points (u64), length of the sender's name (u64), name, body |
+//!
+//! A record is written in place, under one short lock, so that the order in the file is the order of the calls. One
+//! thread syncs, once for all that wait; nobody who must wait for the disk holds the lock of those who write.
+
+mod open;
+mod sync;
+
+use super::disk::Disk;
+use super::records::{self, Next, Reader, Which};
+use super::room::Room;
+use super::segment::{self, Segment};
+use super::{lock, seconds, Durability, Fault};
+use bytes::Bytes;
+use std::fs::File;
+use std::path::PathBuf;
+use std::sync::atomic::{AtomicU64, Ordering::SeqCst};
+use std::sync::{Arc, Condvar, Mutex};
+use sync::Waiters;
+
+const POST: u8 = records::OWN;
+const COPY: u8 = records::OWN + 1;
+
+/// A post that the gateway took.
+#[derive(Clone, Debug, PartialEq, Eq)]
+pub struct Post {
+    pub sender: String,
+    /// How many of its points the gateway counted as foreign.
+    pub foreign: u64,
+    /// As the gateway was given it.
+    pub body: Bytes,
+}
+
+/// A place in the journal: all that was appended before it.
+#[derive(Clone, Copy, Debug, PartialEq, Eq, PartialOrd, Ord)]
+pub struct Ticket(pub u64);
+
+/// Shared by all who post. What can't be written ends the process.
+pub struct Journal {
+    shared: Arc<Shared>,
+    syncer: Option<std::thread::JoinHandle<()>>,
+}
+
+struct Shared {
+    disk: Disk,
+    folder: PathBuf,
+    durability: Durability,
+    room: Arc<Room>,
+    place: Mutex<Place>,
+    /// All before this ticket is durable.
+    durable: AtomicU64,
+    waiters: Mutex<Waiters>,
+    work: Condvar,
+    syncing: Mutex<()>,
+}
+
+/// Where is written.
+struct Place {
+    segment: Segment,
+    /// Whether the segment's name is durable.
+    named: bool,
+    ticket: u64,
+    /// Segments that were ended, and not synced since.
+    ended: Vec<(Arc<File>, PathBuf)>,
+    /// The ticket of the last turn or copy: earlier segments are not deleted before it is durable.
+    kept: u64,
+    sizes: Vec<Size>,
+}
+
+/// What a segment has.
+struct Size {
+    number: u64,
+    bytes: u64,
+    first: Option<u64>,
+}
+
+impl Journal {
+    pub fn append(&self, post: &Post) -> Ticket {
+        self.put(POST, post)
+    }
+
+    /// Copies a post of an earlier segment into this one: it counts only where this segment is the first that is replayed.
+    pub fn append_copy(&self, post: &Post) -> Ticket {
+        self.put(COPY, post)
+    }
+
+    fn put(&self, kind: u8, post: &Post) -> Ticket {
+        let shared = &*self.shared;
+        let (now, record) = (seconds(), &mut Vec::new());
+        let name = post.sender.as_bytes();
+        let numbers = [now, post.foreign, name.len() as u64]
+            .map(u64::to_le_bytes)
+            .concat();
+        records::put(record, kind, &[&numbers, name, &post.body]);
+        shared.room.use_up(record.len() as u64);
+        let mut place = lock(&shared.place);
+        if let Err(fault) = place.segment.put(record) {
+            shared.disk.end(&fault);
+        }
+        place.ticket += 1;
+        if kind == COPY {
+            place.kept = place.ticket;
+        }
+        if let Some(size) = place.sizes.last_mut() {
+            size.bytes += record.len() as u64;
+            size.first.get_or_insert(now);
+        }
+        Ticket(place.ticket)
+    }
+
+    /// Begins a segment: its number, and a ticket for all before it. Its name is durable with that ticket.
+    pub fn turn(&self) -> (u64, Ticket) {
+        let mut place = lock(&self.shared.place);
+        let next = place.segment.number + 1;
+        self.turn_to(&mut place, next);
+        (next, Ticket(place.ticket))
+    }
+
+    fn turn_to(&self, place: &mut Place, number: u64) {
+        if let Err(fault) = self.shared.begin(place, number) {
+            self.shared.disk.end(&fault);
+        }
+    }
+
+    /// A ticket for all that was appended until now.
+    pub fn now(&self) -> Ticket {
+        Ticket(lock(&self.shared.place).ticket)
+    }
+
+    /// Returns once all before a ticket is as durable as was asked for.
+    pub async fn durable(&self, ticket: Ticket) {
+        if self.shared.durability == Durability::Disk {
+            self.shared.synced(ticket.0).await;
+        }
+    }
+
+    /// Gives the posts of the segments from `first` to before `end` that count, in order, until `each` is false.
+    pub fn posts(&self, first: u64, end: u64, mut each: impl FnMut(Post) -> bool) -> Result<(), Fault> {
+        let (last, at) = {
+            let place = lock(&self.shared.place);
+            (place.segment.number, place.segment.at)
+        };
+        for number in segment::numbers(&self.shared.folder)? {
+            if !(first..end).contains(&number) || number > last {
+                continue;
+            }
+            let written = (number == last).then_some(at);
+            if !self
+                .shared
+                .posts_of(number, written, number == first, &mut each)?
+            {
+                break;
+            }
+        }
+        Ok(())
+    }
+
+    /// Makes sure that the next segment's number is at least this: the outbox may know of a later segment than is left.
+    pub fn reach(&self, segment: u64) {
+        let mut place = lock(&self.shared.place);
+        if place.segment.number < segment {
+            self.turn_to(&mut place, segment);
+        }
+    }
+
+    /// Deletes the segments before this, once what was copied out of them is durable.
+    pub fn forget(&self, before: u64) -> Result<(), Fault> {
+        let shared = &*self.shared;
+        let (last, kept) = {
+            let place = lock(&shared.place);
+            (place.segment.number, place.kept)
+        };
+        if shared.durable.load(SeqCst) < kept {
+            shared.sync()?;
+        }
+        for number in segment::numbers(&shared.folder)? {
+            if number < before && number < last {
+                shared.disk.remove(&segment::path(&shared.folder, number))?;
+            }
+        }
+        lock(&shared.place)
+            .sizes
+            .retain(|size| size.number >= before || size.number >= last);
+        Ok(())
+    }
+
+    /// Bytes in the segments that are there, and when the first of their posts was appended (seconds since 1970).
+    pub fn size(&self) -> (u64, Option<u64>) {
+        let place = lock(&self.shared.place);
+        let bytes = place.sizes.iter().map(|size| size.bytes).sum();
+        (bytes, place.sizes.iter().find_map(|size| size.first))
+    }
+}
+
+impl Shared {
+    fn begin(&self, place: &mut Place, number: u64) -> Result<(), Fault> {
+        place.segment.end()?;
+        let path = segment::path(&self.folder, number);
+        let next = Segment::create(
+            &self.disk,
+            path,
+            Which::Journal,
+            number,
+            self.durability == Durability::Disk,
+        )?;
+        let ended = std::mem::replace(&mut place.segment, next);
+        place.ended.push((ended.file, ended.path));
+        place.named = false;
+        place.ticket += 1;
+        place.kept = place.ticket;
+        place.sizes.push(Size {
+            number,
+            bytes: 0,
+            first: None,
+        });
+        Ok(())
+    }
+
+    /// Whether `each` wants more. Only the segment that is written, up to where it is, has no end.
+    fn posts_of(
+        &self,
+        number: u64,
+        written: Option<u64>,
+        is_first: bool,
+        each: &mut impl FnMut(Post) -> bool,
+    ) -> Result<bool, Fault> {
+        let path = segment::path(&self.folder, number);
+        let (mut reader, mut next) = Reader::open(&path, Which::Journal, number, written)?;
+        loop {
+            match next {
+                Next::Record {
+                    at,
+                    kind: kind @ (POST | COPY),
+                    bytes,
+                } => {
+                    let (_, post) = post_of(bytes)
+                        .ok_or_else(|| reader.damaged(at, "is no post that was written here"))?;
+                    if (kind == POST || is_first) && !each(post) {
+                        return Ok(false);
+                    }
+                }
+                Next::Record {
+                    kind: records::HEADER,
+                    ..
+                } => {}
+                Next::Closed => return Ok(true),
+                Next::Stop if Some(reader.at) == written => return Ok(true),
+                Next::Record { .. } | Next::Stop => {
+                    return Err(reader.damaged(reader.at, super::judge::CHANGED))
+                }
+            }
+            next = reader.next()?;
+        }
+    }
+}
+
+/// When a post was appended, and the post.
+fn post_of(bytes: Vec<u8>) -> Option<(u64, Post)> {
+    let mut rest = &bytes[..];
+    let since = records::take_number(&mut rest)?;
+    let foreign = records::take_number(&mut rest)?;
+    let length = usize::try_from(records::take_number(&mut rest)?).ok()?;
+    let sender = std::str::from_utf8(rest.get(..length)?).ok()?.to_string();
+    let begin = bytes.len() - rest.len() + length;
+    Some((
+        since,
+        Post {
+            sender,
+            foreign,
+            body: Bytes::from(bytes).slice(begin..),
+        },
+    ))
+}
+
+#[cfg(test)]
+mod tests;

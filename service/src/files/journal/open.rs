@@ -1,0 +1,150 @@
+//! What an earlier run left in the journal.
+
+use super::{post_of, Journal, Place, Shared, Size, Waiters, COPY, POST};
+use crate::files::disk::Disk;
+use crate::files::judge::{is_torn, CHANGED};
+use crate::files::records::{Next, Reader, Which};
+use crate::files::room::Room;
+use crate::files::segment::{self, Segment};
+use crate::files::{Durability, Fault};
+use std::path::Path;
+use std::sync::atomic::AtomicU64;
+use std::sync::{Arc, Condvar, Mutex};
+
+/// How a segment was found.
+struct Found {
+    size: Size,
+    /// Where its last whole record ends.
+    end: u64,
+    closed: bool,
+    has_marks: bool,
+}
+
+impl Journal {
+    /// Closes what an earlier run left, and begins a segment behind it, of a number not before `reach`.
+    pub(in crate::files) fn open(
+        disk: &Disk,
+        folder: &Path,
+        durability: Durability,
+        room: Arc<Room>,
+        reach: u64,
+    ) -> Result<Journal, Fault> {
+        disk.make_folder(folder)?;
+        segment::settle(disk, folder)?;
+        let mut sizes = close(disk, folder, reach)?;
+        let number = sizes.last().map_or(1, |last| last.number + 1).max(reach);
+        let path = segment::path(folder, number);
+        let segment = Segment::create(disk, path, Which::Journal, number, durability == Durability::Disk)?;
+        sizes.push(Size {
+            number,
+            bytes: 0,
+            first: None,
+        });
+        let place = Place {
+            segment,
+            named: false,
+            ticket: 1,
+            ended: Vec::new(),
+            kept: 1,
+            sizes,
+        };
+        let shared = Arc::new(Shared {
+            disk: disk.clone(),
+            folder: folder.into(),
+            durability,
+            room,
+            place: Mutex::new(place),
+            durable: AtomicU64::new(0),
+            waiters: Mutex::new(Waiters::default()),
+            work: Condvar::new(),
+            syncing: Mutex::new(()),
+        });
+        shared.sync()?;
+        let run = shared.clone();
+        let syncer = std::thread::Builder::new()
+            .name("journal".into())
+            .spawn(move || run.run());
+        let syncer = Some(syncer.map_err(crate::files::disk::io_fault(folder))?);
+        Ok(Journal { shared, syncer })
+    }
+}
+
+/// Cuts what a crash tore, and ends the last segment.
+///
+/// A segment is begun before the one before it is synced. So a power loss can tear a segment that is not the last;
+/// then nothing of the later ones was durable, nobody was told of it, and it goes with what was torn.
+fn close(disk: &Disk, folder: &Path, reach: u64) -> Result<Vec<Size>, Fault> {
+    let numbers = segment::numbers(folder)?;
+    let needed: Vec<u64> = numbers
+        .iter()
+        .copied()
+        .filter(|number| *number >= reach)
+        .collect();
+    segment::check_row(folder, &needed)?;
+    if needed.first().is_some_and(|first| *first > reach.max(1)) {
+        return Err(segment::missing(folder, reach.max(1)));
+    }
+    let mut found = Vec::new();
+    for number in numbers {
+        found.push(find(folder, number)?);
+    }
+    let Some(torn) = found.iter().position(|one| !one.closed) else {
+        return Ok(found.into_iter().map(|one| one.size).collect());
+    };
+    let (path, end) = (segment::path(folder, found[torn].size.number), found[torn].end);
+    is_torn(&path, end)?;
+    if found[torn + 1..].iter().any(|later| later.has_marks) {
+        return Err(Fault::Damaged {
+            path,
+            at: end,
+            what: CHANGED.into(),
+        });
+    }
+    for later in found.drain(torn + 1..).rev() {
+        tracing::warn!(
+            "segment {} of the journal follows a torn one, so none of it counts",
+            later.size.number
+        );
+        disk.remove(&segment::path(folder, later.size.number))?;
+    }
+    if end == 0 {
+        disk.remove(&path)?;
+        found.pop();
+    } else {
+        segment::close_at(disk, &path, end)?;
+    }
+    disk.sync_folder(folder)?;
+    Ok(found.into_iter().map(|one| one.size).collect())
+}
+
+fn find(folder: &Path, number: u64) -> Result<Found, Fault> {
+    let (mut reader, mut next) = Reader::open(&segment::path(folder, number), Which::Journal, number, None)?;
+    let mut size = Size {
+        number,
+        bytes: 0,
+        first: None,
+    };
+    loop {
+        match next {
+            Next::Record {
+                kind: POST | COPY,
+                bytes,
+                ..
+            } => {
+                size.bytes += bytes.len() as u64;
+                size.first = size.first.or_else(|| Some(post_of(bytes)?.0));
+            }
+            Next::Record { .. } => {}
+            Next::Closed | Next::Stop => {
+                let closed = next == Next::Closed;
+                return Ok(Found {
+                    size,
+                    end: reader.at,
+                    closed,
+                    has_marks: reader.has_marks,
+                });
+            }
+        }
+        next = reader.next()?;
+    }
+}

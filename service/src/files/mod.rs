@@ -1,0 +1,56 @@
+//! What is on disk: one folder, its lock, the journal, the outbox, the dead letters.
+
+pub mod dead;
+mod disk;
+pub mod folder;
+pub mod journal;
+mod judge;
+pub mod outbox;
+mod records;
+mod room;
+mod segment;
+
+pub use dead::Dead;
+pub use folder::{Folder, FolderFault};
+pub use journal::{Journal, Post, Ticket};
+pub use outbox::{Outbox, Series};
+
+use std::sync::{Mutex, MutexGuard, PoisonError};
+
+/// How durable a post is before its sender is answered.
+#[derive(Clone, Copy, Debug, PartialEq, Eq, clap::ValueEnum)]
+pub enum Durability {
+    /// On the disk, by `fdatasync`.
+    Disk,
+    /// Written: it survives the end of the process, not of the machine.
+    Process,
+}
+
+/// A fault of a file. The process ends by it: the next start reads what is there.
+#[derive(Debug, thiserror::Error)]
+pub enum Fault {
+    #[error("{path}: {source}")]
+    Io {
+        path: std::path::PathBuf,
+        source: std::io::Error,
+    },
+    /// Something in the middle of a file was changed, or is of a later version. Nothing was deleted.
+    #[error("{path}, byte {at}: {what}")]
+    Damaged {
+        path: std::path::PathBuf,
+        at: u64,
+        what: String,
+    },
+}
+
+/// A lock whose holder panicked is taken as it is: what it guards is changed only once the files have it.
+fn lock<T>(mutex: &Mutex<T>) -> MutexGuard<'_, T> {
+    mutex.lock().unwrap_or_else(PoisonError::into_inner)
+}
+
+/// Seconds since 1970.
+fn seconds() -> u64 {
+    std::time::SystemTime::now()
+        .duration_since(std::time::UNIX_EPOCH)
+        .map_or(0, |since| since.as_secs())
+}

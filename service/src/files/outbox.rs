@@ -1,0 +1,362 @@
+//! The outbox: what the gateway forwarded, in groups that are there wholly or not at all, until the sink has it.
+//!
+//! What is written is a `Change`; the same change is then made in memory, as a start makes it when it reads. The
+//! bytes are described in `rows`.
+
+mod changes;
+mod open;
+mod rows;
+mod state;
+
+use super::disk::{io_fault, Disk};
+use super::records::Which;
+use super::room::Room;
+use super::segment::{self, Segment};
+use super::{lock, seconds, Fault};
+use crate::otlp::series::{self, NotForwarded, SeriesKey};
+use changes::{Change, Group};
+use rows::Snapshot;
+use state::State;
+use std::collections::{BTreeSet, HashMap, HashSet};
+use std::io;
+use std::path::{Path, PathBuf};
+use std::sync::{Arc, Mutex};
+use tokio::sync::Notify;
+
+/// A segment that is as long is followed by another.
+const SEGMENT: u64 = 16 << 20;
+
+/// What is known of a series.
+#[derive(Clone, Debug, PartialEq, Eq)]
+pub struct Series {
+    /// Where its last forwarded point ends.
+    pub frontier: u64,
+    /// Unknown until the journal's posts of its first group were looked through.
+    pub owner: Option<String>,
+    /// When a group last had a point of it, in seconds since 1970.
+    pub seen: u64,
+}
+
+/// A forwarded request that the sink does not have yet.
+#[derive(Clone, Debug, PartialEq, Eq)]
+pub struct Waiting {
+    /// From 1, one more each; with epoch and slot the request's key for ever.
+    pub number: u64,
+    /// When it was committed, in seconds since 1970.
+    pub since: u64,
+}
+
+/// Each point's series and the end of its span, of a forwarded request.
+type ReadEnds = fn(&[u8]) -> Result<Vec<(SeriesKey, u64)>, NotForwarded>;
+
+/// Shared by the keeper, who commits, and the delivery, which acknowledges. What only asks never waits for the disk;
+/// what writes may wait for a sync of another call.
+pub struct Outbox {
+    disk: Disk,
+    folder: PathBuf,
+    room: Arc<Room>,
+    read_ends: ReadEnds,
+    longest: u64,
+    /// Locked before the state, by all that write.
+    writer: Mutex<Writer>,
+    state: Mutex<State>,
+    arrived: Notify,
+}
+
+struct Writer {
+    segment: Segment,
+    /// A write or sync failed: what is on disk is not known, and nothing is tried again until a new start.
+    failed: bool,
+}
+
+/// The ends of the points, as the gateway's own request tells them.
+fn ends(body: &[u8]) -> Result<Vec<(SeriesKey, u64)>, NotForwarded> {
+    Ok(series::forwarded(body)?
+        .into_iter()
+        .map(|point| (point.series, point.end))
+        .collect())
+}
+
+impl Outbox {
+    /// The epoch of the first waiting request; where none waits, of those to come. Drawn when the folder was made,
+    /// and anew where it was put back.
+    pub fn epoch(&self) -> String {
+        lock(&self.state).epoch().to_string()
+    }
+
+    /// The journal's first segment whose posts are in no group.
+    pub fn journal(&self) -> u64 {
+        lock(&self.state).journal
+    }
+
+    pub fn series(&self) -> HashMap<SeriesKey, Series> {
+        let state = lock(&self.state);
+        state
+            .series
+            .iter()
+            .map(|(key, known)| (key.clone(), known.series.clone()))
+            .collect()
+    }
+
+    pub fn series_count(&self) -> usize {
+        lock(&self.state).series.len()
+    }
+
+    pub fn quarantined(&self) -> BTreeSet<String> {
+        lock(&self.state).quarantined.clone()
+    }
+
+    /// Makes a group durable, whole or not at all. Posts of the journal's segments before `journal` are in it or in earlier ones.
+    pub fn commit(&self, bodies: &[Vec<u8>], journal: u64) -> Result<(), Fault> {
+        let mut ends: HashMap<SeriesKey, u64> = HashMap::new();
+        let mut items = Vec::new();
+        for body in bodies {
+            for (key, end) in (self.read_ends)(body).map_err(|error| self.unreadable(error))? {
+                ends.entry(key)
+                    .and_modify(|known| *known = end.max(*known))
+                    .or_insert(end);
+            }
+            items.push(rows::deflated(body));
+        }
+        let mut writer = lock(&self.writer);
+        let (group, bytes) = {
+            let state = lock(&self.state);
+            let group = Group {
+                first: state.next,
+                epoch: state.next_epoch.clone(),
+                since: seconds(),
+                journal,
+                ends,
+            };
+            let bytes = rows::group(&group, &items, &state);
+            (group, bytes)
+        };
+        self.write(&mut writer, &bytes.records, true, |begin| {
+            let items = begin + bytes.items.start as u64..begin + bytes.items.end as u64;
+            Change::Group {
+                group,
+                count: bodies.len() as u64,
+                segment: 0,
+                items,
+            }
+        })?;
+        self.arrived.notify_one();
+        Ok(())
+    }
+
+    fn unreadable(&self, error: NotForwarded) -> Fault {
+        let source = io::Error::new(io::ErrorKind::InvalidData, error.to_string());
+        Fault::Io {
+            path: self.folder.clone(),
+            source,
+        }
+    }
+
+    /// Makes durable who owns series.
+    pub fn own(&self, owners: HashMap<SeriesKey, String>) -> Result<(), Fault> {
+        self.change(true, |state| {
+            let owners: Vec<_> = owners
+                .into_iter()
+                .filter(|(key, _)| state.series.contains_key(key))
+                .collect();
+            (!owners.is_empty()).then_some(Change::Own(owners))
+        })
+        .map(drop)
+    }
+
+    pub fn quarantine(&self, sender: &str) -> Result<(), Fault> {
+        let change = || Change::Quarantine(sender.into());
+        self.change(true, |state| (!state.quarantined.contains(sender)).then(change))
+            .map(drop)
+    }
+
+    pub fn lift(&self, sender: &str) -> Result<(), Fault> {
+        let change = || Change::Lift(sender.into());
+        self.change(true, |state| state.quarantined.contains(sender).then(change))
+            .map(drop)
+    }
+
+    /// Leaves out the series that were last seen before this second, but those in `keep`. How many these were. A
+    /// series whose owner is unknown stays: the journal may still have its owner's posts.
+    pub fn forget(&self, before: u64, keep: &HashSet<SeriesKey>) -> Result<usize, Fault> {
+        let mut count = 0;
+        self.change(true, |state| {
+            let old = |series: &Series| series.seen < before && series.owner.is_some();
+            let all = state
+                .series
+                .iter()
+                .filter(|(key, known)| old(&known.series) && !keep.contains(*key));
+            let forgotten: Vec<_> = all.map(|(key, _)| key.clone()).collect();
+            count = forgotten.len();
+            (count > 0).then_some(Change::Forget(forgotten))
+        })?;
+        Ok(count)
+    }
+
+    /// How many requests wait, how many bytes they take on disk, and the first of them.
+    pub fn waiting(&self) -> (u64, u64, Option<Waiting>) {
+        let state = lock(&self.state);
+        (
+            state.next - 1 - state.acknowledged,
+            state.bytes,
+            state.front().map(|front| front.waiting),
+        )
+    }
+
+    /// Returns the first waiting request with its body, as soon as there is one.
+    pub async fn first(&self) -> Result<(Waiting, Vec<u8>), Fault> {
+        loop {
+            let front = lock(&self.state).front();
+            let Some(front) = front else {
+                // A call that came between is kept for this one.
+                self.arrived.notified().await;
+                continue;
+            };
+            let waiting = front.waiting.clone();
+            let path = segment::path(&self.folder, front.segment);
+            let folder = self.folder.clone();
+            let read = tokio::task::spawn_blocking(move || rows::read_item(&path, &front)).await;
+            let ended = |error: tokio::task::JoinError| io_fault(&folder)(io::Error::other(error));
+            return Ok((waiting, read.map_err(ended)??));
+        }
+    }
+
+    /// Notes that the sink has the first waiting request, or that it lies in `dead/`. Lost, it is sent again under the same key.
+    pub fn acknowledge(&self, number: u64) -> Result<(), Fault> {
+        let front = {
+            let state = lock(&self.state);
+            if number <= state.acknowledged {
+                return Ok(());
+            }
+            state.front().filter(|front| front.waiting.number == number)
+        };
+        let Some(front) = front else {
+            let source = io::Error::new(
+                io::ErrorKind::InvalidInput,
+                format!("request {number} is not the first that waits"),
+            );
+            return Err(Fault::Io {
+                path: self.folder.clone(),
+                source,
+            });
+        };
+        let length = rows::item_length(&segment::path(&self.folder, front.segment), &front)?;
+        let taken = self.change(false, |state| {
+            (number > state.acknowledged).then_some(Change::Acknowledge { number, length })
+        })?;
+        if taken && lock(&self.state).front().map(|now| now.segment) != Some(front.segment) {
+            self.sweep()?;
+        }
+        Ok(())
+    }
+
+    /// Writes what is to be changed, and then changes it; whether there was something.
+    fn change(&self, sync: bool, make: impl FnOnce(&State) -> Option<Change>) -> Result<bool, Fault> {
+        let mut writer = lock(&self.writer);
+        let (change, record) = {
+            let state = lock(&self.state);
+            let Some(change) = make(&state) else {
+                return Ok(false);
+            };
+            let record = rows::record(&change, &state);
+            (change, record)
+        };
+        self.write(&mut writer, &record, sync, |_| change)?;
+        Ok(true)
+    }
+
+    fn write(
+        &self,
+        writer: &mut Writer,
+        bytes: &[u8],
+        sync: bool,
+        change: impl FnOnce(u64) -> Change,
+    ) -> Result<(), Fault> {
+        if std::mem::replace(&mut writer.failed, true) {
+            let source = io::Error::other("an earlier write failed: start again, to see what is there");
+            return Err(Fault::Io {
+                path: writer.segment.path.clone(),
+                source,
+            });
+        }
+        self.room.use_up(bytes.len() as u64);
+        let begin = writer.segment.put(bytes)?;
+        if sync {
+            writer.segment.sync()?;
+        }
+        lock(&self.state).apply(change(begin).in_segment(writer.segment.number));
+        if writer.segment.at >= self.longest {
+            self.begin_segment(writer)?;
+        }
+        writer.failed = false;
+        Ok(())
+    }
+
+    /// Ends the segment and begins another, with a snapshot.
+    fn begin_segment(&self, writer: &mut Writer) -> Result<(), Fault> {
+        writer.segment.end()?;
+        writer.segment.sync()?;
+        let number = writer.segment.number + 1;
+        let snapshot = lock(&self.state).snapshot();
+        writer.segment = begin(&self.disk, &self.folder, number, &snapshot)?;
+        self.delete_taken(writer)
+    }
+
+    /// Deletes the segments that no waiting request is in, once it is durable that the sink has theirs.
+    fn sweep(&self) -> Result<(), Fault> {
+        let mut writer = lock(&self.writer);
+        writer.segment.sync()?;
+        self.delete_taken(&writer)
+    }
+
+    fn delete_taken(&self, writer: &Writer) -> Result<(), Fault> {
+        let last = writer.segment.number;
+        let first = lock(&self.state)
+            .front()
+            .map_or(last, |front| front.segment.min(last));
+        for number in segment::numbers(&self.folder)?
+            .into_iter()
+            .filter(|number| *number < first)
+        {
+            self.disk.remove(&segment::path(&self.folder, number))?;
+        }
+        Ok(())
+    }
+}
+
+/// Makes a segment that begins with a snapshot. It has another name until it is whole.
+fn begin(disk: &Disk, folder: &Path, number: u64, snapshot: &Snapshot) -> Result<Segment, Fault> {
+    let path = segment::path(folder, number);
+    let draft = path.with_extension("draft");
+    if draft.exists() {
+        disk.remove(&draft)?;
+    }
+    let mut segment = Segment::create(disk, draft.clone(), Which::Outbox, number, false)?;
+    segment.put(&snapshot.record())?;
+    segment.sync()?;
+    disk.rename(&draft, &path)?;
+    disk.sync_folder(folder)?;
+    segment.path = path;
+    Ok(segment)
+}
+
+/// The outbox is closed, so that the next start can tell a changed record from a torn one everywhere in it.
+impl Drop for Outbox {
+    fn drop(&mut self) {
+        let mut writer = lock(&self.writer);
+        if writer.failed {
+            return;
+        }
+        let segment = &mut writer.segment;
+        let ended = segment
+            .sync()
+            .and_then(|()| segment.end())
+            .and_then(|()| segment.sync());
+        if let Err(fault) = ended {
+            tracing::error!("the outbox was not closed: {fault}");
+        }
+    }
+}
+
+#[cfg(test)]
+mod tests;

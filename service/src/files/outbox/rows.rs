@@ -1,0 +1,283 @@
+//! The outbox's records.
+//!
+//! | kind | bytes |
+//! |---|---|
+//! | 16 snapshot, the first of a segment | packed `Snapshot`; its series have the ids 0, 1, .. |
+//! | 17 group | number of its first item, of items, of bytes that these take, seconds since 1970 (u64 each), epoch |
+//! | 18 item | number (u64), packed body |
+//! | 19 commit, behind the items of its group | number of its first item, of items, the journal's segment (u64 each), packed `Ends` |
+//! | 20 ack | number (u64) |
+//! | 21 owners | packed `[[id, owner], ..]` |
+//! | 22 quarantine, 23 lift | the sender's name |
+//! | 24 forget | packed `[id, ..]` |
+//!
+//! Packed is deflated; but bodies it is JSON. A series has the id of the snapshot, or the next free one from the
+//! commit that first has it.
+
+use super::changes::{Change, Group};
+use super::state::{Front, Known, State};
+use super::Series;
+use crate::files::disk::io_fault;
+use crate::files::records::{self, put, take_number, HEAD, OWN};
+use crate::files::Fault;
+use crate::otlp::series::SeriesKey;
+use flate2::{read::DeflateDecoder, write::DeflateEncoder, Compression};
+use serde::{de::DeserializeOwned, Deserialize, Serialize};
+use std::collections::{BTreeSet, HashMap};
+use std::io::{Read, Write};
+use std::ops::Range;
+use std::os::unix::fs::FileExt;
+use std::path::Path;
+
+pub const SNAPSHOT: u8 = OWN;
+pub const GROUP: u8 = OWN + 1;
+pub const ITEM: u8 = OWN + 2;
+pub const COMMIT: u8 = OWN + 3;
+pub const ACK: u8 = OWN + 4;
+pub const OWNERS: u8 = OWN + 5;
+pub const QUARANTINE: u8 = OWN + 6;
+pub const LIFT: u8 = OWN + 7;
+pub const FORGET: u8 = OWN + 8;
+
+/// The state that a segment begins with.
+#[derive(Serialize, Deserialize)]
+pub struct Snapshot {
+    pub epoch: String,
+    pub next: u64,
+    pub acknowledged: u64,
+    pub journal: u64,
+    pub quarantined: BTreeSet<String>,
+    /// Key, frontier, seconds since 1970 when last seen, owner.
+    pub series: Vec<(String, u64, u64, Option<String>)>,
+}
+
+/// What a group did to series.
+#[derive(Serialize, Deserialize)]
+pub struct Ends {
+    /// Id and frontier.
+    known: Vec<(u32, u64)>,
+    /// Key and frontier of those that get the next ids.
+    new: Vec<(String, u64)>,
+}
+
+/// A group's records, and where in them its items are.
+pub struct GroupBytes {
+    pub records: Vec<u8>,
+    pub items: Range<usize>,
+}
+
+/// What is before the items of a group.
+pub struct GroupHead {
+    pub first: u64,
+    pub count: u64,
+    pub length: u64,
+    pub since: u64,
+    pub epoch: String,
+}
+
+pub fn deflated(bytes: &[u8]) -> Vec<u8> {
+    let mut packer = DeflateEncoder::new(Vec::new(), Compression::new(5));
+    // Nothing fails that writes to memory.
+    let packed = packer.write_all(bytes).and_then(|()| packer.finish());
+    packed.unwrap_or_default()
+}
+
+fn inflated(bytes: &[u8]) -> Option<Vec<u8>> {
+    let mut out = Vec::new();
+    DeflateDecoder::new(bytes).read_to_end(&mut out).ok()?;
+    Some(out)
+}
+
+fn packed(value: &impl Serialize) -> Vec<u8> {
+    // These types have no key that is not a text, and so can be written.
+    deflated(&serde_json::to_vec(value).unwrap_or_default())
+}
+
+fn unpacked<T: DeserializeOwned>(bytes: &[u8]) -> Option<T> {
+    serde_json::from_slice(&inflated(bytes)?).ok()
+}
+
+fn numbers<const N: usize>(numbers: [u64; N]) -> Vec<u8> {
+    numbers.map(u64::to_le_bytes).concat()
+}
+
+impl Snapshot {
+    pub fn record(&self) -> Vec<u8> {
+        let mut out = Vec::new();
+        put(&mut out, SNAPSHOT, &[&packed(self)]);
+        out
+    }
+
+    pub fn read(bytes: &[u8]) -> Option<State> {
+        let snapshot: Snapshot = unpacked(bytes)?;
+        let mut state = State::new(&snapshot.epoch);
+        (state.next, state.acknowledged, state.journal) =
+            (snapshot.next, snapshot.acknowledged, snapshot.journal);
+        state.quarantined = snapshot.quarantined;
+        for (key, frontier, seen, owner) in snapshot.series {
+            let known = Known {
+                id: state.next_id,
+                series: Series {
+                    frontier,
+                    owner,
+                    seen,
+                },
+            };
+            state.series.insert(SeriesKey(key.into()), known);
+            state.next_id += 1;
+        }
+        Some(state)
+    }
+}
+
+pub fn group(group: &Group, items: &[Vec<u8>], state: &State) -> GroupBytes {
+    let mut bodies = Vec::new();
+    for (number, item) in (group.first..).zip(items) {
+        put(&mut bodies, ITEM, &[&number.to_le_bytes(), item]);
+    }
+    let count = items.len() as u64;
+    let mut out = Vec::new();
+    let head = numbers([group.first, count, bodies.len() as u64, group.since]);
+    put(&mut out, GROUP, &[&head, group.epoch.as_bytes()]);
+    let items = out.len()..out.len() + bodies.len();
+    out.append(&mut bodies);
+    let mut ends = Ends {
+        known: Vec::new(),
+        new: Vec::new(),
+    };
+    for (key, end) in &group.ends {
+        match state.series.get(key) {
+            Some(known) => ends.known.push((known.id, *end)),
+            None => ends.new.push((key.0.to_string(), *end)),
+        }
+    }
+    ends.known.sort_unstable();
+    ends.new.sort_unstable();
+    put(
+        &mut out,
+        COMMIT,
+        &[&numbers([group.first, count, group.journal]), &packed(&ends)],
+    );
+    GroupBytes { records: out, items }
+}
+
+pub fn head_of(mut bytes: &[u8]) -> Option<GroupHead> {
+    let rest = &mut bytes;
+    let (first, count) = (take_number(rest)?, take_number(rest)?);
+    let (length, since) = (take_number(rest)?, take_number(rest)?);
+    let epoch = std::str::from_utf8(rest).ok()?.to_string();
+    Some(GroupHead {
+        first,
+        count,
+        length,
+        since,
+        epoch,
+    })
+}
+
+/// The journal's segment of a commit, where it is that of the group; and its packed ends.
+pub fn commit_of<'a>(mut bytes: &'a [u8], head: &GroupHead) -> Option<(u64, &'a [u8])> {
+    let rest = &mut bytes;
+    let is_its = take_number(rest)? == head.first && take_number(rest)? == head.count;
+    let journal = take_number(rest)?;
+    is_its.then_some((journal, *rest))
+}
+
+/// `keys` are the series by their ids; it gets the new ones.
+pub fn ends_of(bytes: &[u8], keys: &mut Vec<SeriesKey>) -> Option<HashMap<SeriesKey, u64>> {
+    let ends: Ends = unpacked(bytes)?;
+    let mut all = HashMap::new();
+    for (id, end) in ends.known {
+        all.insert(keys.get(id as usize)?.clone(), end);
+    }
+    for (key, end) in ends.new {
+        let key = SeriesKey(key.into());
+        keys.push(key.clone());
+        all.insert(key, end);
+    }
+    Some(all)
+}
+
+/// The record of a change that is no group.
+pub fn record(change: &Change, state: &State) -> Vec<u8> {
+    let id = |key| state.series.get(key).map(|known| known.id);
+    let (kind, bytes) = match change {
+        Change::Group { .. } => return Vec::new(),
+        Change::Acknowledge { number, .. } => (ACK, number.to_le_bytes().to_vec()),
+        Change::Own(owners) => {
+            let rows: Vec<_> = owners
+                .iter()
+                .filter_map(|(key, owner)| Some((id(key)?, owner)))
+                .collect();
+            (OWNERS, packed(&rows))
+        }
+        Change::Quarantine(sender) => (QUARANTINE, sender.as_bytes().to_vec()),
+        Change::Lift(sender) => (LIFT, sender.as_bytes().to_vec()),
+        Change::Forget(series) => (
+            FORGET,
+            packed(&series.iter().filter_map(id).collect::<Vec<u32>>()),
+        ),
+    };
+    let mut out = Vec::new();
+    put(&mut out, kind, &[&bytes]);
+    out
+}
+
+/// The change of a record that is of no group, and no ack.
+pub fn change_of(kind: u8, bytes: &[u8], keys: &[SeriesKey]) -> Option<Change> {
+    let key = |id: u32| keys.get(id as usize).cloned();
+    let name = || Some(std::str::from_utf8(bytes).ok()?.to_string());
+    Some(match kind {
+        OWNERS => {
+            let rows: Vec<(u32, String)> = unpacked(bytes)?;
+            Change::Own(
+                rows.into_iter()
+                    .map(|(id, owner)| Some((key(id)?, owner)))
+                    .collect::<Option<_>>()?,
+            )
+        }
+        QUARANTINE => Change::Quarantine(name()?),
+        LIFT => Change::Lift(name()?),
+        FORGET => Change::Forget(
+            unpacked::<Vec<u32>>(bytes)?
+                .into_iter()
+                .map(key)
+                .collect::<Option<_>>()?,
+        ),
+        _ => return None,
+    })
+}
+
+/// The body of a waiting request, as it was committed.
+pub fn read_item(path: &Path, front: &Front) -> Result<Vec<u8>, Fault> {
+    let read = records::read_at(path, front.at)?.filter(|(kind, _, _)| *kind == ITEM);
+    let body = read.and_then(|(_, bytes, _)| {
+        let mut rest = &bytes[..];
+        take_number(&mut rest).filter(|number| *number == front.waiting.number)?;
+        inflated(rest)
+    });
+    body.ok_or_else(|| changed(path, front))
+}
+
+/// The length of its record.
+pub fn item_length(path: &Path, front: &Front) -> Result<u64, Fault> {
+    let mut head = [0; HEAD];
+    let read = std::fs::File::open(path).and_then(|file| file.read_exact_at(&mut head, front.at));
+    read.map_err(io_fault(path))?;
+    let length = records::whole_length(&head).filter(|_| head[8] == ITEM);
+    length
+        .map(|length| length as u64)
+        .ok_or_else(|| changed(path, front))
+}
+
+fn changed(path: &Path, front: &Front) -> Fault {
+    let what = format!(
+        "request {} was changed after it was written, and can't be delivered. Nothing was deleted: put a copy of this file in its place",
+        front.waiting.number
+    );
+    Fault::Damaged {
+        path: path.into(),
+        at: front.at,
+        what,
+    }
+}

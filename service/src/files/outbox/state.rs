@@ -1,0 +1,191 @@
+//! What the outbox knows, in memory: some bytes a series, and some a group, but none a waiting request.
+
+use super::changes::Change;
+use super::rows::Snapshot;
+use super::{Series, Waiting};
+use crate::otlp::series::SeriesKey;
+use std::collections::{BTreeSet, HashMap, VecDeque};
+use std::sync::Arc;
+
+pub struct Known {
+    /// How the records of the segment name it.
+    pub id: u32,
+    pub series: Series,
+}
+
+/// Requests of a group that wait, in the order of their numbers.
+#[derive(Clone, Debug)]
+pub struct Batch {
+    pub first: u64,
+    pub count: u64,
+    pub epoch: Arc<str>,
+    pub since: u64,
+    pub segment: u64,
+    /// Where the record of the first begins, and where that of the last ends.
+    pub at: u64,
+    pub end: u64,
+}
+
+/// Where the first waiting request is.
+#[derive(Clone, Debug)]
+pub struct Front {
+    pub waiting: Waiting,
+    pub segment: u64,
+    pub at: u64,
+}
+
+pub struct State {
+    /// Of the groups to come.
+    pub next_epoch: Arc<str>,
+    pub next: u64,
+    /// The sink has all up to this number.
+    pub acknowledged: u64,
+    pub journal: u64,
+    pub quarantined: BTreeSet<String>,
+    pub series: HashMap<SeriesKey, Known>,
+    /// The id of the next new series.
+    pub next_id: u32,
+    pub batches: VecDeque<Batch>,
+    /// Of the waiting requests, on disk.
+    pub bytes: u64,
+}
+
+impl State {
+    pub fn new(epoch: &str) -> State {
+        State {
+            next_epoch: epoch.into(),
+            next: 1,
+            acknowledged: 0,
+            journal: 1,
+            quarantined: BTreeSet::new(),
+            series: HashMap::new(),
+            next_id: 0,
+            batches: VecDeque::new(),
+            bytes: 0,
+        }
+    }
+
+    pub fn epoch(&self) -> &str {
+        self.batches
+            .front()
+            .map_or(&self.next_epoch, |batch| &batch.epoch)
+    }
+
+    pub fn front(&self) -> Option<Front> {
+        let batch = self.batches.front()?;
+        let waiting = Waiting {
+            number: batch.first,
+            since: batch.since,
+        };
+        Some(Front {
+            waiting,
+            segment: batch.segment,
+            at: batch.at,
+        })
+    }
+
+    /// The series get the ids that they have in a snapshot.
+    pub fn snapshot(&mut self) -> Snapshot {
+        self.next_id = 0;
+        let mut series = Vec::with_capacity(self.series.len());
+        for (key, known) in &mut self.series {
+            known.id = self.next_id;
+            self.next_id += 1;
+            let Series {
+                frontier,
+                owner,
+                seen,
+            } = known.series.clone();
+            series.push((key.0.to_string(), frontier, seen, owner));
+        }
+        let (next, acknowledged, journal) = (self.next, self.acknowledged, self.journal);
+        let (epoch, quarantined) = (self.next_epoch.to_string(), self.quarantined.clone());
+        Snapshot {
+            epoch,
+            next,
+            acknowledged,
+            journal,
+            quarantined,
+            series,
+        }
+    }
+
+    pub fn wait(&mut self, batch: Batch) {
+        self.bytes += batch.end - batch.at;
+        self.batches.push_back(batch);
+    }
+
+    pub fn apply(&mut self, change: Change) {
+        match change {
+            Change::Group {
+                group,
+                count,
+                segment,
+                items,
+            } => {
+                self.journal = group.journal;
+                self.next = group.first + count;
+                self.advance(group.ends, group.since);
+                if count > 0 {
+                    let (first, epoch, since) = (group.first, group.epoch, group.since);
+                    self.wait(Batch {
+                        first,
+                        count,
+                        epoch,
+                        since,
+                        segment,
+                        at: items.start,
+                        end: items.end,
+                    });
+                }
+            }
+            Change::Acknowledge { number, length } => self.acknowledge(number, length),
+            Change::Own(owners) => {
+                for (key, owner) in owners {
+                    if let Some(known) = self.series.get_mut(&key) {
+                        known.series.owner = Some(owner);
+                    }
+                }
+            }
+            Change::Quarantine(sender) => drop(self.quarantined.insert(sender)),
+            Change::Lift(sender) => drop(self.quarantined.remove(&sender)),
+            Change::Forget(series) => series.iter().for_each(|key| drop(self.series.remove(key))),
+        }
+    }
+
+    fn advance(&mut self, ends: HashMap<SeriesKey, u64>, seen: u64) {
+        // New ones in the order of their keys, as the commit has them.
+        let mut ends: Vec<_> = ends.into_iter().collect();
+        ends.sort_unstable();
+        for (key, end) in ends {
+            let id = self.next_id;
+            let known = self.series.entry(key).or_insert_with(|| {
+                self.next_id += 1;
+                Known {
+                    id,
+                    series: Series {
+                        frontier: 0,
+                        owner: None,
+                        seen,
+                    },
+                }
+            });
+            known.series.frontier = known.series.frontier.max(end);
+            known.series.seen = seen;
+        }
+    }
+
+    fn acknowledge(&mut self, number: u64, length: u64) {
+        self.acknowledged = number;
+        let Some(batch) = self.batches.front_mut() else {
+            return;
+        };
+        if batch.count == 1 {
+            self.bytes -= batch.end - batch.at;
+            self.batches.pop_front();
+        } else {
+            self.bytes -= length;
+            (batch.first, batch.count, batch.at) = (batch.first + 1, batch.count - 1, batch.at + length);
+        }
+    }
+}

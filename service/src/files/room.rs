@@ -1,0 +1,132 @@
+//! Whether the disk has room for posts: some is kept back, for what was taken must be brought to an end.
+
+use super::disk::io_fault;
+use super::Fault;
+use std::path::Path;
+use std::sync::atomic::{AtomicI64, AtomicU64, Ordering::Relaxed};
+use std::time::Instant;
+
+/// How long a look at the disk counts, in milliseconds.
+const LOOK: u64 = 100;
+/// A twentieth of the disk is kept back, within these bounds: a commit, a snapshot, and the posts on their way.
+const LEAST: u64 = 64 << 20;
+const MOST: u64 = 256 << 20;
+/// So many files can be made, at least.
+const FILES: u64 = 64;
+
+/// Free bytes, all bytes, free files of a disk.
+type Look = dyn Fn() -> std::io::Result<(u64, u64, u64)> + Send + Sync;
+
+pub struct Room {
+    look: Box<Look>,
+    began: Instant,
+    looked: AtomicU64,
+    /// What posts may still use.
+    left: AtomicI64,
+}
+
+impl Room {
+    pub fn new(path: &Path) -> Result<Room, Fault> {
+        let folder = path.to_path_buf();
+        Room::with(move || {
+            let disk = nix::sys::statvfs::statvfs(&folder)?;
+            let unit = disk.fragment_size();
+            let files = if disk.files() == 0 {
+                u64::MAX
+            } else {
+                disk.files_available()
+            };
+            Ok((disk.blocks_available() * unit, disk.blocks() * unit, files))
+        })
+        .map_err(io_fault(path))
+    }
+
+    fn with(
+        look: impl Fn() -> std::io::Result<(u64, u64, u64)> + Send + Sync + 'static,
+    ) -> std::io::Result<Room> {
+        look()?;
+        let room = Room {
+            look: Box::new(look),
+            began: Instant::now(),
+            looked: AtomicU64::new(0),
+            left: AtomicI64::new(0),
+        };
+        room.look_again();
+        Ok(room)
+    }
+
+    /// As it was a moment ago, less what was written since.
+    pub fn is_left(&self) -> bool {
+        let now = self.began.elapsed().as_millis() as u64;
+        let looked = self.looked.load(Relaxed);
+        if now >= looked + LOOK
+            && self
+                .looked
+                .compare_exchange(looked, now, Relaxed, Relaxed)
+                .is_ok()
+        {
+            self.look_again();
+        }
+        self.left.load(Relaxed) > 0
+    }
+
+    pub fn use_up(&self, bytes: u64) {
+        self.left.fetch_sub(bytes as i64, Relaxed);
+    }
+
+    fn look_again(&self) {
+        let left = match (self.look)() {
+            Ok((free, all, files)) if files >= FILES => free as i64 - (all / 20).clamp(LEAST, MOST) as i64,
+            Ok(_) => 0,
+            Err(error) => {
+                tracing::error!("the disk can't be asked for its room, so posts are refused: {error}");
+                0
+            }
+        };
+        self.left.store(left, Relaxed);
+    }
+}
+
+#[cfg(test)]
+mod tests {
+    use super::*;
+    use std::sync::Arc;
+    use std::time::Duration;
+
+    fn room(free: Arc<AtomicU64>, files: u64) -> Room {
+        Room::with(move || Ok((free.load(Relaxed), 1 << 40, files))).unwrap()
+    }
+
+    #[test]
+    fn what_is_kept_back_is_not_for_posts() {
+        assert!(!room(Arc::new(AtomicU64::new(MOST)), 1000).is_left());
+        assert!(room(Arc::new(AtomicU64::new(MOST + 1)), 1000).is_left());
+        assert!(
+            !room(Arc::new(AtomicU64::new(2 * MOST)), FILES - 1).is_left(),
+            "no file can be made"
+        );
+    }
+
+    #[test]
+    fn what_was_written_counts_at_once_and_the_disk_a_little_later() {
+        let free = Arc::new(AtomicU64::new(MOST + 100));
+        let room = room(free.clone(), 1000);
+        room.use_up(99);
+        assert!(room.is_left());
+        room.use_up(1);
+        assert!(!room.is_left());
+        free.store(2 * MOST, Relaxed);
+        std::thread::sleep(Duration::from_millis(LOOK + 20));
+        assert!(room.is_left());
+    }
+
+    #[test]
+    fn a_disk_that_does_not_answer_has_no_room() {
+        let asked = AtomicU64::new(0);
+        let room = Room::with(move || match asked.fetch_add(1, Relaxed) {
+            0 => Ok((u64::MAX >> 2, 1 << 30, 1000)),
+            _ => Err(std::io::ErrorKind::Other.into()),
+        });
+        assert!(!room.unwrap().is_left());
+    }
+}

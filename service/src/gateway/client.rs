@@ -1,0 +1,230 @@
+//! Asks the gateway: one request on a connection of its own, since the gateway closes each behind its answer.
+
+use super::message::read_answer;
+use super::{system, Answer};
+use bytes::Buf;
+use std::io::{ErrorKind, IoSlice, Result};
+use std::net::SocketAddr;
+use std::time::Duration;
+use tokio::io::AsyncWriteExt;
+use tokio::net::{TcpSocket, TcpStream};
+
+/// How long an answer may take. A gateway that hangs holds its senders so long, and is then replaced.
+pub(super) const PATIENCE: Duration = Duration::from_secs(20);
+/// How long before a connection is tried again that this side had no port or descriptor for.
+pub(super) const PAUSE: Duration = Duration::from_millis(5);
+/// What is shorter goes in one segment of loopback, at once. What is longer must not wait for an acknowledgement.
+const ONE_SEGMENT: usize = 30_000;
+
+pub(super) struct Request<'a> {
+    pub method: &'a str,
+    pub path: &'a str,
+    pub sender: &'a str,
+    pub body: &'a [u8],
+}
+
+impl Request<'_> {
+    fn head(&self) -> String {
+        let Request {
+            method,
+            path,
+            sender,
+            body,
+        } = self;
+        format!(
+            "{method} {path} HTTP/1.1\r\nHost: gateway\r\nContent-Type: application/json\r\n\
+             x-sender: {sender}\r\nContent-Length: {}\r\n\r\n",
+            body.len()
+        )
+    }
+}
+
+/// Asks, and reads the whole answer. An error says that the answer did not come or can't be read.
+pub(super) async fn exchange(address: SocketAddr, request: &Request<'_>) -> Result<Answer> {
+    exchange_within(PATIENCE, address, request).await
+}
+
+async fn exchange_within(patience: Duration, address: SocketAddr, request: &Request<'_>) -> Result<Answer> {
+    let asked = async {
+        let mut stream = connect(address).await?;
+        if request.body.len() > ONE_SEGMENT {
+            stream.set_nodelay(true)?;
+        }
+        // An answer may come before all is written: a refusal by the head. What counts is whether there is one.
+        let written = write(&mut stream, request).await;
+        match (read_answer(&mut stream).await, written) {
+            (Ok((status, body)), _) => Ok(Answer {
+                status,
+                body: body.into(),
+            }),
+            (Err(_), Err(fault)) => Err(fault),
+            (Err(fault), Ok(())) => Err(fault),
+        }
+    };
+    match tokio::time::timeout(patience, asked).await {
+        Ok(answer) => answer,
+        Err(_) => Err(std::io::Error::new(
+            ErrorKind::TimedOut,
+            format!("nothing came within {patience:?}"),
+        )),
+    }
+}
+
+/// Connects. Where this side has no port or no descriptor left, nothing was asked of the gateway: that is no doubt,
+/// and is tried again.
+async fn connect(address: SocketAddr) -> Result<TcpStream> {
+    loop {
+        match connect_once(address).await {
+            Err(fault) if is_of_this_side(&fault) => tokio::time::sleep(PAUSE).await,
+            other => return other,
+        }
+    }
+}
+
+async fn connect_once(address: SocketAddr) -> Result<TcpStream> {
+    let socket = TcpSocket::new_v4()?;
+    system::delay_acknowledgement(&socket);
+    socket.connect(address).await
+}
+
+fn is_of_this_side(fault: &std::io::Error) -> bool {
+    let of_files = [libc::EMFILE, libc::ENFILE];
+    fault.kind() == ErrorKind::AddrNotAvailable
+        || fault
+            .raw_os_error()
+            .map_or(false, |code| of_files.contains(&code))
+}
+
+/// Writes head and body by one call, as a rule.
+async fn write(stream: &mut TcpStream, request: &Request<'_>) -> Result<()> {
+    let head = request.head();
+    let mut message = head.as_bytes().chain(request.body);
+    while message.has_remaining() {
+        let mut parts = [IoSlice::new(&[]), IoSlice::new(&[])];
+        let count = message.chunks_vectored(&mut parts);
+        match stream.write_vectored(&parts[..count]).await? {
+            0 => return Err(ErrorKind::WriteZero.into()),
+            written => message.advance(written),
+        }
+    }
+    Ok(())
+}
+
+#[cfg(test)]
+mod tests {
+    use super::*;
+    use tokio::io::AsyncReadExt;
+    use tokio::net::TcpListener;
+
+    const SHORT: Duration = Duration::from_millis(200);
+
+    fn post(body: &[u8]) -> Request<'_> {
+        Request {
+            method: "POST",
+            path: "/v1/metrics",
+            sender: "A",
+            body,
+        }
+    }
+
+    /// A listener that reads `length` bytes of one connection, writes `answer`, and closes after `rest`.
+    async fn listener(
+        length: usize,
+        answer: &'static [u8],
+        rest: Duration,
+    ) -> (SocketAddr, tokio::task::JoinHandle<Vec<u8>>) {
+        let listener = TcpListener::bind("127.0.0.1:0").await.unwrap();
+        let address = listener.local_addr().unwrap();
+        let task = tokio::spawn(async move {
+            let (mut stream, _) = listener.accept().await.unwrap();
+            let mut bytes = vec![0; length];
+            stream.read_exact(&mut bytes).await.unwrap();
+            stream.write_all(answer).await.unwrap();
+            tokio::time::sleep(rest).await;
+            bytes
+        });
+        (address, task)
+    }
+
+    #[tokio::test]
+    async fn an_exchange_is_one_request_and_one_answer() {
+        let request = post(b"{}");
+        let length = request.head().len() + 2;
+        let (address, task) = listener(
+            length,
+            b"HTTP/1.1 200 OK\r\nContent-Length: 2\r\n\r\n{}",
+            SHORT * 5,
+        )
+        .await;
+        let begun = std::time::Instant::now();
+        let answer = exchange(address, &request).await.unwrap();
+        assert!(
+            begun.elapsed() < SHORT * 4,
+            "the end of the connection was waited for"
+        );
+        assert_eq!(
+            answer,
+            Answer {
+                status: 200,
+                body: "{}".into()
+            }
+        );
+        let bytes = String::from_utf8(task.await.unwrap()).unwrap();
+        assert!(
+            bytes.starts_with("POST /v1/metrics HTTP/1.1\r\n")
+                && bytes.ends_with("Content-Length: 2\r\n\r\n{}")
+        );
+    }
+
+    #[tokio::test]
+    async fn large_bodies_go_whole() {
+        let body = vec![b'x'; 4 << 20];
+        let request = post(&body);
+        let length = request.head().len() + body.len();
+        let (address, task) = listener(
+            length,
+            b"HTTP/1.1 200 OK\r\nContent-Length: 0\r\n\r\n",
+            Duration::ZERO,
+        )
+        .await;
+        assert_eq!(exchange(address, &request).await.unwrap().status, 200);
+        assert!(task.await.unwrap().ends_with(&body));
+    }
+
+    #[tokio::test]
+    async fn a_refusal_by_the_head_is_read() {
+        let body = vec![b'x'; 8 << 20];
+        let answer = b"HTTP/1.1 413 Payload Too Large\r\nContent-Length: 0\r\n\r\n";
+        let (address, _task) = listener(100, answer, SHORT).await;
+        // The listener closes with bytes unread, so the answer may be lost with the connection: then it is a fault.
+        if let Ok(answer) = exchange(address, &post(&body)).await {
+            assert_eq!(answer.status, 413);
+        }
+    }
+
+    #[tokio::test]
+    async fn what_can_go_wrong_is_a_fault() {
+        let request = post(b"{}");
+        let length = request.head().len() + 2;
+        for cut in [
+            &b""[..],
+            b"HTTP/1.1 200 OK\r\nContent-Len",
+            b"HTTP/1.1 200 OK\r\nContent-Length: 9\r\n\r\n{}",
+        ] {
+            let (address, _task) = listener(length, cut, Duration::ZERO).await;
+            exchange(address, &request).await.unwrap_err();
+        }
+        let (address, _task) = listener(length, b"", SHORT * 10).await;
+        let late = exchange_within(SHORT, address, &request).await.unwrap_err();
+        assert_eq!(late.kind(), ErrorKind::TimedOut);
+        let nobody = TcpListener::bind("127.0.0.1:0")
+            .await
+            .unwrap()
+            .local_addr()
+            .unwrap();
+        assert_eq!(
+            exchange(nobody, &request).await.unwrap_err().kind(),
+            ErrorKind::ConnectionRefused
+        );
+    }
+}

@@ -1,0 +1,55 @@
+//! One gateway process: started, asked over loopback, and what it forwards.
+//!
+//! `start` runs the program, `client` asks it, `back` takes what it forwards, `gateway` is the process as others
+//! see it. A gateway that was doubted once refuses all that is asked of it from then on: no checkpoint may use it.
+
+mod back;
+mod client;
+mod find;
+#[allow(clippy::module_inception)] // The room is named after what it has.
+mod gateway;
+mod listening;
+mod message;
+mod starter;
+mod system;
+
+pub use find::{find_allocator, find_program, NotFound};
+pub use gateway::Gateway;
+pub use starter::Starter;
+
+use bytes::Bytes;
+use std::path::PathBuf;
+
+/// How a gateway is started.
+#[derive(Clone, Debug)]
+pub struct Options {
+    pub program: PathBuf,
+    /// How many connections it serves before it ends.
+    pub connections: u64,
+    pub receivers: u16,
+    pub flushers: u16,
+    /// Connections of a round.
+    pub round: u32,
+    /// The most bytes of address space, where it has a bound.
+    pub memory: Option<u64>,
+    /// An allocator's library, preloaded.
+    pub allocator: Option<PathBuf>,
+}
+
+/// What the gateway answered.
+#[derive(Clone, Debug, PartialEq, Eq)]
+pub struct Answer {
+    pub status: u16,
+    pub body: Bytes,
+}
+
+/// Any of these is a doubt, and replaces the gateway.
+#[derive(Debug, thiserror::Error)]
+pub enum Doubt {
+    #[error("the gateway can't be started: {0}")]
+    Start(String),
+    #[error("the gateway did not answer: {0}")]
+    NoAnswer(String),
+    #[error("a flush ended otherwise than it may: {0}")]
+    Flush(String),
+}

@@ -1,0 +1,128 @@
+//! Starts gateways from one thread, and waits for the end of those that were killed.
+//!
+//! The kernel kills a gateway when the thread that started it ends. So that thread has to live as long as any
+//! gateway: it ends when the last `Starter` is gone, and each gateway has one.
+
+use super::{system, Options};
+use std::net::SocketAddr;
+use std::process::{Child, Command, Stdio};
+use std::sync::mpsc::{sync_channel, Receiver, SyncSender};
+use tokio::sync::oneshot;
+
+/// More orders than gateways that one service starts and ends at a time, so that nobody waits to give one.
+const ORDERS: usize = 256;
+
+enum Order {
+    Start {
+        command: Box<Command>,
+        memory: Option<u64>,
+        answer: oneshot::Sender<std::io::Result<Child>>,
+    },
+    /// It was killed, and is waited for.
+    Reap(Child),
+}
+
+/// Starts processes from one thread that lives as long as this process: the kernel ends a gateway when the thread
+/// that started it ends.
+#[derive(Clone)]
+pub struct Starter(SyncSender<Order>);
+
+impl Starter {
+    pub fn new() -> std::io::Result<Starter> {
+        let (orders, todo) = sync_channel(ORDERS);
+        std::thread::Builder::new()
+            .name("starter".into())
+            .spawn(move || carry_out(todo))?;
+        Ok(Starter(orders))
+    }
+
+    /// Starts a gateway that listens at one address and forwards to another.
+    pub(super) async fn start(
+        &self,
+        options: &Options,
+        listen: SocketAddr,
+        back: SocketAddr,
+    ) -> std::io::Result<Child> {
+        let (answer, started) = oneshot::channel();
+        let command = Box::new(command_line(options, listen, back));
+        let order = Order::Start {
+            command,
+            memory: options.memory,
+            answer,
+        };
+        self.0.send(order).map_err(|_| gone())?;
+        started.await.map_err(|_| gone())?
+    }
+
+    /// Kills a process. It is waited for elsewhere, since that may take a moment.
+    pub(super) fn end(&self, mut process: Child) {
+        // It fails where the process has ended already, which is what is wanted.
+        let _ = process.kill();
+        // Where the thread is gone, so is the process.
+        let _ = self.0.send(Order::Reap(process));
+    }
+}
+
+fn gone() -> std::io::Error {
+    std::io::Error::new(
+        std::io::ErrorKind::BrokenPipe,
+        "the thread that starts gateways is gone",
+    )
+}
+
+fn carry_out(todo: Receiver<Order>) {
+    for order in todo {
+        match order {
+            Order::Start {
+                mut command,
+                memory,
+                answer,
+            } => {
+                system::bind_to_this_thread(&mut command, memory);
+                // Who ordered it may have gone meanwhile: then nobody knows of the process.
+                if let Err(Ok(orphan)) = answer.send(command.spawn()) {
+                    reap(orphan);
+                }
+            }
+            Order::Reap(process) => reap(process),
+        }
+    }
+}
+
+fn reap(mut process: Child) {
+    let _ = process.kill();
+    let _ = process.wait();
+}
+
+fn command_line(options: &Options, listen: SocketAddr, back: SocketAddr) -> Command {
+    use std::os::unix::process::CommandExt;
+    let mut command = Command::new(&options.program);
+    command
+        .args([
+            "serve",
+            "--listen",
+            &listen.to_string(),
+            "--backend",
+            &back.to_string(),
+        ])
+        .args(["--connections", &options.connections.to_string()])
+        .args([
+            "--receivers",
+            &options.receivers.to_string(),
+            "--flushers",
+            &options.flushers.to_string(),
+        ])
+        .args(["--round", &options.round.to_string()])
+        .stdin(Stdio::null())
+        // The report at its end: what counts of it is in the outbox.
+        .stdout(Stdio::null())
+        // An interrupt from a terminal is for the service alone, which then needs the gateway for a last flush.
+        .process_group(0);
+    if let Some(library) = &options.allocator {
+        command.env("LD_PRELOAD", library);
+    } else if std::env::var_os("MALLOC_ARENA_MAX").is_none() {
+        // Each thread's arena keeps what it once had. With one the memory stays near what is used.
+        command.env("MALLOC_ARENA_MAX", "1");
+    }
+    command
+}

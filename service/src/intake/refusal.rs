@@ -1,0 +1,76 @@
+//! Why the intake answers a request itself, before any gateway is asked.
+
+use crate::otlp::{Outcome, Refused};
+
+/// Its text is the answer's message.
+#[derive(Debug, thiserror::Error)]
+pub enum Refusal {
+    #[error("no such path")]
+    NoSuchPath,
+    #[error("wrong method")]
+    WrongMethod,
+    #[error("bad sender")]
+    BadSender,
+    #[error("only application/json or application/x-protobuf")]
+    ContentType,
+    #[error("only gzip or identity")]
+    ContentEncoding,
+    /// It was not there within its time.
+    #[error("the request did not come whole")]
+    Late,
+    /// Its framing is wrong, or its connection ended within it.
+    #[error("malformed request")]
+    Malformed,
+    #[error("bad gzip")]
+    BadGzip,
+    #[error("body too long")]
+    TooLong,
+    /// It can be sent again: what others sent takes all memory that posts may have.
+    #[error("too many bytes in flight")]
+    TooManyBytes,
+    #[error("{0}")]
+    Unreadable(String),
+}
+
+impl Refusal {
+    pub fn status(&self) -> u16 {
+        match self {
+            Refusal::NoSuchPath => 404,
+            Refusal::WrongMethod => 405,
+            Refusal::ContentType | Refusal::ContentEncoding => 415,
+            Refusal::Late => 408,
+            Refusal::BadSender | Refusal::Malformed | Refusal::BadGzip | Refusal::Unreadable(_) => 400,
+            Refusal::TooLong => 413,
+            Refusal::TooManyBytes => 503,
+        }
+    }
+
+    /// Whether more of the body may come: it is read and thrown away, so that the sender can read its answer.
+    pub fn leaves_a_body(&self) -> bool {
+        !matches!(self, Refusal::Late | Refusal::Malformed)
+    }
+}
+
+impl From<super::weight::Full> for Refusal {
+    fn from(_: super::weight::Full) -> Refusal {
+        Refusal::TooManyBytes
+    }
+}
+
+impl From<Refused> for Refusal {
+    fn from(refused: Refused) -> Refusal {
+        match refused {
+            Refused::Unreadable(why) => Refusal::Unreadable(why),
+            Refused::TooLong => Refusal::TooLong,
+        }
+    }
+}
+
+impl From<&Refusal> for Outcome {
+    fn from(refusal: &Refusal) -> Outcome {
+        Outcome::Refused {
+            status: refusal.status(),
+            message: refusal.to_string(),
+        }
+    }
+}

@@ -1,0 +1,82 @@
+//! Who owns the series of a group: the senders of the posts that it is of.
+//!
+//! A post is read for this alone. The gateway's own count of foreign points shows whether it was read as the gateway
+//! reads it.
+
+use super::work::blocking;
+use super::Keeper;
+use crate::files::{Fault, Post};
+use crate::otlp::series::{posted, SeriesKey};
+use crate::slot::Slot;
+use std::collections::{HashMap, HashSet};
+
+impl Keeper {
+    /// Finds the owners that the outbox does not know, by the posts of these segments, and makes them durable.
+    pub(super) async fn find_owners(&self, first: u64, end: u64) -> Result<(), Fault> {
+        let slot = self.slot.clone();
+        blocking(move || find_owners(&slot, first, end)).await
+    }
+}
+
+fn find_owners(slot: &Slot, first: u64, end: u64) -> Result<(), Fault> {
+    let series = slot.outbox.series();
+    let mut search = Search {
+        unknown: series
+            .into_iter()
+            .filter(|(_, about)| about.owner.is_none())
+            .map(|(key, _)| key)
+            .collect(),
+        owners: HashMap::new(),
+        misread: 0,
+    };
+    if search.unknown.is_empty() {
+        return Ok(());
+    }
+    slot.journal.posts(first, end, |post| search.look_at(&post))?;
+    slot.outbox.own(search.owners)?;
+    report(slot, search.misread, &search.unknown);
+    Ok(())
+}
+
+/// These are faults of this program, and a late repeat to such a series may be taken behind a recovery.
+fn report(slot: &Slot, misread: u64, unknown: &HashSet<SeriesKey>) {
+    let faults = &slot.metrics.faults;
+    if misread > 0 {
+        faults.with_label_values(&["reading"]).inc_by(misread);
+        tracing::error!(
+            "slot {}: {misread} posts are read otherwise than by the gateway",
+            slot.number()
+        );
+    }
+    if let Some(one) = unknown.iter().next() {
+        faults.with_label_values(&["owner"]).inc_by(unknown.len() as u64);
+        let count = unknown.len();
+        tracing::error!(
+            "slot {}: {count} series were forwarded and are in no post, such as {}",
+            slot.number(),
+            one.0
+        );
+    }
+}
+
+struct Search {
+    unknown: HashSet<SeriesKey>,
+    owners: HashMap<SeriesKey, String>,
+    misread: u64,
+}
+
+impl Search {
+    /// Whether to go on.
+    fn look_at(&mut self, post: &Post) -> bool {
+        let read = posted(&post.body);
+        if read.as_ref().map(|read| read.foreign) != Some(post.foreign) {
+            self.misread += 1;
+        }
+        for key in read.into_iter().flat_map(|read| read.series.into_keys()) {
+            if self.unknown.remove(&key) {
+                self.owners.insert(key, post.sender.clone());
+            }
+        }
+        !self.unknown.is_empty()
+    }
+}

@@ -1,0 +1,5 @@
+//! The program `totxegun`.
+
+fn main() -> std::process::ExitCode {
+    totxegun::command::run()
+}

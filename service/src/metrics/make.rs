@@ -1,0 +1,135 @@
+//! Names and meanings of all that is counted. A name ends in its unit, a counter's in `_total`.
+
+use super::{Levels, Metrics};
+use prometheus::{
+    Histogram, HistogramOpts, IntCounter, IntCounterVec, IntGauge, IntGaugeVec, Opts, Registry, Result,
+};
+use std::collections::HashSet;
+use std::sync::Mutex;
+
+const SECONDS: [f64; 10] = [0.001, 0.003, 0.01, 0.03, 0.1, 0.3, 1.0, 3.0, 10.0, 30.0];
+
+pub fn metrics() -> Result<Metrics> {
+    let maker = Maker(Registry::new());
+    maker.build_info()?;
+    let posts = maker.counters(
+        "posts_total",
+        "Posts by the status of their answer",
+        "status",
+        &["200"],
+    )?;
+    Ok(Metrics {
+        taken_posts: posts.with_label_values(&["200"]),
+        posts,
+        post_bytes: maker.counter("post_bytes_total", "Bytes of posts, unpacked")?,
+        foreign_points: maker.counters(
+            "foreign_points_total",
+            "Points that were not taken, of posts that were",
+            "sender",
+            &[],
+        )?,
+        checkpoints: maker.counters(
+            "checkpoints_total",
+            "Checkpoints by how they ended",
+            "outcome",
+            &["done", "failed"],
+        )?,
+        renewals: maker.counter(
+            "renewals_total",
+            "Gateways replaced before their connections ran out",
+        )?,
+        recoveries: maker.counter(
+            "recoveries_total",
+            "Gateways started because one was lost, and at the start",
+        )?,
+        forwarded_requests: maker.counter("forwarded_requests_total", "Requests put into the outbox")?,
+        deliveries: maker.counters(
+            "deliveries_total",
+            "Tries to deliver, by outcome",
+            "outcome",
+            &["taken", "again", "refused"],
+        )?,
+        forgotten_series: maker.counter(
+            "forgotten_series_total",
+            "Series left out of a fresh gateway for their age",
+        )?,
+        faults: maker.counters("faults_total", "What must never be", "kind", &[])?,
+        checkpoint_pause_seconds: maker
+            .seconds("checkpoint_pause_seconds", "How long a checkpoint held the posts")?,
+        recovery_seconds: maker.seconds(
+            "recovery_seconds",
+            "How long it took to start, prime and refill a gateway",
+        )?,
+        series: maker.gauge("series", "Series with an owner and a frontier")?,
+        gateway_connections: maker.gauge("gateway_connections", "Connections that the gateway has had")?,
+        levels: levels(&maker)?,
+        senders: Mutex::new(HashSet::new()),
+        registry: maker.0,
+    })
+}
+
+fn levels(maker: &Maker) -> Result<Levels> {
+    Ok(Levels {
+        ready: maker.gauge("ready", "1 where a gateway has all accepted posts")?,
+        post_bytes_in_flight: maker.gauge(
+            "post_bytes_in_flight",
+            "Memory that posts hold until they are answered",
+        )?,
+        journal_bytes: maker.gauge("journal_bytes", "Bytes of the journal's segments")?,
+        journal_age_seconds: maker.gauge(
+            "journal_age_seconds",
+            "Age of the oldest post that may be in no group",
+        )?,
+        outbox_requests: maker.gauge("outbox_requests", "Requests that the sink does not have")?,
+        outbox_bytes: maker.gauge("outbox_bytes", "Bytes of these on disk")?,
+        outbox_age_seconds: maker.gauge("outbox_age_seconds", "Age of the oldest of these")?,
+        dead_requests: maker.gauge(
+            "dead_requests",
+            "Requests that the sink refused for good, kept aside",
+        )?,
+        gateway_resident_memory_bytes: maker
+            .gauge("gateway_resident_memory_bytes", "Memory of the gateway's process")?,
+    })
+}
+
+/// Makes and registers. A label's known values are there from the start, so that a rate over them is right.
+struct Maker(Registry);
+
+impl Maker {
+    fn counter(&self, name: &str, help: &str) -> Result<IntCounter> {
+        let made = IntCounter::new(format!("totxegun_{name}"), help)?;
+        self.0.register(Box::new(made.clone()))?;
+        Ok(made)
+    }
+
+    fn counters(&self, name: &str, help: &str, label: &str, known: &[&str]) -> Result<IntCounterVec> {
+        let made = IntCounterVec::new(Opts::new(format!("totxegun_{name}"), help), &[label])?;
+        for value in known {
+            made.with_label_values(&[value]);
+        }
+        self.0.register(Box::new(made.clone()))?;
+        Ok(made)
+    }
+
+    fn gauge(&self, name: &str, help: &str) -> Result<IntGauge> {
+        let made = IntGauge::new(format!("totxegun_{name}"), help)?;
+        self.0.register(Box::new(made.clone()))?;
+        Ok(made)
+    }
+
+    fn seconds(&self, name: &str, help: &str) -> Result<Histogram> {
+        let options = HistogramOpts::new(format!("totxegun_{name}"), help).buckets(SECONDS.to_vec());
+        let made = Histogram::with_opts(options)?;
+        self.0.register(Box::new(made.clone()))?;
+        Ok(made)
+    }
+
+    fn build_info(&self) -> Result<()> {
+        let made = IntGaugeVec::new(
+            Opts::new("totxegun_build_info", "1, by the version of the program"),
+            &["version"],
+        )?;
+        made.with_label_values(&[env!("CARGO_PKG_VERSION")]).set(1);
+        self.0.register(Box::new(made))
+    }
+}

@@ -1,0 +1,142 @@
+//! Counters and gauges of the service, and the page that Prometheus scrapes.
+
+mod make;
+
+use prometheus::{Encoder, IntCounter, IntCounterVec, IntGauge, Registry, TextEncoder};
+use std::collections::HashSet;
+use std::sync::{Mutex, PoisonError};
+
+/// How many senders have a label of their own; further ones share `other`.
+const SENDERS: usize = 64;
+
+/// One for the process. Counters go on over renewals and recoveries.
+pub struct Metrics {
+    pub registry: Registry,
+    /// By `status`.
+    pub posts: IntCounterVec,
+    pub post_bytes: IntCounter,
+    /// Points outside the profile, by `sender`. Counted by `foreign`, which bounds the senders.
+    pub foreign_points: IntCounterVec,
+    /// By `outcome`: `done`, `failed`.
+    pub checkpoints: IntCounterVec,
+    pub renewals: IntCounter,
+    pub recoveries: IntCounter,
+    pub forwarded_requests: IntCounter,
+    /// By `outcome`: `taken`, `again`, `refused`.
+    pub deliveries: IntCounterVec,
+    pub forgotten_series: IntCounter,
+    /// What must never be, by `kind`.
+    pub faults: IntCounterVec,
+    pub checkpoint_pause_seconds: prometheus::Histogram,
+    pub recovery_seconds: prometheus::Histogram,
+    pub series: IntGauge,
+    pub gateway_connections: IntGauge,
+    /// Set where the page is made.
+    pub levels: Levels,
+    /// Most answers are 200: their counter needs no look-up.
+    taken_posts: IntCounter,
+    senders: Mutex<HashSet<String>>,
+}
+
+/// Gauges of what is elsewhere: read when someone asks, and then only.
+pub struct Levels {
+    pub ready: IntGauge,
+    pub post_bytes_in_flight: IntGauge,
+    pub journal_bytes: IntGauge,
+    pub journal_age_seconds: IntGauge,
+    pub outbox_requests: IntGauge,
+    pub outbox_bytes: IntGauge,
+    pub outbox_age_seconds: IntGauge,
+    pub dead_requests: IntGauge,
+    pub gateway_resident_memory_bytes: IntGauge,
+}
+
+impl Metrics {
+    pub fn new() -> prometheus::Result<Metrics> {
+        make::metrics()
+    }
+
+    /// Counts an answer to a sender.
+    pub fn post_ended(&self, status: u16) {
+        match status {
+            200 => self.taken_posts.inc(),
+            other => self.posts.with_label_values(&[&other.to_string()]).inc(),
+        }
+    }
+
+    /// Counts points outside the profile. Names of senders come from outside: their number is bounded here.
+    pub fn foreign(&self, sender: &str, points: u64) {
+        if points == 0 {
+            return;
+        }
+        let label = if self.has_label(sender) { sender } else { "other" };
+        self.foreign_points.with_label_values(&[label]).inc_by(points);
+    }
+
+    fn has_label(&self, sender: &str) -> bool {
+        let mut senders = self.senders.lock().unwrap_or_else(PoisonError::into_inner); // a set is sound at any time
+        if senders.contains(sender) {
+            return true;
+        }
+        senders.len() < SENDERS && senders.insert(sender.to_string())
+    }
+
+    /// The page, in Prometheus' text form.
+    pub fn page(&self) -> Vec<u8> {
+        let mut page = Vec::new();
+        if let Err(error) = TextEncoder::new().encode(&self.registry.gather(), &mut page) {
+            tracing::warn!("the metrics page is not whole: {error}");
+        }
+        page
+    }
+}
+
+#[cfg(test)]
+mod tests {
+    use super::*;
+
+    fn page(metrics: &Metrics) -> String {
+        String::from_utf8(metrics.page()).unwrap()
+    }
+
+    #[test]
+    fn names_of_senders_are_bounded() {
+        let metrics = Metrics::new().unwrap();
+        for sender in 0..1000 {
+            metrics.foreign(&format!("sender{sender}"), 2);
+        }
+        metrics.foreign("sender0", 1);
+        metrics.foreign("unseen", 0);
+        let page = page(&metrics);
+        let lines: Vec<&str> = page
+            .lines()
+            .filter(|line| line.starts_with("totxegun_foreign_points_total{"))
+            .collect();
+        assert_eq!(lines.len(), SENDERS + 1);
+        assert!(lines.contains(&"totxegun_foreign_points_total{sender=\"sender0\"} 3"));
+        assert!(lines.contains(&"totxegun_foreign_points_total{sender=\"other\"} 1872"));
+    }
+
+    #[test]
+    fn the_page_names_what_there_is_from_the_start() {
+        let metrics = Metrics::new().unwrap();
+        metrics.post_ended(200);
+        metrics.post_ended(503);
+        let page = page(&metrics);
+        for line in [
+            "totxegun_posts_total{status=\"200\"} 1",
+            "totxegun_posts_total{status=\"503\"} 1",
+            "totxegun_deliveries_total{outcome=\"taken\"} 0",
+            "totxegun_checkpoints_total{outcome=\"failed\"} 0",
+            "totxegun_dead_requests 0",
+            "totxegun_ready 0",
+            concat!(
+                "totxegun_build_info{version=\"",
+                env!("CARGO_PKG_VERSION"),
+                "\"} 1"
+            ),
+        ] {
+            assert!(page.lines().any(|found| found == line), "{line} in\n{page}");
+        }
+    }
+}

@@ -1,0 +1,126 @@
+//! The dead letters: shown, sent again under their own keys, thrown away.
+//!
+//! The running service alone sends one again: it has the folder and the sink, so no key is under way twice, and a
+//! letter is thrown away only once the sink has it. A service that ends in between sends it again under the same key.
+
+use super::{message, reply, Desk, JSON};
+use crate::files::Fault;
+use crate::sinks::{Fate, Forwarded};
+use hyper::{Body, Response};
+use serde::{Deserialize, Serialize};
+
+/// What became of a letter that was sent again.
+#[derive(Debug, PartialEq, Eq, Serialize, Deserialize)]
+pub struct Resent {
+    pub key: String,
+    pub taken: bool,
+    /// The sink's reason where it did not take it, or not all of it.
+    #[serde(default, skip_serializing_if = "Option::is_none")]
+    pub reason: Option<String>,
+}
+
+impl Desk {
+    pub(super) fn letters(&self) -> Response<Body> {
+        match self.dead.list() {
+            Ok(letters) => reply(200, JSON, serde_json::json!(letters).to_string()),
+            Err(fault) => faulty(&fault),
+        }
+    }
+
+    pub(super) fn letter(&self, key: &str) -> Response<Body> {
+        match self.dead.body(key) {
+            Ok(Some(body)) => reply(200, JSON, body),
+            Ok(None) => message(404, "no such letter"),
+            Err(fault) => faulty(&fault),
+        }
+    }
+
+    pub(super) fn drop_letter(&self, key: &str) -> Response<Body> {
+        match self.dead.drop_letter(key) {
+            Ok(true) => reply(200, JSON, "{}"),
+            Ok(false) => message(404, "no such letter"),
+            Err(fault) => faulty(&fault),
+        }
+    }
+
+    pub(super) async fn resend(&self, key: &str) -> Response<Body> {
+        let _one = self.resending.lock().await;
+        let body = match self.dead.body(key) {
+            Ok(Some(body)) => body,
+            Ok(None) => return message(404, "no such letter"),
+            Err(fault) => return faulty(&fault),
+        };
+        let Some(request) = forwarded(key, body) else {
+            return message(
+                400,
+                "the sink has taken a part of this one: sent again, that part would count twice",
+            );
+        };
+        let reason = match self.sink.deliver(&request).await {
+            Fate::Taken => None,
+            Fate::TakenPartly { rejected, reason } => return self.keep_part(&request, rejected, reason),
+            Fate::Again { reason, .. } | Fate::Refused { reason } => Some(reason),
+        };
+        if reason.is_none() {
+            if let Err(fault) = self.dead.drop_letter(key) {
+                return faulty(&fault);
+            }
+            tracing::info!("the sink has taken {key}, which was put aside");
+        }
+        let resent = Resent {
+            key: key.into(),
+            taken: reason.is_none(),
+            reason,
+        };
+        reply(200, JSON, serde_json::json!(resent).to_string())
+    }
+
+    /// What the sink has a part of is kept under another key: it must not be sent again.
+    fn keep_part(&self, request: &Forwarded, rejected: u64, reason: String) -> Response<Body> {
+        let key = request.key();
+        let reason = format!("taken, but {rejected} points rejected (do not send it again): {reason}");
+        let kept = self.dead.keep(&format!("{key}-partial"), &reason, &request.body);
+        if let Err(fault) = kept.and_then(|()| self.dead.drop_letter(&key)) {
+            return faulty(&fault);
+        }
+        let resent = Resent {
+            key,
+            taken: true,
+            reason: Some(reason),
+        };
+        reply(200, JSON, serde_json::json!(resent).to_string())
+    }
+}
+
+/// A letter as it was sent first.
+fn forwarded(key: &str, body: Vec<u8>) -> Option<Forwarded> {
+    let (slot, rest) = key.split_once('-')?;
+    let (epoch, number) = rest.rsplit_once('-')?;
+    let made = Forwarded {
+        slot: slot.parse().ok()?,
+        epoch: epoch.into(),
+        number: number.parse().ok()?,
+        body,
+    };
+    (made.key() == key).then_some(made)
+}
+
+/// Nothing but `dead/` is concerned, so the service goes on.
+fn faulty(fault: &Fault) -> Response<Body> {
+    tracing::warn!("the folder of dead letters: {fault}");
+    message(500, &fault.to_string())
+}
+
+#[cfg(test)]
+mod tests {
+    use super::*;
+
+    #[test]
+    fn a_key_is_read_as_it_was_written() {
+        let made = forwarded("0-1f-e2-17", b"{}".to_vec()).unwrap();
+        assert_eq!((made.slot, made.epoch.as_str(), made.number), (0, "1f-e2", 17));
+        for key in ["", "0-a", "0-a-", "0-a-01", "x-a-1", "70000-a-1", "0-a-1 "] {
+            assert_eq!(forwarded(key, Vec::new()), None, "{key}");
+        }
+    }
+}

@@ -1,0 +1,198 @@
+//! The operator's address: orders to the keeper, what the service says of itself, the dead letters.
+//!
+//! It is another address than the senders', loopback by default: who can post can't operate.
+
+mod letters;
+mod status;
+
+pub use letters::Resent;
+pub use status::{SlotStatus, Status, Stock};
+
+use crate::files::{Dead, Outbox};
+use crate::intake::{connections::Handler, Budget};
+use crate::keeper::{Done, Order, Orders};
+use crate::metrics::Metrics;
+use crate::otlp::{Encoding, Outcome};
+use crate::sinks::{Delivery, Sink};
+use crate::slot::{is_sender, Slot};
+use hyper::header::{HeaderValue, ALLOW, CONTENT_TYPE};
+use hyper::{Body, Method, Request, Response, StatusCode};
+use serde_json::json;
+use std::sync::{Arc, Mutex};
+use std::time::Instant;
+
+const JSON: &str = "application/json";
+const TEXT: &str = "text/plain; charset=utf-8";
+const PROMETHEUS: &str = "text/plain; version=0.0.4";
+
+/// All that an operator may ask.
+pub struct Desk {
+    pub slot: Arc<Slot>,
+    pub orders: Orders,
+    pub outbox: Arc<Outbox>,
+    pub dead: Arc<Dead>,
+    pub sink: Arc<dyn Sink>,
+    pub delivery: Arc<Mutex<Delivery>>,
+    pub metrics: Arc<Metrics>,
+    pub budget: Arc<Budget>,
+    /// Where senders post.
+    pub listen: String,
+    pub data: String,
+    pub begun: Instant,
+    /// One letter is sent again at a time.
+    pub resending: tokio::sync::Mutex<()>,
+}
+
+/// A route of the operator's address.
+enum Route {
+    Order(Order),
+    Report,
+    Metrics,
+    Health,
+    Ready,
+    Status,
+    Letters,
+    Letter(String),
+    Resend(String),
+    Drop(String),
+}
+
+impl Route {
+    /// The method that a path wants, and its route.
+    fn of(path: &str) -> Option<(Method, Route)> {
+        let parts: Vec<&str> = path.strip_prefix('/')?.split('/').collect();
+        Some(match parts[..] {
+            ["flush" | "checkpoint"] => (Method::POST, Route::Order(Order::Checkpoint)),
+            ["renew"] => (Method::POST, Route::Order(Order::Renew)),
+            ["quarantine", sender] => (Method::POST, Route::Order(Order::Quarantine(sender.into()))),
+            ["lift", sender] => (Method::POST, Route::Order(Order::Lift(sender.into()))),
+            ["report"] => (Method::GET, Route::Report),
+            ["metrics"] => (Method::GET, Route::Metrics),
+            ["health"] => (Method::GET, Route::Health),
+            ["ready"] => (Method::GET, Route::Ready),
+            ["status"] => (Method::GET, Route::Status),
+            ["dead"] => (Method::GET, Route::Letters),
+            ["dead", key] => (Method::GET, Route::Letter(key.into())),
+            ["dead", key, "resend"] => (Method::POST, Route::Resend(key.into())),
+            ["dead", key, "drop"] => (Method::POST, Route::Drop(key.into())),
+            _ => return None,
+        })
+    }
+}
+
+impl Handler for Desk {
+    async fn answer(self: Arc<Self>, request: Request<Body>) -> Response<Body> {
+        match Route::of(request.uri().path()) {
+            None => message(404, "no such path"),
+            Some((method, route)) if method == request.method() => self.go(route).await,
+            Some((method, _)) => {
+                let mut response = message(405, "wrong method");
+                let allow = if method == Method::POST { "POST" } else { "GET" };
+                response
+                    .headers_mut()
+                    .insert(ALLOW, HeaderValue::from_static(allow));
+                response
+            }
+        }
+    }
+}
+
+impl Desk {
+    async fn go(&self, route: Route) -> Response<Body> {
+        match route {
+            Route::Order(order) => self.order(order).await,
+            Route::Report => match self.slot.report().await {
+                Some(report) => reply(200, TEXT, report),
+                None => message(503, "recovering"),
+            },
+            Route::Metrics => {
+                self.read_levels();
+                reply(200, PROMETHEUS, self.metrics.page())
+            }
+            Route::Health => reply(200, TEXT, "ok\n"),
+            Route::Ready if self.slot.is_ready() => reply(200, TEXT, "ready\n"),
+            Route::Ready => message(503, "recovering"),
+            Route::Status => match serde_json::to_vec(&self.status()) {
+                Ok(status) => reply(200, JSON, status),
+                Err(error) => message(500, &error.to_string()),
+            },
+            Route::Letters => self.letters(),
+            Route::Letter(key) => self.letter(&key),
+            Route::Resend(key) => self.resend(&key).await,
+            Route::Drop(key) => self.drop_letter(&key),
+        }
+    }
+
+    async fn order(&self, order: Order) -> Response<Body> {
+        if let Order::Quarantine(sender) | Order::Lift(sender) = &order {
+            if !is_sender(sender) {
+                return message(400, "bad sender");
+            }
+        }
+        match self.orders.order(order).await {
+            None => message(503, "ending"),
+            Some(Done::Flushed { requests }) => reply(200, JSON, json!({ "requests": requests }).to_string()),
+            Some(Done::Answered(outcome)) => answered(&outcome),
+        }
+    }
+}
+
+fn answered(outcome: &Outcome) -> Response<Body> {
+    reply(outcome.status(), JSON, outcome.body(Encoding::Json))
+}
+
+fn message(status: u16, text: &str) -> Response<Body> {
+    reply(status, JSON, json!({ "message": text }).to_string())
+}
+
+fn reply(status: u16, kind: &'static str, body: impl Into<Body>) -> Response<Body> {
+    let mut response = Response::new(body.into());
+    *response.status_mut() = StatusCode::from_u16(status).unwrap_or(StatusCode::INTERNAL_SERVER_ERROR);
+    response
+        .headers_mut()
+        .insert(CONTENT_TYPE, HeaderValue::from_static(kind));
+    response
+}
+
+#[cfg(test)]
+mod tests {
+    use super::*;
+
+    #[test]
+    fn each_path_has_one_method() {
+        for (path, method) in [
+            ("/flush", Method::POST),
+            ("/checkpoint", Method::POST),
+            ("/renew", Method::POST),
+            ("/quarantine/A", Method::POST),
+            ("/lift/A", Method::POST),
+            ("/report", Method::GET),
+            ("/metrics", Method::GET),
+            ("/health", Method::GET),
+            ("/ready", Method::GET),
+            ("/status", Method::GET),
+            ("/dead", Method::GET),
+            ("/dead/0-a-1", Method::GET),
+            ("/dead/0-a-1/resend", Method::POST),
+            ("/dead/0-a-1/drop", Method::POST),
+        ] {
+            assert_eq!(Route::of(path).map(|(method, _)| method), Some(method), "{path}");
+        }
+    }
+
+    #[test]
+    fn nothing_else_is_a_path() {
+        for path in [
+            "",
+            "/",
+            "/v1/metrics",
+            "/flush/",
+            "/quarantine",
+            "/quarantine/A/B",
+            "/dead/0-a-1/send",
+            "flush",
+        ] {
+            assert!(Route::of(path).is_none(), "{path}");
+        }
+    }
+}

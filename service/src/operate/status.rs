@@ -1,0 +1,169 @@
+//! What the service says of itself: in JSON for `totxegun status`, in gauges for Prometheus.
+
+use super::Desk;
+use serde::{Deserialize, Serialize};
+use std::sync::PoisonError;
+use std::time::{SystemTime, UNIX_EPOCH};
+
+/// `GET /status`.
+#[derive(Debug, Serialize, Deserialize)]
+pub struct Status {
+    pub version: String,
+    pub pid: u32,
+    pub uptime_seconds: u64,
+    /// Whether a gateway has all accepted posts.
+    pub ready: bool,
+    pub listen: String,
+    pub data: String,
+    pub sink: String,
+    /// Requests that the sink refused for good.
+    pub dead: u64,
+    pub slots: Vec<SlotStatus>,
+}
+
+#[derive(Debug, Serialize, Deserialize)]
+pub struct SlotStatus {
+    pub slot: u16,
+    pub series: usize,
+    pub quarantined: Vec<String>,
+    pub gateway: Option<GatewayStatus>,
+    pub journal: Stock,
+    /// Requests that the sink does not have.
+    pub waiting: u64,
+    pub outbox: Stock,
+    /// Tries of the request that is being delivered.
+    pub tries: u64,
+    /// Why the last try was not taken.
+    pub trouble: Option<String>,
+}
+
+#[derive(Debug, Serialize, Deserialize)]
+pub struct GatewayStatus {
+    pub pid: u32,
+    pub connections: u64,
+    pub resident_bytes: Option<u64>,
+}
+
+/// Bytes on disk, and how old the oldest part is.
+#[derive(Debug, PartialEq, Eq, Serialize, Deserialize)]
+pub struct Stock {
+    pub bytes: u64,
+    pub age_seconds: Option<u64>,
+}
+
+impl Stock {
+    fn new(bytes: u64, since: Option<u64>) -> Stock {
+        Stock {
+            bytes,
+            age_seconds: since.map(|since| now().saturating_sub(since)),
+        }
+    }
+}
+
+impl Desk {
+    pub(super) fn status(&self) -> Status {
+        Status {
+            version: env!("CARGO_PKG_VERSION").into(),
+            pid: std::process::id(),
+            uptime_seconds: self.begun.elapsed().as_secs(),
+            ready: self.slot.is_ready(),
+            listen: self.listen.clone(),
+            data: self.data.clone(),
+            sink: self.sink.name(),
+            dead: self.dead.count(),
+            slots: vec![self.slot_status()],
+        }
+    }
+
+    fn slot_status(&self) -> SlotStatus {
+        let (journal, since) = self.slot.journal_size();
+        let (waiting, bytes, first) = self.outbox.waiting();
+        let delivery = self
+            .delivery
+            .lock()
+            .unwrap_or_else(PoisonError::into_inner)
+            .clone(); // a copy is sound
+        SlotStatus {
+            slot: 0,
+            series: self.outbox.series_count(),
+            quarantined: self.outbox.quarantined().into_iter().collect(),
+            gateway: self.gateway_status(),
+            journal: Stock::new(journal, since),
+            waiting,
+            outbox: Stock::new(bytes, first.map(|first| first.since)),
+            tries: delivery.tries,
+            trouble: delivery.trouble,
+        }
+    }
+
+    fn gateway_status(&self) -> Option<GatewayStatus> {
+        let pid = self.slot.gateway()?;
+        let connections = self.metrics.gateway_connections.get().unsigned_abs();
+        Some(GatewayStatus {
+            pid,
+            connections,
+            resident_bytes: resident_bytes(pid),
+        })
+    }
+
+    /// Sets the gauges of what is elsewhere.
+    pub(super) fn read_levels(&self) {
+        let status = self.slot_status();
+        let levels = &self.metrics.levels;
+        levels.ready.set(i64::from(self.slot.is_ready()));
+        levels.post_bytes_in_flight.set(self.budget.used() as i64);
+        levels.journal_bytes.set(status.journal.bytes as i64);
+        levels
+            .journal_age_seconds
+            .set(status.journal.age_seconds.unwrap_or(0) as i64);
+        levels.outbox_requests.set(status.waiting as i64);
+        levels.outbox_bytes.set(status.outbox.bytes as i64);
+        levels
+            .outbox_age_seconds
+            .set(status.outbox.age_seconds.unwrap_or(0) as i64);
+        levels.dead_requests.set(self.dead.count() as i64);
+        self.metrics.series.set(status.series as i64);
+        let resident = status
+            .gateway
+            .and_then(|gateway| gateway.resident_bytes)
+            .unwrap_or(0);
+        levels.gateway_resident_memory_bytes.set(resident as i64);
+    }
+}
+
+/// `VmRSS` of a process, by the kernel: a file without a disk behind it.
+fn resident_bytes(pid: u32) -> Option<u64> {
+    let status = std::fs::read_to_string(format!("/proc/{pid}/status")).ok()?;
+    let line = status.lines().find_map(|line| line.strip_prefix("VmRSS:"))?;
+    let kibibytes: u64 = line.trim().strip_suffix("kB")?.trim().parse().ok()?;
+    Some(kibibytes * 1024)
+}
+
+fn now() -> u64 {
+    SystemTime::now()
+        .duration_since(UNIX_EPOCH)
+        .map_or(0, |since| since.as_secs())
+}
+
+#[cfg(test)]
+mod tests {
+    use super::*;
+
+    #[test]
+    fn a_process_has_memory() {
+        assert!(resident_bytes(std::process::id()).unwrap() > 100_000);
+        assert_eq!(resident_bytes(u32::MAX), None);
+    }
+
+    #[test]
+    fn a_clock_that_was_set_back_gives_no_age_below_zero() {
+        assert_eq!(
+            Stock::new(1, Some(u64::MAX)),
+            Stock {
+                bytes: 1,
+                age_seconds: Some(0)
+            }
+        );
+        assert_eq!(Stock::new(0, None).age_seconds, None);
+    }
+}

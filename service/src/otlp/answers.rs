@@ -1,0 +1,76 @@
+//! What senders are answered, and what the gateway's answers say.
+
+use super::json::{write_text, Document};
+use super::messages::{ExportMetricsPartialSuccess, ExportMetricsServiceResponse, Status};
+use super::number::gateway_whole;
+use super::{Encoding, Outcome};
+use prost::Message;
+
+/// The gateway's own words for points that it did not take.
+const OUTSIDE: &str = "points outside the profile";
+
+/// How many points an answer of the gateway says were not taken.
+pub fn rejected(answer: &[u8]) -> u64 {
+    let count = || {
+        let document = Document::parse(answer).ok()?;
+        let [partial] = document.root().named(["partialSuccess"])?;
+        let [rejected] = partial?.named(["rejectedDataPoints"])?;
+        u64::try_from(gateway_whole(rejected?)?).ok()
+    };
+    count().unwrap_or(0)
+}
+
+pub(super) fn body(outcome: &Outcome, encoding: Encoding) -> Vec<u8> {
+    match encoding {
+        Encoding::Json => json(outcome).into_bytes(),
+        Encoding::Protobuf => protobuf(outcome),
+    }
+}
+
+fn json(outcome: &Outcome) -> String {
+    match outcome {
+        Outcome::Taken { rejected: 0 } => "{}".to_string(),
+        Outcome::Taken { rejected } => {
+            format!(r#"{{"partialSuccess":{{"errorMessage":"{OUTSIDE}","rejectedDataPoints":"{rejected}"}}}}"#)
+        }
+        Outcome::Refused { status, message } => {
+            let mut text = format!(r#"{{"code":{},"message":"#, code(*status));
+            write_text(&mut text, message);
+            text.push('}');
+            text
+        }
+    }
+}
+
+fn protobuf(outcome: &Outcome) -> Vec<u8> {
+    match outcome {
+        Outcome::Taken { rejected } => {
+            let partial_success = (*rejected > 0).then(|| ExportMetricsPartialSuccess {
+                rejected_data_points: i64::try_from(*rejected).unwrap_or(i64::MAX),
+                error_message: OUTSIDE.to_string(),
+            });
+            ExportMetricsServiceResponse { partial_success }.encode_to_vec()
+        }
+        Outcome::Refused { status, message } => {
+            Status { code: code(*status), message: message.clone() }.encode_to_vec()
+        }
+    }
+}
+
+/// The `google.rpc.Code` of an HTTP status, so that a sender that goes by it does what the status says.
+fn code(status: u16) -> i32 {
+    const INVALID_ARGUMENT: i32 = 3;
+    match status {
+        400 | 415 => INVALID_ARGUMENT,
+        401 => 16,       // UNAUTHENTICATED
+        403 => 7,        // PERMISSION_DENIED
+        404 => 5,        // NOT_FOUND
+        405 => 12,       // UNIMPLEMENTED
+        408 | 504 => 4,  // DEADLINE_EXCEEDED
+        413 => INVALID_ARGUMENT, // RESOURCE_EXHAUSTED would ask for the same again.
+        429 => 8,        // RESOURCE_EXHAUSTED
+        500 => 13,       // INTERNAL
+        502 | 503 => 14, // UNAVAILABLE
+        _ => 2,          // UNKNOWN
+    }
+}

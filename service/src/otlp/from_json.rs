@@ -1,0 +1,275 @@
+//! A request in JSON, written as the gateway reads it, or found to be so already.
+//!
+//! What the mapping allows and the gateway does not read is changed: `5.0`, names of enums, names of the `.proto`
+//! files. What neither reads as a value of its field stays a wrong value, so that the gateway counts the points
+//! that it makes foreign.
+
+use super::json::{Document, Value};
+use super::number::{gateway_whole, is_plain, mapped_double, mapped_whole, whole_double, MAX_WHOLE_DOUBLE};
+use super::output::Output;
+use super::schema::{Kind, Message, KEY_VALUE, REQUEST};
+use super::{Dropped, Refused};
+
+/// Why a walk ended before the end.
+enum Stop {
+    /// The gateway would read something otherwise than it is meant.
+    Changed,
+    Refused(Refused),
+}
+
+/// Whether the gateway reads the body as it is meant.
+pub fn is_read_as_it_is(document: &Document<'_>) -> Result<bool, Refused> {
+    if document.is_near_range() {
+        return Ok(false);
+    }
+    match (Walk { out: None }).body(document) {
+        Ok(()) => Ok(true),
+        Err(Stop::Changed) => Ok(false),
+        Err(Stop::Refused(refused)) => Err(refused),
+    }
+}
+
+pub fn written(document: &Document<'_>, dropped: &Dropped) -> Result<String, Refused> {
+    let mut out = Output::new(document.root().raw().len(), dropped);
+    match (Walk { out: Some(&mut out) }).body(document) {
+        Ok(()) => Ok(out.text),
+        Err(Stop::Refused(refused)) => Err(refused),
+        // A walk that writes goes on past changes.
+        Err(Stop::Changed) => Err(Refused::Unreadable("not JSON of OTLP".to_string())),
+    }
+}
+
+/// A walk that only looks has nothing to write to and ends at the first change.
+struct Walk<'o, 'd> {
+    out: Option<&'o mut Output<'d>>,
+}
+
+fn refused(of: &Message, what: impl std::fmt::Display) -> Stop {
+    Stop::Refused(Refused::Unreadable(format!("not JSON of OTLP: {}: {what}", of.name)))
+}
+
+impl Walk<'_, '_> {
+    fn body(&mut self, document: &Document<'_>) -> Result<(), Stop> {
+        let root = document.root();
+        if root.members().is_none() {
+            return Err(refused(&REQUEST, "the body is no object"));
+        }
+        self.message(&REQUEST, root)
+    }
+
+    fn changed(&self) -> Result<(), Stop> {
+        match self.out {
+            None => Err(Stop::Changed),
+            Some(_) => Ok(()),
+        }
+    }
+
+    fn push(&mut self, text: &str) {
+        if let Some(out) = &mut self.out {
+            out.text.push_str(text);
+        }
+    }
+
+    /// A message that is an object.
+    fn message(&mut self, of: &'static Message, value: Value<'_>) -> Result<(), Stop> {
+        self.push("{");
+        let mut found: u32 = 0;
+        for (name, member) in value.members().into_iter().flatten() {
+            let place = of.fields.iter().position(|field| field.name == name || field.proto_name == name);
+            let Some(place) = place else {
+                not_lost(of, &name, member)?;
+                continue;
+            };
+            let field = &of.fields[place];
+            if found & (1 << place) != 0 {
+                return Err(refused(of, format_args!("{} is there twice", field.name)));
+            }
+            found |= 1 << place;
+            if member.is_null() {
+                continue;
+            }
+            if let Kind::Exemplars = field.kind {
+                continue;
+            }
+            if field.name != name {
+                self.changed()?;
+            }
+            if let Some(out) = &mut self.out {
+                out.name(field.name);
+            }
+            self.member(of, field.name, field.kind, member)?;
+        }
+        self.push("}");
+        Ok(())
+    }
+
+    fn member(&mut self, of: &'static Message, name: &str, kind: Kind, value: Value<'_>) -> Result<(), Stop> {
+        match kind {
+            Kind::Message(inner) => match value.members() {
+                Some(_) => self.message(inner, value),
+                None => Err(refused(of, format_args!("{name} is no object"))),
+            },
+            Kind::Messages(inner) => {
+                let sound = value.elements().map(|mut all| all.all(|one| one.members().is_some()));
+                if sound != Some(true) {
+                    return Err(refused(of, format_args!("{name} is no array of objects")));
+                }
+                self.parts(inner, kind, value)
+            }
+            Kind::Part(inner) => self.part(inner, value),
+            Kind::Parts(inner) => self.parts(inner, kind, value),
+            Kind::ResourceAttributes => self.parts(&KEY_VALUE, kind, value),
+            _ => self.leaf(kind, value),
+        }
+    }
+
+    fn part(&mut self, of: &'static Message, value: Value<'_>) -> Result<(), Stop> {
+        match value.members() {
+            Some(_) => self.message(of, value),
+            None => {
+                self.push("false");
+                Ok(())
+            }
+        }
+    }
+
+    fn parts(&mut self, of: &'static Message, kind: Kind, value: Value<'_>) -> Result<(), Stop> {
+        let Some(elements) = value.elements() else {
+            self.push("false");
+            return Ok(());
+        };
+        self.push("[");
+        for element in elements {
+            let from = self.separate();
+            self.part(of, element)?;
+            if let (Some(out), Kind::ResourceAttributes) = (&mut self.out, kind) {
+                out.drop_attribute(from);
+            }
+        }
+        self.push("]");
+        Ok(())
+    }
+
+    /// A comma behind an element; where it is.
+    fn separate(&mut self) -> usize {
+        let Some(out) = &mut self.out else { return 0 };
+        let from = out.text.len();
+        out.separate('[');
+        from
+    }
+
+    fn leaf(&mut self, kind: Kind, value: Value<'_>) -> Result<(), Stop> {
+        match kind {
+            Kind::Text => {
+                if let Some(out) = &mut self.out {
+                    match value.text() {
+                        Some(text) => out.quoted(&text),
+                        None => out.text.push_str("false"),
+                    }
+                }
+            }
+            // A number is as wrong a truth as any.
+            Kind::Bool => self.push(value.truth().map_or("0", |truth| if truth { "true" } else { "false" })),
+            Kind::Temporality => self.temporality(value)?,
+            Kind::Whole(_) => self.whole(value)?,
+            Kind::Wholes => self.list(value, Self::whole)?,
+            Kind::Double => self.double(value)?,
+            Kind::Doubles => self.list(value, Self::double)?,
+            Kind::Fraction => self.fraction(value),
+            Kind::Map => self.push("{}"),
+            _ => self.push("\"\""),
+        }
+        Ok(())
+    }
+
+    fn list(
+        &mut self,
+        value: Value<'_>,
+        each: impl Fn(&mut Self, Value<'_>) -> Result<(), Stop>,
+    ) -> Result<(), Stop> {
+        let Some(elements) = value.elements() else {
+            self.push("false");
+            return Ok(());
+        };
+        self.push("[");
+        for element in elements {
+            self.separate();
+            each(self, element)?;
+        }
+        self.push("]");
+        Ok(())
+    }
+
+    fn whole(&mut self, value: Value<'_>) -> Result<(), Stop> {
+        let known = gateway_whole(value);
+        let meant = known.or_else(|| mapped_whole(value));
+        if known.is_none() && meant.is_some() {
+            self.changed()?;
+        }
+        if let Some(out) = &mut self.out {
+            match meant {
+                Some(whole) => out.whole(whole),
+                None => out.text.push_str("false"),
+            }
+        }
+        Ok(())
+    }
+
+    fn double(&mut self, value: Value<'_>) -> Result<(), Stop> {
+        let known = gateway_whole(value).filter(|whole| whole.unsigned_abs() <= u128::from(MAX_WHOLE_DOUBLE));
+        let meant = mapped_double(value);
+        if known.is_none() && meant.and_then(whole_double).is_some() {
+            self.changed()?;
+        }
+        if let Some(out) = &mut self.out {
+            match (known, meant) {
+                (Some(whole), _) => out.whole_number(whole),
+                (None, Some(double)) => out.double(double),
+                (None, None) => out.text.push_str("false"),
+            }
+        }
+        Ok(())
+    }
+
+    /// A double whose value counts for nothing but that it is there.
+    fn fraction(&mut self, value: Value<'_>) {
+        let Some(out) = &mut self.out else { return };
+        match mapped_double(value) {
+            Some(double) => out.double(double),
+            None => out.text.push_str("false"),
+        }
+    }
+
+    fn temporality(&mut self, value: Value<'_>) -> Result<(), Stop> {
+        let plain = value.number().filter(|number| is_plain(number));
+        let named = value.text().and_then(|name| match &*name {
+            "AGGREGATION_TEMPORALITY_UNSPECIFIED" => Some(0),
+            "AGGREGATION_TEMPORALITY_DELTA" => Some(1),
+            "AGGREGATION_TEMPORALITY_CUMULATIVE" => Some(2),
+            _ => None,
+        });
+        let meant = named.or_else(|| value.number().and_then(|_| mapped_whole(value)));
+        if plain.is_none() && meant.is_some() {
+            self.changed()?;
+        }
+        if let Some(out) = &mut self.out {
+            match meant {
+                Some(number) => out.whole_number(number),
+                None => out.text.push_str("false"),
+            }
+        }
+        Ok(())
+    }
+}
+
+/// Refuses what a member of an unknown name has to say about points. Other unknown names are passed over.
+fn not_lost(of: &'static Message, name: &str, member: Value<'_>) -> Result<(), Stop> {
+    let is_empty = match member.elements() {
+        Some(mut elements) => elements.next().is_none(),
+        None => member.is_null(),
+    };
+    match of.refused.iter().find(|lost| lost.names.contains(&name)) {
+        Some(lost) if !is_empty => Err(refused(of, format_args!("{name} {}", lost.why))),
+        _ => Ok(()),
+    }
+}

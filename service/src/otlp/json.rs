@@ -1,0 +1,216 @@
+//! JSON texts, read as the gateway reads them: which bytes are JSON, and what a text's values are.
+//!
+//! A text is read once into a list of places, 12 bytes for each value and name, and stays where it is. So the
+//! memory for a text is a small multiple of it whatever it says, and to pass over a value costs nothing.
+
+mod parser;
+
+use std::borrow::Cow;
+
+/// How deep containers may be nested: the gateway reads no more.
+pub const MAX_DEPTH: usize = 127;
+
+/// Why bytes are no JSON that the gateway reads.
+#[derive(Clone, Debug, PartialEq, Eq, thiserror::Error)]
+pub enum NotJson {
+    #[error("not JSON: a byte that is not UTF-8 at {0}")]
+    NotText(usize),
+    #[error("not JSON: {expected} expected at byte {at}")]
+    Unexpected { at: usize, expected: &'static str },
+    #[error("not JSON: nested more than {MAX_DEPTH} deep at byte {0}")]
+    TooDeep(usize),
+    #[error("not JSON: a number past the range of a double at byte {0}")]
+    OutOfRange(usize),
+    #[error("body too long")]
+    TooLong,
+}
+
+/// A value or a name: where it begins and ends, and which entry comes after it and what is in it.
+#[derive(Clone, Copy)]
+struct Entry {
+    at: u32,
+    end: u32,
+    next: u32,
+}
+
+/// A text that is JSON.
+pub struct Document<'a> {
+    text: &'a str,
+    entries: Vec<Entry>,
+    near_range: bool,
+}
+
+/// A value of a document.
+#[derive(Clone, Copy)]
+pub struct Value<'d> {
+    text: &'d str,
+    entries: &'d [Entry],
+    index: u32,
+}
+
+#[derive(Clone, Copy, Debug, PartialEq, Eq)]
+pub enum Kind {
+    Null,
+    Bool,
+    Number,
+    Text,
+    Array,
+    Object,
+}
+
+impl<'a> Document<'a> {
+    pub fn parse(body: &'a [u8]) -> Result<Document<'a>, NotJson> {
+        let text = std::str::from_utf8(body).map_err(|error| NotJson::NotText(error.valid_up_to()))?;
+        parser::parse(text)
+    }
+
+    pub fn root(&self) -> Value<'_> {
+        Value { text: self.text, entries: &self.entries, index: 0 }
+    }
+
+    /// Whether a number is so near to the range of a double that readers may differ on whether it is in it.
+    pub fn is_near_range(&self) -> bool {
+        self.near_range
+    }
+}
+
+impl<'d> Value<'d> {
+    fn entry(self) -> Entry {
+        self.entries[self.index as usize]
+    }
+
+    fn at(self, index: u32) -> Value<'d> {
+        Value { index, ..self }
+    }
+
+    /// The value as it is written.
+    pub fn raw(self) -> &'d str {
+        let entry = self.entry();
+        &self.text[entry.at as usize..entry.end as usize]
+    }
+
+    pub fn kind(self) -> Kind {
+        match self.text.as_bytes()[self.entry().at as usize] {
+            b'n' => Kind::Null,
+            b't' | b'f' => Kind::Bool,
+            b'"' => Kind::Text,
+            b'[' => Kind::Array,
+            b'{' => Kind::Object,
+            _ => Kind::Number,
+        }
+    }
+
+    pub fn is_null(self) -> bool {
+        self.kind() == Kind::Null
+    }
+
+    pub fn truth(self) -> Option<bool> {
+        (self.kind() == Kind::Bool).then(|| self.raw() == "true")
+    }
+
+    /// The number as it is written.
+    pub fn number(self) -> Option<&'d str> {
+        (self.kind() == Kind::Number).then(|| self.raw())
+    }
+
+    pub fn text(self) -> Option<Cow<'d, str>> {
+        if self.kind() != Kind::Text {
+            return None;
+        }
+        let raw = self.raw();
+        Some(parser::unescaped(&raw[1..raw.len() - 1]))
+    }
+
+    /// The elements of an array.
+    pub fn elements(self) -> Option<Elements<'d>> {
+        (self.kind() == Kind::Array).then(|| Elements { of: self, index: self.index + 1 })
+    }
+
+    /// The names and values of an object, in order; a name may be there more than once.
+    pub fn members(self) -> Option<Members<'d>> {
+        (self.kind() == Kind::Object).then(|| Members { of: self, index: self.index + 1 })
+    }
+
+    /// The values of these names, each its last one; `null` is absent. `None` of what is no object.
+    pub fn named<const N: usize>(self, names: [&str; N]) -> Option<[Option<Value<'d>>; N]> {
+        let mut found = [None; N];
+        for (name, value) in self.members()? {
+            if let Some(place) = names.iter().position(|wanted| *wanted == name) {
+                found[place] = if value.is_null() { None } else { Some(value) };
+            }
+        }
+        Some(found)
+    }
+}
+
+#[derive(Clone)]
+pub struct Elements<'d> {
+    of: Value<'d>,
+    index: u32,
+}
+
+impl<'d> Iterator for Elements<'d> {
+    type Item = Value<'d>;
+
+    fn next(&mut self) -> Option<Value<'d>> {
+        if self.index >= self.of.entry().next {
+            return None;
+        }
+        let value = self.of.at(self.index);
+        self.index = value.entry().next;
+        Some(value)
+    }
+}
+
+#[derive(Clone)]
+pub struct Members<'d> {
+    of: Value<'d>,
+    index: u32,
+}
+
+impl<'d> Iterator for Members<'d> {
+    type Item = (Cow<'d, str>, Value<'d>);
+
+    fn next(&mut self) -> Option<(Cow<'d, str>, Value<'d>)> {
+        if self.index >= self.of.entry().next {
+            return None;
+        }
+        let name = self.of.at(self.index);
+        let value = self.of.at(self.index + 1);
+        self.index = value.entry().next;
+        Some((name.text().unwrap_or_default(), value))
+    }
+}
+
+/// Writes a text as the gateway does: only `"`, `\` and what is below 32 is escaped.
+pub fn write_text(out: &mut String, text: &str) {
+    out.push('"');
+    let mut from = 0;
+    for (at, byte) in text.bytes().enumerate() {
+        if byte >= 32 && byte != b'"' && byte != b'\\' {
+            continue;
+        }
+        out.push_str(&text[from..at]);
+        from = at + 1;
+        match byte {
+            b'"' => out.push_str("\\\""),
+            b'\\' => out.push_str("\\\\"),
+            8 => out.push_str("\\b"),
+            b'\t' => out.push_str("\\t"),
+            b'\n' => out.push_str("\\n"),
+            12 => out.push_str("\\f"),
+            b'\r' => out.push_str("\\r"),
+            _ => {
+                const DIGITS: &[u8; 16] = b"0123456789abcdef";
+                out.push_str("\\u00");
+                out.push(DIGITS[usize::from(byte >> 4)].into());
+                out.push(DIGITS[usize::from(byte & 15)].into());
+            }
+        }
+    }
+    out.push_str(&text[from..]);
+    out.push('"');
+}
+
+#[cfg(test)]
+mod tests;

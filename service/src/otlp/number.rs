@@ -1,0 +1,95 @@
+//! Numbers: what the gateway reads as a whole number, and what the protobuf JSON mapping does.
+
+use super::json::{Document, Value};
+
+/// A whole double is exact up to here, and the gateway takes none beyond.
+pub const MAX_WHOLE_DOUBLE: u64 = 1 << 53;
+
+/// The whole number that the gateway reads: a JSON number without fraction or exponent, of 64 bits, or a text of
+/// an optional minus and digits.
+pub fn gateway_whole(value: Value<'_>) -> Option<i128> {
+    if let Some(number) = value.number() {
+        if !is_plain(number) {
+            return None;
+        }
+        let whole: i128 = number.parse().ok()?;
+        return (i128::from(i64::MIN)..=i128::from(u64::MAX)).contains(&whole).then_some(whole);
+    }
+    let text = value.text()?;
+    let digits = text.strip_prefix('-').unwrap_or(&text);
+    if digits.is_empty() || !digits.bytes().all(|byte| byte.is_ascii_digit()) {
+        return None;
+    }
+    let whole: i128 = text.parse().ok()?;
+    (whole.unsigned_abs() <= u128::from(u64::MAX)).then_some(whole)
+}
+
+/// Whether a JSON number is written without fraction and exponent, and is not `-0`.
+pub fn is_plain(number: &str) -> bool {
+    number != "-0" && !number.contains(['.', 'e', 'E'])
+}
+
+/// The whole number that the mapping reads from a number or a text: also `5.0`, `5e0` and `-0`.
+pub fn mapped_whole(value: Value<'_>) -> Option<i128> {
+    match value.number() {
+        Some(number) => whole(number),
+        None => whole(&value.text().filter(|text| is_number(text))?),
+    }
+}
+
+/// The double that the mapping reads from a number or a text.
+pub fn mapped_double(value: Value<'_>) -> Option<f64> {
+    if let Some(number) = value.number() {
+        return number.parse().ok();
+    }
+    let text = value.text()?;
+    match &*text {
+        "NaN" => Some(f64::NAN),
+        "Infinity" => Some(f64::INFINITY),
+        "-Infinity" => Some(f64::NEG_INFINITY),
+        _ if is_number(&text) => text.parse().ok(),
+        _ => None,
+    }
+}
+
+/// The double as the whole number that it is, if the gateway takes it.
+pub fn whole_double(double: f64) -> Option<i64> {
+    let is_whole = double.fract() == 0.0 && double.abs() <= MAX_WHOLE_DOUBLE as f64;
+    is_whole.then_some(double as i64)
+}
+
+/// Whether a text is a JSON number and no more.
+fn is_number(text: &str) -> bool {
+    text.starts_with(|first: char| first == '-' || first.is_ascii_digit())
+        && text.ends_with(|last: char| last.is_ascii_digit())
+        && Document::parse(text.as_bytes()).is_ok()
+}
+
+/// The exact value of a JSON number, if it is whole and below 2^64 in size.
+fn whole(number: &str) -> Option<i128> {
+    let (sign, size) = match number.strip_prefix('-') {
+        Some(size) => (-1, size),
+        None => (1, number),
+    };
+    let (digits, exponent) = size.split_once(['e', 'E']).unwrap_or((size, "0"));
+    let (before, after) = digits.split_once('.').unwrap_or((digits, ""));
+    let significant = || before.bytes().chain(after.bytes());
+    if significant().all(|digit| digit == b'0') {
+        return Some(0);
+    }
+    let exponent: i64 = exponent.parse().ok()?;
+    // How many of the digits are before the point once the exponent is applied.
+    let kept = exponent.checked_add(i64::try_from(before.len()).ok()?)?;
+    let written = usize::try_from(kept).ok()?;
+    if significant().skip(written).any(|digit| digit != b'0') {
+        return None;
+    }
+    let mut whole: i128 = 0;
+    for digit in significant().chain(std::iter::repeat(b'0')).take(written) {
+        whole = whole * 10 + i128::from(digit - b'0');
+        if whole > i128::from(u64::MAX) {
+            return None;
+        }
+    }
+    Some(sign * whole)
+}

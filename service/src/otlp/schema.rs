@@ -1,0 +1,255 @@
+//! The messages of `ExportMetricsServiceRequest` as tables: names, numbers and kinds of their fields, for both
+//! encodings (`opentelemetry/proto/metrics/v1/metrics.proto`, `common/v1/common.proto`).
+//!
+//! Fields that say nothing about a point (descriptions, exemplars, the least and the largest value) are not here, or
+//! are only looked through. Fields of older versions that carried points or their identity are here to be refused.
+
+pub struct Message {
+    pub name: &'static str,
+    pub fields: &'static [Field],
+    pub refused: &'static [RefusedField],
+}
+
+pub struct Field {
+    /// The name that the gateway reads (lowerCamelCase).
+    pub name: &'static str,
+    /// The name of the `.proto` file, which the JSON mapping allows too.
+    pub proto_name: &'static str,
+    pub number: u32,
+    pub kind: Kind,
+}
+
+/// A field that can't be read and would be lost in silence.
+pub struct RefusedField {
+    pub names: &'static [&'static str],
+    /// 0 where there is none in protobuf.
+    pub number: u32,
+    pub why: &'static str,
+}
+
+#[derive(Clone, Copy)]
+pub enum Kind {
+    /// A container; in JSON another type refuses the request.
+    Message(&'static Message),
+    Messages(&'static Message),
+    /// A part of an identity; in JSON another type makes foreign what it identifies.
+    Part(&'static Message),
+    Parts(&'static Message),
+    /// The list from which attributes are dropped.
+    ResourceAttributes,
+    Text,
+    Bool,
+    Temporality,
+    Whole(Wire),
+    /// Packed, each of 8 bytes.
+    Wholes,
+    /// A double that may be a whole number.
+    Double,
+    Doubles,
+    /// A double that makes its point foreign, whatever it is.
+    Fraction,
+    Bytes,
+    /// A map, which makes foreign what it identifies.
+    Map,
+    /// Is only looked through for what is malformed, in protobuf.
+    Exemplars,
+}
+
+/// How a whole number is written in protobuf.
+#[derive(Clone, Copy, PartialEq, Eq)]
+pub enum Wire {
+    Int64,
+    Uint32,
+    Fixed64,
+    Sfixed64,
+}
+
+const fn field(name: &'static str, proto_name: &'static str, number: u32, kind: Kind) -> Field {
+    Field { name, proto_name, number, kind }
+}
+
+const fn refused(names: &'static [&'static str], number: u32, why: &'static str) -> RefusedField {
+    RefusedField { names, number, why }
+}
+
+const OTHER_SIGNAL: &str = "is not of metrics: send it to the path of its signal";
+const MISPLACED: &str = "is not at the top of a request: it belongs into resourceMetrics";
+const OLD: &str = "is of an old version of OTLP and can't be read: send it with a newer exporter";
+
+pub static REQUEST: Message = Message {
+    name: "ExportMetricsServiceRequest",
+    fields: &[field("resourceMetrics", "resource_metrics", 1, Kind::Messages(&RESOURCE_METRICS))],
+    refused: &[
+        refused(&["resourceSpans", "resource_spans"], 0, OTHER_SIGNAL),
+        refused(&["resourceLogs", "resource_logs"], 0, OTHER_SIGNAL),
+        refused(&["resourceProfiles", "resource_profiles"], 0, OTHER_SIGNAL),
+        refused(&["resource", "scopeMetrics", "scope_metrics"], 0, MISPLACED),
+        refused(&["scope", "metrics", "dataPoints", "data_points"], 0, MISPLACED),
+        refused(&["gauge", "sum", "histogram", "exponentialHistogram", "summary"], 0, MISPLACED),
+        refused(&["instrumentationLibraryMetrics", "instrumentation_library_metrics"], 0, OLD),
+    ],
+};
+
+static RESOURCE_METRICS: Message = Message {
+    name: "ResourceMetrics",
+    fields: &[
+        field("resource", "resource", 1, Kind::Message(&RESOURCE)),
+        field("scopeMetrics", "scope_metrics", 2, Kind::Messages(&SCOPE_METRICS)),
+    ],
+    refused: &[
+        refused(&["instrumentationLibraryMetrics", "instrumentation_library_metrics"], 1000, OLD),
+        refused(&["scopeSpans", "scope_spans", "scopeLogs", "scope_logs"], 0, OTHER_SIGNAL),
+        refused(&["metrics"], 0, "is not in ResourceMetrics: it belongs into scopeMetrics"),
+    ],
+};
+
+static RESOURCE: Message = Message {
+    name: "Resource",
+    fields: &[field("attributes", "attributes", 1, Kind::ResourceAttributes)],
+    refused: &[refused(&["labels"], 0, OLD)],
+};
+
+static SCOPE_METRICS: Message = Message {
+    name: "ScopeMetrics",
+    fields: &[
+        field("scope", "scope", 1, Kind::Message(&SCOPE)),
+        field("metrics", "metrics", 2, Kind::Messages(&METRIC)),
+    ],
+    refused: &[refused(&["instrumentationLibrary", "instrumentation_library"], 0, OLD)],
+};
+
+static SCOPE: Message = Message {
+    name: "InstrumentationScope",
+    fields: &[
+        field("name", "name", 1, Kind::Text),
+        field("version", "version", 2, Kind::Text),
+        field("attributes", "attributes", 3, Kind::Parts(&KEY_VALUE)),
+    ],
+    refused: &[],
+};
+
+static METRIC: Message = Message {
+    name: "Metric",
+    fields: &[
+        field("name", "name", 1, Kind::Text),
+        field("unit", "unit", 3, Kind::Text),
+        field("gauge", "gauge", 5, Kind::Message(&OTHER_DATA)),
+        field("sum", "sum", 7, Kind::Message(&SUM)),
+        field("histogram", "histogram", 9, Kind::Message(&HISTOGRAM)),
+        field("exponentialHistogram", "exponential_histogram", 10, Kind::Message(&OTHER_DATA)),
+        field("summary", "summary", 11, Kind::Message(&OTHER_DATA)),
+    ],
+    refused: &[
+        refused(&["intGauge", "int_gauge"], 4, OLD),
+        refused(&["intSum", "int_sum"], 6, OLD),
+        refused(&["intHistogram", "int_histogram"], 8, OLD),
+        refused(&["doubleGauge", "double_gauge", "doubleSum", "double_sum"], 0, OLD),
+        refused(&["doubleHistogram", "double_histogram", "doubleSummary", "double_summary"], 0, OLD),
+    ],
+};
+
+/// A gauge, an exponential histogram or a summary: its points are counted, no more.
+static OTHER_DATA: Message = Message {
+    name: "Metric.data",
+    fields: &[field("dataPoints", "data_points", 1, Kind::Messages(&COUNTED))],
+    refused: &[],
+};
+
+static COUNTED: Message = Message { name: "DataPoint", fields: &[], refused: &[] };
+
+static SUM: Message = Message {
+    name: "Sum",
+    fields: &[
+        field("dataPoints", "data_points", 1, Kind::Messages(&NUMBER_POINT)),
+        field("aggregationTemporality", "aggregation_temporality", 2, Kind::Temporality),
+        field("isMonotonic", "is_monotonic", 3, Kind::Bool),
+    ],
+    refused: &[],
+};
+
+static NUMBER_POINT: Message = Message {
+    name: "NumberDataPoint",
+    fields: &[
+        field("startTimeUnixNano", "start_time_unix_nano", 2, Kind::Whole(Wire::Fixed64)),
+        field("timeUnixNano", "time_unix_nano", 3, Kind::Whole(Wire::Fixed64)),
+        field("asDouble", "as_double", 4, Kind::Fraction),
+        field("exemplars", "exemplars", 5, Kind::Exemplars),
+        field("asInt", "as_int", 6, Kind::Whole(Wire::Sfixed64)),
+        field("attributes", "attributes", 7, Kind::Parts(&KEY_VALUE)),
+        field("flags", "flags", 8, Kind::Whole(Wire::Uint32)),
+    ],
+    refused: &[refused(&["labels"], 1, OLD), refused(&["value"], 0, OLD)],
+};
+
+static HISTOGRAM: Message = Message {
+    name: "Histogram",
+    fields: &[
+        field("dataPoints", "data_points", 1, Kind::Messages(&HISTOGRAM_POINT)),
+        field("aggregationTemporality", "aggregation_temporality", 2, Kind::Temporality),
+    ],
+    refused: &[],
+};
+
+static HISTOGRAM_POINT: Message = Message {
+    name: "HistogramDataPoint",
+    fields: &[
+        field("startTimeUnixNano", "start_time_unix_nano", 2, Kind::Whole(Wire::Fixed64)),
+        field("timeUnixNano", "time_unix_nano", 3, Kind::Whole(Wire::Fixed64)),
+        field("count", "count", 4, Kind::Whole(Wire::Fixed64)),
+        field("sum", "sum", 5, Kind::Double),
+        field("bucketCounts", "bucket_counts", 6, Kind::Wholes),
+        field("explicitBounds", "explicit_bounds", 7, Kind::Doubles),
+        field("exemplars", "exemplars", 8, Kind::Exemplars),
+        field("attributes", "attributes", 9, Kind::Parts(&KEY_VALUE)),
+        field("flags", "flags", 10, Kind::Whole(Wire::Uint32)),
+    ],
+    refused: &[refused(&["labels"], 1, OLD)],
+};
+
+pub static EXEMPLAR: Message = Message {
+    name: "Exemplar",
+    fields: &[
+        field("timeUnixNano", "time_unix_nano", 2, Kind::Whole(Wire::Fixed64)),
+        field("asDouble", "as_double", 3, Kind::Fraction),
+        field("spanId", "span_id", 4, Kind::Bytes),
+        field("traceId", "trace_id", 5, Kind::Bytes),
+        field("asInt", "as_int", 6, Kind::Whole(Wire::Sfixed64)),
+        field("filteredAttributes", "filtered_attributes", 7, Kind::Parts(&KEY_VALUE)),
+    ],
+    refused: &[],
+};
+
+pub static KEY_VALUE: Message = Message {
+    name: "KeyValue",
+    fields: &[
+        field("key", "key", 1, Kind::Text),
+        field("value", "value", 2, Kind::Part(&ANY_VALUE)),
+    ],
+    refused: &[],
+};
+
+static ANY_VALUE: Message = Message {
+    name: "AnyValue",
+    fields: &[
+        field("stringValue", "string_value", 1, Kind::Text),
+        field("boolValue", "bool_value", 2, Kind::Bool),
+        field("intValue", "int_value", 3, Kind::Whole(Wire::Int64)),
+        field("doubleValue", "double_value", 4, Kind::Fraction),
+        field("arrayValue", "array_value", 5, Kind::Part(&ARRAY_VALUE)),
+        field("kvlistValue", "kvlist_value", 6, Kind::Map),
+        field("bytesValue", "bytes_value", 7, Kind::Bytes),
+    ],
+    refused: &[],
+};
+
+static ARRAY_VALUE: Message = Message {
+    name: "ArrayValue",
+    fields: &[field("values", "values", 1, Kind::Parts(&ANY_VALUE))],
+    refused: &[],
+};
+
+pub static KEY_VALUE_LIST: Message = Message {
+    name: "KeyValueList",
+    fields: &[field("values", "values", 1, Kind::Parts(&KEY_VALUE))],
+    refused: &[],
+};

@@ -1,0 +1,121 @@
+//! The series that a body has points of.
+
+mod forwarded;
+mod identity;
+mod posted;
+mod zeros;
+
+pub use forwarded::forwarded;
+pub(super) use forwarded::protobuf_of_forwarded;
+pub use posted::posted;
+pub use zeros::zeros;
+
+use super::json::{Document, Value as Json};
+use super::number::gateway_whole;
+use std::borrow::Borrow;
+use std::collections::HashMap;
+use std::sync::Arc;
+
+/// A series' identity as compact JSON, as the gateway writes it:
+/// `[resource attributes,scope name,version,scope attributes,name,unit,kind,point attributes]`,
+/// attributes in key order, the kind `"sum"`, `"monotonic"` or a histogram's bounds.
+#[derive(Clone, Debug, PartialEq, Eq, Hash, PartialOrd, Ord)]
+pub struct SeriesKey(pub Arc<str>);
+
+impl Borrow<str> for SeriesKey {
+    fn borrow(&self) -> &str {
+        &self.0
+    }
+}
+
+/// The parts of a key, each as the JSON that stands in it; texts are plain.
+#[derive(Clone, Debug, PartialEq, Eq)]
+pub struct SeriesParts {
+    pub resource: String,
+    pub scope_name: String,
+    pub scope_version: String,
+    pub scope_attributes: String,
+    pub name: String,
+    pub unit: String,
+    pub kind: Kind,
+    pub attributes: String,
+}
+
+#[derive(Clone, Debug, PartialEq, Eq)]
+pub enum Kind {
+    Sum,
+    Monotonic,
+    Histogram { bounds: Vec<i64> },
+}
+
+/// A point that the gateway forwarded.
+#[derive(Clone, Debug, PartialEq, Eq)]
+pub struct ForwardedPoint {
+    pub series: SeriesKey,
+    /// The span (start, end], in nanoseconds since 1970.
+    pub start: u64,
+    pub end: u64,
+    pub value: Value,
+}
+
+#[derive(Clone, Debug, PartialEq, Eq)]
+pub enum Value {
+    Sum(i64),
+    /// `sum` is missing where a merged point had none.
+    Histogram { count: u64, sum: Option<u64>, buckets: Vec<u64> },
+}
+
+#[derive(Debug, thiserror::Error)]
+#[error("not a request that the gateway forwards: {0}")]
+pub struct NotForwarded(pub String);
+
+/// What a post has, read as the gateway reads it.
+#[derive(Debug)]
+pub struct Posted {
+    /// Each series with points of the profile, and where its last one ends.
+    pub series: HashMap<SeriesKey, u64>,
+    pub foreign: u64,
+}
+
+impl SeriesKey {
+    pub fn parts(&self) -> Result<SeriesParts, NotForwarded> {
+        self.parts_of().ok_or_else(|| NotForwarded(format!("the key {}", self.0)))
+    }
+
+    fn parts_of(&self) -> Option<SeriesParts> {
+        let document = Document::parse(self.0.as_bytes()).ok()?;
+        let parts: Vec<Json<'_>> = document.root().elements()?.collect();
+        let [resource, scope_name, scope_version, scope_attributes, name, unit, kind, attributes] = parts[..] else {
+            return None;
+        };
+        let plain = |text: Json<'_>| text.text().map(String::from);
+        let list = |list: Json<'_>| list.elements().map(|_| list.raw().to_string());
+        Some(SeriesParts {
+            resource: list(resource)?,
+            scope_name: plain(scope_name)?,
+            scope_version: plain(scope_version)?,
+            scope_attributes: list(scope_attributes)?,
+            name: plain(name)?,
+            unit: plain(unit)?,
+            kind: kind_of(kind)?,
+            attributes: list(attributes)?,
+        })
+    }
+}
+
+/// The kind of a series from its part of a key.
+fn kind_of(kind: Json<'_>) -> Option<Kind> {
+    match kind.text().as_deref() {
+        Some("sum") => Some(Kind::Sum),
+        Some("monotonic") => Some(Kind::Monotonic),
+        Some(_) => None,
+        None => {
+            let bound = |bound| i64::try_from(gateway_whole(bound)?).ok();
+            let bounds = kind.elements()?.map(bound).collect::<Option<Vec<i64>>>()?;
+            Some(Kind::Histogram { bounds })
+        }
+    }
+}
+
+#[cfg(test)]
+mod tests;

@@ -1,0 +1,201 @@
+//! Requests that the gateway forwards, read strictly: their bytes are the gateway's own (docs/FORMATS.md, "JSON that
+//! is written"), and parts of keys are copied from them.
+
+use super::{ForwardedPoint, NotForwarded, SeriesKey, Value};
+use crate::otlp::json::{Document, Value as Json};
+use crate::otlp::messages::{
+    AnyValue, Any, ArrayValue, Data, ExportMetricsServiceRequest, Histogram, HistogramDataPoint,
+    InstrumentationScope, KeyValue, Metric, Number, NumberDataPoint, Resource, ResourceMetrics, ScopeMetrics, Sum,
+};
+use crate::otlp::number::gateway_whole;
+use prost::Message;
+use std::sync::Arc;
+
+const DELTA: i32 = 1;
+
+type Found<T> = Result<T, NotForwarded>;
+
+/// The points of a forwarded request, in its order.
+pub fn forwarded(body: &[u8]) -> Found<Vec<ForwardedPoint>> {
+    let document = parsed(body)?;
+    let mut points = Vec::new();
+    each(document.root(), "resourceMetrics", |of_resource| {
+        let resource = list(member(of_resource, "resource")?, "attributes")?.raw();
+        each(of_resource, "scopeMetrics", |of_scope| {
+            let scope = member(of_scope, "scope")?;
+            let (name, version) = (member(scope, "name")?.raw(), member(scope, "version")?.raw());
+            let above = format!("[{resource},{name},{version},{}", list(scope, "attributes")?.raw());
+            each(of_scope, "metrics", |metric| add_points(&mut points, &above, metric))
+        })
+    })?;
+    Ok(points)
+}
+
+/// A forwarded request in protobuf.
+pub fn protobuf_of_forwarded(body: &[u8]) -> Found<Vec<u8>> {
+    let document = parsed(body)?;
+    let mut request = ExportMetricsServiceRequest::default();
+    each(document.root(), "resourceMetrics", |of_resource| {
+        let attributes = attributes(member(of_resource, "resource")?)?;
+        let mut found =
+            ResourceMetrics { resource: Some(Resource { attributes }), scope_metrics: Vec::new() };
+        each(of_resource, "scopeMetrics", |of_scope| {
+            found.scope_metrics.push(scope_message(of_scope)?);
+            Ok(())
+        })?;
+        request.resource_metrics.push(found);
+        Ok(())
+    })?;
+    Ok(request.encode_to_vec())
+}
+
+fn missing(what: &str) -> NotForwarded {
+    NotForwarded(format!("{what} is missing or of another form"))
+}
+
+fn parsed(body: &[u8]) -> Found<Document<'_>> {
+    Document::parse(body).map_err(|error| NotForwarded(error.to_string()))
+}
+
+fn member<'d>(object: Json<'d>, name: &str) -> Found<Json<'d>> {
+    optional(object, name)?.ok_or_else(|| missing(name))
+}
+
+fn optional<'d>(object: Json<'d>, name: &str) -> Found<Option<Json<'d>>> {
+    object.named([name]).map(|found| found[0]).ok_or_else(|| missing(name))
+}
+
+fn list<'d>(object: Json<'d>, name: &str) -> Found<Json<'d>> {
+    member(object, name)?.elements().ok_or_else(|| missing(name))?;
+    member(object, name)
+}
+
+fn each<'d>(object: Json<'d>, name: &str, mut one: impl FnMut(Json<'d>) -> Found<()>) -> Found<()> {
+    member(object, name)?.elements().ok_or_else(|| missing(name))?.try_for_each(&mut one)
+}
+
+fn whole<T: TryFrom<i128>>(value: Json<'_>, name: &str) -> Found<T> {
+    gateway_whole(value).and_then(|whole| T::try_from(whole).ok()).ok_or_else(|| missing(name))
+}
+
+fn number<T: TryFrom<i128>>(object: Json<'_>, name: &str) -> Found<T> {
+    whole(member(object, name)?, name)
+}
+
+fn numbers<T: TryFrom<i128>>(object: Json<'_>, name: &str) -> Found<Vec<T>> {
+    let elements = member(object, name)?.elements().ok_or_else(|| missing(name))?;
+    elements.map(|element| whole(element, name)).collect()
+}
+
+fn text(object: Json<'_>, name: &str) -> Found<String> {
+    member(object, name)?.text().map(String::from).ok_or_else(|| missing(name))
+}
+
+/// Whether a sum is monotonic.
+fn is_monotonic(sum: Json<'_>) -> Found<bool> {
+    member(sum, "isMonotonic")?.truth().ok_or_else(|| missing("isMonotonic"))
+}
+
+fn add_points<'d>(points: &mut Vec<ForwardedPoint>, above: &str, metric: Json<'d>) -> Found<()> {
+    let above = format!("{above},{},{}", member(metric, "name")?.raw(), member(metric, "unit")?.raw());
+    let add = |points: &mut Vec<ForwardedPoint>, point: Json<'d>, kind: &str, value: Value| {
+        let attributes = list(point, "attributes")?.raw();
+        let series = SeriesKey(Arc::from(format!("{above},{kind},{attributes}]")));
+        let (start, end) = (number(point, "startTimeUnixNano")?, number(point, "timeUnixNano")?);
+        points.push(ForwardedPoint { series, start, end, value });
+        Ok(())
+    };
+    if let Some(sum) = optional(metric, "sum")? {
+        let kind = if is_monotonic(sum)? { "\"monotonic\"" } else { "\"sum\"" };
+        return each(sum, "dataPoints", |point| add(points, point, kind, Value::Sum(number(point, "asInt")?)));
+    }
+    each(member(metric, "histogram")?, "dataPoints", |point| {
+        let kind = list(point, "explicitBounds")?.raw();
+        let sum = optional(point, "sum")?.map(|sum| whole(sum, "sum")).transpose()?;
+        let (count, buckets) = (number(point, "count")?, numbers(point, "bucketCounts")?);
+        add(points, point, kind, Value::Histogram { count, sum, buckets })
+    })
+}
+
+fn scope_message(of_scope: Json<'_>) -> Found<ScopeMetrics> {
+    let scope = member(of_scope, "scope")?;
+    let mut metrics = Vec::new();
+    each(of_scope, "metrics", |metric| {
+        metrics.push(metric_message(metric)?);
+        Ok(())
+    })?;
+    let scope = InstrumentationScope {
+        name: text(scope, "name")?,
+        version: text(scope, "version")?,
+        attributes: attributes(scope)?,
+    };
+    Ok(ScopeMetrics { scope: Some(scope), metrics })
+}
+
+fn metric_message(metric: Json<'_>) -> Found<Metric> {
+    let data = match optional(metric, "sum")? {
+        Some(sum) => Data::Sum(Sum {
+            data_points: all(sum, "dataPoints", sum_message)?,
+            aggregation_temporality: DELTA,
+            is_monotonic: is_monotonic(sum)?,
+        }),
+        None => Data::Histogram(Histogram {
+            data_points: all(member(metric, "histogram")?, "dataPoints", histogram_message)?,
+            aggregation_temporality: DELTA,
+        }),
+    };
+    Ok(Metric { name: text(metric, "name")?, unit: text(metric, "unit")?, data: Some(data) })
+}
+
+fn all<T>(object: Json<'_>, name: &str, one: impl Fn(Json<'_>) -> Found<T>) -> Found<Vec<T>> {
+    member(object, name)?.elements().ok_or_else(|| missing(name))?.map(one).collect()
+}
+
+fn sum_message(point: Json<'_>) -> Found<NumberDataPoint> {
+    Ok(NumberDataPoint {
+        start_time_unix_nano: number(point, "startTimeUnixNano")?,
+        time_unix_nano: number(point, "timeUnixNano")?,
+        value: Some(Number::AsInt(number(point, "asInt")?)),
+        attributes: attributes(point)?,
+        flags: 0,
+    })
+}
+
+fn histogram_message(point: Json<'_>) -> Found<HistogramDataPoint> {
+    // Bounds and sums are at most 2^53 in size, so each is a double as it is.
+    let double = |whole: i64| whole as f64;
+    let sum = optional(point, "sum")?.map(|sum| whole(sum, "sum")).transpose()?;
+    Ok(HistogramDataPoint {
+        start_time_unix_nano: number(point, "startTimeUnixNano")?,
+        time_unix_nano: number(point, "timeUnixNano")?,
+        count: number(point, "count")?,
+        sum: sum.map(double),
+        bucket_counts: numbers(point, "bucketCounts")?,
+        explicit_bounds: numbers(point, "explicitBounds")?.into_iter().map(double).collect(),
+        attributes: attributes(point)?,
+        flags: 0,
+    })
+}
+
+fn attributes(object: Json<'_>) -> Found<Vec<KeyValue>> {
+    all(object, "attributes", |pair| {
+        Ok(KeyValue { key: text(pair, "key")?, value: Some(any(member(pair, "value")?)?) })
+    })
+}
+
+fn any(value: Json<'_>) -> Found<AnyValue> {
+    let [text, truth, int, array] = value
+        .named(["stringValue", "boolValue", "intValue", "arrayValue"])
+        .ok_or_else(|| missing("a value"))?;
+    let value = match (text, truth, int, array) {
+        (None, None, None, None) => None,
+        (Some(text), None, None, None) => text.text().map(|text| Any::StringValue(text.into())),
+        (None, Some(truth), None, None) => truth.truth().map(Any::BoolValue),
+        (None, None, Some(int), None) => Some(Any::IntValue(whole(int, "intValue")?)),
+        (None, None, None, Some(array)) => {
+            Some(Any::ArrayValue(ArrayValue { values: all(array, "values", any)? }))
+        }
+        _ => return Err(missing("a single value")),
+    };
+    Ok(AnyValue { value })
+}

@@ -1,0 +1,96 @@
+//! The fields of a protobuf message, one after the other, where they are in its bytes.
+
+/// Why bytes are no message.
+#[derive(Clone, Copy, Debug, PartialEq, Eq, thiserror::Error)]
+pub enum Malformed {
+    #[error("cut within a field")]
+    Cut,
+    #[error("a number of more than 64 bits")]
+    LongNumber,
+    #[error("a field without a number")]
+    NoNumber,
+    #[error("a field of an unknown wire type")]
+    WireType,
+}
+
+#[derive(Clone, Copy, Debug, PartialEq)]
+pub enum Payload<'a> {
+    Varint(u64),
+    Fixed64(u64),
+    Bytes(&'a [u8]),
+    Fixed32(u32),
+}
+
+#[derive(Clone, Copy)]
+pub struct Fields<'a> {
+    rest: &'a [u8],
+}
+
+impl<'a> Fields<'a> {
+    pub fn of(message: &'a [u8]) -> Fields<'a> {
+        Fields { rest: message }
+    }
+
+    fn field(&mut self) -> Result<(u32, Payload<'a>), Malformed> {
+        let key = u32::try_from(self.varint()?).map_err(|_| Malformed::LongNumber)?;
+        let payload = match key & 7 {
+            0 => Payload::Varint(self.varint()?),
+            1 => Payload::Fixed64(u64::from_le_bytes(self.array()?)),
+            2 => {
+                let length = usize::try_from(self.varint()?).map_err(|_| Malformed::Cut)?;
+                Payload::Bytes(self.take(length)?)
+            }
+            5 => Payload::Fixed32(u32::from_le_bytes(self.array()?)),
+            // Groups, which no message of OTLP has had.
+            _ => return Err(Malformed::WireType),
+        };
+        match key >> 3 {
+            0 => Err(Malformed::NoNumber),
+            number => Ok((number, payload)),
+        }
+    }
+
+    fn take(&mut self, length: usize) -> Result<&'a [u8], Malformed> {
+        if length > self.rest.len() {
+            return Err(Malformed::Cut);
+        }
+        let (taken, rest) = self.rest.split_at(length);
+        self.rest = rest;
+        Ok(taken)
+    }
+
+    fn array<const N: usize>(&mut self) -> Result<[u8; N], Malformed> {
+        self.take(N)?.try_into().map_err(|_| Malformed::Cut)
+    }
+
+    fn varint(&mut self) -> Result<u64, Malformed> {
+        let mut number = 0;
+        for (place, byte) in self.rest.iter().enumerate().take(10) {
+            let bits = u64::from(byte & 127);
+            if place == 9 && bits > 1 {
+                return Err(Malformed::LongNumber);
+            }
+            number |= bits << (7 * place);
+            if *byte < 128 {
+                self.rest = &self.rest[place + 1..];
+                return Ok(number);
+            }
+        }
+        Err(if self.rest.len() < 10 { Malformed::Cut } else { Malformed::LongNumber })
+    }
+}
+
+impl<'a> Iterator for Fields<'a> {
+    type Item = Result<(u32, Payload<'a>), Malformed>;
+
+    fn next(&mut self) -> Option<Self::Item> {
+        if self.rest.is_empty() {
+            return None;
+        }
+        let field = self.field();
+        if field.is_err() {
+            self.rest = &[];
+        }
+        Some(field)
+    }
+}

@@ -1,0 +1,117 @@
+//! Tells a supervisor (systemd's `Type=notify`) how far the service is, by datagrams to `NOTIFY_SOCKET`.
+
+use std::os::linux::net::SocketAddrExt;
+use std::os::unix::net::{SocketAddr, UnixDatagram};
+use std::time::Duration;
+
+/// How often it is said that a start still goes on, and how much longer it may take then.
+const STARTING: Duration = Duration::from_secs(5);
+const LONGER: &str = "EXTEND_TIMEOUT_USEC=30000000\nSTATUS=recovering";
+
+/// Where there is none, nothing is told.
+#[derive(Clone)]
+pub struct Supervisor {
+    to: Option<SocketAddr>,
+    /// How often it wants to hear that the process is well.
+    every: Option<Duration>,
+}
+
+impl Supervisor {
+    pub fn from_environment() -> Supervisor {
+        let variable = |name: &str| std::env::var(name).ok();
+        let pid = variable("WATCHDOG_PID");
+        let is_meant = pid.is_none_or(|pid| pid == std::process::id().to_string());
+        let microseconds = variable("WATCHDOG_USEC")
+            .and_then(|text| text.parse().ok())
+            .filter(|_| is_meant);
+        Supervisor {
+            to: variable("NOTIFY_SOCKET").and_then(|path| address(&path)),
+            every: microseconds.map(|microseconds: u64| Duration::from_micros(microseconds / 2)),
+        }
+    }
+
+    /// Says when the service is ready first, and from then on that it lives. It is a task of the runtime, so a
+    /// runtime that stands still is noticed.
+    pub async fn watch(self, is_ready: impl Fn() -> bool) {
+        if self.to.is_none() {
+            return;
+        }
+        let mut waited = STARTING;
+        while !is_ready() {
+            if waited >= STARTING {
+                self.tell(LONGER);
+                waited = Duration::ZERO;
+            }
+            let step = Duration::from_millis(50);
+            tokio::time::sleep(step).await;
+            waited += step;
+        }
+        self.tell("READY=1\nSTATUS=ready");
+        let Some(every) = self.every else { return };
+        loop {
+            self.tell("WATCHDOG=1");
+            tokio::time::sleep(every).await;
+        }
+    }
+
+    pub fn stopping(&self) {
+        self.tell("STOPPING=1");
+    }
+
+    /// A datagram of some bytes: it does not block for longer than a log line.
+    fn tell(&self, text: &str) {
+        let Some(to) = &self.to else { return };
+        let told = UnixDatagram::unbound().and_then(|socket| socket.send_to_addr(text.as_bytes(), to));
+        if let Err(error) = told {
+            tracing::warn!("the supervisor at NOTIFY_SOCKET can't be told: {error}");
+        }
+    }
+}
+
+/// A path, or behind an `@` a name without a file.
+fn address(text: &str) -> Option<SocketAddr> {
+    match text.strip_prefix('@') {
+        Some(name) => SocketAddr::from_abstract_name(name.as_bytes()).ok(),
+        None => SocketAddr::from_pathname(text).ok(),
+    }
+}
+
+#[cfg(test)]
+mod tests {
+    use super::*;
+
+    #[tokio::test]
+    async fn it_is_told_when_the_service_is_ready_and_lives() {
+        let folder = tempfile::tempdir().unwrap();
+        let path = folder.path().join("notify");
+        let socket = UnixDatagram::bind(&path).unwrap();
+        socket.set_read_timeout(Some(Duration::from_secs(5))).unwrap();
+        let to = address(path.to_str().unwrap());
+        let supervisor = Supervisor {
+            to,
+            every: Some(Duration::from_millis(1)),
+        };
+        let asked = std::sync::atomic::AtomicU32::new(0);
+        let is_ready = move || asked.fetch_add(1, std::sync::atomic::Ordering::Relaxed) > 1;
+        let watching = tokio::spawn(supervisor.clone().watch(is_ready));
+        let told = tokio::task::spawn_blocking(move || {
+            let mut bytes = [0; 256];
+            let mut next = || {
+                let length = socket.recv(&mut bytes).unwrap();
+                String::from_utf8(bytes[..length].to_vec()).unwrap()
+            };
+            [next(), next(), next(), next()]
+        });
+        assert_eq!(
+            told.await.unwrap(),
+            [LONGER, "READY=1\nSTATUS=ready", "WATCHDOG=1", "WATCHDOG=1"]
+        );
+        watching.abort();
+    }
+
+    #[test]
+    fn a_name_without_a_file_is_an_address() {
+        assert!(address("@totxegun/test").unwrap().as_abstract_name().is_some());
+        assert!(address("/run/notify").unwrap().as_pathname().is_some());
+    }
+}

@@ -1,0 +1,134 @@
+//! How a sink is written on the command line.
+
+use std::path::PathBuf;
+use std::str::FromStr;
+
+/// The address of a sink.
+#[derive(Clone, Debug, PartialEq, Eq)]
+pub enum Address {
+    Sqlite(PathBuf),
+    Otlp {
+        url: String,
+        protobuf: bool,
+        gzip: bool,
+        headers: Vec<(String, String)>,
+    },
+}
+
+#[derive(Clone, Debug, PartialEq, Eq, thiserror::Error)]
+pub enum BadAddress {
+    #[error("the sink's address is empty: write sqlite:PATH, http://HOST:PORT/PATH or https://HOST/PATH")]
+    Empty,
+    #[error("no sink is known for `{0}:`: write sqlite:PATH, http://HOST:PORT/PATH or https://HOST/PATH")]
+    Unknown(String),
+    #[error("`{0}` is no URL of a sink: {1}")]
+    Url(String, String),
+}
+
+/// Reads what follows a scheme and its colon.
+type Read = fn(&str) -> Result<Address, BadAddress>;
+
+const SCHEMES: [(&str, Read); 3] = [
+    ("sqlite", |rest| match rest {
+        "" => Err(BadAddress::Empty),
+        path => Ok(Address::Sqlite(path.into())),
+    }),
+    ("http", |rest| otlp(format!("http:{rest}"))),
+    ("https", |rest| otlp(format!("https:{rest}"))),
+];
+
+impl FromStr for Address {
+    type Err = BadAddress;
+
+    /// `sqlite:PATH`, `http://..`, `https://..`, or a path.
+    fn from_str(text: &str) -> Result<Address, BadAddress> {
+        if text.is_empty() {
+            return Err(BadAddress::Empty);
+        }
+        let Some((scheme, rest)) = text.split_once(':') else {
+            return Ok(Address::Sqlite(text.into()));
+        };
+        match SCHEMES
+            .iter()
+            .find(|(known, _)| known.eq_ignore_ascii_case(scheme))
+        {
+            Some((_, read)) => read(rest),
+            None if rest.starts_with("//") => Err(BadAddress::Unknown(scheme.into())),
+            None => Ok(Address::Sqlite(text.into())),
+        }
+    }
+}
+
+/// A URL without a path is a collector's base, whose metrics are at `/v1/metrics`.
+fn otlp(url: String) -> Result<Address, BadAddress> {
+    let bad = |why: &str| BadAddress::Url(url.clone(), why.into());
+    let uri: hyper::Uri = url.parse().map_err(|error| bad(&format!("{error}")))?;
+    let authority = uri.authority().ok_or_else(|| bad("there is no host"))?;
+    if authority.host().is_empty() {
+        return Err(bad("there is no host"));
+    }
+    if authority.as_str().contains('@') {
+        return Err(bad(
+            "a name and password in it are not sent: give a header `authorization`",
+        ));
+    }
+    let path = match uri.path_and_query().map(|path| path.as_str()) {
+        None | Some("" | "/") => "/v1/metrics",
+        Some(path) => path,
+    };
+    let url = format!("{}://{authority}{path}", uri.scheme_str().unwrap_or("http"));
+    Ok(Address::Otlp {
+        url,
+        protobuf: false,
+        gzip: false,
+        headers: Vec::new(),
+    })
+}
+
+#[cfg(test)]
+mod tests {
+    use super::*;
+
+    fn url_of(text: &str) -> String {
+        match text.parse() {
+            Ok(Address::Otlp { url, .. }) => url,
+            other => panic!("{text}: {other:?}"),
+        }
+    }
+
+    #[test]
+    fn paths_are_sqlite() {
+        for (text, path) in [
+            ("sqlite:/a/b.db", "/a/b.db"),
+            ("b.db", "b.db"),
+            ("/a:b/c", "/a:b/c"),
+            ("sqlite:x", "x"),
+        ] {
+            assert_eq!(text.parse(), Ok(Address::Sqlite(path.into())), "{text}");
+        }
+    }
+
+    #[test]
+    fn urls_are_otlp() {
+        assert_eq!(url_of("http://h:4318/v1/metrics"), "http://h:4318/v1/metrics");
+        assert_eq!(url_of("http://h:4318"), "http://h:4318/v1/metrics");
+        assert_eq!(url_of("HTTPS://h/"), "https://h/v1/metrics");
+        assert_eq!(url_of("https://h/otlp?tenant=1"), "https://h/otlp?tenant=1");
+    }
+
+    #[test]
+    fn bad_addresses_say_why() {
+        for (text, part) in [
+            ("", "empty"),
+            ("sqlite:", "empty"),
+            ("postgres://h/db", "`postgres:`"),
+            ("http:/x", "no URL"),
+            ("http://", "no URL"),
+            ("http://a b/", "no URL"),
+            ("http://user:secret@h/", "authorization"),
+        ] {
+            let error = text.parse::<Address>().expect_err(text);
+            assert!(error.to_string().contains(part), "{text}: {error}");
+        }
+    }
+}

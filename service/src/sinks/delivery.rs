@@ -1,0 +1,190 @@
+//! Brings a slot's outbox to the sink: one request after the other, each under its own key until it is taken.
+
+use super::{backoff, Fate, Forwarded, Sink};
+use crate::files::outbox::Waiting;
+use crate::files::{Dead, Fault, Outbox};
+use crate::metrics::Metrics;
+use std::future::Future;
+use std::sync::{Arc, Mutex, PoisonError};
+
+/// The state of a delivery, for `status`.
+#[derive(Clone, Debug, Default, PartialEq, Eq, serde::Serialize, serde::Deserialize)]
+pub struct Delivery {
+    /// Why the last try was not taken, where it was not.
+    pub trouble: Option<String>,
+    /// How often the first waiting request was tried; 0 once it is taken.
+    pub tries: u64,
+}
+
+/// Brings a slot's outbox to the sink. It returns by a fault of a file alone.
+pub async fn deliver(
+    slot: u16,
+    outbox: Arc<Outbox>,
+    dead: Arc<Dead>,
+    sink: Arc<dyn Sink>,
+    metrics: Arc<Metrics>,
+    state: Arc<Mutex<Delivery>>,
+) -> Result<(), Fault> {
+    let files = Files { outbox, dead };
+    Run {
+        slot,
+        files,
+        sink,
+        metrics,
+        state,
+    }
+    .run()
+    .await
+}
+
+/// What a delivery needs of the files.
+trait Store: Sync {
+    fn epoch(&self) -> String;
+    fn first(&self) -> impl Future<Output = Result<(Waiting, Vec<u8>), Fault>> + Send;
+    fn acknowledge(&self, number: u64) -> impl Future<Output = Result<(), Fault>> + Send;
+    /// Durable once it returns.
+    fn keep(
+        &self,
+        key: String,
+        reason: String,
+        body: Vec<u8>,
+    ) -> impl Future<Output = Result<(), Fault>> + Send;
+}
+
+struct Files {
+    outbox: Arc<Outbox>,
+    dead: Arc<Dead>,
+}
+
+impl Store for Files {
+    fn epoch(&self) -> String {
+        self.outbox.epoch()
+    }
+
+    async fn first(&self) -> Result<(Waiting, Vec<u8>), Fault> {
+        self.outbox.first().await
+    }
+
+    async fn acknowledge(&self, number: u64) -> Result<(), Fault> {
+        let outbox = self.outbox.clone();
+        off_the_runtime(move || outbox.acknowledge(number)).await
+    }
+
+    async fn keep(&self, key: String, reason: String, body: Vec<u8>) -> Result<(), Fault> {
+        let dead = self.dead.clone();
+        off_the_runtime(move || dead.keep(&key, &reason, &body)).await
+    }
+}
+
+/// Calls of files may wait for the disk.
+async fn off_the_runtime(call: impl FnOnce() -> Result<(), Fault> + Send + 'static) -> Result<(), Fault> {
+    match tokio::task::spawn_blocking(call).await {
+        Ok(done) => done,
+        Err(error) => match error.try_into_panic() {
+            Ok(panic) => std::panic::resume_unwind(panic),
+            // The runtime is ending, and this task with it.
+            Err(_) => std::future::pending().await,
+        },
+    }
+}
+
+struct Run<S> {
+    slot: u16,
+    files: S,
+    sink: Arc<dyn Sink>,
+    metrics: Arc<Metrics>,
+    state: Arc<Mutex<Delivery>>,
+}
+
+impl<S: Store> Run<S> {
+    async fn run(&self) -> Result<(), Fault> {
+        loop {
+            let (waiting, body) = self.files.first().await?;
+            let request = Forwarded {
+                slot: self.slot,
+                epoch: self.files.epoch(),
+                number: waiting.number,
+                body,
+            };
+            self.settle(request).await?;
+            // Only what the sink has, or what lies in `dead/`, leaves the outbox.
+            self.files.acknowledge(waiting.number).await?;
+        }
+    }
+
+    /// Sends a request, the same bytes under the same key, until its fate is known; what is not taken whole is kept.
+    async fn settle(&self, request: Forwarded) -> Result<(), Fault> {
+        loop {
+            match self.sink.deliver(&request).await {
+                Fate::Taken => {
+                    self.ended("taken");
+                    return Ok(());
+                }
+                Fate::Again { reason, after } => {
+                    let tries = self.failed(&request, reason);
+                    tokio::time::sleep(backoff::wait(tries, after)).await;
+                }
+                Fate::Refused { reason } => {
+                    let (sink, key) = (self.sink.name(), request.key());
+                    tracing::error!("{sink} refused request {key} for good: {reason}; it is kept in dead/");
+                    self.files.keep(key, reason, request.body).await?;
+                    self.ended("refused");
+                    return Ok(());
+                }
+                Fate::TakenPartly { rejected, reason } => {
+                    return self.keep_part(request, rejected, reason).await
+                }
+            }
+        }
+    }
+
+    /// The key of what is kept says that the request was taken: sent again under its own key, the points that the
+    /// sink took could count twice.
+    async fn keep_part(&self, request: Forwarded, rejected: u64, reason: String) -> Result<(), Fault> {
+        let (sink, key) = (self.sink.name(), request.key());
+        tracing::warn!(
+            "{sink} took request {key} but rejected {rejected} of its points: {reason}; it is kept in dead/"
+        );
+        let reason = format!("taken, but {rejected} points rejected (do not send it again): {reason}");
+        self.files
+            .keep(format!("{key}-partial"), reason, request.body)
+            .await?;
+        self.metrics
+            .faults
+            .with_label_values(&["points_rejected_by_sink"])
+            .inc_by(rejected);
+        self.ended("partial");
+        Ok(())
+    }
+
+    /// Notes a try that failed. How many it were.
+    fn failed(&self, request: &Forwarded, reason: String) -> u64 {
+        self.metrics.deliveries.with_label_values(&["again"]).inc();
+        let mut state = self.state.lock().unwrap_or_else(PoisonError::into_inner);
+        state.tries += 1;
+        if state.trouble.is_none() {
+            let (sink, key) = (self.sink.name(), request.key());
+            tracing::warn!(
+                "{sink} has not taken request {key}: {reason}; it is sent again until it is taken"
+            );
+        }
+        state.trouble = Some(reason);
+        state.tries
+    }
+
+    fn ended(&self, outcome: &str) {
+        self.metrics.deliveries.with_label_values(&[outcome]).inc();
+        let mut state = self.state.lock().unwrap_or_else(PoisonError::into_inner);
+        if state.trouble.is_some() {
+            tracing::info!(
+                "{} answers again, after {} tries that failed",
+                self.sink.name(),
+                state.tries
+            );
+        }
+        *state = Delivery::default();
+    }
+}
+
+#[cfg(test)]
+mod tests;

@@ -1,0 +1,302 @@
+//! What becomes of requests, by a sink that answers by a script and files that are in memory.
+
+use super::*;
+use std::collections::VecDeque;
+use std::pin::Pin;
+use std::time::{Duration, Instant};
+
+/// Says these fates, then `Taken`.
+#[derive(Default)]
+struct Script {
+    fates: Mutex<VecDeque<Fate>>,
+    came: Mutex<Vec<Forwarded>>,
+    at: Mutex<Vec<Instant>>,
+}
+
+impl Sink for Script {
+    fn deliver<'a>(&'a self, request: &'a Forwarded) -> Pin<Box<dyn Future<Output = Fate> + Send + 'a>> {
+        self.came.lock().expect("came").push(request.clone());
+        self.at.lock().expect("at").push(Instant::now());
+        let fate = self
+            .fates
+            .lock()
+            .expect("fates")
+            .pop_front()
+            .unwrap_or(Fate::Taken);
+        Box::pin(async move { fate })
+    }
+
+    fn name(&self) -> String {
+        "script".into()
+    }
+}
+
+type Letter = (String, String, Vec<u8>);
+
+/// Its requests wait in memory. A fault ends the delivery, so a test that wants an end runs out of requests.
+#[derive(Default)]
+struct Memory {
+    waiting: Mutex<VecDeque<u64>>,
+    dead: Mutex<Vec<Letter>>,
+    acknowledged: Mutex<Vec<u64>>,
+    dead_fails: bool,
+    acknowledge_fails: bool,
+}
+
+fn fault() -> Fault {
+    Fault::Io {
+        path: "f".into(),
+        source: std::io::Error::other("broken"),
+    }
+}
+
+impl Store for &Memory {
+    fn epoch(&self) -> String {
+        "e".into()
+    }
+
+    async fn first(&self) -> Result<(Waiting, Vec<u8>), Fault> {
+        match self.waiting.lock().expect("waiting").front() {
+            Some(number) => Ok((
+                Waiting {
+                    number: *number,
+                    since: 0,
+                },
+                format!("body {number}").into_bytes(),
+            )),
+            None => Err(fault()),
+        }
+    }
+
+    async fn acknowledge(&self, number: u64) -> Result<(), Fault> {
+        if self.acknowledge_fails {
+            return Err(fault());
+        }
+        assert_eq!(self.waiting.lock().expect("waiting").pop_front(), Some(number));
+        self.acknowledged.lock().expect("acknowledged").push(number);
+        Ok(())
+    }
+
+    async fn keep(&self, key: String, reason: String, body: Vec<u8>) -> Result<(), Fault> {
+        if self.dead_fails {
+            return Err(fault());
+        }
+        self.dead.lock().expect("dead").push((key, reason, body));
+        Ok(())
+    }
+}
+
+struct Tried {
+    sink: Arc<Script>,
+    metrics: Arc<Metrics>,
+    state: Arc<Mutex<Delivery>>,
+}
+
+fn again(after: Option<Duration>) -> Fate {
+    Fate::Again {
+        reason: "busy".into(),
+        after,
+    }
+}
+
+/// Delivers all that waits.
+async fn run(memory: &Memory, fates: Vec<Fate>) -> Tried {
+    let sink = Arc::new(Script {
+        fates: Mutex::new(fates.into()),
+        ..Script::default()
+    });
+    let metrics = Arc::new(Metrics::new().expect("metrics"));
+    let state = Arc::new(Mutex::new(Delivery::default()));
+    let run = Run {
+        slot: 2,
+        files: memory,
+        sink: sink.clone(),
+        metrics: metrics.clone(),
+        state: state.clone(),
+    };
+    assert!(run.run().await.is_err(), "it ends by a fault alone");
+    Tried { sink, metrics, state }
+}
+
+fn waiting(numbers: impl IntoIterator<Item = u64>) -> Memory {
+    Memory {
+        waiting: Mutex::new(numbers.into_iter().collect()),
+        ..Memory::default()
+    }
+}
+
+impl Tried {
+    fn keys(&self) -> Vec<String> {
+        self.sink
+            .came
+            .lock()
+            .expect("came")
+            .iter()
+            .map(Forwarded::key)
+            .collect()
+    }
+
+    fn outcome(&self, outcome: &str) -> u64 {
+        self.metrics.deliveries.with_label_values(&[outcome]).get()
+    }
+}
+
+#[tokio::test]
+async fn requests_go_in_order() {
+    let memory = waiting([5, 6, 9]);
+    let tried = run(&memory, vec![]).await;
+    assert_eq!(tried.keys(), ["2-e-5", "2-e-6", "2-e-9"]);
+    assert_eq!(*memory.acknowledged.lock().expect("acknowledged"), [5, 6, 9]);
+    assert_eq!(
+        (
+            tried.outcome("taken"),
+            tried.outcome("again"),
+            tried.outcome("refused")
+        ),
+        (3, 0, 0)
+    );
+}
+
+#[tokio::test]
+async fn a_request_is_sent_again_unchanged_before_the_next() {
+    let memory = waiting([1, 2]);
+    let tried = run(&memory, vec![again(None), again(None)]).await;
+    assert_eq!(tried.keys(), ["2-e-1", "2-e-1", "2-e-1", "2-e-2"]);
+    let came = tried.sink.came.lock().expect("came");
+    assert!(came[..3].iter().all(|request| *request == came[0]));
+    assert_eq!((tried.outcome("taken"), tried.outcome("again")), (2, 2));
+    assert_eq!(
+        *tried.state.lock().expect("state"),
+        Delivery::default(),
+        "no trouble is left"
+    );
+}
+
+#[tokio::test]
+async fn what_a_sink_asks_for_is_waited() {
+    let memory = waiting([1]);
+    let tried = run(&memory, vec![again(Some(Duration::from_millis(400)))]).await;
+    let at = tried.sink.at.lock().expect("at");
+    assert!(at[1] - at[0] >= Duration::from_millis(400), "{:?}", at[1] - at[0]);
+}
+
+#[tokio::test]
+async fn trouble_is_told_while_it_lasts() {
+    let memory = waiting([1]);
+    let sink = Arc::new(Script {
+        fates: Mutex::new([again(Some(Duration::from_secs(60)))].into()),
+        ..Script::default()
+    });
+    let state = Arc::new(Mutex::new(Delivery::default()));
+    let metrics = Arc::new(Metrics::new().expect("metrics"));
+    let run = Run {
+        slot: 2,
+        files: &memory,
+        sink,
+        metrics,
+        state: state.clone(),
+    };
+    assert!(
+        tokio::time::timeout(Duration::from_millis(200), run.run())
+            .await
+            .is_err(),
+        "it waits"
+    );
+    assert_eq!(
+        *state.lock().expect("state"),
+        Delivery {
+            trouble: Some("busy".into()),
+            tries: 1
+        }
+    );
+    assert!(memory.acknowledged.lock().expect("acknowledged").is_empty());
+}
+
+#[tokio::test]
+async fn what_is_refused_is_kept_and_the_next_goes_on() {
+    let memory = waiting([1, 2]);
+    let tried = run(&memory, vec![again(None), Fate::refused("400")]).await;
+    let dead = memory.dead.lock().expect("dead");
+    assert_eq!(
+        *dead,
+        [("2-e-1".to_string(), "400".to_string(), b"body 1".to_vec())]
+    );
+    assert_eq!(*memory.acknowledged.lock().expect("acknowledged"), [1, 2]);
+    assert_eq!(
+        (
+            tried.outcome("taken"),
+            tried.outcome("again"),
+            tried.outcome("refused")
+        ),
+        (1, 1, 1)
+    );
+}
+
+/// Kept under another key, it can't be taken for a request that the sink does not have.
+#[tokio::test]
+async fn what_is_taken_in_part_is_kept_and_not_sent_again() {
+    let memory = waiting([1]);
+    let tried = run(
+        &memory,
+        vec![Fate::TakenPartly {
+            rejected: 3,
+            reason: "too old".into(),
+        }],
+    )
+    .await;
+    assert_eq!(tried.keys(), ["2-e-1"]);
+    let dead = memory.dead.lock().expect("dead");
+    assert_eq!(dead[0].0, "2-e-1-partial");
+    assert!(
+        dead[0].1.contains("3 points rejected") && dead[0].1.contains("too old"),
+        "{}",
+        dead[0].1
+    );
+    assert_eq!(*memory.acknowledged.lock().expect("acknowledged"), [1]);
+    assert_eq!(
+        tried
+            .metrics
+            .faults
+            .with_label_values(&["points_rejected_by_sink"])
+            .get(),
+        3
+    );
+    assert_eq!(tried.outcome("partial"), 1);
+}
+
+/// What is in no file must not leave the outbox.
+#[tokio::test]
+async fn a_letter_that_can_not_be_kept_ends_the_delivery() {
+    for fate in [
+        Fate::refused("400"),
+        Fate::TakenPartly {
+            rejected: 1,
+            reason: String::new(),
+        },
+    ] {
+        let memory = Memory {
+            dead_fails: true,
+            ..waiting([1, 2])
+        };
+        run(&memory, vec![fate]).await;
+        assert!(memory.acknowledged.lock().expect("acknowledged").is_empty());
+        assert_eq!(memory.waiting.lock().expect("waiting").len(), 2);
+    }
+}
+
+#[tokio::test]
+async fn an_acknowledgement_that_fails_ends_the_delivery() {
+    let memory = Memory {
+        acknowledge_fails: true,
+        ..waiting([1, 2])
+    };
+    let tried = run(&memory, vec![]).await;
+    assert_eq!(tried.keys(), ["2-e-1"]);
+}
+
+/// What `deliver` returns must be a task of its own.
+#[test]
+fn a_delivery_can_be_spawned() {
+    fn is_send<T: Send>(_: impl FnOnce(Arc<Outbox>, Arc<Dead>, Arc<dyn Sink>, Arc<Metrics>) -> T) {}
+    is_send(|outbox, dead, sink, metrics| deliver(0, outbox, dead, sink, metrics, Arc::default()));
+}

@@ -1,0 +1,92 @@
+//! Where forwarded requests go: one at a time, in order, under one key each, however often.
+//!
+//! A further kind of sink is one file that implements [`Sink`], a variant of [`Address`] and its line in [`open`].
+
+mod address;
+mod backoff;
+mod delivery;
+mod otlp;
+pub mod sqlite;
+
+pub use address::{Address, BadAddress};
+pub use delivery::{deliver, Delivery};
+
+use std::future::Future;
+use std::pin::Pin;
+use std::sync::Arc;
+use std::time::Duration;
+
+/// What became of a request.
+#[derive(Clone, Debug, PartialEq, Eq)]
+pub enum Fate {
+    Taken,
+    /// The request was taken, but the sink rejected some of its points. It does not say which, so the request must
+    /// not be sent again: the points that it took would count twice.
+    TakenPartly {
+        rejected: u64,
+        reason: String,
+    },
+    /// It is sent again, not before so long.
+    Again {
+        reason: String,
+        after: Option<Duration>,
+    },
+    /// It is never taken: it is put aside.
+    Refused {
+        reason: String,
+    },
+}
+
+impl Fate {
+    pub(crate) fn again(reason: impl Into<String>) -> Fate {
+        Fate::Again {
+            reason: reason.into(),
+            after: None,
+        }
+    }
+
+    pub(crate) fn refused(reason: impl Into<String>) -> Fate {
+        Fate::Refused {
+            reason: reason.into(),
+        }
+    }
+}
+
+/// A forwarded request under its key.
+#[derive(Clone, Debug, PartialEq, Eq)]
+pub struct Forwarded {
+    /// `SLOT-EPOCH-NUMBER`: the same bytes have the same key, for ever.
+    pub slot: u16,
+    pub epoch: String,
+    pub number: u64,
+    /// JSON, as the gateway wrote it.
+    pub body: Vec<u8>,
+}
+
+impl Forwarded {
+    pub fn key(&self) -> String {
+        format!("{}-{}-{}", self.slot, self.epoch, self.number)
+    }
+}
+
+/// A sink takes a request whole or not at all, and once under one key.
+pub trait Sink: Send + Sync {
+    fn deliver<'a>(&'a self, request: &'a Forwarded) -> Pin<Box<dyn Future<Output = Fate> + Send + 'a>>;
+
+    /// What it is, for `status`: `sqlite PATH`, `otlp URL`. It shows no header, since a header may be a secret.
+    fn name(&self) -> String;
+}
+
+/// Opens a sink. What may mend itself (a file that is locked, a server that is down) is no fault here: deliveries
+/// are tried again until the sink takes them. What can't mend itself is one.
+pub fn open(address: &Address) -> anyhow::Result<Arc<dyn Sink>> {
+    match address {
+        Address::Sqlite(path) => Ok(Arc::new(sqlite::SqliteSink::open(path)?)),
+        Address::Otlp {
+            url,
+            protobuf,
+            gzip,
+            headers,
+        } => Ok(Arc::new(otlp::OtlpSink::open(url, *protobuf, *gzip, headers)?)),
+    }
+}

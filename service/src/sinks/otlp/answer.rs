@@ -1,0 +1,224 @@
+//! What a sink's answer means.
+//!
+//! | answer | the request |
+//! |---|---|
+//! | 2xx | is taken; where a partial success names rejected points, taken in part |
+//! | 408, 425, 429, 5xx | is sent again, by `Retry-After` where it is there |
+//! | any other | is refused for good |
+
+use crate::otlp::Encoding;
+use crate::sinks::Fate;
+use hyper::body::HttpBody;
+use hyper::header::{HeaderMap, CONTENT_TYPE, LOCATION, RETRY_AFTER};
+use hyper::{Body, Response};
+use prost::Message;
+use std::time::{Duration, SystemTime};
+use tokio::time::{timeout_at, Instant};
+
+/// The most bytes of an answer that are read. What is longer is cut off with its connection.
+const LONGEST_ANSWER: usize = 64 << 10;
+/// The most characters of a sink's message that are shown.
+const LONGEST_MESSAGE: usize = 300;
+
+/// `ExportMetricsServiceResponse`.
+#[derive(Clone, PartialEq, Message)]
+struct Taken {
+    #[prost(message, optional, tag = "1")]
+    partial_success: Option<PartialSuccess>,
+}
+
+#[derive(Clone, PartialEq, Message, serde::Deserialize)]
+#[serde(default, rename_all = "camelCase")]
+struct PartialSuccess {
+    #[prost(int64, tag = "1")]
+    #[serde(deserialize_with = "whole")]
+    rejected_data_points: i64,
+    #[prost(string, tag = "2")]
+    error_message: String,
+}
+
+/// `google.rpc.Status`.
+#[derive(Clone, PartialEq, Message, serde::Deserialize)]
+struct Status {
+    #[prost(int32, tag = "1")]
+    #[serde(default)]
+    code: i32,
+    #[prost(string, tag = "2")]
+    message: String,
+}
+
+/// The body of an answer, as far as it came.
+enum Read {
+    Whole(Vec<u8>),
+    TooLong,
+    Cut,
+}
+
+/// Reads an answer until the deadline.
+pub(super) async fn fate(response: Response<Body>, sent: Encoding, deadline: Instant) -> Fate {
+    let (head, body) = response.into_parts();
+    let encoding = encoding_of(&head.headers).unwrap_or(sent);
+    let body = timeout_at(deadline, read(body)).await.unwrap_or(Read::Cut);
+    let reason = |more: String| Fate::Refused {
+        reason: join(&head.status.to_string(), &more),
+    };
+    match head.status.as_u16() {
+        200..=299 => taken(body, encoding),
+        408 | 425 | 429 | 500..=599 => Fate::Again {
+            reason: join(&head.status.to_string(), &message(body, encoding)),
+            after: head
+                .headers
+                .get(RETRY_AFTER)
+                .and_then(|value| after(value.to_str().ok()?)),
+        },
+        300..=399 => {
+            let location = head
+                .headers
+                .get(LOCATION)
+                .and_then(|value| value.to_str().ok())
+                .unwrap_or("nowhere");
+            reason(format!(
+                "redirected to {}: give the sink's final address",
+                shown(location)
+            ))
+        }
+        _ => reason(message(body, encoding)),
+    }
+}
+
+fn encoding_of(headers: &HeaderMap) -> Option<Encoding> {
+    let content = headers.get(CONTENT_TYPE)?.to_str().ok()?;
+    match content.split(';').next()?.trim().to_ascii_lowercase().as_str() {
+        "application/json" => Some(Encoding::Json),
+        "application/x-protobuf" => Some(Encoding::Protobuf),
+        _ => None,
+    }
+}
+
+async fn read(mut body: Body) -> Read {
+    let mut bytes = Vec::new();
+    loop {
+        match body.data().await {
+            None => return Read::Whole(bytes),
+            Some(Err(_)) => return Read::Cut,
+            Some(Ok(part)) if bytes.len() + part.len() > LONGEST_ANSWER => return Read::TooLong,
+            Some(Ok(part)) => bytes.extend_from_slice(&part),
+        }
+    }
+}
+
+/// The status alone says that the request is taken: sent again because of what is wrong behind it, a sink that does
+/// not know keys would count it twice.
+fn taken(body: Read, encoding: Encoding) -> Fate {
+    let Read::Whole(bytes) = body else {
+        return Fate::Taken;
+    };
+    let partial = match encoding {
+        Encoding::Protobuf => Taken::decode(bytes.as_slice())
+            .ok()
+            .and_then(|taken| taken.partial_success),
+        Encoding::Json => partial_of_json(&bytes),
+    };
+    match partial {
+        Some(partial) if partial.rejected_data_points > 0 => Fate::TakenPartly {
+            rejected: partial.rejected_data_points.unsigned_abs(),
+            reason: shown(&partial.error_message),
+        },
+        Some(partial) if !partial.error_message.is_empty() => {
+            tracing::debug!(
+                "a sink took a request and says: {}",
+                shown(&partial.error_message)
+            );
+            Fate::Taken
+        }
+        _ => Fate::Taken,
+    }
+}
+
+fn partial_of_json(bytes: &[u8]) -> Option<PartialSuccess> {
+    let mut answer: serde_json::Value = serde_json::from_slice(bytes).ok()?;
+    serde_json::from_value(answer.get_mut("partialSuccess")?.take()).ok()
+}
+
+/// A 64-bit number of OTLP/JSON: a string, or a number all the same.
+fn whole<'de, D: serde::Deserializer<'de>>(deserializer: D) -> Result<i64, D::Error> {
+    #[derive(serde::Deserialize)]
+    #[serde(untagged)]
+    enum Whole {
+        Number(i64),
+        Text(String),
+    }
+    match serde::Deserialize::deserialize(deserializer)? {
+        Whole::Number(number) => Ok(number),
+        Whole::Text(text) => text.parse().map_err(serde::de::Error::custom),
+    }
+}
+
+/// What the sink says is wrong.
+fn message(body: Read, encoding: Encoding) -> String {
+    let Read::Whole(bytes) = body else {
+        return String::new();
+    };
+    let told = match encoding {
+        Encoding::Protobuf => Status::decode(bytes.as_slice()).ok().map(|status| status.message),
+        Encoding::Json => serde_json::from_slice(&bytes)
+            .ok()
+            .map(|status: Status| status.message),
+    };
+    shown(&told.unwrap_or_else(|| String::from_utf8_lossy(&bytes).into_owned()))
+}
+
+/// One short line of a text that anybody may have written.
+fn shown(text: &str) -> String {
+    let line: String = text.trim().chars().take(LONGEST_MESSAGE).collect();
+    line.replace(|one: char| one.is_control(), " ")
+}
+
+fn join(status: &str, more: &str) -> String {
+    if more.is_empty() {
+        status.into()
+    } else {
+        format!("{status}: {more}")
+    }
+}
+
+/// `Retry-After`, in seconds or as a date. A date that has passed means now.
+fn after(value: &str) -> Option<Duration> {
+    let value = value.trim();
+    if !value.is_empty() && value.bytes().all(|byte| byte.is_ascii_digit()) {
+        return Some(Duration::from_secs(value.parse().unwrap_or(u64::MAX)));
+    }
+    let date = httpdate::parse_http_date(value).ok()?;
+    Some(date.duration_since(SystemTime::now()).unwrap_or(Duration::ZERO))
+}
+
+#[cfg(test)]
+mod tests {
+    use super::*;
+
+    #[test]
+    fn retry_after_is_seconds_or_a_date() {
+        assert_eq!(after("7"), Some(Duration::from_secs(7)));
+        assert_eq!(after(" 0 "), Some(Duration::ZERO));
+        assert_eq!(
+            after("99999999999999999999999"),
+            Some(Duration::from_secs(u64::MAX))
+        );
+        let soon = httpdate::fmt_http_date(SystemTime::now() + Duration::from_secs(100));
+        let wait = after(&soon).expect("a date");
+        assert!(
+            wait > Duration::from_secs(95) && wait <= Duration::from_secs(100),
+            "{wait:?}"
+        );
+        assert_eq!(after("Thu, 01 Jan 1970 00:00:10 GMT"), Some(Duration::ZERO));
+        for bad in ["", "-1", "soon", "1.5"] {
+            assert_eq!(after(bad), None, "{bad}");
+        }
+    }
+
+    #[test]
+    fn messages_are_one_short_line() {
+        assert_eq!(shown(" a\nb\u{1b}[2J "), "a b [2J");
+        assert_eq!(shown(&"x".repeat(1000)).len(), LONGEST_MESSAGE);
+    }
+}

@@ -1,0 +1,188 @@
+//! A sink that speaks OTLP/HTTP: one POST a request, over a connection that is kept.
+
+mod answer;
+mod connect;
+#[cfg(test)]
+mod script;
+#[cfg(test)]
+mod tests;
+
+use super::{Fate, Forwarded, Sink};
+use crate::otlp::{protobuf_of_forwarded, Encoding};
+use bytes::Bytes;
+use hyper::header::{HeaderMap, HeaderName, HeaderValue, CONTENT_ENCODING, CONTENT_TYPE, USER_AGENT};
+use hyper::{Body, Request, Uri};
+use std::future::Future;
+use std::io::Write;
+use std::pin::Pin;
+use std::time::Duration;
+use tokio::time::{timeout_at, Instant};
+
+/// How long a sink may take for an answer, from the connection on.
+const PATIENCE: Duration = Duration::from_secs(30);
+/// What the sink tells repeated requests by.
+const KEY: &str = "idempotency-key";
+/// Headers that say what is sent: they are not an operator's.
+const OWN: [&str; 7] = [
+    KEY,
+    "connection",
+    "content-encoding",
+    "content-length",
+    "content-type",
+    "host",
+    "transfer-encoding",
+];
+
+#[derive(Debug, thiserror::Error)]
+pub enum BadOtlp {
+    #[error("`{0}` is no URL: {1}")]
+    Url(String, String),
+    #[error("`{0}` is no name of a header")]
+    HeaderName(String),
+    #[error("the value of header `{0}` has bytes that no header has")]
+    HeaderValue(String),
+    #[error("header `{0}` is written by the service itself: leave it out")]
+    OwnHeader(String),
+    #[error(transparent)]
+    Roots(#[from] connect::NoRoots),
+}
+
+pub struct OtlpSink {
+    url: Uri,
+    encoding: Encoding,
+    gzip: bool,
+    headers: HeaderMap,
+    client: connect::Client,
+    patience: Duration,
+}
+
+impl OtlpSink {
+    pub fn open(
+        url: &str,
+        protobuf: bool,
+        gzip: bool,
+        headers: &[(String, String)],
+    ) -> Result<OtlpSink, BadOtlp> {
+        let encoding = if protobuf {
+            Encoding::Protobuf
+        } else {
+            Encoding::Json
+        };
+        let headers = read_headers(headers)?;
+        let url: Uri = url
+            .parse()
+            .map_err(|error| BadOtlp::Url(url.into(), format!("{error}")))?;
+        let client = connect::client(url.scheme_str() == Some("https"))?;
+        Ok(OtlpSink {
+            url,
+            encoding,
+            gzip,
+            headers,
+            client,
+            patience: PATIENCE,
+        })
+    }
+
+    async fn send(&self, request: &Forwarded) -> Fate {
+        let post = match self.post(request).await {
+            Ok(post) => post,
+            Err(reason) => return Fate::refused(reason),
+        };
+        let deadline = Instant::now() + self.patience;
+        match timeout_at(deadline, self.client.request(post)).await {
+            Err(_) => Fate::again(format!("no answer within {} s", self.patience.as_secs_f64())),
+            Ok(Err(error)) => Fate::again(format!("no answer: {}", chain(&error))),
+            Ok(Ok(response)) => answer::fate(response, self.encoding, deadline).await,
+        }
+    }
+
+    /// The same bytes for the same request, each time.
+    async fn post(&self, request: &Forwarded) -> Result<Request<Body>, String> {
+        let body = self.encode(&request.body).await?;
+        let content = match self.encoding {
+            Encoding::Json => "application/json",
+            Encoding::Protobuf => "application/x-protobuf",
+        };
+        let mut post = Request::new(Body::from(body));
+        *post.method_mut() = hyper::Method::POST;
+        *post.uri_mut() = self.url.clone();
+        let headers = post.headers_mut();
+        headers.insert(
+            USER_AGENT,
+            HeaderValue::from_static(concat!("totxegun/", env!("CARGO_PKG_VERSION"))),
+        );
+        headers.extend(self.headers.clone());
+        headers.insert(CONTENT_TYPE, HeaderValue::from_static(content));
+        if self.gzip {
+            headers.insert(CONTENT_ENCODING, HeaderValue::from_static("gzip"));
+        }
+        let key = HeaderValue::from_str(&request.key()).map_err(|_| "its key is no header".to_string())?;
+        headers.insert(HeaderName::from_static(KEY), key);
+        Ok(post)
+    }
+
+    async fn encode(&self, body: &[u8]) -> Result<Bytes, String> {
+        let (body, encoding, gzip) = (body.to_vec(), self.encoding, self.gzip);
+        if encoding == Encoding::Json && !gzip {
+            return Ok(body.into());
+        }
+        // Milliseconds of work, too much for the runtime.
+        let encoded = tokio::task::spawn_blocking(move || {
+            let plain = match encoding {
+                Encoding::Json => body,
+                Encoding::Protobuf => protobuf_of_forwarded(&body).map_err(|error| error.to_string())?,
+            };
+            if gzip {
+                packed(&plain).map_err(|error| error.to_string())
+            } else {
+                Ok(plain)
+            }
+        });
+        encoded.await.map_err(|error| error.to_string())?.map(Bytes::from)
+    }
+}
+
+impl Sink for OtlpSink {
+    fn deliver<'a>(&'a self, request: &'a Forwarded) -> Pin<Box<dyn Future<Output = Fate> + Send + 'a>> {
+        Box::pin(self.send(request))
+    }
+
+    fn name(&self) -> String {
+        format!("otlp {}", self.url)
+    }
+}
+
+fn packed(body: &[u8]) -> std::io::Result<Vec<u8>> {
+    // No time stands in it: the same bytes each time.
+    let mut encoder = flate2::write::GzEncoder::new(Vec::new(), flate2::Compression::fast());
+    encoder.write_all(body)?;
+    encoder.finish()
+}
+
+fn read_headers(pairs: &[(String, String)]) -> Result<HeaderMap, BadOtlp> {
+    let mut headers = HeaderMap::new();
+    for (name, value) in pairs {
+        if OWN.iter().any(|own| own.eq_ignore_ascii_case(name)) {
+            return Err(BadOtlp::OwnHeader(name.clone()));
+        }
+        let key = HeaderName::from_bytes(name.as_bytes()).map_err(|_| BadOtlp::HeaderName(name.clone()))?;
+        let mut value = HeaderValue::from_str(value).map_err(|_| BadOtlp::HeaderValue(name.clone()))?;
+        value.set_sensitive(true);
+        headers.append(key, value);
+    }
+    Ok(headers)
+}
+
+/// An error with its causes.
+fn chain(error: &dyn std::error::Error) -> String {
+    let mut text = error.to_string();
+    let mut cause = error.source();
+    while let Some(error) = cause {
+        let more = error.to_string();
+        if !text.contains(&more) {
+            text = format!("{text}: {more}");
+        }
+        cause = error.source();
+    }
+    text
+}

@@ -1,0 +1,134 @@
+//! The file's schema: a version in it, and the steps that lead from each version to the next.
+
+use super::fault::SqliteFault;
+use rusqlite::{Connection, TransactionBehavior};
+use std::path::Path;
+
+/// Says, in the file's head, that it is one of ours: `totx`.
+const APPLICATION: i64 = 0x746f_7478;
+
+/// Step N leads from version N to version N+1. A step that was released is never changed.
+pub(super) const STEPS: &[&str] = &[include_str!("version1.sql")];
+
+/// Brings a file to the last version, or says why it must not be touched.
+pub(super) fn migrate(connection: &mut Connection, path: &Path, steps: &[&str]) -> Result<(), SqliteFault> {
+    let fault = |error| SqliteFault::of(path, error);
+    let known = steps.len() as i64;
+    if check(connection, path, known)? == known {
+        return Ok(());
+    }
+    // Another process may have done it since: the version is read anew, under the lock.
+    let transaction = connection
+        .transaction_with_behavior(TransactionBehavior::Immediate)
+        .map_err(fault)?;
+    let version = check(&transaction, path, known)?;
+    for step in &steps[version as usize..] {
+        transaction.execute_batch(step).map_err(fault)?;
+    }
+    transaction
+        .pragma_update(None, "application_id", APPLICATION)
+        .map_err(fault)?;
+    transaction
+        .pragma_update(None, "user_version", known)
+        .map_err(fault)?;
+    transaction.commit().map_err(fault)?;
+    if version > 0 {
+        tracing::info!("{} was brought from schema {version} to {known}", path.display());
+    }
+    Ok(())
+}
+
+/// The version of a file that is ours; 0 where it is empty.
+pub(super) fn check(connection: &Connection, path: &Path, known: i64) -> Result<i64, SqliteFault> {
+    let number = |query: &str| -> Result<i64, SqliteFault> {
+        connection
+            .query_row(query, [], |row| row.get(0))
+            .map_err(|error| SqliteFault::of(path, error))
+    };
+    let version = number("pragma user_version")?;
+    let application = number("pragma application_id")?;
+    if application == APPLICATION {
+        if version > known {
+            return Err(SqliteFault::Later {
+                path: path.into(),
+                found: version,
+                known,
+            });
+        }
+        if version > 0 {
+            return Ok(version);
+        }
+    }
+    if application != 0 || version != 0 || number("select count(*) from sqlite_schema")? != 0 {
+        return Err(SqliteFault::Foreign { path: path.into() });
+    }
+    Ok(0)
+}
+
+#[cfg(test)]
+mod tests {
+    use super::*;
+
+    const TWO: &[&str] = &[
+        "create table a (x)",
+        "alter table a add column y; insert into a values (1, 2)",
+    ];
+
+    fn rows(connection: &Connection) -> i64 {
+        connection
+            .query_row("select count(*) from a where y = 2", [], |row| row.get(0))
+            .expect("table a")
+    }
+
+    #[test]
+    fn each_step_is_made_once() {
+        let mut connection = Connection::open_in_memory().expect("memory");
+        let path = Path::new("x.db");
+        migrate(&mut connection, path, &TWO[..1]).expect("version 1");
+        assert_eq!(check(&connection, path, 1).expect("version"), 1);
+        for _ in 0..3 {
+            migrate(&mut connection, path, TWO).expect("version 2");
+            assert_eq!(rows(&connection), 1);
+        }
+    }
+
+    #[test]
+    fn a_step_that_fails_changes_nothing() {
+        let mut connection = Connection::open_in_memory().expect("memory");
+        let path = Path::new("x.db");
+        migrate(&mut connection, path, &TWO[..1]).expect("version 1");
+        let steps = [TWO[0], TWO[1], "create table b (x); no sql"];
+        assert!(migrate(&mut connection, path, &steps).is_err());
+        assert_eq!(check(&connection, path, 3).expect("version"), 1);
+        migrate(&mut connection, path, TWO).expect("version 2");
+        assert_eq!(rows(&connection), 1);
+    }
+
+    #[test]
+    fn a_later_version_is_refused_by_name() {
+        let mut connection = Connection::open_in_memory().expect("memory");
+        let path = Path::new("/var/x.db");
+        migrate(&mut connection, path, TWO).expect("version 2");
+        let error = migrate(&mut connection, path, &TWO[..1])
+            .expect_err("it is later")
+            .to_string();
+        assert!(
+            error.contains("/var/x.db") && error.contains("schema 2") && error.contains("knows 1"),
+            "{error}"
+        );
+    }
+
+    #[test]
+    fn a_file_of_another_program_is_not_touched() {
+        for foreign in [
+            "create table theirs (x)",
+            "pragma user_version = 3",
+            "pragma application_id = 5",
+        ] {
+            let mut connection = Connection::open_in_memory().expect("memory");
+            connection.execute_batch(foreign).expect("theirs");
+            let error = migrate(&mut connection, Path::new("x.db"), TWO).expect_err("it is theirs");
+            assert!(matches!(error, SqliteFault::Foreign { .. }), "{error}");
+        }
+    }
+}

@@ -1,0 +1,270 @@
+//! The open file: one transaction a request, whole or not at all.
+
+use super::fault::{NotTaken, SqliteFault};
+use super::schema::{self, STEPS};
+use super::whole::Whole;
+use crate::otlp::series::{self, ForwardedPoint, SeriesKey};
+use crate::sinks::Forwarded;
+use rusqlite::{params, Connection, OpenFlags, OptionalExtension, Transaction, TransactionBehavior};
+use std::collections::HashMap;
+use std::os::unix::fs::MetadataExt;
+use std::path::{Path, PathBuf};
+use std::time::Duration;
+
+mod series_row;
+mod total;
+
+use total::Total;
+
+/// How long another process may keep the lock before a delivery is given up for this time.
+const PATIENCE: Duration = Duration::from_secs(2);
+/// How many series' row numbers are kept in memory; then they are read anew.
+const CACHED: usize = 100_000;
+
+/// What is known of the file's last use.
+#[derive(Clone, Copy, Debug, PartialEq, Eq)]
+pub(super) enum Opening {
+    First,
+    /// A call failed: what it wrote may be in the file as the system shows it, but not on the disk.
+    AfterFault,
+}
+
+pub(super) struct Store {
+    path: PathBuf,
+    connection: Connection,
+    /// Device and number of the file.
+    place: (u64, u64),
+    /// Row numbers of series. Only what is committed is in it.
+    series: HashMap<SeriesKey, i64>,
+    /// It changes when another process has written.
+    data_version: i64,
+}
+
+impl Store {
+    pub(super) fn open(path: &Path, opening: Opening) -> Result<Store, SqliteFault> {
+        let fault = |error| SqliteFault::of(path, error);
+        sync_log(path)?;
+        let flags = OpenFlags::SQLITE_OPEN_READ_WRITE
+            | OpenFlags::SQLITE_OPEN_CREATE
+            | OpenFlags::SQLITE_OPEN_NO_MUTEX;
+        let mut connection = Connection::open_with_flags(path, flags).map_err(fault)?;
+        connection.busy_timeout(PATIENCE).map_err(fault)?;
+        // Before anything is changed: the file may be another program's.
+        schema::check(&connection, path, STEPS.len() as i64)?;
+        let mode: String = connection
+            .query_row("pragma journal_mode = wal", [], |row| row.get(0))
+            .map_err(fault)?;
+        if mode != "wal" {
+            return Err(SqliteFault::told(
+                path,
+                "its file system has no write-ahead log: name a file on a local disk",
+            ));
+        }
+        connection
+            .execute_batch("pragma synchronous = full; pragma foreign_keys = on")
+            .map_err(fault)?;
+        schema::migrate(&mut connection, path, STEPS)?;
+        settle(&connection, path, opening)?;
+        let place =
+            place(path).ok_or_else(|| SqliteFault::told(path, "it was deleted while it was opened"))?;
+        Ok(Store {
+            path: path.into(),
+            connection,
+            place,
+            series: HashMap::new(),
+            data_version: 0,
+        })
+    }
+
+    /// Whether the file of this name still is the one that is open.
+    pub(super) fn is_in_place(&self) -> bool {
+        place(&self.path) == Some(self.place)
+    }
+
+    #[cfg(test)]
+    pub(super) fn execute(&self, sql: &str) {
+        self.connection.execute_batch(sql).expect("SQL of a test");
+    }
+
+    /// Takes a request that is not taken yet.
+    pub(super) fn take(&mut self, request: &Forwarded) -> Result<(), NotTaken> {
+        let points = series::forwarded(&request.body)?;
+        let fault = |error: rusqlite::Error| -> NotTaken { not_taken(&self.path, error) };
+        let transaction = self
+            .connection
+            .transaction_with_behavior(TransactionBehavior::Immediate)
+            .map_err(fault)?;
+        let version: i64 = transaction
+            .prepare_cached("pragma data_version")
+            .and_then(|mut pragma| pragma.query_row([], |row| row.get(0)))
+            .map_err(fault)?;
+        if version != self.data_version || self.series.len() > CACHED {
+            self.series.clear();
+            self.data_version = version;
+        }
+        if is_taken(&transaction, request).map_err(fault)? {
+            return Ok(());
+        }
+        let mut writing = Writing {
+            transaction,
+            path: &self.path,
+            known: &self.series,
+            new: HashMap::new(),
+        };
+        writing.request(request, &points)?;
+        let new = writing.commit().map_err(fault)?;
+        self.series.extend(new);
+        Ok(())
+    }
+}
+
+/// What an earlier run wrote into the log and did not sync must be on the disk before it is believed: a key that
+/// was read there is acknowledged, and its request leaves the outbox.
+fn sync_log(path: &Path) -> Result<(), SqliteFault> {
+    let mut log = path.as_os_str().to_owned();
+    log.push("-wal");
+    match std::fs::File::open(&log).and_then(|log| log.sync_all()) {
+        Err(error) if error.kind() != std::io::ErrorKind::NotFound => Err(SqliteFault::told(
+            path,
+            format!("its log can't be synced ({error}): look at the disk and the file's mode"),
+        )),
+        _ => Ok(()),
+    }
+}
+
+/// Copies the log into the file. Where a sync has failed the system forgets what it could not write, and the next
+/// sync says nothing of it; so behind a fault the copy must be whole: it is written and synced anew.
+fn settle(connection: &Connection, path: &Path, opening: Opening) -> Result<(), SqliteFault> {
+    let busy: i64 = connection
+        .query_row("pragma wal_checkpoint(truncate)", [], |row| row.get(0))
+        .map_err(|error| SqliteFault::of(path, error))?;
+    if busy != 0 && opening == Opening::AfterFault {
+        return Err(SqliteFault::told(
+            path,
+            "a call failed, and another process reads it, so its log can't be made sure: end what reads it",
+        ));
+    }
+    Ok(())
+}
+
+fn place(path: &Path) -> Option<(u64, u64)> {
+    std::fs::metadata(path)
+        .ok()
+        .map(|found| (found.dev(), found.ino()))
+}
+
+/// Content that no SQLite takes is refused for good; all else may mend itself.
+fn not_taken(path: &Path, error: rusqlite::Error) -> NotTaken {
+    match error.sqlite_error_code() {
+        Some(rusqlite::ErrorCode::TooBig) => NotTaken::Refused(format!("too long for SQLite: {error}")),
+        _ => SqliteFault::of(path, error).into(),
+    }
+}
+
+fn is_taken(transaction: &Transaction, request: &Forwarded) -> rusqlite::Result<bool> {
+    transaction
+        .prepare_cached("select 1 from request where slot = ?1 and epoch = ?2 and number = ?3")?
+        .exists(params![request.slot, request.epoch, Whole(request.number)])
+}
+
+/// A transaction while a request is written.
+struct Writing<'a> {
+    transaction: Transaction<'a>,
+    path: &'a Path,
+    known: &'a HashMap<SeriesKey, i64>,
+    /// Of no use to others until it is committed.
+    new: HashMap<SeriesKey, i64>,
+}
+
+impl Writing<'_> {
+    fn commit(self) -> rusqlite::Result<HashMap<SeriesKey, i64>> {
+        self.transaction.commit().map(|()| self.new)
+    }
+
+    fn request(&mut self, request: &Forwarded, points: &[ForwardedPoint]) -> Result<(), NotTaken> {
+        let first = points.iter().map(|point| point.start).min().unwrap_or(0);
+        let last = points.iter().map(|point| point.end).max().unwrap_or(0);
+        let row = self.of(|transaction| {
+            transaction
+                .prepare_cached(
+                    "insert into request (slot, epoch, number, taken_at, points, first_start_ns, last_end_ns)
+                     values (?1, ?2, ?3, cast(strftime('%s', 'now') as integer), ?4, ?5, ?6)",
+                )?
+                .insert(params![
+                    request.slot,
+                    request.epoch,
+                    Whole(request.number),
+                    points.len() as i64,
+                    Whole(first),
+                    Whole(last)
+                ])
+        })?;
+        points.iter().try_for_each(|point| self.point(row, point))
+    }
+
+    fn point(&mut self, request: i64, point: &ForwardedPoint) -> Result<(), NotTaken> {
+        if point.start >= point.end {
+            return Err(NotTaken::Refused(format!("the span {} is empty", shown(point))));
+        }
+        let series = self.series(&point.series)?;
+        let total = self.of(|transaction| Total::read(transaction, series))?;
+        // Behind all of its spans it overlaps none.
+        if total.as_ref().is_some_and(|total| point.start < total.last_end.0) {
+            self.refuse_overlap(series, point)?;
+        }
+        self.of(|transaction| total::insert_span(transaction, request, series, point))?;
+        let total = match total {
+            None => Total::of(point),
+            Some(total) => total.and(point),
+        };
+        let total = total.map_err(|why| NotTaken::Refused(format!("{why}: {}", shown(point))))?;
+        self.of(|transaction| total.write(transaction, series))
+    }
+
+    fn series(&mut self, key: &SeriesKey) -> Result<i64, NotTaken> {
+        if let Some(known) = self.known.get(key).or_else(|| self.new.get(key)) {
+            return Ok(*known);
+        }
+        let parts = key.parts()?;
+        let row = series_row::SeriesRow::of(&parts)?;
+        let id = self.of(|transaction| row.id(transaction))?;
+        self.new.insert(key.clone(), id);
+        Ok(id)
+    }
+
+    /// A span that overlaps one that is there was counted before, at least in part. Only requests whose own time
+    /// overlaps are looked through, by the primary key.
+    fn refuse_overlap(&self, series: i64, point: &ForwardedPoint) -> Result<(), NotTaken> {
+        let found: Option<(Whole, Whole)> = self.of(|transaction| {
+            transaction
+                .prepare_cached(
+                    "select span.start_ns, span.end_ns from request cross join span on span.request = request.id
+                     where request.last_end_ns > ?2 and request.first_start_ns < ?3
+                     and span.series = ?1 and span.start_ns < ?3 and span.end_ns > ?2 limit 1",
+                )?
+                .query_row(params![series, Whole(point.start), Whole(point.end)], |row| {
+                    Ok((row.get(0)?, row.get(1)?))
+                })
+                .optional()
+        })?;
+        match found {
+            None => Ok(()),
+            Some((start, end)) => Err(NotTaken::Refused(format!(
+                "the span {} overlaps ({}, {}], which the file has already",
+                shown(point),
+                start.0,
+                end.0
+            ))),
+        }
+    }
+
+    fn of<T>(&self, call: impl FnOnce(&Transaction) -> rusqlite::Result<T>) -> Result<T, NotTaken> {
+        call(&self.transaction).map_err(|error| not_taken(self.path, error))
+    }
+}
+
+/// A point for an error: its span, and its series as far as that is short.
+fn shown(point: &ForwardedPoint) -> String {
+    let series: String = point.series.0.chars().take(300).collect();
+    format!("({}, {}] of {series}", point.start, point.end)
+}

@@ -1,0 +1,590 @@
+//! The file, with what goes wrong around it. The last test measures, and is run by hand.
+
+use super::totals::{read, Filter, SeriesTotal};
+use super::*;
+use rusqlite::Connection;
+use std::os::unix::fs::PermissionsExt;
+use std::time::{Duration, Instant};
+
+fn forwarded(number: u64, body: String) -> Forwarded {
+    Forwarded {
+        slot: 0,
+        epoch: "e".into(),
+        number,
+        body: body.into_bytes(),
+    }
+}
+
+fn metrics(metrics: &str) -> String {
+    format!(
+        r#"{{"resourceMetrics":[{{"resource":{{"attributes":[{{"key":"host","value":{{"stringValue":"h1"}}}}]}},"scopeMetrics":[{{"metrics":[{metrics}],"scope":{{"attributes":[],"name":"s","version":"1"}}}}]}}]}}"#
+    )
+}
+
+fn sum_point(code: i64, start: u64, end: u64, value: i64) -> String {
+    format!(
+        r#"{{"asInt":"{value}","attributes":[{{"key":"code","value":{{"intValue":"{code}"}}}}],"startTimeUnixNano":"{start}","timeUnixNano":"{end}"}}"#
+    )
+}
+
+fn sum_of(name: &str, points: &[String]) -> String {
+    let points = points.join(",");
+    format!(
+        r#"{{"name":"{name}","sum":{{"aggregationTemporality":1,"dataPoints":[{points}],"isMonotonic":false}},"unit":"1"}}"#
+    )
+}
+
+fn sum(name: &str, start: u64, end: u64, value: i64) -> String {
+    metrics(&sum_of(name, &[sum_point(200, start, end, value)]))
+}
+
+fn histogram(name: &str, start: u64, end: u64, sum: Option<u64>, buckets: [u64; 3]) -> String {
+    let count: u128 = buckets.iter().map(|bucket| u128::from(*bucket)).sum();
+    let counts = buckets.map(|bucket| format!("\"{bucket}\"")).join(",");
+    let sum = sum.map_or(String::new(), |sum| format!("\"sum\":{sum},"));
+    metrics(&format!(
+        r#"{{"histogram":{{"aggregationTemporality":1,"dataPoints":[{{"attributes":[],"bucketCounts":[{counts}],"count":"{count}","explicitBounds":[-5,10],"startTimeUnixNano":"{start}",{sum}"timeUnixNano":"{end}"}}]}},"name":"{name}","unit":"ms"}}"#
+    ))
+}
+
+struct Trial {
+    folder: tempfile::TempDir,
+    writer: Writer,
+}
+
+impl Trial {
+    fn new() -> Trial {
+        let folder = tempfile::tempdir().expect("a folder");
+        let path = folder.path().join("totals.db");
+        Trial {
+            folder,
+            writer: writer(&path),
+        }
+    }
+
+    fn path(&self) -> PathBuf {
+        self.folder.path().join("totals.db")
+    }
+
+    fn take(&mut self, number: u64, body: String) -> Fate {
+        self.writer.take(&forwarded(number, body))
+    }
+
+    fn taken(&mut self, number: u64, body: String) {
+        assert_eq!(self.take(number, body), Fate::Taken, "{number}");
+    }
+
+    fn again(&mut self, number: u64, body: String, part: &str) {
+        match self.take(number, body) {
+            Fate::Again { reason, after: None } => {
+                assert!(reason.contains(part) && reason.contains("totals.db"), "{reason}")
+            }
+            other => panic!("{other:?}"),
+        }
+    }
+
+    fn refused(&mut self, number: u64, body: String, part: &str) {
+        match self.take(number, body) {
+            Fate::Refused { reason } => assert!(reason.contains(part), "{reason}"),
+            other => panic!("{other:?}"),
+        }
+    }
+
+    fn reopen(&mut self) {
+        self.writer = writer(&self.path());
+    }
+
+    fn totals(&self) -> Vec<(String, i128, u64)> {
+        let rows = read(&self.path(), &Filter::default()).expect("it is read");
+        rows.into_iter()
+            .map(|row| (row.name, row.total.0, row.points))
+            .collect()
+    }
+
+    fn ask(&self, query: &str) -> String {
+        let shell = std::process::Command::new("sqlite3")
+            .arg(self.path())
+            .arg(query)
+            .output()
+            .expect("sqlite3");
+        assert!(
+            shell.status.success(),
+            "{}",
+            String::from_utf8_lossy(&shell.stderr)
+        );
+        String::from_utf8(shell.stdout).expect("text").trim().into()
+    }
+}
+
+fn writer(path: &Path) -> Writer {
+    Writer {
+        path: path.into(),
+        store: None,
+        opening: Opening::First,
+    }
+}
+
+fn only(name: &str, total: i128, points: u64) -> Vec<(String, i128, u64)> {
+    vec![(name.into(), total, points)]
+}
+
+#[test]
+fn a_key_is_taken_once() {
+    let mut trial = Trial::new();
+    for _ in 0..3 {
+        trial.taken(1, sum("a", 10, 20, 5));
+    }
+    trial.taken(2, sum("a", 20, 30, -7));
+    trial.reopen();
+    trial.taken(1, sum("a", 10, 20, 5));
+    trial.taken(2, sum("a", 20, 30, -7));
+    assert_eq!(trial.totals(), only("a", -2, 2));
+}
+
+/// A number that was put aside is not taken because later ones were; nor is one of another slot or epoch.
+#[test]
+fn gaps_between_keys_stay_open() {
+    let mut trial = Trial::new();
+    trial.taken(1, sum("a", 10, 20, 1));
+    trial.taken(7, sum("a", 40, 50, 2));
+    trial.taken(9, sum("a", 50, 60, 4));
+    trial.taken(3, sum("a", 20, 30, 8));
+    trial.taken(3, sum("a", 20, 30, 8));
+    let other = Forwarded {
+        slot: 1,
+        ..forwarded(1, sum("b", 10, 20, 16))
+    };
+    assert_eq!(trial.writer.take(&other), Fate::Taken);
+    let other = Forwarded {
+        epoch: "f".into(),
+        ..forwarded(1, sum("b", 20, 30, 32))
+    };
+    assert_eq!(trial.writer.take(&other), Fate::Taken);
+    assert_eq!(trial.totals(), [("a".into(), 15, 4), ("b".into(), 48, 2)]);
+}
+
+#[test]
+fn a_span_that_overlaps_is_refused_whole() {
+    let mut trial = Trial::new();
+    trial.taken(1, sum("a", 100, 200, 1));
+    trial.taken(2, sum("a", 300, 400, 1));
+    for (number, (start, end)) in (10..).zip([
+        (100, 200),
+        (150, 160),
+        (50, 101),
+        (199, 300),
+        (250, 301),
+        (1, 1000),
+        (399, 500),
+    ]) {
+        trial.refused(number, sum("a", start, end, 9), "overlaps");
+        // What stands beside it in the request is not taken either.
+        let both = format!(
+            "{},{}",
+            sum_of("a", &[sum_point(200, start, end, 9)]),
+            sum_of("b", &[sum_point(200, 1, 2, 9)])
+        );
+        trial.refused(number, metrics(&both), "overlaps");
+    }
+    assert_eq!(trial.totals(), only("a", 2, 2));
+    trial.taken(3, sum("a", 200, 300, 1));
+    trial.taken(4, sum("a", 50, 100, 1));
+    trial.taken(5, sum("a", 400, 500, 1));
+    assert_eq!(trial.totals(), only("a", 5, 5));
+    trial.refused(
+        20,
+        metrics(&sum_of("c", &[sum_point(1, 10, 20, 1), sum_point(1, 15, 25, 1)])),
+        "overlaps",
+    );
+    assert_eq!(trial.totals(), only("a", 5, 5));
+}
+
+#[test]
+fn what_is_no_forwarded_request_is_refused() {
+    let mut trial = Trial::new();
+    for body in ["", "{", "[]", r#"{"resourceMetrics":5}"#] {
+        assert!(
+            matches!(trial.take(1, body.into()), Fate::Refused { .. }),
+            "{body}"
+        );
+    }
+    trial.refused(1, sum("a", 20, 20, 1), "");
+    trial.taken(1, sum("a", 10, 20, 1));
+}
+
+#[test]
+fn sums_past_64_bits_are_exact() {
+    let mut trial = Trial::new();
+    let (most, least) = (i64::MAX, -i64::MAX);
+    for number in 1..=5 {
+        trial.taken(number, sum("up", number * 10, number * 10 + 10, most));
+        trial.taken(number + 100, sum("down", number * 10, number * 10 + 10, least));
+    }
+    let total = 5 * i128::from(most);
+    trial.reopen();
+    assert_eq!(
+        trial.totals(),
+        [("down".into(), -total, 5), ("up".into(), total, 5)]
+    );
+    let rows = format!("down|{}\nup|{total}", -total);
+    for view in ["totals", "totals_by_name", "totals_by_hour"] {
+        assert_eq!(
+            trial.ask(&format!("select name, total from {view} order by name")),
+            rows,
+            "{view}"
+        );
+    }
+    trial.taken(200, sum("up", 1000, 1010, least));
+    assert_eq!(
+        trial.ask("select total from totals where name = 'up'"),
+        (total - i128::from(most)).to_string()
+    );
+}
+
+/// A total is an integer of SQLite as long as one holds it, and the views agree.
+#[test]
+fn views_carry_and_borrow() {
+    let mut trial = Trial::new();
+    let values = [
+        999_999_999_999,
+        1,
+        -1,
+        -1_000_000_000_000,
+        -5,
+        3_000_000_000_005,
+        -3_000_000_000_000,
+        12_345,
+    ];
+    let mut total = 0;
+    for (number, value) in (1..).zip(values) {
+        trial.taken(number, sum("a", number * 10, number * 10 + 10, value));
+        total += value;
+        for view in ["totals", "totals_by_name", "totals_by_hour"] {
+            let got = trial.ask(&format!("select total, typeof(total), points from {view}"));
+            assert_eq!(got, format!("{total}|integer|{number}"), "{view}");
+        }
+    }
+}
+
+#[test]
+fn histograms_add_up_by_bucket() {
+    let mut trial = Trial::new();
+    trial.taken(1, histogram("h", 10, 20, Some(7), [1, 2, 3]));
+    trial.taken(2, histogram("h", 20, 30, None, [0, 0, 4]));
+    trial.taken(3, histogram("h", 30, 40, Some(1), [u64::MAX, 0, 0]));
+    trial.taken(4, histogram("h", 40, 50, Some(0), [1 << 63, 0, 0]));
+    let rows = read(&trial.path(), &Filter::default()).expect("rows");
+    let found = rows[0].histogram.as_ref().expect("a histogram");
+    let first = 1 + i128::from(u64::MAX) + (1 << 63);
+    assert_eq!(found.buckets, [first, 2, 7].map(Exact));
+    assert_eq!(
+        (found.count, rows[0].total, found.points_without_sum),
+        (Exact(first + 9), Exact(8), 1)
+    );
+    assert_eq!(found.bounds, [-5, 10]);
+    for view in ["totals", "totals_by_name", "totals_by_hour"] {
+        assert_eq!(
+            trial.ask(&format!("select total, count from {view}")),
+            format!("8|{}", first + 9),
+            "{view}"
+        );
+    }
+    let told = serde_json::to_value(&rows[0]).expect("JSON");
+    assert_eq!(told["kind"], "histogram");
+    assert_eq!(told["histogram"]["buckets"][0], first.to_string());
+}
+
+/// Times from 2^63 on, in the year 2262 and later, keep their order.
+#[test]
+fn late_times_are_exact() {
+    let mut trial = Trial::new();
+    trial.taken(1, sum("a", u64::MAX - 10, u64::MAX, 1));
+    trial.taken(2, sum("a", 10, 1 << 63, 1));
+    trial.refused(3, sum("a", (1 << 63) - 1, 1 << 63, 1), "overlaps");
+    trial.refused(3, sum("a", u64::MAX - 1, u64::MAX, 1), "overlaps");
+    trial.taken(3, sum("a", 1 << 63, u64::MAX - 10, 1));
+    let rows = read(&trial.path(), &Filter::default()).expect("rows");
+    assert_eq!(
+        (rows[0].start_ns, rows[0].end_ns, rows[0].points),
+        (10, u64::MAX, 3)
+    );
+}
+
+#[test]
+fn series_differ_by_each_part() {
+    let mut trial = Trial::new();
+    let point = |value: &str| {
+        let point = r#"{"asInt":"1","attributes":[{"key":"k","value":VALUE}],"startTimeUnixNano":"1","timeUnixNano":"2"}"#;
+        point.replace("VALUE", value)
+    };
+    let values = [
+        r#"{}"#,
+        r#"{"stringValue":"5"}"#,
+        r#"{"intValue":"5"}"#,
+        r#"{"stringValue":""}"#,
+        r#"{"boolValue":true}"#,
+        r#"{"arrayValue":{"values":[{"intValue":"5"}]}}"#,
+    ];
+    trial.taken(1, metrics(&sum_of("a", &values.map(point))));
+    assert_eq!(trial.totals().len(), values.len());
+    trial.taken(2, sum("a", 1, 2, 1).replace("\"h1\"", "\"h2\""));
+    trial.taken(3, sum("a", 1, 2, 1));
+    trial.taken(4, sum("a", 1, 2, 1).replace("\"unit\":\"1\"", "\"unit\":\"2\""));
+    trial.taken(5, sum("a", 1, 2, 1).replace("false", "true"));
+    assert_eq!(trial.totals().len(), values.len() + 4);
+}
+
+#[test]
+fn a_transaction_that_was_cut_is_not_there() {
+    let mut trial = Trial::new();
+    trial.taken(1, sum("a", 10, 20, 1));
+    let other = Connection::open(trial.path()).expect("open");
+    other
+        .execute_batch("begin immediate; insert into request values (99, 0, 'e', 2, 0, 1, 1, 2)")
+        .expect("a row");
+    drop(other);
+    trial.taken(2, sum("a", 20, 30, 2));
+    assert_eq!(trial.totals(), only("a", 3, 2));
+    // Killed behind the log's last commit: its files as they lie there, opened by another process.
+    let copy = tempfile::tempdir().expect("a folder");
+    for name in ["totals.db", "totals.db-wal"] {
+        std::fs::copy(trial.folder.path().join(name), copy.path().join(name)).expect("a copy");
+    }
+    let log = std::fs::OpenOptions::new()
+        .write(true)
+        .open(copy.path().join("totals.db-wal"))
+        .expect("the log");
+    log.set_len(log.metadata().expect("its length").len() - 100)
+        .expect("a torn end");
+    let mut torn = Trial {
+        writer: writer(&copy.path().join("totals.db")),
+        folder: copy,
+    };
+    torn.taken(1, sum("a", 10, 20, 1));
+    torn.taken(2, sum("a", 20, 30, 2));
+    assert_eq!(torn.totals(), only("a", 3, 2));
+}
+
+#[test]
+fn a_lock_is_waited_for() {
+    let mut trial = Trial::new();
+    trial.taken(1, sum("a", 10, 20, 1));
+    let other = Connection::open(trial.path()).expect("open");
+    other.execute_batch("begin immediate").expect("a lock");
+    trial.again(2, sum("new", 20, 30, 2), "locked");
+    other.execute_batch("rollback").expect("no lock");
+    trial.taken(2, sum("new", 20, 30, 2));
+    assert_eq!(trial.totals(), [("a".into(), 1, 1), ("new".into(), 2, 1)]);
+}
+
+/// A row number that is kept in memory is not believed behind another process's write.
+#[test]
+fn another_writer_is_noticed() {
+    let mut trial = Trial::new();
+    trial.taken(1, sum("a", 10, 20, 1));
+    let emptied = "pragma foreign_keys = off; delete from span; delete from series_total; delete from series; delete from request";
+    trial.ask(emptied);
+    trial.taken(2, sum("b", 10, 20, 2));
+    trial.taken(3, sum("a", 10, 20, 4));
+    assert_eq!(trial.totals(), [("a".into(), 4, 1), ("b".into(), 2, 1)]);
+}
+
+#[test]
+fn a_file_that_is_moved_is_not_written_on() {
+    let mut trial = Trial::new();
+    trial.taken(1, sum("a", 10, 20, 1));
+    std::fs::remove_file(trial.path()).expect("it is there");
+    trial.taken(2, sum("a", 20, 30, 2));
+    assert_eq!(trial.totals(), only("a", 2, 1));
+}
+
+#[test]
+fn a_missing_folder_is_told_and_waited_for() {
+    let mut trial = Trial::new();
+    let folder = trial.folder.path().join("later");
+    trial.writer = writer(&folder.join("totals.db"));
+    trial.again(1, sum("a", 10, 20, 1), "folder is missing");
+    std::fs::create_dir(&folder).expect("a folder");
+    trial.taken(1, sum("a", 10, 20, 1));
+}
+
+/// Root writes everywhere, so only the file's kind can stop it.
+#[test]
+fn what_can_not_be_written_is_told_and_waited_for() {
+    let mut trial = Trial::new();
+    trial.taken(1, sum("a", 10, 20, 1));
+    trial.writer.store = None;
+    let mode = |mode| {
+        std::fs::set_permissions(trial.folder.path(), std::fs::Permissions::from_mode(mode)).expect("a mode")
+    };
+    mode(0o500);
+    let writable = std::fs::write(trial.folder.path().join("probe"), "").is_ok();
+    mode(0o700);
+    if !writable {
+        mode(0o500);
+        trial.again(2, sum("a", 20, 30, 2), "write the file and its folder");
+        trial.writer.store = None;
+        std::fs::set_permissions(trial.folder.path(), std::fs::Permissions::from_mode(0o700))
+            .expect("a mode");
+    }
+    let aside = trial.folder.path().join("aside");
+    std::fs::rename(trial.path(), &aside).expect("moved");
+    std::fs::create_dir(trial.path()).expect("a folder in its place");
+    trial.again(2, sum("a", 20, 30, 2), "can't be opened");
+    std::fs::remove_dir(trial.path()).expect("gone");
+    std::fs::rename(&aside, trial.path()).expect("back");
+    trial.taken(2, sum("a", 20, 30, 2));
+    assert_eq!(trial.totals(), only("a", 3, 2));
+}
+
+#[test]
+fn a_full_disk_is_told_and_waited_for() {
+    let mut trial = Trial::new();
+    trial.taken(1, sum("a", 10, 20, 1));
+    let limit = |pages: &str, trial: &mut Trial| {
+        let store = trial.writer.store().expect("it is open");
+        store.execute(&format!("pragma max_page_count = {pages}"));
+    };
+    limit("1", &mut trial);
+    let many: Vec<String> = (0..2000).map(|code| sum_point(code, 20, 30, 1)).collect();
+    trial.again(2, metrics(&sum_of("a", &many)), "disk is full");
+    assert_eq!(trial.totals(), only("a", 1, 1));
+    trial.taken(2, metrics(&sum_of("a", &many)));
+    assert_eq!(trial.totals().len(), 2000);
+}
+
+#[test]
+fn a_damaged_file_is_told_and_waited_for() {
+    let mut trial = Trial::new();
+    std::fs::write(
+        trial.path(),
+        "this is no database, and it is longer than a head of one".repeat(100),
+    )
+    .expect("a file");
+    trial.again(1, sum("a", 10, 20, 1), "no SQLite database");
+    assert!(
+        SqliteSink::open(&trial.path()).is_ok(),
+        "the service starts all the same"
+    );
+    std::fs::remove_file(trial.path()).expect("away");
+    trial.taken(1, sum("a", 10, 20, 1));
+    trial.writer.store = None;
+    let mut bytes = std::fs::read(trial.path()).expect("bytes");
+    let whole = bytes.clone();
+    bytes[4096..].fill(0x55);
+    std::fs::write(trial.path(), &bytes).expect("damage");
+    trial.again(2, sum("a", 20, 30, 2), "damaged");
+    std::fs::write(trial.path(), &whole).expect("put back");
+    trial.taken(2, sum("a", 20, 30, 2));
+    assert_eq!(trial.totals(), only("a", 3, 2));
+}
+
+#[test]
+fn a_later_schema_is_refused_by_name_and_left_alone() {
+    let mut trial = Trial::new();
+    trial.taken(1, sum("a", 10, 20, 1));
+    trial.writer.store = None;
+    trial.ask("pragma user_version = 2");
+    let error = SqliteSink::open(&trial.path())
+        .err()
+        .expect("it is later")
+        .to_string();
+    assert!(
+        error.contains("later version") && error.contains("schema 2"),
+        "{error}"
+    );
+    trial.again(2, sum("a", 20, 30, 2), "later version");
+    assert!(read(&trial.path(), &Filter::default()).is_err());
+    trial.ask("pragma user_version = 1");
+    trial.taken(2, sum("a", 20, 30, 2));
+}
+
+#[tokio::test]
+async fn a_sink_has_a_thread_that_ends_with_it() {
+    let folder = tempfile::tempdir().expect("a folder");
+    let path = folder.path().join("totals.db");
+    let sink = SqliteSink::open(&path).expect("a sink");
+    assert_eq!(sink.name(), format!("sqlite {}", path.display()));
+    let bodies: Vec<Forwarded> = (1..=20)
+        .map(|number| forwarded(number, sum("a", number, number + 1, 1)))
+        .collect();
+    for request in &bodies {
+        assert_eq!(sink.deliver(request).await, Fate::Taken);
+    }
+    // Others are not held up by one whose caller went away.
+    drop(sink.deliver(&bodies[0]));
+    assert_eq!(sink.deliver(&bodies[1]).await, Fate::Taken);
+    drop(sink);
+    assert!(
+        !folder.path().join("totals.db-wal").exists(),
+        "it is closed whole"
+    );
+    assert_eq!(read(&path, &Filter::default()).expect("rows")[0].total, Exact(20));
+}
+
+#[test]
+fn totals_are_read_by_name_and_attribute() {
+    let mut trial = Trial::new();
+    let both = format!(
+        "{},{}",
+        sum_of("a", &[sum_point(200, 1, 2, 3), sum_point(500, 1, 2, 4)]),
+        sum_of("b", &[sum_point(200, 1, 2, 5)])
+    );
+    trial.taken(1, metrics(&both));
+    let found = |name: Option<&str>, attributes: &[(&str, &str)]| -> Vec<i128> {
+        let attributes = attributes
+            .iter()
+            .map(|(key, value)| (key.to_string(), value.to_string()))
+            .collect();
+        let filter = Filter {
+            name: name.map(String::from),
+            attributes,
+        };
+        read(&trial.path(), &filter)
+            .expect("rows")
+            .iter()
+            .map(|row: &SeriesTotal| row.total.0)
+            .collect()
+    };
+    assert_eq!(found(None, &[]), [3, 4, 5]);
+    assert_eq!(found(Some("a"), &[]), [3, 4]);
+    assert_eq!(found(None, &[("code", "200")]), [3, 5]);
+    assert_eq!(found(Some("a"), &[("code", "500"), ("host", "h1")]), [4]);
+    assert_eq!(found(Some("a"), &[("host", "h2")]), [0; 0]);
+    assert_eq!(found(Some("z"), &[]), [0; 0]);
+    let error = read(&trial.folder.path().join("none.db"), &Filter::default()).expect_err("it is not there");
+    assert!(error.to_string().contains("no such file"), "{error}");
+}
+
+/// 100 requests of 1,000 series, 10,000 series in all.
+#[test]
+#[ignore = "it measures: cargo test --release -- --ignored series_a_second --nocapture"]
+fn series_a_second() {
+    let mut trial = Trial::new();
+    let body = |turn: u64, block: i64| {
+        let points: Vec<String> = (0..1000)
+            .map(|code| sum_point(block * 1000 + code, turn * 10 + 10, turn * 10 + 20, code))
+            .collect();
+        metrics(&sum_of("requests", &points))
+    };
+    for (part, turns) in [("new series", 0..1), ("known series", 1..10)] {
+        let requests: Vec<(u64, String)> = turns
+            .flat_map(|turn| (0..10).map(move |block| (turn, block)))
+            .map(|(turn, block)| (turn * 10 + block as u64 + 1, body(turn, block)))
+            .collect();
+        let began = Instant::now();
+        let count = requests.len() * 1000;
+        requests
+            .into_iter()
+            .for_each(|(number, body)| trial.taken(number, body));
+        let took = began.elapsed();
+        println!(
+            "{part}: {count} in {took:?}, {:.0} series a second",
+            count as f64 / took.as_secs_f64()
+        );
+        assert!(
+            took < Duration::from_secs(count as u64 / 20_000).max(Duration::from_secs(1)),
+            "{took:?}"
+        );
+    }
+}

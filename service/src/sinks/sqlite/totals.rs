@@ -1,0 +1,198 @@
+//! Reads a file's totals, also while the service writes it.
+
+use super::fault::SqliteFault;
+use super::schema::{self, STEPS};
+use super::whole::{Exact, Whole};
+use rusqlite::{Connection, ErrorCode, OpenFlags, Row};
+use serde::Serialize;
+use serde_json::{Map, Value};
+use std::path::Path;
+use std::time::Duration;
+
+/// Which series are read. The empty filter is all of them.
+#[derive(Clone, Debug, Default, PartialEq, Eq)]
+pub struct Filter {
+    /// The metric's name.
+    pub name: Option<String>,
+    /// Attributes of the points or of the resource, each with its value as text: `code` and `200`.
+    pub attributes: Vec<(String, String)>,
+}
+
+/// What a series' points come to.
+#[derive(Clone, Debug, PartialEq, Eq, Serialize)]
+pub struct SeriesTotal {
+    pub name: String,
+    pub unit: String,
+    pub kind: Kind,
+    /// By key; a value has the JSON type of the attribute.
+    pub attributes: Map<String, Value>,
+    pub resource: Map<String, Value>,
+    pub scope_name: String,
+    pub scope_version: String,
+    pub scope_attributes: Map<String, Value>,
+    /// How many points, each of a span of its own, it has.
+    pub points: u64,
+    /// The first start and the last end, in nanoseconds since 1970.
+    pub start_ns: u64,
+    pub end_ns: u64,
+    /// What was added up: values of a sum, sums of a histogram.
+    pub total: Exact,
+    /// Of a histogram alone.
+    #[serde(skip_serializing_if = "Option::is_none")]
+    pub histogram: Option<Histogram>,
+}
+
+#[derive(Clone, Copy, Debug, PartialEq, Eq, PartialOrd, Ord, Serialize)]
+#[serde(rename_all = "lowercase")]
+pub enum Kind {
+    Sum,
+    Monotonic,
+    Histogram,
+}
+
+#[derive(Clone, Debug, PartialEq, Eq, Serialize)]
+pub struct Histogram {
+    pub count: Exact,
+    /// How many of the points had no sum: the total is without theirs.
+    pub points_without_sum: u64,
+    pub bounds: Vec<i64>,
+    /// One more than bounds: the last is over all of them.
+    pub buckets: Vec<Exact>,
+}
+
+impl Filter {
+    fn takes(&self, row: &SeriesTotal) -> bool {
+        self.attributes.iter().all(|(key, value)| {
+            let found = [&row.attributes, &row.resource]
+                .into_iter()
+                .find_map(|all| all.get(key));
+            found.is_some_and(|found| text(found) == *value)
+        })
+    }
+}
+
+/// An attribute's value as an operator writes it: a text without its quotes.
+pub fn text(value: &Value) -> String {
+    match value {
+        Value::String(text) => text.clone(),
+        Value::Null => String::new(),
+        other => other.to_string(),
+    }
+}
+
+/// The totals of a file, by name and attributes, as of one moment.
+pub fn read(path: &Path, filter: &Filter) -> Result<Vec<SeriesTotal>, SqliteFault> {
+    let fault = |error| SqliteFault::of(path, error);
+    let connection = open(path)?;
+    if schema::check(&connection, path, STEPS.len() as i64)? == 0 {
+        return Ok(Vec::new());
+    }
+    let mut query = connection
+        .prepare(
+            "select name, unit, kind, attributes, resource, scope_name, scope_version, scope_attributes, points,
+             first_start_ns, last_end_ns, total_high, total_low, count_high, count_low, without_sum, bounds, buckets
+             from series join series_total on series_total.series = series.id where ?1 is null or name = ?1
+             order by name, attributes, resource, series.id",
+        )
+        .map_err(fault)?;
+    let rows = query.query_map([&filter.name], row).map_err(fault)?;
+    let mut totals = Vec::new();
+    for row in rows {
+        let row = row.map_err(fault)?;
+        if filter.takes(&row) {
+            totals.push(row);
+        }
+    }
+    Ok(totals)
+}
+
+/// Opens a file to read. A reader of a write-ahead log writes to a file beside it; who may not, and finds no log,
+/// reads the file as one that nobody writes.
+fn open(path: &Path) -> Result<Connection, SqliteFault> {
+    let fault = |error| SqliteFault::of(path, error);
+    if !path.is_file() {
+        return Err(SqliteFault::told(
+            path,
+            "there is no such file: nothing was delivered to it yet",
+        ));
+    }
+    let flags = OpenFlags::SQLITE_OPEN_READ_ONLY | OpenFlags::SQLITE_OPEN_NO_MUTEX;
+    let tried = Connection::open_with_flags(path, flags).and_then(|connection| {
+        connection.busy_timeout(Duration::from_secs(2))?;
+        connection.query_row("select count(*) from sqlite_schema", [], |_| Ok(()))?;
+        Ok(connection)
+    });
+    let code = tried.as_ref().err().and_then(|error| error.sqlite_error_code());
+    if matches!(code, Some(ErrorCode::CannotOpen | ErrorCode::ReadOnly)) && !has_log(path) {
+        let flags = flags | OpenFlags::SQLITE_OPEN_URI;
+        return Connection::open_with_flags(uri(path), flags).map_err(fault);
+    }
+    tried.map_err(fault)
+}
+
+fn has_log(path: &Path) -> bool {
+    let mut log = path.as_os_str().to_owned();
+    log.push("-wal");
+    std::fs::metadata(log).is_ok_and(|log| log.len() > 0)
+}
+
+fn uri(path: &Path) -> String {
+    use std::os::unix::ffi::OsStrExt;
+    let mut uri = String::from("file:");
+    for byte in path.as_os_str().as_bytes() {
+        match byte {
+            b'a'..=b'z' | b'A'..=b'Z' | b'0'..=b'9' | b'/' | b'.' | b'-' | b'_' => uri.push(*byte as char),
+            _ => uri.push_str(&format!("%{byte:02X}")),
+        }
+    }
+    uri + "?immutable=1"
+}
+
+fn row(row: &Row) -> rusqlite::Result<SeriesTotal> {
+    let kind: String = row.get(2)?;
+    let kind = match kind.as_str() {
+        "sum" => Kind::Sum,
+        "monotonic" => Kind::Monotonic,
+        _ => Kind::Histogram,
+    };
+    Ok(SeriesTotal {
+        name: row.get(0)?,
+        unit: row.get(1)?,
+        kind,
+        attributes: json(row, 3)?,
+        resource: json(row, 4)?,
+        scope_name: row.get(5)?,
+        scope_version: row.get(6)?,
+        scope_attributes: json(row, 7)?,
+        points: whole(row, 8)?,
+        start_ns: whole(row, 9)?,
+        end_ns: whole(row, 10)?,
+        total: Exact::of_parts(row.get(11)?, row.get(12)?),
+        histogram: if kind == Kind::Histogram {
+            Some(histogram(row)?)
+        } else {
+            None
+        },
+    })
+}
+
+fn histogram(row: &Row) -> rusqlite::Result<Histogram> {
+    let buckets: Vec<i128> = json(row, 17)?;
+    Ok(Histogram {
+        count: Exact::of_parts(row.get(13)?, row.get(14)?),
+        points_without_sum: whole(row, 15)?,
+        bounds: json(row, 16)?,
+        buckets: buckets.into_iter().map(Exact).collect(),
+    })
+}
+
+fn whole(row: &Row, column: usize) -> rusqlite::Result<u64> {
+    row.get(column).map(|whole: Whole| whole.0)
+}
+
+fn json<T: serde::de::DeserializeOwned>(row: &Row, column: usize) -> rusqlite::Result<T> {
+    let text = row.get_ref(column)?.as_str()?;
+    serde_json::from_str(text).map_err(|error| {
+        rusqlite::Error::FromSqlConversionFailure(column, rusqlite::types::Type::Text, Box::new(error))
+    })
+}

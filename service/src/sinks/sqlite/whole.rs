@@ -1,0 +1,128 @@
+//! Whole numbers past SQLite's own: 64 bits without sign, and totals of 128 bits.
+
+use rusqlite::types::{FromSql, FromSqlError, FromSqlResult, ToSql, ToSqlOutput, ValueRef};
+
+/// A number of 64 bits without sign. From 2^63 on it is a text of 20 digits: SQLite sorts texts behind integers, so
+/// the order of such a column is that of the numbers.
+#[derive(Clone, Copy, Debug, PartialEq, Eq, PartialOrd, Ord)]
+pub(super) struct Whole(pub u64);
+
+impl ToSql for Whole {
+    fn to_sql(&self) -> rusqlite::Result<ToSqlOutput<'_>> {
+        Ok(match i64::try_from(self.0) {
+            Ok(number) => number.into(),
+            Err(_) => format!("{:020}", self.0).into(),
+        })
+    }
+}
+
+impl FromSql for Whole {
+    fn column_result(value: ValueRef<'_>) -> FromSqlResult<Whole> {
+        match value {
+            ValueRef::Integer(number) => u64::try_from(number)
+                .map(Whole)
+                .map_err(|_| FromSqlError::OutOfRange(number)),
+            ValueRef::Text(_) => value
+                .as_str()?
+                .parse()
+                .map(Whole)
+                .map_err(|_| FromSqlError::InvalidType),
+            _ => Err(FromSqlError::InvalidType),
+        }
+    }
+}
+
+const BASE: i128 = 1_000_000_000_000;
+
+/// An exact total. In a file it is two integers, high and low: total = high * 10^12 + low, 0 <= low < 10^12. So a
+/// query adds up both parts of a million rows and more without a carry.
+#[derive(Clone, Copy, Debug, Default, PartialEq, Eq, PartialOrd, Ord)]
+pub struct Exact(pub i128);
+
+impl Exact {
+    /// `None` from about 9 * 10^30 on.
+    pub(super) fn parts(self) -> Option<(i64, i64)> {
+        let high = i64::try_from(self.0.div_euclid(BASE)).ok()?;
+        let low = i64::try_from(self.0.rem_euclid(BASE)).ok()?;
+        Some((high, low))
+    }
+
+    pub(super) fn of_parts(high: i64, low: i64) -> Exact {
+        Exact(i128::from(high) * BASE + i128::from(low))
+    }
+}
+
+impl std::fmt::Display for Exact {
+    fn fmt(&self, formatter: &mut std::fmt::Formatter<'_>) -> std::fmt::Result {
+        std::fmt::Display::fmt(&self.0, formatter)
+    }
+}
+
+/// A decimal string, as OTLP writes whole numbers: readers of JSON commonly round numbers past 2^53.
+impl serde::Serialize for Exact {
+    fn serialize<S: serde::Serializer>(&self, serializer: S) -> Result<S::Ok, S::Error> {
+        serializer.collect_str(self)
+    }
+}
+
+#[cfg(test)]
+mod tests {
+    use super::*;
+    use rusqlite::Connection;
+
+    #[test]
+    fn large_numbers_keep_their_order() {
+        let connection = Connection::open_in_memory().expect("memory");
+        connection.execute_batch("create table t (n)").expect("a table");
+        let numbers = [
+            0,
+            1,
+            1 << 62,
+            (1 << 63) - 1,
+            1 << 63,
+            (1 << 63) + 1,
+            9_999_999_999_999_999_999,
+            u64::MAX,
+        ];
+        for number in numbers.iter().rev() {
+            connection
+                .execute("insert into t values (?1)", [Whole(*number)])
+                .expect("a row");
+        }
+        let mut query = connection.prepare("select n from t order by n").expect("a query");
+        let read: Vec<Whole> = query
+            .query_map([], |row| row.get(0))
+            .expect("rows")
+            .collect::<Result<_, _>>()
+            .expect("numbers");
+        assert_eq!(read, numbers.map(Whole));
+        let less: i64 = connection
+            .query_row("select count(*) from t where n < ?1", [Whole(u64::MAX)], |row| {
+                row.get(0)
+            })
+            .expect("a count");
+        assert_eq!(less, 7);
+    }
+
+    #[test]
+    fn totals_have_two_parts() {
+        for (total, parts) in [
+            (0, (0, 0)),
+            (-1, (-1, 999_999_999_999)),
+            (5, (0, 5)),
+            (1_000_000_000_000, (1, 0)),
+            (-1_000_000_000_000, (-1, 0)),
+        ] {
+            assert_eq!(Exact(total).parts(), Some(parts));
+        }
+        for total in [
+            i128::from(i64::MIN),
+            i128::from(u64::MAX) * 1_000_000,
+            -12_345_678_901_234_567_890_123_456_789,
+        ] {
+            let (high, low) = Exact(total).parts().expect("it fits");
+            assert_eq!(Exact::of_parts(high, low), Exact(total));
+        }
+        assert_eq!(Exact(i128::MAX).parts(), None);
+    }
+}

@@ -1,0 +1,154 @@
+//! A slot: one gateway with its journal and outbox, and the way of a post through them.
+//!
+//! `request` is that way, `verdict` what is said of a post and when, `gate` who may ask the gateway and when.
+
+mod gate;
+mod points;
+mod request;
+mod turns;
+mod verdict;
+mod whole;
+
+pub(crate) use gate::Phase;
+pub(crate) use whole::Whole;
+pub(crate) use verdict::{foreign_of, message_of};
+
+use crate::files::{Folder, Journal, Outbox};
+use crate::gateway::Gateway;
+use crate::metrics::Metrics;
+use crate::otlp::Outcome;
+use bytes::Bytes;
+use gate::Gate;
+use std::sync::atomic::{AtomicU64, Ordering};
+use std::sync::Arc;
+use tokio::sync::Notify;
+use turns::Turns;
+
+/// Shared by the intake, which posts, and the keeper, who replaces the gateway.
+pub struct Slot {
+    number: u16,
+    folder: Arc<Folder>,
+    pub(crate) journal: Arc<Journal>,
+    pub(crate) outbox: Arc<Outbox>,
+    pub(crate) metrics: Arc<Metrics>,
+    pub(crate) gate: Gate,
+    turns: Turns,
+    /// How many posts are in the journal and in no group.
+    pub(crate) ungrouped: AtomicU64,
+    /// A gateway was doubted.
+    pub(crate) trouble: Notify,
+    /// The gateway said that it has too many series.
+    pub(crate) crowded: Notify,
+}
+
+impl Slot {
+    pub fn new(
+        number: u16,
+        folder: Arc<Folder>,
+        journal: Journal,
+        outbox: Arc<Outbox>,
+        metrics: Arc<Metrics>,
+    ) -> Arc<Slot> {
+        Arc::new(Slot {
+            number,
+            folder,
+            journal: Arc::new(journal),
+            outbox,
+            metrics,
+            gate: Gate::new(),
+            turns: Turns::new(),
+            ungrouped: AtomicU64::new(0),
+            trouble: Notify::new(),
+            crowded: Notify::new(),
+        })
+    }
+
+    pub fn number(&self) -> u16 {
+        self.number
+    }
+
+    /// Puts the bodies of one request to the gateway, one after the other. Each that is taken is in the journal, as
+    /// durably as was asked for, before this returns, and a refusal waits for the journal too. It is whole even
+    /// where the caller goes away.
+    pub async fn post(self: &Arc<Self>, sender: String, bodies: Vec<Bytes>) -> Outcome {
+        let slot = self.clone();
+        Whole::new(async move { slot.request(&sender, &bodies).await }).await
+    }
+
+    /// Whether there is a gateway that has all accepted posts.
+    pub fn is_ready(&self) -> bool {
+        self.gate.phase() == Phase::Serving
+    }
+
+    /// The gateway's own report.
+    pub async fn report(&self) -> Option<Bytes> {
+        let gateway = self.gate.enter().await;
+        let answer = gateway.as_ref()?.ask("GET", "/report").await;
+        match answer {
+            Ok(answer) if answer.status == 200 => Some(answer.body),
+            Ok(_) => None,
+            Err(doubt) => {
+                self.doubt(&doubt);
+                None
+            }
+        }
+    }
+
+    /// Bytes of the journal's segments, and when the first of their posts was appended (seconds since 1970).
+    pub fn journal_size(&self) -> (u64, Option<u64>) {
+        self.journal.size()
+    }
+
+    /// The process id of the gateway, where there is one and nobody waits for it.
+    pub fn gateway(&self) -> Option<u32> {
+        self.gate.gateway_now().map(|gateway| gateway.pid())
+    }
+
+    /// Says why the gateway is replaced, and has the keeper do it. Until then nobody is let in.
+    fn doubt(&self, doubt: &crate::gateway::Doubt) {
+        if self.gate.close() {
+            tracing::warn!("slot {}: the gateway is replaced: {doubt}", self.number);
+        }
+        self.trouble.notify_one();
+    }
+
+    fn count_taken(&self, sender: &str, rejected: u64) {
+        self.ungrouped.fetch_add(1, Ordering::Relaxed);
+        self.metrics.foreign(sender, rejected);
+    }
+}
+
+/// Whether this is a sender's name: the gateway takes no other, and it stands in heads and paths.
+pub fn is_sender(name: &str) -> bool {
+    let sound = |byte: u8| byte.is_ascii_alphanumeric() || b"._-".contains(&byte);
+    (1..=64).contains(&name.len()) && name.bytes().all(sound)
+}
+
+/// What the keeper puts in and takes out.
+impl Slot {
+    pub(crate) fn set_ungrouped(&self, posts: u64) {
+        self.ungrouped.store(posts, Ordering::Relaxed);
+    }
+
+    pub(crate) fn ungrouped(&self) -> u64 {
+        self.ungrouped.load(Ordering::Relaxed)
+    }
+
+    pub(crate) fn show_gateway(&self, gateway: &Gateway) {
+        self.metrics.gateway_connections.set(gateway.used() as i64);
+        self.metrics.series.set(self.outbox.series_count() as i64);
+    }
+}
+
+#[cfg(test)]
+mod tests {
+    #[test]
+    fn names_of_senders() {
+        for name in ["-", "A", "a.b_c-9", &"x".repeat(64)] {
+            assert!(super::is_sender(name), "{name}");
+        }
+        for name in ["", "a b", "a\r\nx: y", "a/b", "ä", &"x".repeat(65)] {
+            assert!(!super::is_sender(name), "{name}");
+        }
+    }
+}

@@ -1,0 +1,207 @@
+//! The way of one request: its bodies in order, each to the gateway and into the journal.
+//!
+//! A request is one body as a rule. Where it was split into several, each is a post of its own, and the answer must
+//! neither lose nor double a point:
+//!
+//! - Before the first body is taken, a 503 is the answer: nothing is known of the request, and the sender repeats it.
+//! - A body that is refused for good does not block the others. Its points are counted as rejected, where another
+//!   one is taken; a repeat goes this way too, whose first bodies were taken by the attempt before.
+//! - Behind a body that was taken, a 503 is waited out. The gateway may have been replaced meanwhile: what was taken
+//!   is in the journal, and the body that was not is put to the fresh one.
+//! - Where that takes too long the answer is 503. The repeat's bodies that are in the books are refused as
+//!   `out of order`, since each series' frontier is at the end of what was taken, and the others are taken then.
+
+use super::points::points;
+use super::verdict::{Journalled, Refusal, Said, Verdict};
+use super::{is_sender, Phase, Slot};
+use crate::files::Ticket;
+use crate::otlp::Outcome;
+use bytes::Bytes;
+use std::time::{Duration, Instant};
+
+/// How long a body behind one that was taken is tried. Senders wait 10 seconds, as a rule.
+const PATIENCE: Duration = Duration::from_secs(8);
+const PAUSE: Duration = Duration::from_millis(100);
+
+/// What became of one body.
+enum Put {
+    Journalled(Journalled),
+    /// The gateway was not asked, or its answer did not come: the body is in no journal, so the next gateway does
+    /// not have it.
+    Not(Refusal),
+}
+
+impl Put {
+    /// Whether it may be tried again.
+    fn is_unavailable(&self) -> bool {
+        match self {
+            Put::Not(_) => true,
+            Put::Journalled(one) => matches!(one.verdict(), Verdict::Refused(refusal) if !refusal.is_final()),
+        }
+    }
+}
+
+/// What became of a request so far.
+#[derive(Default)]
+struct Sum {
+    /// Points of bodies that were taken, outside the profile.
+    foreign: u64,
+    taken: bool,
+    /// Points of bodies that were refused for good, and the first of these refusals.
+    lost: u64,
+    refused: Option<Refusal>,
+    ticket: Option<Ticket>,
+}
+
+impl Slot {
+    pub(super) async fn request(&self, sender: &str, bodies: &[Bytes]) -> Outcome {
+        if !is_sender(sender) {
+            return outcome(Verdict::Refused(Refusal {
+                status: 400,
+                message: "bad sender".into(),
+            }));
+        }
+        if let Some(refusal) = self.at_the_door() {
+            return outcome(Verdict::Refused(refusal));
+        }
+        outcome(match bodies {
+            [body] => self.single(sender, body).await,
+            bodies => self.several(sender, bodies).await,
+        })
+    }
+
+    async fn single(&self, sender: &str, body: &Bytes) -> Verdict {
+        let turn = self.turns.of(sender).await;
+        let put = self.put(sender, body).await;
+        drop(turn);
+        match put {
+            Put::Journalled(one) => one.durable(&self.journal).await,
+            Put::Not(refusal) => Verdict::Refused(refusal),
+        }
+    }
+
+    async fn several(&self, sender: &str, bodies: &[Bytes]) -> Verdict {
+        let turn = self.turns.of(sender).await;
+        let mut sum = Sum::default();
+        let deadline = Instant::now() + PATIENCE;
+        for body in bodies {
+            let put = match sum.taken {
+                false => self.put(sender, body).await,
+                true => self.put_patiently(sender, body, deadline).await,
+            };
+            if let Err(refusal) = sum.add(put, body) {
+                sum.refused = Some(refusal);
+                sum.taken = false;
+                break;
+            }
+        }
+        drop(turn);
+        if let Some(ticket) = sum.ticket {
+            self.journal.durable(ticket).await;
+        }
+        sum.verdict(sender)
+    }
+
+    /// What is said without waiting for anything.
+    fn at_the_door(&self) -> Option<Refusal> {
+        match self.gate.phase() {
+            Phase::Recovering => Some(Refusal::unavailable("recovering")),
+            Phase::Stopping => Some(Refusal::unavailable("stopping")),
+            Phase::Serving if self.folder.has_room() => None,
+            Phase::Serving => Some(Refusal::unavailable("no room for the journal")),
+        }
+    }
+
+    /// Puts a body to the gateway and into the journal, and says what became of it.
+    async fn put(&self, sender: &str, body: &Bytes) -> Put {
+        // Held until the journal has the record: a checkpoint finds each post in both or in neither.
+        let gate = self.gate.enter().await;
+        let Some(gateway) = gate.as_ref().filter(|_| self.is_ready()) else {
+            return Put::Not(self.at_the_door().unwrap_or(Refusal::unavailable("recovering")));
+        };
+        match gateway
+            .post(sender, body)
+            .await
+            .map(|answer| Said::of(&answer, sender, body))
+        {
+            Ok(Said::Taken(taken)) => {
+                let one = taken.journal(&self.journal);
+                if let Verdict::Taken { rejected } = one.verdict() {
+                    self.count_taken(sender, *rejected);
+                }
+                Put::Journalled(one)
+            }
+            Ok(Said::Refused(refusal)) => {
+                if refusal.message == "too many series" {
+                    self.crowded.notify_one();
+                }
+                Put::Journalled(refusal.journal(&self.journal))
+            }
+            Err(doubt) => {
+                // Before the gate is left, so that no checkpoint uses this gateway.
+                self.doubt(&doubt);
+                Put::Not(Refusal::unavailable("recovering"))
+            }
+        }
+    }
+
+    async fn put_patiently(&self, sender: &str, body: &Bytes, deadline: Instant) -> Put {
+        loop {
+            let put = self.put(sender, body).await;
+            let late = Instant::now() + PAUSE > deadline || self.gate.phase() == Phase::Stopping;
+            if late || !put.is_unavailable() {
+                return put;
+            }
+            tokio::time::sleep(PAUSE).await;
+        }
+    }
+}
+
+impl Sum {
+    /// The error is a 503 that ends the request.
+    fn add(&mut self, put: Put, body: &Bytes) -> Result<(), Refusal> {
+        let one = match put {
+            Put::Not(refusal) => return Err(refusal),
+            Put::Journalled(one) => one,
+        };
+        self.ticket = self.ticket.max(Some(one.ticket()));
+        match one.verdict() {
+            Verdict::Taken { rejected } => {
+                self.taken = true;
+                self.foreign += rejected;
+            }
+            Verdict::Refused(refusal) if refusal.is_final() => {
+                self.lost += points(body);
+                self.refused.get_or_insert(refusal.clone());
+            }
+            Verdict::Refused(refusal) => return Err(refusal.clone()),
+        }
+        Ok(())
+    }
+
+    fn verdict(self, sender: &str) -> Verdict {
+        match self.refused {
+            Some(refusal) if !self.taken => Verdict::Refused(refusal),
+            Some(refusal) => {
+                let Refusal { status, message } = &refusal;
+                tracing::warn!(
+                    "of a request of {sender} {} points were refused with {status}: {message}",
+                    self.lost
+                );
+                Verdict::Taken {
+                    rejected: self.foreign + self.lost,
+                }
+            }
+            None => Verdict::Taken {
+                rejected: self.foreign,
+            },
+        }
+    }
+}
+
+fn outcome(verdict: Verdict) -> Outcome {
+    match verdict {
+        Verdict::Taken { rejected } => Outcome::Taken { rejected },
+        Verdict::Refused(Refusal { status, message }) => Outcome::Refused { status, message },
+    }
+}

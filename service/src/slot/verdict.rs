@@ -1,0 +1,178 @@
+//! What the gateway said of a post, and when its sender may hear it.
+//!
+//! `Taken` can't be said to anybody: only `Journal::append` makes a `Journalled` of it, and only what is durable
+//! gives its verdict away. A refusal waits for the journal too: a repeat's `out of order` must not outrun the record
+//! of the first attempt, or the sender would drop a batch that a loss of power then takes.
+
+use crate::files::{Journal, Post, Ticket};
+use crate::gateway::Answer;
+use bytes::Bytes;
+
+/// What the gateway said of a post that is in no journal yet.
+pub(super) enum Said {
+    Taken(Taken),
+    Refused(Refusal),
+}
+
+/// A post that the gateway took, and that is in no journal yet.
+#[must_use = "what the gateway took has to be in the journal"]
+pub(super) struct Taken {
+    post: Post,
+}
+
+/// For this reason nothing of a post was taken.
+#[derive(Clone, Debug, PartialEq, Eq)]
+pub(super) struct Refusal {
+    pub status: u16,
+    pub message: String,
+}
+
+/// What may be said once the journal is durable up to a place.
+#[must_use = "a sender waits for it"]
+pub(super) struct Journalled {
+    ticket: Ticket,
+    verdict: Verdict,
+}
+
+#[derive(Clone, Debug, PartialEq, Eq)]
+pub(super) enum Verdict {
+    Taken { rejected: u64 },
+    Refused(Refusal),
+}
+
+impl Said {
+    pub fn of(answer: &Answer, sender: &str, body: &Bytes) -> Said {
+        if answer.status != 200 {
+            return Said::Refused(Refusal {
+                status: answer.status,
+                message: message_of(&answer.body),
+            });
+        }
+        let foreign = foreign_of(answer);
+        Said::Taken(Taken {
+            post: Post {
+                sender: sender.into(),
+                foreign,
+                body: body.clone(),
+            },
+        })
+    }
+}
+
+impl Taken {
+    /// Puts the post into the journal: a short lock, and no wait for the disk.
+    pub fn journal(self, journal: &Journal) -> Journalled {
+        let verdict = Verdict::Taken {
+            rejected: self.post.foreign,
+        };
+        Journalled {
+            ticket: journal.append(&self.post),
+            verdict,
+        }
+    }
+}
+
+impl Refusal {
+    pub fn unavailable(message: &str) -> Refusal {
+        Refusal {
+            status: 503,
+            message: message.into(),
+        }
+    }
+
+    /// Whether a repeat would be refused for the same reason.
+    pub fn is_final(&self) -> bool {
+        self.status != 503
+    }
+
+    pub fn journal(self, journal: &Journal) -> Journalled {
+        Journalled {
+            ticket: journal.now(),
+            verdict: Verdict::Refused(self),
+        }
+    }
+}
+
+impl Journalled {
+    pub fn verdict(&self) -> &Verdict {
+        &self.verdict
+    }
+
+    /// A ticket for this post and all before it.
+    pub fn ticket(&self) -> Ticket {
+        self.ticket
+    }
+
+    /// Waits until it may be said.
+    pub async fn durable(self, journal: &Journal) -> Verdict {
+        journal.durable(self.ticket).await;
+        self.verdict
+    }
+}
+
+/// How many points of a post that was taken are foreign.
+pub(crate) fn foreign_of(answer: &Answer) -> u64 {
+    match &answer.body[..] {
+        // As a rule: it needs no reading.
+        b"{}" => 0,
+        body => crate::otlp::rejected(body),
+    }
+}
+
+/// Why something was refused, in the gateway's words.
+pub(crate) fn message_of(body: &[u8]) -> String {
+    #[derive(serde::Deserialize)]
+    struct Message {
+        message: String,
+    }
+    match serde_json::from_slice::<Message>(body) {
+        Ok(read) => read.message,
+        Err(_) => String::from_utf8_lossy(body).chars().take(200).collect(),
+    }
+}
+
+#[cfg(test)]
+mod tests {
+    use super::*;
+
+    fn said(status: u16, body: &'static str) -> Said {
+        Said::of(
+            &Answer {
+                status,
+                body: body.into(),
+            },
+            "A",
+            &Bytes::from_static(b"{}"),
+        )
+    }
+
+    #[test]
+    fn answers_are_read() {
+        let Said::Taken(taken) = said(200, "{}") else {
+            panic!("taken")
+        };
+        assert_eq!(
+            taken.post,
+            Post {
+                sender: "A".into(),
+                foreign: 0,
+                body: "{}".into()
+            }
+        );
+        let cases = [
+            (400, "{\"message\":\"out of order: point 0, frontier 5\"}", true),
+            (503, "{\"message\":\"full\"}", false),
+        ];
+        for (status, body, is_final) in cases {
+            let Said::Refused(refusal) = said(status, body) else {
+                panic!("{body}")
+            };
+            assert_eq!((refusal.status, refusal.is_final()), (status, is_final));
+            assert!(body.contains(&refusal.message) && !refusal.message.contains('{'));
+        }
+        let Said::Refused(refusal) = said(400, "no JSON") else {
+            panic!("refused")
+        };
+        assert_eq!(refusal.message, "no JSON");
+    }
+}

@@ -1,0 +1,139 @@
+//! The command line, by the program itself: what it prints, and the status that it ends with.
+
+use std::process::{Command, Output};
+
+fn totxegun(words: &[&str]) -> Output {
+    let mut command = Command::new(env!("CARGO_BIN_EXE_totxegun"));
+    for (name, _) in std::env::vars() {
+        if name.starts_with("TOTXEGUN_") {
+            command.env_remove(name);
+        }
+    }
+    command.args(words).output().unwrap()
+}
+
+fn refused(words: &[&str], status: i32, part: &str) {
+    let output = totxegun(words);
+    let text = String::from_utf8_lossy(&output.stderr).into_owned();
+    assert_eq!(output.status.code(), Some(status), "{words:?}: {text}");
+    assert!(text.contains(part), "{words:?}: {text}");
+}
+
+#[test]
+fn help_names_each_command_and_option() {
+    let help = String::from_utf8(totxegun(&["--help"]).stdout).unwrap();
+    for command in [
+        "serve",
+        "status",
+        "totals",
+        "flush",
+        "checkpoint",
+        "renew",
+        "quarantine",
+        "lift",
+        "dead",
+        "check",
+        "version",
+    ] {
+        assert!(help.contains(command), "{command} in\n{help}");
+    }
+    let help = String::from_utf8(totxegun(&["serve", "--help"]).stdout).unwrap();
+    for option in [
+        "data",
+        "listen",
+        "operate",
+        "sink",
+        "flush-every",
+        "durable",
+        "gateway",
+        "forget-series",
+        "drop-attribute",
+        "memory",
+        "allocator",
+        "receivers",
+        "flushers",
+        "connections",
+        "round",
+        "slots",
+        "most-bytes",
+        "most-connections",
+        "threads",
+    ] {
+        assert!(help.contains(&format!("--{option} ")), "--{option} in\n{help}");
+        let variable = format!("[env: TOTXEGUN_{}=", option.to_uppercase().replace('-', "_"));
+        assert!(
+            help.contains(&variable) || help.contains(&variable[..variable.len() - 1]),
+            "{variable} in\n{help}"
+        );
+    }
+    let version = String::from_utf8(totxegun(&["version"]).stdout).unwrap();
+    assert_eq!(version, concat!("totxegun ", env!("CARGO_PKG_VERSION"), "\n"));
+}
+
+#[test]
+fn a_faulty_line_has_status_2() {
+    refused(&[], 2, "Usage");
+    refused(&["serve"], 2, "--data");
+    refused(&["serve", "--data", "d", "--slots", "4"], 2, "only 1 slot");
+    refused(&["serve", "--data", "d", "--flush-every", "10"], 2, "10s");
+    refused(&["quarantine", "no name"], 2, "1 to 64");
+    refused(&["dead"], 2, "Usage");
+}
+
+#[test]
+fn what_is_not_possible_has_status_1_and_is_named() {
+    let folder = tempfile::tempdir().unwrap();
+    let data = folder.path().to_str().unwrap();
+    refused(
+        &["serve", "--data", data, "--gateway", "/nowhere/gateway"],
+        1,
+        "--gateway /nowhere/gateway",
+    );
+    let taken = std::net::TcpListener::bind("127.0.0.1:0").unwrap();
+    let address = taken.local_addr().unwrap().to_string();
+    let serve = ["serve", "--data", data, "--gateway", "/bin/true"];
+    refused(
+        &[&serve[..], &["--listen", &address]].concat(),
+        1,
+        &format!("--listen {address}"),
+    );
+    refused(
+        &[&serve[..], &["--listen", "127.0.0.1:0", "--operate", &address]].concat(),
+        1,
+        &format!("--operate {address}"),
+    );
+    refused(
+        &[&serve[..], &["--allocator", "/nowhere.so"]].concat(),
+        1,
+        "--allocator /nowhere.so",
+    );
+    drop(taken);
+    for words in [
+        &["status"][..],
+        &["flush"],
+        &["totals"],
+        &["lift", "A"],
+        &["dead", "list"],
+        &["dead", "resend", "0-a-1"],
+    ] {
+        refused(&[words, &["--operate", &address]].concat(), 1, &address);
+    }
+    refused(&["check", data], 1, "no folder of totxegun");
+    refused(&["totals", "--sink", "http://h/"], 1, "SQLite");
+}
+
+#[test]
+fn an_option_may_come_by_the_environment() {
+    let mut command = Command::new(env!("CARGO_BIN_EXE_totxegun"));
+    let output = command
+        .arg("serve")
+        .env("TOTXEGUN_DATA", "d")
+        .env("TOTXEGUN_GATEWAY", "/nowhere/gateway")
+        .output()
+        .unwrap();
+    let text = String::from_utf8_lossy(&output.stderr).into_owned();
+    assert!(
+        output.status.code() == Some(1) && text.contains("/nowhere/gateway"),
+        "{text}"
+    );
+}
