@@ -177,3 +177,73 @@ fn damaged(path: PathBuf) -> Fault {
         what: what.into(),
     }
 }
+
+#[cfg(test)]
+mod tests {
+    use super::*;
+    use crate::files::disk::Call;
+
+    fn open(path: &Path) -> Dead {
+        Dead::open(&Disk::default(), path).unwrap()
+    }
+
+    #[test]
+    fn a_request_is_kept_once_and_comes_back_as_it_was() {
+        let folder = tempfile::tempdir().unwrap();
+        let dead = open(folder.path());
+        let body = b"{\"a\":1}\n\x00\xff";
+        dead.keep("0-e-1", "400 bad\nline", body).unwrap();
+        dead.keep("0-e-1", "another reason", b"other").unwrap();
+        dead.keep("0-e-2", "413", b"").unwrap();
+        assert_eq!(dead.count(), 2);
+        let dead = open(folder.path());
+        assert_eq!((dead.count(), dead.list().unwrap().len()), (2, 2));
+        let letter = &dead.list().unwrap()[0];
+        assert_eq!((&*letter.key, &*letter.reason, letter.bytes), ("0-e-1", "400 bad\nline", body.len() as u64));
+        assert_eq!(dead.body("0-e-1").unwrap().unwrap(), body);
+        assert_eq!(dead.body("0-e-2").unwrap().unwrap(), b"");
+        assert!(dead.drop_letter("0-e-1").unwrap());
+        assert!(!dead.drop_letter("0-e-1").unwrap());
+        assert_eq!((dead.count(), dead.body("0-e-1").unwrap()), (1, None));
+    }
+
+    #[test]
+    fn no_key_leads_out_of_the_folder() {
+        let folder = tempfile::tempdir().unwrap();
+        std::fs::write(folder.path().join("other.json"), "{}").unwrap();
+        let dead = open(&folder.path().join("dead"));
+        for key in ["", ".", "..", "../other", "a/b", "/etc/passwd", "a.b", "a\0b", "ä", &"a".repeat(129)] {
+            assert!(dead.keep(key, "", b"").is_err(), "{key:?}");
+            assert_eq!(dead.body(key).unwrap(), None);
+            assert!(!dead.drop_letter(key).unwrap());
+        }
+        assert!(folder.path().join("other.json").exists());
+    }
+
+    #[test]
+    fn a_failed_call_leaves_no_letter_in_part() {
+        for fails in [Call::Create, Call::Write, Call::Sync, Call::Rename] {
+            let folder = tempfile::tempdir().unwrap();
+            let disk = Disk::failing(move |call, _| match call == fails {
+                true => Err(io::Error::other("no disk")),
+                false => Ok(()),
+            });
+            let dead = Dead::open(&disk, folder.path()).unwrap();
+            assert!(dead.keep("0-e-1", "400", b"body").is_err());
+            assert_eq!((dead.count(), dead.list().unwrap()), (0, vec![]));
+            let dead = open(folder.path());
+            dead.keep("0-e-1", "400", b"body").unwrap();
+            assert_eq!(dead.body("0-e-1").unwrap().unwrap(), b"body");
+        }
+    }
+
+    #[test]
+    fn a_changed_letter_is_named() {
+        let folder = tempfile::tempdir().unwrap();
+        let dead = open(folder.path());
+        dead.keep("k", "400", b"body").unwrap();
+        std::fs::write(folder.path().join("k.json"), "body").unwrap();
+        assert!(dead.list().unwrap_err().to_string().contains("k.json"));
+        assert!(matches!(dead.body("k"), Err(Fault::Damaged { .. })));
+    }
+}

@@ -40,16 +40,17 @@ pub fn io_fault(path: &Path) -> impl FnOnce(io::Error) -> Fault + '_ {
 }
 
 impl Disk {
-    /// Asks `hook` before each call; `end` is told instead of the process's end.
+    /// Asks `hook` before each call.
     #[cfg(test)]
-    pub fn failing(
-        hook: impl Fn(Call, &Path) -> io::Result<()> + Send + Sync + 'static,
-        end: impl Fn(&Fault) + Send + Sync + 'static,
-    ) -> Disk {
-        Disk {
-            hook: Some(Arc::new(hook)),
-            end: Some(Arc::new(end)),
-        }
+    pub fn failing(hook: impl Fn(Call, &Path) -> io::Result<()> + Send + Sync + 'static) -> Disk {
+        Disk { hook: Some(Arc::new(hook)), end: None }
+    }
+
+    /// Tells `end` of the fault that would have ended the process; who met it never goes on.
+    #[cfg(test)]
+    pub fn ending(mut self, end: impl Fn(&Fault) + Send + Sync + 'static) -> Disk {
+        self.end = Some(Arc::new(end));
+        self
     }
 
     /// Ends the process: what is on disk is not known then, and only a start reads just that.

@@ -90,9 +90,7 @@ async fn connect_once(address: SocketAddr) -> Result<TcpStream> {
 fn is_of_this_side(fault: &std::io::Error) -> bool {
     let of_files = [libc::EMFILE, libc::ENFILE];
     fault.kind() == ErrorKind::AddrNotAvailable
-        || fault
-            .raw_os_error()
-            .map_or(false, |code| of_files.contains(&code))
+        || fault.raw_os_error().is_some_and(|code| of_files.contains(&code))
 }
 
 /// Writes head and body by one call, as a rule.

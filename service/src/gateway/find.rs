@@ -44,9 +44,8 @@ fn search(folders: impl Iterator<Item = PathBuf>) -> Option<PathBuf> {
 
 fn is_program(path: &Path) -> bool {
     use std::os::unix::fs::PermissionsExt;
-    path.metadata().map_or(false, |about| {
-        about.is_file() && about.permissions().mode() & 0o111 != 0
-    })
+    path.metadata()
+        .is_ok_and(|about| about.is_file() && about.permissions().mode() & 0o111 != 0)
 }
 
 #[cfg(test)]

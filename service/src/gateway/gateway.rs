@@ -159,11 +159,11 @@ impl Gateway {
     /// has none.
     async fn flush_lane(&self, lane: u16) -> Result<usize, Doubt> {
         let mut settled = 0;
-        while lane < self.flushers {
-            match self.flush().await? {
-                Flushed::Settled => settled += 1,
-                Flushed::Nothing => break,
-            }
+        if lane >= self.flushers {
+            return Ok(settled);
+        }
+        while let Flushed::Settled = self.flush().await? {
+            settled += 1;
         }
         Ok(settled)
     }

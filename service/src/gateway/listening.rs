@@ -17,7 +17,7 @@ pub(super) fn is_listener_of(pid: u32, address: SocketAddr) -> Result<bool> {
     };
     let link = format!("socket:[{inode}]");
     for entry in std::fs::read_dir(format!("/proc/{pid}/fd"))? {
-        if std::fs::read_link(entry?.path()).map_or(false, |target| target.as_os_str() == link.as_str()) {
+        if std::fs::read_link(entry?.path()).is_ok_and(|target| target.as_os_str() == link.as_str()) {
             return Ok(true);
         }
     }

@@ -126,3 +126,90 @@ fn command_line(options: &Options, listen: SocketAddr, back: SocketAddr) -> Comm
     }
     command
 }
+
+#[cfg(test)]
+mod tests {
+    use super::*;
+    use std::os::unix::fs::PermissionsExt;
+    use std::path::Path;
+    use std::time::{Duration, Instant};
+
+    fn script(folder: &Path, text: &str) -> Options {
+        let program = folder.join("program");
+        std::fs::write(&program, format!("#!/bin/sh\n{text}\n")).unwrap();
+        std::fs::set_permissions(&program, std::fs::Permissions::from_mode(0o755)).unwrap();
+        Options {
+            program,
+            connections: 9,
+            receivers: 1,
+            flushers: 1,
+            round: 9,
+            memory: None,
+            allocator: None,
+        }
+    }
+
+    fn somewhere() -> SocketAddr {
+        SocketAddr::from(([127, 0, 0, 1], 9))
+    }
+
+    fn ends(child: &mut Child) -> bool {
+        let begun = Instant::now();
+        while begun.elapsed() < Duration::from_secs(10) {
+            if child.try_wait().unwrap().is_some() {
+                return true;
+            }
+            std::thread::sleep(Duration::from_millis(5));
+        }
+        false
+    }
+
+    #[tokio::test]
+    async fn a_process_ends_with_the_thread_that_started_it() {
+        let folder = tempfile::tempdir().unwrap();
+        let options = script(folder.path(), "exec sleep 100");
+        let starter = Starter::new().unwrap();
+        let other = starter.clone();
+        let mut child = starter.start(&options, somewhere(), somewhere()).await.unwrap();
+        drop(starter);
+        std::thread::sleep(Duration::from_millis(50));
+        assert!(
+            child.try_wait().unwrap().is_none(),
+            "the thread lives as long as any starter"
+        );
+        drop(other);
+        assert!(ends(&mut child), "it outlived the thread");
+    }
+
+    #[tokio::test]
+    async fn bounds_and_environment_reach_the_process() {
+        let folder = tempfile::tempdir().unwrap();
+        let out = folder.path().join("out");
+        let text = format!("(ulimit -v; echo $MALLOC_ARENA_MAX $1 $2 $6) > {}", out.display());
+        let options = Options {
+            memory: Some(512 << 20),
+            ..script(folder.path(), &text)
+        };
+        let starter = Starter::new().unwrap();
+        assert!(ends(
+            &mut starter.start(&options, somewhere(), somewhere()).await.unwrap()
+        ));
+        assert_eq!(
+            std::fs::read_to_string(&out).unwrap(),
+            "524288\n1 serve --listen --connections\n"
+        );
+    }
+
+    #[tokio::test]
+    async fn a_program_that_is_not_there_is_a_fault() {
+        let folder = tempfile::tempdir().unwrap();
+        let mut options = script(folder.path(), "");
+        options.program = folder.path().join("none");
+        let fault = Starter::new()
+            .unwrap()
+            .start(&options, somewhere(), somewhere())
+            .await
+            .unwrap_err();
+        assert_eq!(fault.kind(), std::io::ErrorKind::NotFound);
+    }
+}

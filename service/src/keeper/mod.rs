@@ -76,6 +76,7 @@ pub struct Keeper {
     released: bool,
     last_checkpoint: Instant,
     last_renewal: Instant,
+    last_look_at_ages: Instant,
 }
 
 impl Keeper {
@@ -92,6 +93,7 @@ impl Keeper {
             released: false,
             last_checkpoint: now,
             last_renewal: now,
+            last_look_at_ages: now,
         };
         (keeper, Orders(to))
     }

@@ -10,29 +10,42 @@ use crate::otlp::series::{posted, SeriesKey};
 use crate::slot::Slot;
 use std::collections::{HashMap, HashSet};
 
+/// How many segments before the first that is replayed are looked through at the start. There is one, as a rule.
+const LEFT_SEGMENTS: u64 = 100;
+
 impl Keeper {
     /// Finds the owners that the outbox does not know, by the posts of these segments, and makes them durable.
     pub(super) async fn find_owners(&self, first: u64, end: u64) -> Result<(), Fault> {
         let slot = self.slot.clone();
-        blocking(move || find_owners(&slot, first, end)).await
+        blocking(move || find_owners(&slot, std::iter::once((first, end)))).await
+    }
+
+    /// The same where the last commit came without the owners: the segments before `end` are there still. Each is
+    /// read as the first one, in which copies count too.
+    pub(super) async fn find_owners_left(&self, end: u64) -> Result<(), Fault> {
+        let slot = self.slot.clone();
+        let segments = (end.saturating_sub(LEFT_SEGMENTS)..end).rev();
+        blocking(move || find_owners(&slot, segments.map(|segment| (segment, segment + 1)))).await
     }
 }
 
-fn find_owners(slot: &Slot, first: u64, end: u64) -> Result<(), Fault> {
+fn find_owners(slot: &Slot, ranges: impl Iterator<Item = (u64, u64)>) -> Result<(), Fault> {
     let series = slot.outbox.series();
+    let unknown = series.into_iter().filter(|(_, about)| about.owner.is_none());
     let mut search = Search {
-        unknown: series
-            .into_iter()
-            .filter(|(_, about)| about.owner.is_none())
-            .map(|(key, _)| key)
-            .collect(),
+        unknown: unknown.map(|(key, _)| key).collect(),
         owners: HashMap::new(),
         misread: 0,
     };
     if search.unknown.is_empty() {
         return Ok(());
     }
-    slot.journal.posts(first, end, |post| search.look_at(&post))?;
+    for (first, end) in ranges {
+        slot.journal.posts(first, end, |post| search.look_at(&post))?;
+        if search.unknown.is_empty() {
+            break;
+        }
+    }
     slot.outbox.own(search.owners)?;
     report(slot, search.misread, &search.unknown);
     Ok(())

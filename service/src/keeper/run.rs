@@ -13,6 +13,8 @@ use tokio::time::MissedTickBehavior;
 const LOOK: Duration = Duration::from_millis(50);
 /// No gateway is renewed by itself sooner than so long after another.
 const BETWEEN_RENEWALS: Duration = Duration::from_secs(10);
+/// How often it is looked whether there are series to forget, where the gateway has too many.
+const BETWEEN_LOOKS_AT_AGES: Duration = Duration::from_secs(1);
 /// A renewal for the connections may be more urgent.
 const BETWEEN_URGENT_RENEWALS: Duration = Duration::from_secs(1);
 
@@ -65,7 +67,7 @@ impl Keeper {
         let first = self.slot.outbox.journal();
         self.slot.journal.reach(first);
         // A commit may have come without the owners of its series.
-        self.find_owners(0, first).await?;
+        self.find_owners_left(first).await?;
         self.forget_segments(first).await
     }
 
@@ -130,21 +132,21 @@ impl Keeper {
     }
 
     async fn recover_if_doubted(&mut self, stop: &mut watch::Receiver<bool>) -> Result<Next, Fault> {
-        if self
-            .gateway
-            .as_ref()
-            .map_or(false, |gateway| !gateway.is_doubted())
-        {
+        if self.gateway.as_ref().is_some_and(|gateway| !gateway.is_doubted()) {
             return Ok(Next::GoOn);
         }
         self.recover(stop).await.map(Next::from)
     }
 
     /// Whether a renewal would leave out series.
-    fn forgetting_helps(&self) -> bool {
+    fn forgetting_helps(&mut self) -> bool {
         let Some(age) = self.settings.forget else {
             return false;
         };
+        if self.last_look_at_ages.elapsed() < BETWEEN_LOOKS_AT_AGES {
+            return false;
+        }
+        self.last_look_at_ages = Instant::now();
         let before = seconds_before_now(age);
         self.last_renewal.elapsed() > BETWEEN_RENEWALS
             && self

@@ -31,7 +31,9 @@ fn json(outcome: &Outcome) -> String {
     match outcome {
         Outcome::Taken { rejected: 0 } => "{}".to_string(),
         Outcome::Taken { rejected } => {
-            format!(r#"{{"partialSuccess":{{"errorMessage":"{OUTSIDE}","rejectedDataPoints":"{rejected}"}}}}"#)
+            format!(
+                r#"{{"partialSuccess":{{"errorMessage":"{OUTSIDE}","rejectedDataPoints":"{rejected}"}}}}"#
+            )
         }
         Outcome::Refused { status, message } => {
             let mut text = format!(r#"{{"code":{},"message":"#, code(*status));
@@ -51,9 +53,11 @@ fn protobuf(outcome: &Outcome) -> Vec<u8> {
             });
             ExportMetricsServiceResponse { partial_success }.encode_to_vec()
         }
-        Outcome::Refused { status, message } => {
-            Status { code: code(*status), message: message.clone() }.encode_to_vec()
+        Outcome::Refused { status, message } => Status {
+            code: code(*status),
+            message: message.clone(),
         }
+        .encode_to_vec(),
     }
 }
 
@@ -62,15 +66,15 @@ fn code(status: u16) -> i32 {
     const INVALID_ARGUMENT: i32 = 3;
     match status {
         400 | 415 => INVALID_ARGUMENT,
-        401 => 16,       // UNAUTHENTICATED
-        403 => 7,        // PERMISSION_DENIED
-        404 => 5,        // NOT_FOUND
-        405 => 12,       // UNIMPLEMENTED
-        408 | 504 => 4,  // DEADLINE_EXCEEDED
+        401 => 16,               // UNAUTHENTICATED
+        403 => 7,                // PERMISSION_DENIED
+        404 => 5,                // NOT_FOUND
+        405 => 12,               // UNIMPLEMENTED
+        408 | 504 => 4,          // DEADLINE_EXCEEDED
         413 => INVALID_ARGUMENT, // RESOURCE_EXHAUSTED would ask for the same again.
-        429 => 8,        // RESOURCE_EXHAUSTED
-        500 => 13,       // INTERNAL
-        502 | 503 => 14, // UNAVAILABLE
-        _ => 2,          // UNKNOWN
+        429 => 8,                // RESOURCE_EXHAUSTED
+        500 => 13,               // INTERNAL
+        502 | 503 => 14,         // UNAVAILABLE
+        _ => 2,                  // UNKNOWN
     }
 }

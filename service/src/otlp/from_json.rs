@@ -1,8 +1,8 @@
 //! A request in JSON, written as the gateway reads it, or found to be so already.
 //!
-//! What the mapping allows and the gateway does not read is changed: `5.0`, names of enums, names of the `.proto`
-//! files. What neither reads as a value of its field stays a wrong value, so that the gateway counts the points
-//! that it makes foreign.
+//! What the mapping allows and the gateway does not read is changed: `5.0`, names of enums, names of the
+//! `.proto` files. What neither reads as a value of its field stays a wrong value, so that the gateway counts
+//! the points that it makes foreign.
 
 use super::json::{Document, Value};
 use super::number::{gateway_whole, is_plain, mapped_double, mapped_whole, whole_double, MAX_WHOLE_DOUBLE};
@@ -45,7 +45,10 @@ struct Walk<'o, 'd> {
 }
 
 fn refused(of: &Message, what: impl std::fmt::Display) -> Stop {
-    Stop::Refused(Refused::Unreadable(format!("not JSON of OTLP: {}: {what}", of.name)))
+    Stop::Refused(Refused::Unreadable(format!(
+        "not JSON of OTLP: {}: {what}",
+        of.name
+    )))
 }
 
 impl Walk<'_, '_> {
@@ -75,7 +78,10 @@ impl Walk<'_, '_> {
         self.push("{");
         let mut found: u32 = 0;
         for (name, member) in value.members().into_iter().flatten() {
-            let place = of.fields.iter().position(|field| field.name == name || field.proto_name == name);
+            let place = of
+                .fields
+                .iter()
+                .position(|field| field.name == name || field.proto_name == name);
             let Some(place) = place else {
                 not_lost(of, &name, member)?;
                 continue;
@@ -110,7 +116,9 @@ impl Walk<'_, '_> {
                 None => Err(refused(of, format_args!("{name} is no object"))),
             },
             Kind::Messages(inner) => {
-                let sound = value.elements().map(|mut all| all.all(|one| one.members().is_some()));
+                let sound = value
+                    .elements()
+                    .map(|mut all| all.all(|one| one.members().is_some()));
                 if sound != Some(true) {
                     return Err(refused(of, format_args!("{name} is no array of objects")));
                 }
@@ -169,7 +177,11 @@ impl Walk<'_, '_> {
                 }
             }
             // A number is as wrong a truth as any.
-            Kind::Bool => self.push(value.truth().map_or("0", |truth| if truth { "true" } else { "false" })),
+            Kind::Bool => self.push(
+                value
+                    .truth()
+                    .map_or("0", |truth| if truth { "true" } else { "false" }),
+            ),
             Kind::Temporality => self.temporality(value)?,
             Kind::Whole(_) => self.whole(value)?,
             Kind::Wholes => self.list(value, Self::whole)?,

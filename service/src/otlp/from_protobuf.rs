@@ -1,7 +1,7 @@
 //! A request in protobuf, written as the gateway reads it.
 //!
-//! It is never held as a tree of messages: each field is written as it is found. So the memory is that of the JSON,
-//! however many small messages the bytes are.
+//! It is never held as a tree of messages: each field is written as it is found. So the memory is that of the
+//! JSON, however many small messages the bytes are.
 
 use super::output::Output;
 use super::schema::{Field, Kind, Message, Wire, EXEMPLAR, KEY_VALUE, KEY_VALUE_LIST, REQUEST};
@@ -33,7 +33,11 @@ fn message(out: &mut Output<'_>, of: &'static Message, bytes: &[u8], depth: usiz
         }
         let from = out.text.len();
         out.name(field.name);
-        let payloads = Payloads { of, field, fields: Fields::of(bytes) };
+        let payloads = Payloads {
+            of,
+            field,
+            fields: Fields::of(bytes),
+        };
         value(out, payloads, depth)?;
         if let Kind::Exemplars = field.kind {
             out.text.truncate(from);
@@ -51,7 +55,9 @@ fn look_through(of: &'static Message, bytes: &[u8]) -> Result<u32, Refused> {
         if let Some(lost) = of.refused.iter().find(|lost| lost.number == number) {
             return Err(refused(of, format_args!("{} {}", lost.names[0], lost.why)));
         }
-        let Some(place) = of.fields.iter().position(|field| field.number == number) else { continue };
+        let Some(place) = of.fields.iter().position(|field| field.number == number) else {
+            continue;
+        };
         let field = &of.fields[place];
         if !is_payload_of(field.kind, payload) {
             return Err(refused(of, format_args!("{} of another wire type", field.name)));
@@ -91,7 +97,8 @@ struct Payloads<'a> {
 impl<'a> Payloads<'a> {
     fn all(&self) -> impl Iterator<Item = Payload<'a>> {
         let number = self.field.number;
-        self.fields.filter_map(move |field| field.ok().filter(|found| found.0 == number).map(|found| found.1))
+        self.fields
+            .filter_map(move |field| field.ok().filter(|found| found.0 == number).map(|found| found.1))
     }
 
     fn messages(&self) -> impl Iterator<Item = &'a [u8]> {
@@ -117,7 +124,12 @@ impl<'a> Payloads<'a> {
                 Payload::Bytes(packed) => (None, packed),
                 _ => (None, &[][..]),
             };
-            let bits = |eight: &[u8]| eight.iter().rev().fold(0, |bits, byte| bits << 8 | u64::from(*byte));
+            let bits = |eight: &[u8]| {
+                eight
+                    .iter()
+                    .rev()
+                    .fold(0, |bits, byte| bits << 8 | u64::from(*byte))
+            };
             one.into_iter().chain(packed.chunks_exact(8).map(bits))
         })
     }
@@ -130,13 +142,17 @@ fn value(out: &mut Output<'_>, payloads: Payloads<'_>, depth: usize) -> Result<(
         Kind::Exemplars => messages(out, &payloads, &EXEMPLAR, depth)?,
         Kind::ResourceAttributes => messages(out, &payloads, &KEY_VALUE, depth)?,
         Kind::Text => text(out, &payloads)?,
-        Kind::Bool => out.text.push_str(if payloads.bits() != 0 { "true" } else { "false" }),
+        Kind::Bool => out
+            .text
+            .push_str(if payloads.bits() != 0 { "true" } else { "false" }),
         // An enum has 32 bits, of which a reader keeps the lowest.
         Kind::Temporality => out.whole_number(i128::from(payloads.bits() as i32)),
         Kind::Whole(wire) => out.whole(whole(wire, payloads.bits())),
         Kind::Double | Kind::Fraction => out.double(f64::from_bits(payloads.bits())),
         Kind::Wholes => list(out, payloads.each_bits(), |out, bits| out.whole(i128::from(bits))),
-        Kind::Doubles => list(out, payloads.each_bits(), |out, bits| out.double(f64::from_bits(bits))),
+        Kind::Doubles => list(out, payloads.each_bits(), |out, bits| {
+            out.double(f64::from_bits(bits))
+        }),
         Kind::Bytes => out.text.push_str("\"\""),
         Kind::Map => {
             let from = out.text.len();

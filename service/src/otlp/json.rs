@@ -65,7 +65,11 @@ impl<'a> Document<'a> {
     }
 
     pub fn root(&self) -> Value<'_> {
-        Value { text: self.text, entries: &self.entries, index: 0 }
+        Value {
+            text: self.text,
+            entries: &self.entries,
+            index: 0,
+        }
     }
 
     /// Whether a number is so near to the range of a double that readers may differ on whether it is in it.
@@ -123,12 +127,18 @@ impl<'d> Value<'d> {
 
     /// The elements of an array.
     pub fn elements(self) -> Option<Elements<'d>> {
-        (self.kind() == Kind::Array).then(|| Elements { of: self, index: self.index + 1 })
+        (self.kind() == Kind::Array).then(|| Elements {
+            of: self,
+            index: self.index + 1,
+        })
     }
 
     /// The names and values of an object, in order; a name may be there more than once.
     pub fn members(self) -> Option<Members<'d>> {
-        (self.kind() == Kind::Object).then(|| Members { of: self, index: self.index + 1 })
+        (self.kind() == Kind::Object).then(|| Members {
+            of: self,
+            index: self.index + 1,
+        })
     }
 
     /// The values of these names, each its last one; `null` is absent. `None` of what is no object.

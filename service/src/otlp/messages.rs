@@ -137,19 +137,19 @@ pub struct AnyValue {
 #[derive(Clone, PartialEq, prost::Oneof)]
 pub enum Any {
     #[prost(string, tag = "1")]
-    StringValue(String),
+    Text(String),
     #[prost(bool, tag = "2")]
-    BoolValue(bool),
+    Bool(bool),
     #[prost(int64, tag = "3")]
-    IntValue(i64),
+    Int(i64),
     #[prost(double, tag = "4")]
-    DoubleValue(f64),
+    Double(f64),
     #[prost(message, tag = "5")]
-    ArrayValue(ArrayValue),
+    Array(ArrayValue),
     #[prost(message, tag = "6")]
-    KvlistValue(KeyValueList),
+    Map(KeyValueList),
     #[prost(bytes, tag = "7")]
-    BytesValue(Vec<u8>),
+    Bytes(Vec<u8>),
 }
 
 #[derive(Clone, PartialEq, Message)]

@@ -1,8 +1,8 @@
 //! Requests and answers of OTLP, in protobuf and in JSON, and the series that a body has.
 //!
-//! `prepare` writes a request of either encoding as the gateway reads it: `from_protobuf` and `from_json` go by the
-//! tables of `schema`, over the readers `wire` and `json`; `split` cuts what is too long. `series` reads bodies as
-//! the gateway does, and what it forwards. `answers` is what senders are answered.
+//! `prepare` writes a request of either encoding as the gateway reads it: `from_protobuf` and `from_json` go
+//! by the tables of `schema`, over the readers `wire` and `json`; `split` cuts what is too long. `series`
+//! reads bodies as the gateway does, and what it forwards. `answers` is what senders are answered.
 
 mod answers;
 mod from_json;
@@ -43,13 +43,14 @@ pub struct Dropped {
     pub attributes: Vec<String>,
 }
 
-/// The bodies, one or more, that the gateway reads for a request: JSON of at most 4 MiB each, taken in this order.
-/// Nothing of a request is lost in silence: it is read whole or refused whole.
+/// The bodies, one or more, that the gateway reads for a request: JSON of at most 4 MiB each, taken in this
+/// order. Nothing of a request is lost in silence: it is read whole or refused whole.
 pub fn prepare(encoding: Encoding, body: Bytes, dropped: &Dropped) -> Result<Vec<Bytes>, Refused> {
     let text = match encoding {
         Encoding::Protobuf => from_protobuf::written(&body, dropped)?,
         Encoding::Json => {
-            let document = json::Document::parse(&body).map_err(|error| Refused::Unreadable(error.to_string()))?;
+            let document =
+                json::Document::parse(&body).map_err(|error| Refused::Unreadable(error.to_string()))?;
             let may_go_on = dropped.attributes.is_empty() && body.len() <= split::LIMIT;
             if may_go_on && from_json::is_read_as_it_is(&document)? {
                 return Ok(vec![body.clone()]);

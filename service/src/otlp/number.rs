@@ -5,15 +5,17 @@ use super::json::{Document, Value};
 /// A whole double is exact up to here, and the gateway takes none beyond.
 pub const MAX_WHOLE_DOUBLE: u64 = 1 << 53;
 
-/// The whole number that the gateway reads: a JSON number without fraction or exponent, of 64 bits, or a text of
-/// an optional minus and digits.
+/// The whole number that the gateway reads: a JSON number without fraction or exponent, of 64 bits, or a text
+/// of an optional minus and digits.
 pub fn gateway_whole(value: Value<'_>) -> Option<i128> {
     if let Some(number) = value.number() {
         if !is_plain(number) {
             return None;
         }
         let whole: i128 = number.parse().ok()?;
-        return (i128::from(i64::MIN)..=i128::from(u64::MAX)).contains(&whole).then_some(whole);
+        return (i128::from(i64::MIN)..=i128::from(u64::MAX))
+            .contains(&whole)
+            .then_some(whole);
     }
     let text = value.text()?;
     let digits = text.strip_prefix('-').unwrap_or(&text);

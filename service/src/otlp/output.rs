@@ -3,6 +3,7 @@
 use super::json::{write_text, Document};
 use super::number::whole_double;
 use super::Dropped;
+use std::borrow::Cow;
 use std::fmt::Write;
 
 pub struct Output<'d> {
@@ -12,7 +13,10 @@ pub struct Output<'d> {
 
 impl<'d> Output<'d> {
     pub fn new(capacity: usize, dropped: &'d Dropped) -> Output<'d> {
-        Output { text: String::with_capacity(capacity), dropped }
+        Output {
+            text: String::with_capacity(capacity),
+            dropped,
+        }
     }
 
     /// The name of a member, behind a comma where it is not the first.
@@ -46,7 +50,11 @@ impl<'d> Output<'d> {
             Some(whole) => self.whole_number(whole.into()),
             None if double.is_nan() => self.text.push_str("\"NaN\""),
             None if double.is_infinite() => {
-                self.text.push_str(if double > 0.0 { "\"Infinity\"" } else { "\"-Infinity\"" });
+                self.text.push_str(if double > 0.0 {
+                    "\"Infinity\""
+                } else {
+                    "\"-Infinity\""
+                });
             }
             None => drop(write!(self.text, "\"{double:e}\"")),
         }
@@ -68,13 +76,16 @@ impl<'d> Output<'d> {
     }
 
     fn is_dropped(&self, element: &str) -> bool {
-        let Ok(document) = Document::parse(element.as_bytes()) else { return false };
-        let Some([key]) = document.root().named(["key"]) else { return false };
-        match key {
-            None => self.dropped.attributes.iter().any(String::is_empty),
-            Some(key) => {
-                key.text().map_or(false, |key| self.dropped.attributes.iter().any(|dropped| *dropped == key))
-            }
-        }
+        let Ok(document) = Document::parse(element.as_bytes()) else {
+            return false;
+        };
+        let Some([key]) = document.root().named(["key"]) else {
+            return false;
+        };
+        let key = match key {
+            None => Some(Cow::Borrowed("")),
+            Some(key) => key.text(),
+        };
+        key.is_some_and(|key| self.dropped.attributes.iter().any(|dropped| *dropped == key))
     }
 }

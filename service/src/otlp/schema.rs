@@ -1,8 +1,9 @@
-//! The messages of `ExportMetricsServiceRequest` as tables: names, numbers and kinds of their fields, for both
-//! encodings (`opentelemetry/proto/metrics/v1/metrics.proto`, `common/v1/common.proto`).
+//! The messages of `ExportMetricsServiceRequest` as tables: names, numbers and kinds of their fields, for
+//! both encodings (`opentelemetry/proto/metrics/v1/metrics.proto`, `common/v1/common.proto`).
 //!
-//! Fields that say nothing about a point (descriptions, exemplars, the least and the largest value) are not here, or
-//! are only looked through. Fields of older versions that carried points or their identity are here to be refused.
+//! Fields that say nothing about a point (descriptions, exemplars, the least and the largest value) are not
+//! here, or are only looked through. Fields of older versions that carried points or their identity are here
+//! to be refused.
 
 pub struct Message {
     pub name: &'static str,
@@ -65,7 +66,12 @@ pub enum Wire {
 }
 
 const fn field(name: &'static str, proto_name: &'static str, number: u32, kind: Kind) -> Field {
-    Field { name, proto_name, number, kind }
+    Field {
+        name,
+        proto_name,
+        number,
+        kind,
+    }
 }
 
 const fn refused(names: &'static [&'static str], number: u32, why: &'static str) -> RefusedField {
@@ -78,15 +84,28 @@ const OLD: &str = "is of an old version of OTLP and can't be read: send it with 
 
 pub static REQUEST: Message = Message {
     name: "ExportMetricsServiceRequest",
-    fields: &[field("resourceMetrics", "resource_metrics", 1, Kind::Messages(&RESOURCE_METRICS))],
+    fields: &[field(
+        "resourceMetrics",
+        "resource_metrics",
+        1,
+        Kind::Messages(&RESOURCE_METRICS),
+    )],
     refused: &[
         refused(&["resourceSpans", "resource_spans"], 0, OTHER_SIGNAL),
         refused(&["resourceLogs", "resource_logs"], 0, OTHER_SIGNAL),
         refused(&["resourceProfiles", "resource_profiles"], 0, OTHER_SIGNAL),
         refused(&["resource", "scopeMetrics", "scope_metrics"], 0, MISPLACED),
         refused(&["scope", "metrics", "dataPoints", "data_points"], 0, MISPLACED),
-        refused(&["gauge", "sum", "histogram", "exponentialHistogram", "summary"], 0, MISPLACED),
-        refused(&["instrumentationLibraryMetrics", "instrumentation_library_metrics"], 0, OLD),
+        refused(
+            &["gauge", "sum", "histogram", "exponentialHistogram", "summary"],
+            0,
+            MISPLACED,
+        ),
+        refused(
+            &["instrumentationLibraryMetrics", "instrumentation_library_metrics"],
+            0,
+            OLD,
+        ),
     ],
 };
 
@@ -97,9 +116,21 @@ static RESOURCE_METRICS: Message = Message {
         field("scopeMetrics", "scope_metrics", 2, Kind::Messages(&SCOPE_METRICS)),
     ],
     refused: &[
-        refused(&["instrumentationLibraryMetrics", "instrumentation_library_metrics"], 1000, OLD),
-        refused(&["scopeSpans", "scope_spans", "scopeLogs", "scope_logs"], 0, OTHER_SIGNAL),
-        refused(&["metrics"], 0, "is not in ResourceMetrics: it belongs into scopeMetrics"),
+        refused(
+            &["instrumentationLibraryMetrics", "instrumentation_library_metrics"],
+            1000,
+            OLD,
+        ),
+        refused(
+            &["scopeSpans", "scope_spans", "scopeLogs", "scope_logs"],
+            0,
+            OTHER_SIGNAL,
+        ),
+        refused(
+            &["metrics"],
+            0,
+            "is not in ResourceMetrics: it belongs into scopeMetrics",
+        ),
     ],
 };
 
@@ -115,7 +146,11 @@ static SCOPE_METRICS: Message = Message {
         field("scope", "scope", 1, Kind::Message(&SCOPE)),
         field("metrics", "metrics", 2, Kind::Messages(&METRIC)),
     ],
-    refused: &[refused(&["instrumentationLibrary", "instrumentation_library"], 0, OLD)],
+    refused: &[refused(
+        &["instrumentationLibrary", "instrumentation_library"],
+        0,
+        OLD,
+    )],
 };
 
 static SCOPE: Message = Message {
@@ -136,15 +171,33 @@ static METRIC: Message = Message {
         field("gauge", "gauge", 5, Kind::Message(&OTHER_DATA)),
         field("sum", "sum", 7, Kind::Message(&SUM)),
         field("histogram", "histogram", 9, Kind::Message(&HISTOGRAM)),
-        field("exponentialHistogram", "exponential_histogram", 10, Kind::Message(&OTHER_DATA)),
+        field(
+            "exponentialHistogram",
+            "exponential_histogram",
+            10,
+            Kind::Message(&OTHER_DATA),
+        ),
         field("summary", "summary", 11, Kind::Message(&OTHER_DATA)),
     ],
     refused: &[
         refused(&["intGauge", "int_gauge"], 4, OLD),
         refused(&["intSum", "int_sum"], 6, OLD),
         refused(&["intHistogram", "int_histogram"], 8, OLD),
-        refused(&["doubleGauge", "double_gauge", "doubleSum", "double_sum"], 0, OLD),
-        refused(&["doubleHistogram", "double_histogram", "doubleSummary", "double_summary"], 0, OLD),
+        refused(
+            &["doubleGauge", "double_gauge", "doubleSum", "double_sum"],
+            0,
+            OLD,
+        ),
+        refused(
+            &[
+                "doubleHistogram",
+                "double_histogram",
+                "doubleSummary",
+                "double_summary",
+            ],
+            0,
+            OLD,
+        ),
     ],
 };
 
@@ -155,13 +208,22 @@ static OTHER_DATA: Message = Message {
     refused: &[],
 };
 
-static COUNTED: Message = Message { name: "DataPoint", fields: &[], refused: &[] };
+static COUNTED: Message = Message {
+    name: "DataPoint",
+    fields: &[],
+    refused: &[],
+};
 
 static SUM: Message = Message {
     name: "Sum",
     fields: &[
         field("dataPoints", "data_points", 1, Kind::Messages(&NUMBER_POINT)),
-        field("aggregationTemporality", "aggregation_temporality", 2, Kind::Temporality),
+        field(
+            "aggregationTemporality",
+            "aggregation_temporality",
+            2,
+            Kind::Temporality,
+        ),
         field("isMonotonic", "is_monotonic", 3, Kind::Bool),
     ],
     refused: &[],
@@ -170,7 +232,12 @@ static SUM: Message = Message {
 static NUMBER_POINT: Message = Message {
     name: "NumberDataPoint",
     fields: &[
-        field("startTimeUnixNano", "start_time_unix_nano", 2, Kind::Whole(Wire::Fixed64)),
+        field(
+            "startTimeUnixNano",
+            "start_time_unix_nano",
+            2,
+            Kind::Whole(Wire::Fixed64),
+        ),
         field("timeUnixNano", "time_unix_nano", 3, Kind::Whole(Wire::Fixed64)),
         field("asDouble", "as_double", 4, Kind::Fraction),
         field("exemplars", "exemplars", 5, Kind::Exemplars),
@@ -185,7 +252,12 @@ static HISTOGRAM: Message = Message {
     name: "Histogram",
     fields: &[
         field("dataPoints", "data_points", 1, Kind::Messages(&HISTOGRAM_POINT)),
-        field("aggregationTemporality", "aggregation_temporality", 2, Kind::Temporality),
+        field(
+            "aggregationTemporality",
+            "aggregation_temporality",
+            2,
+            Kind::Temporality,
+        ),
     ],
     refused: &[],
 };
@@ -193,7 +265,12 @@ static HISTOGRAM: Message = Message {
 static HISTOGRAM_POINT: Message = Message {
     name: "HistogramDataPoint",
     fields: &[
-        field("startTimeUnixNano", "start_time_unix_nano", 2, Kind::Whole(Wire::Fixed64)),
+        field(
+            "startTimeUnixNano",
+            "start_time_unix_nano",
+            2,
+            Kind::Whole(Wire::Fixed64),
+        ),
         field("timeUnixNano", "time_unix_nano", 3, Kind::Whole(Wire::Fixed64)),
         field("count", "count", 4, Kind::Whole(Wire::Fixed64)),
         field("sum", "sum", 5, Kind::Double),
@@ -214,7 +291,12 @@ pub static EXEMPLAR: Message = Message {
         field("spanId", "span_id", 4, Kind::Bytes),
         field("traceId", "trace_id", 5, Kind::Bytes),
         field("asInt", "as_int", 6, Kind::Whole(Wire::Sfixed64)),
-        field("filteredAttributes", "filtered_attributes", 7, Kind::Parts(&KEY_VALUE)),
+        field(
+            "filteredAttributes",
+            "filtered_attributes",
+            7,
+            Kind::Parts(&KEY_VALUE),
+        ),
     ],
     refused: &[],
 };

@@ -62,7 +62,11 @@ pub struct ForwardedPoint {
 pub enum Value {
     Sum(i64),
     /// `sum` is missing where a merged point had none.
-    Histogram { count: u64, sum: Option<u64>, buckets: Vec<u64> },
+    Histogram {
+        count: u64,
+        sum: Option<u64>,
+        buckets: Vec<u64>,
+    },
 }
 
 #[derive(Debug, thiserror::Error)]
@@ -79,13 +83,15 @@ pub struct Posted {
 
 impl SeriesKey {
     pub fn parts(&self) -> Result<SeriesParts, NotForwarded> {
-        self.parts_of().ok_or_else(|| NotForwarded(format!("the key {}", self.0)))
+        self.parts_of()
+            .ok_or_else(|| NotForwarded(format!("the key {}", self.0)))
     }
 
     fn parts_of(&self) -> Option<SeriesParts> {
         let document = Document::parse(self.0.as_bytes()).ok()?;
         let parts: Vec<Json<'_>> = document.root().elements()?.collect();
-        let [resource, scope_name, scope_version, scope_attributes, name, unit, kind, attributes] = parts[..] else {
+        let [resource, scope_name, scope_version, scope_attributes, name, unit, kind, attributes] = parts[..]
+        else {
             return None;
         };
         let plain = |text: Json<'_>| text.text().map(String::from);

@@ -1,4 +1,4 @@
-//! A written request in bodies that the gateway takes: by resources, scopes, metrics, and points of one metric.
+//! A written request in bodies that the gateway takes: by resources, scopes, metrics, points of one metric.
 
 use super::json::{Document, Elements, Members, Value};
 use super::Refused;
@@ -16,10 +16,19 @@ pub fn bodies(text: String, limit: usize) -> Result<Vec<Bytes>, Refused> {
     if text.len() <= limit {
         return Ok(vec![Bytes::from(text)]);
     }
-    let document = Document::parse(text.as_bytes()).map_err(|error| Refused::Unreadable(error.to_string()))?;
-    let mut bodies = Bodies { limit, done: Vec::new() };
-    let whole = Frame { open: String::new(), close: String::new() };
-    let (frame, resources) = whole.within(document.root(), "resourceMetrics").ok_or(Refused::TooLong)?;
+    let document =
+        Document::parse(text.as_bytes()).map_err(|error| Refused::Unreadable(error.to_string()))?;
+    let mut bodies = Bodies {
+        limit,
+        done: Vec::new(),
+    };
+    let whole = Frame {
+        open: String::new(),
+        close: String::new(),
+    };
+    let (frame, resources) = whole
+        .within(document.root(), "resourceMetrics")
+        .ok_or(Refused::TooLong)?;
     bodies.fill(&frame, resources, Level::Resources)?;
     if bodies.done.is_empty() {
         bodies.done.push(Bytes::from_static(b"{}"));
@@ -47,7 +56,13 @@ impl Frame {
     fn within<'d>(&self, object: Value<'d>, list: &str) -> Option<(Frame, Elements<'d>)> {
         let frame = self.member(object.members()?, list);
         let elements = object.named([list])?[0]?.elements()?;
-        Some((Frame { open: frame.open + "[", close: format!("]{}", frame.close) }, elements))
+        Some((
+            Frame {
+                open: frame.open + "[",
+                close: format!("]{}", frame.close),
+            },
+            elements,
+        ))
     }
 
     /// The frame of a member of an object, the others before it.
@@ -63,7 +78,10 @@ impl Frame {
         open.push('"');
         open.push_str(inner);
         open.push_str("\":");
-        Frame { open, close: format!("}}{}", self.close) }
+        Frame {
+            open,
+            close: format!("}}{}", self.close),
+        }
     }
 
     /// The frame of the list in an element that is too long itself, with the list's elements and their level.
@@ -79,7 +97,10 @@ impl Frame {
 
     /// The frame of the points of a metric with one kind of data.
     fn data<'d>(&self, metric: Value<'d>) -> Option<(Frame, Elements<'d>)> {
-        let mut there = DATA.into_iter().zip(metric.named(DATA)?).filter_map(|(name, data)| Some((name, data?)));
+        let mut there = DATA
+            .into_iter()
+            .zip(metric.named(DATA)?)
+            .filter_map(|(name, data)| Some((name, data?)));
         let (name, data) = there.next()?;
         if there.next().is_some() {
             return None;
@@ -96,7 +117,10 @@ struct Bodies {
 impl Bodies {
     /// Puts the elements of a list into as few bodies as their order allows.
     fn fill(&mut self, frame: &Frame, elements: Elements<'_>, level: Level) -> Result<(), Refused> {
-        let room = self.limit.checked_sub(frame.open.len() + frame.close.len()).ok_or(Refused::TooLong)?;
+        let room = self
+            .limit
+            .checked_sub(frame.open.len() + frame.close.len())
+            .ok_or(Refused::TooLong)?;
         let mut body = String::new();
         for element in elements.map(|element| (element, element.raw())) {
             let (element, text) = element;
@@ -123,7 +147,8 @@ impl Bodies {
         if self.done.len() == MAX_BODIES {
             return Err(Refused::TooLong);
         }
-        self.done.push(Bytes::from(format!("{}{body}{}", frame.open, frame.close)));
+        self.done
+            .push(Bytes::from(format!("{}{body}{}", frame.open, frame.close)));
         body.clear();
         Ok(())
     }

@@ -1,0 +1,296 @@
+use super::messages::{ExportMetricsServiceResponse, Status};
+use super::series::posted;
+use super::*;
+use prost::Message;
+
+mod mapping;
+mod random;
+mod refused;
+mod speed;
+
+fn prepared(encoding: Encoding, body: impl Into<Bytes>) -> Result<Vec<Bytes>, String> {
+    prepare(encoding, body.into(), &Dropped::default()).map_err(|refused| refused.to_string())
+}
+
+fn json(body: &str) -> serde_json::Value {
+    let bodies =
+        prepared(Encoding::Json, body.to_string()).unwrap_or_else(|refused| panic!("{refused}: {body}"));
+    serde_json::from_slice(&bodies[0]).unwrap()
+}
+
+/// A request of one metric.
+fn request(metric: &str) -> String {
+    format!(r#"{{"resourceMetrics":[{{"scopeMetrics":[{{"metrics":[{metric}]}}]}}]}}"#)
+}
+
+fn sum(point: &str) -> String {
+    request(&format!(
+        r#"{{"sum":{{"aggregationTemporality":1,"dataPoints":[{point}]}}}}"#
+    ))
+}
+
+/// A field of protobuf that has a length.
+fn bytes(number: u32, inner: &[u8]) -> Vec<u8> {
+    let mut out = varint(number << 3 | 2);
+    out.extend(varint(inner.len() as u32));
+    out.extend(inner);
+    out
+}
+
+fn varint(mut number: u32) -> Vec<u8> {
+    let mut out = Vec::new();
+    while number > 127 {
+        out.push(number as u8 | 128);
+        number >>= 7;
+    }
+    out.push(number as u8);
+    out
+}
+
+/// A metric in protobuf, within a request.
+fn within_request(metric: &[u8]) -> Vec<u8> {
+    bytes(1, &bytes(2, &bytes(2, metric)))
+}
+
+#[test]
+fn json_that_the_gateway_reads_goes_on_as_it_came() {
+    let as_they_are = [
+        "{}".to_string(),
+        r#" {"resourceMetrics" : null , "other": [1.5e3]} "#.to_string(),
+        sum(r#"{"asInt":5,"startTimeUnixNano":"1","timeUnixNano":2,"exemplars":[{"asDouble":0.5}]}"#),
+        sum(r#"{"asInt":5.5}"#),
+        sum(r#"{"asDouble":5.0,"flags":true,"attributes":{}}"#),
+        sum(r#"{"asDouble":"NaN","startTimeUnixNano":18446744073709551616}"#),
+        request(r#"{"description":"d","gauge":{"dataPoints":[{"asDouble":5.5}]}}"#),
+        request(r#"{"sum":{"dataPoints":[{}],"aggregationTemporality":2},"gauge":{}}"#),
+        request(
+            r#"{"histogram":{"dataPoints":[{"sum":5.5,"explicitBounds":[0.5,"10"],"bucketCounts":["1",2]}]}}"#,
+        ),
+        request(r#"{"name":5,"unit":null}"#),
+    ];
+    for body in as_they_are {
+        assert_eq!(
+            prepared(Encoding::Json, body.clone()),
+            Ok(vec![Bytes::from(body)])
+        );
+    }
+}
+
+#[test]
+fn json_of_any_encoder_is_written_as_the_gateway_reads_it() {
+    let point = r#"{"startTimeUnixNano":"1","timeUnixNano":"2","asInt":"5"}"#;
+    let delta = sum(point);
+    let histogram = |point: &str| request(&format!(r#"{{"histogram":{{"dataPoints":[{point}]}}}}"#));
+    let cases = [
+        (
+            sum(r#"{"start_time_unix_nano":1.0,"time_unix_nano":"2e0","as_int":50e-1,"unknown":{}}"#),
+            delta.clone(),
+        ),
+        (
+            sum(r#"{"startTimeUnixNano":0.1E1,"timeUnixNano":2,"asInt":"5.0","flags":null}"#),
+            delta.clone(),
+        ),
+        (
+            delta.replace("\"aggregationTemporality\":1", "\"aggregation_temporality\":1.0"),
+            delta.clone(),
+        ),
+        (
+            delta.replace("ity\":1", "ity\":\"AGGREGATION_TEMPORALITY_DELTA\""),
+            delta.clone(),
+        ),
+        (
+            delta.replace("ity\":1", "ity\":\"AGGREGATION_TEMPORALITY_CUMULATIVE\""),
+            delta.replace("ity\":1", "ity\":2"),
+        ),
+        (
+            delta.replace("resourceMetrics", "resource_metrics"),
+            delta.clone(),
+        ),
+        (delta.replace("\"5\"", "-0"), delta.replace("\"5\"", "\"0\"")),
+        (
+            delta.replace("\"5\"", "-9223372036854775808.0"),
+            delta.replace("\"5\"", "\"-9223372036854775808\""),
+        ),
+        (
+            histogram(r#"{"sum":5.0,"explicitBounds":["-1e1",-0.0,1e15],"bucketCounts":[1.0,"2"]}"#),
+            histogram(r#"{"sum":5,"explicitBounds":[-10,0,1000000000000000],"bucketCounts":["1","2"]}"#),
+        ),
+        (
+            histogram(r#"{"sum":9007199254740993,"explicit_bounds":[0.5,"Infinity"]}"#),
+            histogram(r#"{"sum":9007199254740992,"explicitBounds":["5e-1","Infinity"]}"#),
+        ),
+        (
+            sum(
+                r#"{"as_int":1,"attributes":[{"key":"\u00e9","value":{"bytesValue":"AAE=","x":1}},5,{"value":{"kvlistValue":{"values":[]}}}]}"#,
+            ),
+            sum(
+                r#"{"asInt":"1","attributes":[{"key":"é","value":{"bytesValue":""}},false,{"value":{"kvlistValue":{}}}]}"#,
+            ),
+        ),
+        (
+            sum(r#"{"as_int":5.5,"startTimeUnixNano":true,"asDouble":5.0,"attributes":{}}"#),
+            sum(r#"{"asInt":false,"startTimeUnixNano":false,"asDouble":5,"attributes":false}"#),
+        ),
+        (
+            request(r#"{"gauge":{"data_points":[{"asDouble":1.7976931348623157e308},{}]},"name":null}"#),
+            request(r#"{"gauge":{"dataPoints":[{},{}]}}"#),
+        ),
+        (
+            request(r#"{"sum":{"is_monotonic":"true"}}"#),
+            request(r#"{"sum":{"isMonotonic":0}}"#),
+        ),
+        (sum(r#"{"asDouble":1.5e308}"#), sum(r#"{"asDouble":"1.5e308"}"#)),
+    ];
+    for (body, expected) in cases {
+        assert_eq!(
+            json(&body),
+            serde_json::from_str::<serde_json::Value>(&expected).unwrap(),
+            "{body}"
+        );
+    }
+}
+
+#[test]
+fn protobuf_is_written_as_the_gateway_reads_it() {
+    let number = [
+        &[0x11][..],
+        &1u64.to_le_bytes(),
+        &[0x19],
+        &u64::MAX.to_le_bytes(),
+        &[0x31],
+        &(-5i64).to_le_bytes(),
+        &[0x40, 2],
+    ]
+    .concat();
+    let double = [&[0x21][..], &5.0f64.to_le_bytes()].concat();
+    // A text, a map and a list within a list; of two names the last counts.
+    let values = [
+        bytes(1, b"\"\n"),
+        bytes(6, b""),
+        bytes(5, &bytes(1, &bytes(5, b""))),
+    ]
+    .map(|value| bytes(7, &bytes(2, &value)))
+    .concat();
+    let sum = [
+        bytes(1, &number),
+        bytes(1, &double),
+        bytes(1, &values),
+        vec![0x10, 1, 0x18, 1],
+    ]
+    .concat();
+    let packed = [3.0f64, 0.5].map(f64::to_le_bytes).concat();
+    let histogram = [
+        &bytes(7, &packed)[..],
+        &[0x31],
+        &7u64.to_le_bytes(),
+        &[0x29],
+        &2.0f64.to_le_bytes(),
+    ]
+    .concat();
+    let cases = [
+        (
+            [bytes(1, b"x"), bytes(1, b"m"), bytes(2, b"d"), bytes(7, &sum)].concat(),
+            format!(
+                r#"{{"name":"m","sum":{{"aggregationTemporality":1,"isMonotonic":true,"dataPoints":[{},{},{}]}}}}"#,
+                r#"{"startTimeUnixNano":"1","timeUnixNano":"18446744073709551615","asInt":"-5","flags":"2"}"#,
+                r#"{"asDouble":5}"#,
+                r#"{"attributes":[{"value":{"stringValue":"\"\n"}},{"value":{"kvlistValue":{}}},{"value":{"arrayValue":{"values":[{"arrayValue":{}}]}}}]}"#
+            ),
+        ),
+        (
+            bytes(9, &bytes(1, &histogram)),
+            r#"{"histogram":{"dataPoints":[{"sum":2,"bucketCounts":["7"],"explicitBounds":[3,"5e-1"]}]}}"#
+                .to_string(),
+        ),
+        (
+            [bytes(5, &bytes(1, &number)), bytes(11, &bytes(1, b""))].concat(),
+            r#"{"gauge":{"dataPoints":[{}]},"summary":{"dataPoints":[{}]}}"#.to_string(),
+        ),
+    ];
+    for (metric, expected) in cases {
+        let bodies = prepared(Encoding::Protobuf, within_request(&metric)).unwrap();
+        let expected: serde_json::Value = serde_json::from_str(&request(&expected)).unwrap();
+        assert_eq!(
+            serde_json::from_slice::<serde_json::Value>(&bodies[0]).unwrap(),
+            expected
+        );
+    }
+    assert_eq!(prepared(Encoding::Protobuf, ""), Ok(vec![Bytes::from("{}")]));
+}
+
+#[test]
+fn resource_attributes_are_dropped() {
+    let dropped = Dropped {
+        attributes: vec!["service.instance.id".to_string(), "é".to_string()],
+    };
+    let body = r#"{"resourceMetrics":[{"resource":{"attributes":[{"key":"service.instance.id","value":{"stringValue":"1"}},{"key":"a"},{"value":{},"key":"\u00e9"},{"key":"b"}]},"scopeMetrics":[{"scope":{"attributes":[{"key":"é"}]}}]}]}"#;
+    let expected = r#"{"resourceMetrics":[{"resource":{"attributes":[{"key":"a"},{"key":"b"}]},"scopeMetrics":[{"scope":{"attributes":[{"key":"é"}]}}]}]}"#;
+    assert_eq!(
+        prepare(Encoding::Json, body.into(), &dropped).unwrap(),
+        [expected]
+    );
+    let pairs = ["é", "a", "service.instance.id"]
+        .map(|key| bytes(1, &bytes(1, key.as_bytes())))
+        .concat();
+    let bodies = prepare(Encoding::Protobuf, bytes(1, &bytes(1, &pairs)).into(), &dropped).unwrap();
+    assert_eq!(
+        bodies,
+        [r#"{"resourceMetrics":[{"resource":{"attributes":[{"key":"a"}]}}]}"#]
+    );
+}
+
+#[test]
+fn answers_are_of_the_request_s_kind() {
+    let all = Outcome::Taken { rejected: 0 };
+    assert_eq!(
+        (all.body(Encoding::Json), all.body(Encoding::Protobuf)),
+        (b"{}".to_vec(), Vec::new())
+    );
+    let some = Outcome::Taken { rejected: 7 };
+    let text =
+        br#"{"partialSuccess":{"errorMessage":"points outside the profile","rejectedDataPoints":"7"}}"#;
+    assert_eq!(some.body(Encoding::Json), text);
+    let partial = ExportMetricsServiceResponse::decode(&some.body(Encoding::Protobuf)[..])
+        .unwrap()
+        .partial_success
+        .unwrap();
+    assert_eq!(
+        (partial.rejected_data_points, &*partial.error_message),
+        (7, "points outside the profile")
+    );
+    for (status, code) in [
+        (400, 3),
+        (403, 7),
+        (404, 5),
+        (408, 4),
+        (413, 3),
+        (415, 3),
+        (503, 14),
+    ] {
+        let refused = Outcome::Refused {
+            status,
+            message: "a \"b\"".to_string(),
+        };
+        assert_eq!(
+            refused.body(Encoding::Json),
+            format!(r#"{{"code":{code},"message":"a \"b\""}}"#).into_bytes()
+        );
+        let found = Status::decode(&refused.body(Encoding::Protobuf)[..]).unwrap();
+        assert_eq!(
+            found,
+            Status {
+                code,
+                message: "a \"b\"".to_string()
+            }
+        );
+    }
+    assert_eq!(
+        (
+            rejected(text),
+            rejected(b"{}"),
+            rejected(b"{"),
+            rejected(br#"{"partialSuccess":5}"#)
+        ),
+        (7, 0, 0, 0)
+    );
+}

@@ -14,9 +14,17 @@ async fn a_post_without_an_answer_is_in_no_book() {
         place.tell(what, 1);
         let refused = run.post("A", point("a", 20, 30, 7)).await;
         assert_eq!(message(&refused), (503, "recovering"), "{what}");
-        assert_eq!(run.post_until_answered("A", point("a", 20, 30, 7)).await, all(), "{what}: the repeat");
+        assert_eq!(
+            run.post_until_answered("A", point("a", 20, 30, 7)).await,
+            all(),
+            "{what}: the repeat"
+        );
         let repeat = run.post("A", point("a", 20, 30, 7)).await;
-        assert_eq!(message(&repeat), (400, "out of order: point 0, frontier 30"), "{what}");
+        assert_eq!(
+            message(&repeat),
+            (400, "out of order: point 0, frontier 30"),
+            "{what}"
+        );
         assert_eq!(run.metrics.recoveries.get(), 2, "{what}");
         let (sum, spans) = run.stop().await.remove("a").unwrap();
         assert_eq!((sum, spans), (12, vec![(10, 30)]), "{what}");
@@ -25,14 +33,23 @@ async fn a_post_without_an_answer_is_in_no_book() {
 
 #[tokio::test(flavor = "multi_thread")]
 async fn a_flush_that_ends_otherwise_is_in_no_group() {
-    for what in ["flush-returned", "flush-lost", "flush-ends", "flush-not-forwarded"] {
+    for what in [
+        "flush-returned",
+        "flush-lost",
+        "flush-ends",
+        "flush-not-forwarded",
+    ] {
         let place = Place::of_fake();
         let run = place.run().await;
         assert_eq!(run.post("A", point("a", 10, 20, 5)).await, all(), "{what}");
         assert_eq!(run.post("B", point("b", 10, 20, 6)).await, all(), "{what}");
         place.tell(what, 1);
         assert_eq!(run.checkpoint().await, 1, "{what}");
-        assert_eq!(run.metrics.checkpoints.with_label_values(&["failed"]).get(), 1, "{what}");
+        assert_eq!(
+            run.metrics.checkpoints.with_label_values(&["failed"]).get(),
+            1,
+            "{what}"
+        );
         assert_eq!(run.checkpoint().await, 0, "{what}");
         assert_eq!(sums(&run.stop().await), [("a", 5), ("b", 6)], "{what}");
     }
@@ -44,10 +61,16 @@ async fn a_quarantine_without_an_answer_is_none() {
     let run = place.run().await;
     place.tell("quarantine-lost", 1);
     let done = run.order(Order::Quarantine("A".into())).await;
-    assert!(matches!(done, Done::Answered(Outcome::Refused { status: 503, .. })), "{done:?}");
+    assert!(
+        matches!(done, Done::Answered(Outcome::Refused { status: 503, .. })),
+        "{done:?}"
+    );
     assert_eq!(run.post("A", point("a", 10, 20, 5)).await, all());
     let done = run.order(Order::Quarantine("A\r\nx: y".into())).await;
-    assert!(matches!(done, Done::Answered(Outcome::Refused { status: 400, .. })), "{done:?}");
+    assert!(
+        matches!(done, Done::Answered(Outcome::Refused { status: 400, .. })),
+        "{done:?}"
+    );
     assert_eq!(sums(&run.stop().await), [("a", 5)]);
 }
 
@@ -57,7 +80,11 @@ async fn a_sender_is_replayed_in_its_order() {
     let run = place.run().await;
     for number in 1..40 {
         for sender in ["A", "B", "C"] {
-            assert_eq!(run.post(sender, point(sender, number * 10, number * 10 + 10, 1)).await, all());
+            assert_eq!(
+                run.post(sender, point(sender, number * 10, number * 10 + 10, 1))
+                    .await,
+                all()
+            );
         }
     }
     run.ready().await;
@@ -65,7 +92,10 @@ async fn a_sender_is_replayed_in_its_order() {
     assert_eq!(run.post_until_answered("A", point("A", 400, 410, 1)).await, all());
     let took = place.log("took");
     let first = took[0].split(' ').nth(1).unwrap().to_owned();
-    let replayed: Vec<_> = took.iter().filter(|line| line.split(' ').nth(1) != Some(&first)).collect();
+    let replayed: Vec<_> = took
+        .iter()
+        .filter(|line| line.split(' ').nth(1) != Some(&first))
+        .collect();
     assert_eq!(replayed.len(), 3 * 39 + 1);
     assert_eq!(run.metrics.faults.with_label_values(&["replay"]).get(), 0);
     assert_eq!(sums(&run.stop().await), [("A", 40), ("B", 39), ("C", 39)]);
@@ -85,7 +115,10 @@ async fn a_replay_makes_room_by_a_flush() {
     let place = Place::of_fake();
     let run = place.run().await;
     for number in 1..6 {
-        assert_eq!(run.post("A", point("a", number * 10, number * 10 + 10, 1)).await, all());
+        assert_eq!(
+            run.post("A", point("a", number * 10, number * 10 + 10, 1)).await,
+            all()
+        );
     }
     place.tell("post-full", 2);
     assert!(run.kill_gateway());
@@ -107,9 +140,17 @@ async fn a_stop_does_not_wait_for_a_start() {
         let begun = Instant::now();
         run.tell_stop();
         run.ended().await;
-        assert!(begun.elapsed() < Duration::from_secs(2), "{what}: {:?}", begun.elapsed());
+        assert!(
+            begun.elapsed() < Duration::from_secs(2),
+            "{what}: {:?}",
+            begun.elapsed()
+        );
         std::fs::remove_file(place.folder.path().join(what)).unwrap();
         let next = place.run().await;
-        assert_eq!(sums(&next.stop().await), [("a", 5)], "{what}: the next start puts it in");
+        assert_eq!(
+            sums(&next.stop().await),
+            [("a", 5)],
+            "{what}: the next start puts it in"
+        );
     }
 }

@@ -14,12 +14,21 @@ async fn posts_and_checkpoints() {
     let run = place.run().await;
     assert_eq!(run.post("A", point("a", 10, 20, 5)).await, all());
     assert_eq!(run.post("A", point("a", 20, 30, 6)).await, all());
-    assert_eq!(message(&run.post("B", point("a", 30, 40, 6)).await), (400, "other writer: point 0"));
-    assert_eq!(message(&run.post("A", Bytes::from_static(b"x")).await), (400, "not JSON"));
+    assert_eq!(
+        message(&run.post("B", point("a", 30, 40, 6)).await),
+        (400, "other writer: point 0")
+    );
+    assert_eq!(
+        message(&run.post("A", Bytes::from_static(b"x")).await),
+        (400, "not JSON")
+    );
     assert_eq!(run.checkpoint().await, 1);
     assert_eq!(run.checkpoint().await, 0);
     let report = run.slot.report().await.unwrap();
-    assert!(report.starts_with(b"series a sum owner A frontier 30"), "{report:?}");
+    assert!(
+        report.starts_with(b"series a sum owner A frontier 30"),
+        "{report:?}"
+    );
     let (sum, spans) = run.stop().await.remove("a").unwrap();
     assert_eq!((sum, spans), (11, vec![(10, 30)]));
 }
@@ -46,7 +55,11 @@ async fn late_repeats_are_refused_behind_recovery_renewal_and_restart() {
 
 async fn refused(run: &Run, behind: &str) {
     let repeat = run.post_until_answered("A", point("a", 10, 20, 5)).await;
-    assert_eq!(message(&repeat), (400, "out of order: point 0, frontier 20"), "behind {behind}");
+    assert_eq!(
+        message(&repeat),
+        (400, "out of order: point 0, frontier 20"),
+        "behind {behind}"
+    );
     let repeat = run.post_until_answered("A", point("b", 10, 20, 6)).await;
     assert_eq!(repeat.status(), 400, "behind {behind}");
     let other = run.post_until_answered("B", point("a", 20, 30, 5)).await;
@@ -59,18 +72,30 @@ async fn a_quarantine_outlives_checkpoints_and_recoveries() {
     let run = place.run().await;
     assert_eq!(run.post("A", point("a", 10, 20, 5)).await, all());
     assert_eq!(run.post("B", point("b", 10, 20, 1)).await, all());
-    assert_eq!(run.order(Order::Quarantine("A".into())).await, Done::Answered(all()));
+    assert_eq!(
+        run.order(Order::Quarantine("A".into())).await,
+        Done::Answered(all())
+    );
     let again = run.order(Order::Quarantine("A".into())).await;
-    assert!(matches!(again, Done::Answered(Outcome::Refused { status: 400, .. })), "{again:?}");
+    assert!(
+        matches!(again, Done::Answered(Outcome::Refused { status: 400, .. })),
+        "{again:?}"
+    );
     assert_eq!(run.checkpoint().await, 1, "of B alone");
     assert!(run.kill_gateway());
     assert_eq!(run.post_until_answered("B", point("b", 20, 30, 1)).await, all());
-    assert_eq!(message(&run.post("A", point("a", 20, 30, 6)).await), (403, "quarantined"));
+    assert_eq!(
+        message(&run.post("A", point("a", 20, 30, 6)).await),
+        (403, "quarantined")
+    );
     assert_eq!(run.checkpoint().await, 1, "of B alone");
     run.abort().await;
     let run = place.run().await;
     assert_eq!(run.order(Order::Renew).await, Done::Flushed { requests: 0 });
-    assert_eq!(message(&run.post("A", point("a", 20, 30, 6)).await), (403, "quarantined"));
+    assert_eq!(
+        message(&run.post("A", point("a", 20, 30, 6)).await),
+        (403, "quarantined")
+    );
     assert_eq!(run.order(Order::Lift("A".into())).await, Done::Answered(all()));
     assert_eq!(run.checkpoint().await, 1);
     assert_eq!(run.checkpoint().await, 0);
@@ -83,7 +108,10 @@ async fn foreign_points_are_counted_and_compared() {
     let Some(place) = Place::of_real() else { return };
     let run = place.run().await;
     let foreign = "{\"resourceMetrics\":[{\"scopeMetrics\":[{\"metrics\":[{\"name\":\"g\",\"gauge\":{\"dataPoints\":[{},{}]}}]}]}]}";
-    assert_eq!(run.post("A", foreign.into()).await, Outcome::Taken { rejected: 2 });
+    assert_eq!(
+        run.post("A", foreign.into()).await,
+        Outcome::Taken { rejected: 2 }
+    );
     assert_eq!(run.post("A", point("a", 10, 20, 5)).await, all());
     assert!(run.kill_gateway());
     assert_eq!(run.post_until_answered("A", point("a", 20, 30, 5)).await, all());
@@ -105,14 +133,21 @@ async fn series_are_forgotten_for_their_age_alone() {
     assert_eq!(run.post("B", point("b", 10, 20, 5)).await, all());
     assert_eq!(run.checkpoint().await, 1);
     assert_eq!(run.post("B", point("b", 20, 30, 5)).await, all());
-    assert_eq!(run.order(Order::Quarantine("B".into())).await, Done::Answered(all()));
+    assert_eq!(
+        run.order(Order::Quarantine("B".into())).await,
+        Done::Answered(all())
+    );
     assert_eq!(run.order(Order::Renew).await, Done::Flushed { requests: 0 });
     assert_eq!(run.outbox.series_count(), 2, "they were just seen");
     tokio::time::sleep(Duration::from_millis(2500)).await;
     assert_eq!(run.order(Order::Renew).await, Done::Flushed { requests: 0 });
     assert_eq!(run.metrics.forgotten_series.get(), 1);
     assert_eq!(run.outbox.series_count(), 1, "b has a point that is in no group");
-    assert_eq!(run.post("C", point("a", 10, 20, 5)).await, all(), "nobody is the owner of a");
+    assert_eq!(
+        run.post("C", point("a", 20, 30, 5)).await,
+        all(),
+        "nobody is the owner of a"
+    );
     assert_eq!(run.order(Order::Lift("B".into())).await, Done::Answered(all()));
     assert_eq!(sums(&run.stop().await), [("a", 10), ("b", 10)]);
 }
@@ -176,7 +211,9 @@ async fn check(run: Arc<Run>, senders: usize, posts: u64) {
     for kind in ["reading", "replay", "owner"] {
         assert_eq!(run.metrics.faults.with_label_values(&[kind]).get(), 0, "{kind}");
     }
-    let Ok(run) = Arc::try_unwrap(run) else { panic!("it is in use") };
+    let Ok(run) = Arc::try_unwrap(run) else {
+        panic!("it is in use")
+    };
     let recoveries = run.metrics.recoveries.get();
     let taken = run.stop().await;
     eprintln!("{recoveries} recoveries");
@@ -184,4 +221,44 @@ async fn check(run: Arc<Run>, senders: usize, posts: u64) {
     for (name, (sum, _)) in taken {
         assert_eq!(sum as u64, posts * (posts + 1) / 2, "{name}");
     }
+}
+
+/// A body of many series.
+fn many(prefix: &str, series: usize, start: u64) -> Bytes {
+    let metric = |number| {
+        format!(
+            "{{\"name\":\"{prefix}{number}\",\"sum\":{{\"aggregationTemporality\":1,\"dataPoints\":[{{\"asInt\":1,\
+             \"startTimeUnixNano\":{start},\"timeUnixNano\":{}}}]}}}}",
+            start + 10
+        )
+    };
+    let metrics: Vec<_> = (0..series).map(metric).collect();
+    format!(
+        "{{\"resourceMetrics\":[{{\"scopeMetrics\":[{{\"metrics\":[{}]}}]}}]}}",
+        metrics.join(",")
+    )
+    .into()
+}
+
+#[tokio::test(flavor = "multi_thread")]
+async fn many_series_are_flushed_side_by_side_and_primed() {
+    let Some(place) = Place::of_real() else { return };
+    let mut settings = place.settings();
+    settings.gateway.flushers = 4;
+    let run = place.run_with(settings).await;
+    for sender in ["A", "B"] {
+        assert_eq!(run.post(sender, many(sender, 1750, 10)).await, all());
+    }
+    assert_eq!(run.checkpoint().await, 4);
+    assert_eq!(run.post("A", many("A", 1750, 20)).await, all());
+    assert!(run.kill_gateway());
+    let repeat = run.post_until_answered("B", many("B", 1750, 10)).await;
+    assert_eq!(message(&repeat), (400, "out of order: point 0, frontier 20"));
+    let other = run.post("B", many("A", 1750, 30)).await;
+    assert_eq!(message(&other), (400, "other writer: point 0"));
+    assert_eq!(run.checkpoint().await, 2);
+    assert_eq!(run.metrics.faults.with_label_values(&["owner"]).get(), 0);
+    let taken = run.stop().await;
+    assert_eq!(taken.len(), 3500);
+    assert_eq!(taken.values().map(|(sum, _)| sum).sum::<i64>(), 3 * 1750);
 }

@@ -18,7 +18,11 @@ async fn posts_of_a_sender_take_turns() {
     assert_eq!((first.await.unwrap(), second), (all(), all()));
     let log = place.log("");
     let kinds: Vec<_> = log.iter().map(|line| line.split(' ').next().unwrap()).collect();
-    assert_eq!(kinds, ["took", "answers", "took", "answers"], "the second was put before the first was answered");
+    assert_eq!(
+        kinds,
+        ["took", "answers", "took", "answers"],
+        "the second was put before the first was answered"
+    );
     run.stop().await;
 }
 
@@ -28,13 +32,19 @@ async fn a_sender_that_goes_away_strands_nothing() {
     let run = place.run().await;
     place.tell("post-slow", 1);
     let short = Duration::from_millis(100);
-    assert!(tokio::time::timeout(short, run.post("A", point("a", 10, 20, 5))).await.is_err());
+    assert!(tokio::time::timeout(short, run.post("A", point("a", 10, 20, 5)))
+        .await
+        .is_err());
     let repeat = run.post("A", point("a", 10, 20, 5)).await;
     assert_eq!(message(&repeat), (400, "out of order: point 0, frontier 20"));
     assert!(run.kill_gateway());
     run.post_until_answered("B", point("b", 10, 20, 1)).await;
     assert_eq!(run.metrics.recoveries.get(), 2);
-    assert_eq!(sums(&run.stop().await), [("a", 5), ("b", 1)], "it was taken, so it has to be in the journal");
+    assert_eq!(
+        sums(&run.stop().await),
+        [("a", 5), ("b", 1)],
+        "it was taken, so it has to be in the journal"
+    );
 }
 
 #[tokio::test(flavor = "multi_thread")]
@@ -60,14 +70,31 @@ async fn nothing_is_taken_once_it_stops() {
 async fn several_bodies_are_neither_lost_nor_doubled() {
     let place = Place::of_fake();
     let run = place.run().await;
-    let bodies = || vec![point("a", 10, 20, 1), point("b", 10, 20, 2), point("c", 10, 20, 3)];
+    let bodies = || {
+        vec![
+            point("a", 10, 20, 1),
+            point("b", 10, 20, 2),
+            point("c", 10, 20, 3),
+        ]
+    };
     assert_eq!(run.slot.post("A".into(), bodies()).await, all());
     let repeat = run.slot.post("A".into(), bodies()).await;
     assert_eq!(message(&repeat), (400, "out of order: point 0, frontier 20"));
-    let partly = vec![point("a", 10, 20, 1), point("d", 10, 20, 4), point("b", 10, 20, 2)];
-    assert_eq!(run.slot.post("A".into(), partly).await, Outcome::Taken { rejected: 2 }, "the first does not block");
+    let partly = vec![
+        point("a", 10, 20, 1),
+        point("d", 10, 20, 4),
+        point("b", 10, 20, 2),
+    ];
+    assert_eq!(
+        run.slot.post("A".into(), partly).await,
+        Outcome::Taken { rejected: 2 },
+        "the first does not block"
+    );
     place.tell("post-full", 1);
-    let refused = run.slot.post("A".into(), vec![point("e", 10, 20, 5), point("f", 10, 20, 6)]).await;
+    let refused = run
+        .slot
+        .post("A".into(), vec![point("e", 10, 20, 5), point("f", 10, 20, 6)])
+        .await;
     assert_eq!(message(&refused), (503, "full"), "nothing of it was taken");
     assert_eq!(sums(&run.stop().await), [("a", 1), ("b", 2), ("c", 3), ("d", 4)]);
 }
@@ -76,7 +103,9 @@ async fn several_bodies_are_neither_lost_nor_doubled() {
 async fn a_doubt_behind_a_body_that_was_taken_is_waited_out() {
     let place = Place::of_fake();
     let run = place.run().await;
-    let many: Vec<_> = (0..8).map(|number| point(&format!("m{number}"), 10, 20, 1)).collect();
+    let many: Vec<_> = (0..8)
+        .map(|number| point(&format!("m{number}"), 10, 20, 1))
+        .collect();
     place.tell("post-slow", 8);
     let posting = tokio::spawn({
         let slot = run.slot.clone();

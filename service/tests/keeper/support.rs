@@ -27,7 +27,11 @@ impl Place {
     pub fn of_fake() -> Place {
         let folder = tempfile::tempdir().unwrap();
         let program = folder.path().join("fake_gateway.py");
-        std::fs::copy(Path::new(env!("CARGO_MANIFEST_DIR")).join("tests/keeper/fake_gateway.py"), &program).unwrap();
+        std::fs::copy(
+            Path::new(env!("CARGO_MANIFEST_DIR")).join("tests/keeper/fake_gateway.py"),
+            &program,
+        )
+        .unwrap();
         Place { folder, program }
     }
 
@@ -39,7 +43,10 @@ impl Place {
         if program.is_none() {
             eprintln!("skipped: no gateway in $TOTXEGUN_GATEWAY, bin/gateway or crates/gateway/out/gateway");
         }
-        Some(Place { folder: tempfile::tempdir().unwrap(), program: program? })
+        Some(Place {
+            folder: tempfile::tempdir().unwrap(),
+            program: program?,
+        })
     }
 
     /// Tells the fake to fail so often.
@@ -50,7 +57,10 @@ impl Place {
     /// The lines of the fake's log that begin so.
     pub fn log(&self, begin: &str) -> Vec<String> {
         let text = std::fs::read_to_string(self.folder.path().join("log")).unwrap_or_default();
-        text.lines().filter(|line| line.starts_with(begin)).map(String::from).collect()
+        text.lines()
+            .filter(|line| line.starts_with(begin))
+            .map(String::from)
+            .collect()
     }
 
     pub fn settings(&self) -> Settings {
@@ -63,7 +73,11 @@ impl Place {
             memory: None,
             allocator: None,
         };
-        Settings { gateway, every: Duration::from_secs(3600), forget: None }
+        Settings {
+            gateway,
+            every: Duration::from_secs(3600),
+            forget: None,
+        }
     }
 
     pub async fn run(&self) -> Run {
@@ -85,7 +99,14 @@ impl Place {
         let (keeper, orders) = Keeper::new(slot.clone(), Starter::new().unwrap(), settings);
         let (stop, stopped) = watch::channel(false);
         let task = tokio::spawn(keeper.run(stopped));
-        Run { slot, outbox, metrics, orders, stop, task }
+        Run {
+            slot,
+            outbox,
+            metrics,
+            orders,
+            stop,
+            task,
+        }
     }
 }
 
@@ -138,8 +159,14 @@ impl Run {
 
     /// Kills the gateway from outside.
     pub fn kill_gateway(&self) -> bool {
-        let Some(pid) = self.slot.gateway() else { return false };
-        nix::sys::signal::kill(nix::unistd::Pid::from_raw(pid as i32), nix::sys::signal::Signal::SIGKILL).is_ok()
+        let Some(pid) = self.slot.gateway() else {
+            return false;
+        };
+        nix::sys::signal::kill(
+            nix::unistd::Pid::from_raw(pid as i32),
+            nix::sys::signal::Signal::SIGKILL,
+        )
+        .is_ok()
     }
 
     pub async fn stop(self) -> Taken {
@@ -172,9 +199,15 @@ pub async fn taken(outbox: &Outbox) -> Taken {
     while outbox.waiting().0 > 0 {
         let (waiting, body) = outbox.first().await.unwrap();
         for point in forwarded(&body).unwrap() {
-            let Value::Sum(value) = point.value else { panic!("{point:?}") };
+            let Value::Sum(value) = point.value else {
+                panic!("{point:?}")
+            };
             let (sum, spans) = taken.entry(point.series.parts().unwrap().name).or_default();
-            assert!(spans.last().map_or(true, |(_, end)| *end <= point.start), "{spans:?}, then {}", point.start);
+            assert!(
+                spans.last().map_or(true, |(_, end)| *end <= point.start),
+                "{spans:?}, then {}",
+                point.start
+            );
             *sum += value;
             spans.push((point.start, point.end));
         }
@@ -184,7 +217,10 @@ pub async fn taken(outbox: &Outbox) -> Taken {
 }
 
 pub fn sums(taken: &Taken) -> Vec<(&str, i64)> {
-    taken.iter().map(|(name, (sum, _))| (name.as_str(), *sum)).collect()
+    taken
+        .iter()
+        .map(|(name, (sum, _))| (name.as_str(), *sum))
+        .collect()
 }
 
 /// A body of one point.

@@ -1,1 +1,111 @@
+use super::*;
+use crate::files::Post;
+use std::os::unix::fs::PermissionsExt;
 
+fn open(path: &Path) -> Result<Folder, FolderFault> {
+    Folder::open(path, Durability::Process)
+}
+
+fn epoch(folder: &Folder) -> String {
+    super::super::lock(&folder.epoch).clone()
+}
+
+/// Run by the next test in a process of its own.
+#[test]
+#[ignore]
+fn has_a_folder() {
+    let Some(path) = std::env::var_os("TOTXEGUN_TEST_FOLDER") else { return };
+    assert!(matches!(open(Path::new(&path)), Err(FolderFault::InUse(_))));
+    println!("refused");
+}
+
+#[test]
+fn a_second_service_is_refused_by_name_until_the_first_has_ended() {
+    let place = tempfile::tempdir().unwrap();
+    let first = open(place.path()).unwrap();
+    let again = open(place.path()).err().unwrap().to_string();
+    assert!(again.contains("in use by another service") && again.contains(place.path().to_str().unwrap()), "{again}");
+    let mut this = std::process::Command::new(std::env::current_exe().unwrap());
+    this.args(["--exact", "--ignored", "--nocapture", "files::folder::tests::has_a_folder"]);
+    let other = this.env("TOTXEGUN_TEST_FOLDER", place.path()).output().unwrap();
+    assert!(other.status.success() && String::from_utf8_lossy(&other.stdout).contains("refused"));
+    drop(first);
+    open(place.path()).unwrap();
+}
+
+#[test]
+fn all_of_it_is_its_owners_alone() {
+    let place = tempfile::tempdir().unwrap();
+    let path = place.path().join("new/folder");
+    let folder = open(&path).unwrap();
+    let (journal, _outbox) = folder.slot(0).unwrap();
+    journal.append(&Post { sender: "s".into(), foreign: 0, body: bytes::Bytes::from_static(b"{}") });
+    folder.dead().unwrap().keep("0-e-1", "400", b"{}").unwrap();
+    let mut left = vec![path];
+    let mut files = 0;
+    while let Some(path) = left.pop() {
+        let about = std::fs::metadata(&path).unwrap();
+        let mode = about.permissions().mode() & 0o777;
+        assert_eq!(mode, if about.is_dir() { 0o700 } else { 0o600 }, "{}", path.display());
+        if about.is_dir() {
+            left.extend(std::fs::read_dir(&path).unwrap().map(|entry| entry.unwrap().path()));
+        } else {
+            files += 1;
+        }
+    }
+    assert_eq!(files, 5);
+    assert!(folder.has_room());
+}
+
+#[test]
+fn the_epoch_stays_until_the_folder_is_copied_or_it_is_renewed() {
+    let place = tempfile::tempdir().unwrap();
+    let (first, second) = (place.path().join("first"), place.path().join("second"));
+    let folder = open(&first).unwrap();
+    let drawn = epoch(&folder);
+    let (journal, outbox) = folder.slot(3).unwrap();
+    assert_eq!((outbox.epoch(), drawn.len()), (drawn.clone(), 16));
+    drop((folder, journal, outbox));
+    let folder = open(&first).unwrap();
+    assert_eq!(epoch(&folder), drawn);
+    // An inode that is free is soon used again, so the first folder stays while it is copied.
+    let copied = std::process::Command::new("cp").arg("-a").args([&first, &second]).status().unwrap();
+    assert!(copied.success());
+    let copy = open(&second).unwrap();
+    assert_ne!(epoch(&copy), drawn);
+    assert_eq!(copy.slot(3).unwrap().1.epoch(), epoch(&copy));
+    let renewed = folder.renew_epoch().unwrap();
+    assert_ne!(renewed, drawn);
+    drop(folder);
+    assert_eq!(epoch(&open(&first).unwrap()), renewed);
+}
+
+#[test]
+fn a_later_or_missing_version_is_refused_by_name() {
+    let place = tempfile::tempdir().unwrap();
+    drop(open(place.path()).unwrap().slot(0).unwrap());
+    let version = place.path().join("version");
+    let text = std::fs::read_to_string(&version).unwrap();
+    let refused = || open(place.path()).err().unwrap().to_string();
+    std::fs::write(&version, text.replacen("totxegun 1", "totxegun 2", 1)).unwrap();
+    assert!(refused().contains("format version 2"), "{}", refused());
+    for wrong in ["", "totxegun\n", "totxegun 1\nepoch 12\nlock 1\n", "totxegun 1\nepoch 0123456789abcdef\n"] {
+        std::fs::write(&version, wrong).unwrap();
+        assert!(refused().contains("put a copy"), "{}", refused());
+    }
+    std::fs::remove_file(&version).unwrap();
+    assert!(refused().contains("missing"), "{}", refused());
+    std::fs::write(&version, text).unwrap();
+    open(place.path()).unwrap();
+}
+
+#[test]
+fn the_journal_goes_on_behind_what_the_outbox_knows() {
+    let place = tempfile::tempdir().unwrap();
+    let folder = open(place.path()).unwrap();
+    let (journal, outbox) = folder.slot(0).unwrap();
+    outbox.commit(&[], 9).unwrap();
+    drop((journal, outbox));
+    let (journal, _outbox) = folder.slot(0).unwrap();
+    assert_eq!(journal.turn().0, 10);
+}

@@ -1,5 +1,5 @@
-//! What identifies a point, read as the gateway reads it and written as the gateway writes it. `None` is of what no
-//! series may have; its points are foreign (docs/FORMATS.md, "Reading OTLP/JSON").
+//! What identifies a point, read as the gateway reads it and written as the gateway writes it. `None` is of
+//! what no series may have; its points are foreign (docs/FORMATS.md, "Reading OTLP/JSON").
 
 use crate::otlp::json::{write_text, Value};
 use crate::otlp::number::gateway_whole;
@@ -83,7 +83,9 @@ fn write_value(out: &mut String, value: Value<'_>, may_be_list: MayBeList) -> Op
             let whole = i64::try_from(gateway_whole(whole)?).ok()?;
             let _ = write!(out, "{{\"intValue\":\"{whole}\"}}");
         }
-        [None, None, None, Some(list), None, None, None] if may_be_list == MayBeList::Yes => write_list(out, list)?,
+        [None, None, None, Some(list), None, None, None] if may_be_list == MayBeList::Yes => {
+            write_list(out, list)?
+        }
         _ => return None,
     }
     Some(())

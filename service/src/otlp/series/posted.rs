@@ -1,4 +1,4 @@
-//! A body read as the gateway reads it: which series it has points of, and how many of its points are foreign.
+//! A body read as the gateway reads it: which series it has points of, and how many points are foreign.
 
 use super::identity::{text, write_attributes};
 use super::{Posted, SeriesKey};
@@ -13,7 +13,13 @@ const MAX_BOUNDS: usize = 255;
 /// The series of a body that the gateway took; none where the gateway refuses the body whole.
 pub fn posted(body: &[u8]) -> Option<Posted> {
     let document = Document::parse(body).ok()?;
-    let mut reading = Reading { posted: Posted { series: HashMap::new(), foreign: 0 }, key: String::new() };
+    let mut reading = Reading {
+        posted: Posted {
+            series: HashMap::new(),
+            foreign: 0,
+        },
+        key: String::new(),
+    };
     let [resources] = document.root().named(["resourceMetrics"])?;
     for resource in objects(resources)? {
         reading.resource(resource)?;
@@ -90,8 +96,15 @@ impl Reading {
     }
 
     fn metric(&mut self, value: Value<'_>, known: bool) -> Option<()> {
-        let [name, unit, gauge, sum, histogram, exponential, summary] =
-            value.named(["name", "unit", "gauge", "sum", "histogram", "exponentialHistogram", "summary"])?;
+        let [name, unit, gauge, sum, histogram, exponential, summary] = value.named([
+            "name",
+            "unit",
+            "gauge",
+            "sum",
+            "histogram",
+            "exponentialHistogram",
+            "summary",
+        ])?;
         let others = [part(gauge)?, part(exponential)?, part(summary)?];
         let (sum, histogram) = (part(sum)?, part(histogram)?);
         let there = others.iter().chain([&sum, &histogram]).flatten().count();
@@ -123,7 +136,7 @@ impl Reading {
         point: fn(&mut String, Value<'_>) -> Option<u64>,
     ) -> Option<()> {
         let delta = part.whole.named(["aggregationTemporality"])?[0].and_then(Value::number);
-        let is_delta = delta.map_or(false, |number| number == "1");
+        let is_delta = delta == Some("1");
         let known = known && is_delta && self.identify(|key| kind(key, part.whole));
         let above = self.key.len();
         for value in objects(part.points)? {
@@ -140,7 +153,11 @@ impl Reading {
     fn add(&mut self, end: u64) {
         match self.posted.series.get_mut(self.key.as_str()) {
             Some(last) => *last = end.max(*last),
-            None => drop(self.posted.series.insert(SeriesKey(Arc::from(self.key.as_str())), end)),
+            None => drop(
+                self.posted
+                    .series
+                    .insert(SeriesKey(Arc::from(self.key.as_str())), end),
+            ),
         }
     }
 }
@@ -153,7 +170,7 @@ fn write_part(key: &mut String, text: &str) {
 fn part(found: Option<Value<'_>>) -> Option<Option<Part<'_>>> {
     let Some(whole) = found else { return Some(None) };
     let [points] = whole.named(["dataPoints"])?;
-    objects(points)?;
+    drop(objects(points)?);
     Some(Some(Part { whole, points }))
 }
 
@@ -171,11 +188,21 @@ const SUM: &str = ",\"sum\"";
 
 /// The end of a sum's point, its attributes behind the key; `None` if it is foreign.
 fn sum_point(key: &mut String, point: Value<'_>) -> Option<u64> {
-    let [start, end, number, double, flags, attributes] =
-        point.named(["startTimeUnixNano", "timeUnixNano", "asInt", "asDouble", "flags", "attributes"])?;
+    let [start, end, number, double, flags, attributes] = point.named([
+        "startTimeUnixNano",
+        "timeUnixNano",
+        "asInt",
+        "asDouble",
+        "flags",
+        "attributes",
+    ])?;
     let end = span(start, end, flags)?;
     let number = gateway_whole(number?)?;
-    let least = if key.ends_with(MONOTONIC) { 0 } else { -i128::from(i64::MAX) };
+    let least = if key.ends_with(MONOTONIC) {
+        0
+    } else {
+        -i128::from(i64::MAX)
+    };
     if double.is_some() || !(least..=i128::from(i64::MAX)).contains(&number) {
         return None;
     }

@@ -1,17 +1,16 @@
-//! Points of value zero, which tell a fresh gateway whom each series belongs to and where its points have to begin.
+//! Points of value zero, which tell a fresh gateway whom each series belongs to and where its points begin.
 
 use super::{Kind, NotForwarded, SeriesKey};
 use crate::otlp::json::Document;
 use crate::otlp::split::LIMIT;
-use std::fmt::Write;
 
 /// Under the gateway's limit, so that a primed gateway takes each at once.
 const MOST: usize = 3 << 20;
 const OPEN: &str = "{\"resourceMetrics\":[";
 const CLOSE: &str = "]}";
 
-/// Bodies that prime: for each series with frontier F a point of value zero over (F-1, F]. At most 3 MiB each, but
-/// that of a series which is longer itself.
+/// Bodies that prime: for each series with frontier F a point of value zero over (F-1, F]. At most 3 MiB
+/// each, but that of a series which is longer itself.
 pub fn zeros(series: &[(SeriesKey, u64)]) -> Result<Vec<Vec<u8>>, NotForwarded> {
     let mut bodies = Vec::new();
     let mut body = String::new();
@@ -27,7 +26,9 @@ pub fn zeros(series: &[(SeriesKey, u64)]) -> Result<Vec<Vec<u8>>, NotForwarded> 
         bodies.push(finished(&mut body));
     }
     if bodies.iter().any(|body| body.len() > LIMIT) {
-        return Err(NotForwarded("a series' identity is over the gateway's limit of a body".to_string()));
+        return Err(NotForwarded(
+            "a series' identity is over the gateway's limit of a body".to_string(),
+        ));
     }
     Ok(bodies)
 }
@@ -44,30 +45,38 @@ fn zero(key: &SeriesKey, frontier: u64) -> Result<String, NotForwarded> {
     let start = frontier.checked_sub(1).filter(|start| *start > 0);
     let start = start.ok_or_else(|| NotForwarded(format!("a frontier of {frontier}")))?;
     let document = Document::parse(key.0.as_bytes()).map_err(|error| NotForwarded(error.to_string()))?;
-    let parts: Vec<&str> = document.root().elements().into_iter().flatten().map(|part| part.raw()).collect();
+    let parts: Vec<&str> = document
+        .root()
+        .elements()
+        .into_iter()
+        .flatten()
+        .map(|part| part.raw())
+        .collect();
     let [resource, scope, version, scope_attributes, name, unit, bounds, attributes] = parts[..] else {
         return Err(NotForwarded(format!("the key {}", key.0)));
     };
     let span = format!(
         "\"attributes\":{attributes},\"startTimeUnixNano\":\"{start}\",\"timeUnixNano\":\"{frontier}\""
     );
-    let mut zero = format!(
-        "{{\"resource\":{{\"attributes\":{resource}}},\"scopeMetrics\":[{{\"scope\":{{\"name\":{scope},\
-         \"version\":{version},\"attributes\":{scope_attributes}}},\"metrics\":[{{\"name\":{name},\"unit\":{unit},"
-    );
-    let _ = match kind {
-        Kind::Sum | Kind::Monotonic => write!(
-            zero,
-            "\"sum\":{{\"aggregationTemporality\":1,\"isMonotonic\":{},\"dataPoints\":[{{{span},\"asInt\":\"0\"}}]}}",
-            kind == Kind::Monotonic
-        ),
-        Kind::Histogram { bounds: all } => write!(
-            zero,
-            "\"histogram\":{{\"aggregationTemporality\":1,\"dataPoints\":[{{{span},\"count\":\"0\",\"sum\":0,\
-             \"bucketCounts\":[{}],\"explicitBounds\":{bounds}}}]}}",
-            vec!["\"0\""; all.len() + 1].join(",")
-        ),
+    let scope = format!("\"name\":{scope},\"version\":{version},\"attributes\":{scope_attributes}");
+    let data = match kind {
+        Kind::Histogram { bounds: all } => {
+            let buckets = vec!["\"0\""; all.len() + 1].join(",");
+            let zero = format!("\"count\":\"0\",\"sum\":0,\"bucketCounts\":[{buckets}]");
+            let point = format!("{{{span},{zero},\"explicitBounds\":{bounds}}}");
+            format!("\"histogram\":{{\"aggregationTemporality\":1,\"dataPoints\":[{point}]}}")
+        }
+        sum => {
+            let head = format!(
+                "\"aggregationTemporality\":1,\"isMonotonic\":{}",
+                sum == Kind::Monotonic
+            );
+            format!("\"sum\":{{{head},\"dataPoints\":[{{{span},\"asInt\":\"0\"}}]}}")
+        }
     };
-    zero.push_str("}]}]}");
-    Ok(zero)
+    let metric = format!("{{\"name\":{name},\"unit\":{unit},{data}}}");
+    let scopes = format!("[{{\"scope\":{{{scope}}},\"metrics\":[{metric}]}}]");
+    Ok(format!(
+        "{{\"resource\":{{\"attributes\":{resource}}},\"scopeMetrics\":{scopes}}}"
+    ))
 }

@@ -26,6 +26,10 @@ pub(super) fn client(tls: bool) -> Result<Client, NoRoots> {
     } else {
         RootCertStore::empty()
     };
+    Ok(client_of(roots))
+}
+
+pub(super) fn client_of(roots: RootCertStore) -> Client {
     let config = ClientConfig::builder()
         .with_safe_defaults()
         .with_root_certificates(roots)
@@ -36,7 +40,7 @@ pub(super) fn client(tls: bool) -> Result<Client, NoRoots> {
     http.set_connect_timeout(Some(CONNECT));
     http.set_keepalive(Some(Duration::from_secs(60)));
     let connector = HttpsConnector::from((http, config));
-    Ok(hyper::Client::builder().pool_idle_timeout(IDLE).build(connector))
+    hyper::Client::builder().pool_idle_timeout(IDLE).build(connector)
 }
 
 fn roots(found: std::io::Result<Vec<rustls_native_certs::Certificate>>) -> Result<RootCertStore, NoRoots> {
@@ -61,7 +65,7 @@ mod tests {
         let unreadable = std::io::Error::from(std::io::ErrorKind::NotFound);
         let bad = rustls_native_certs::Certificate(b"no certificate".to_vec());
         for found in [Ok(Vec::new()), Ok(vec![bad]), Err(unreadable)] {
-            let error = roots(found).err().expect("there are no roots");
+            let error = roots(found).expect_err("there are no roots");
             assert!(error.to_string().contains("ca-certificates"), "{error}");
         }
     }

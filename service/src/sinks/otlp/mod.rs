@@ -6,6 +6,8 @@ mod connect;
 mod script;
 #[cfg(test)]
 mod tests;
+#[cfg(test)]
+mod tls_tests;
 
 use super::{Fate, Forwarded, Sink};
 use crate::otlp::{protobuf_of_forwarded, Encoding};

@@ -21,7 +21,7 @@ use std::future::Future;
 use std::path::{Path, PathBuf};
 use std::pin::Pin;
 use std::thread::JoinHandle;
-use store::{Opening, Store};
+use store::Store;
 use tokio::sync::{mpsc, oneshot};
 
 /// Requests that wait for the thread. A slot sends one at a time: further ones wait at the channel.
@@ -46,7 +46,6 @@ impl SqliteSink {
         let mut writer = Writer {
             path: path.into(),
             store: None,
-            opening: Opening::First,
         };
         if let Err(fault) = writer.store() {
             if fault.is_lasting() {
@@ -119,8 +118,6 @@ impl Drop for SqliteSink {
 struct Writer {
     path: PathBuf,
     store: Option<Store>,
-    /// How the file is opened when it is next.
-    opening: Opening,
 }
 
 impl Writer {
@@ -128,11 +125,7 @@ impl Writer {
         // Else rows would go into a file that has no name any more.
         let store = match self.store.take().filter(Store::is_in_place) {
             Some(store) => store,
-            None => {
-                let store = Store::open(&self.path, self.opening)?;
-                self.opening = Opening::First;
-                store
-            }
+            None => Store::open(&self.path)?,
         };
         Ok(self.store.insert(store))
     }
@@ -146,8 +139,8 @@ impl Writer {
             Ok(()) => Fate::Taken,
             Err(NotTaken::Refused(reason)) => Fate::refused(reason),
             Err(NotTaken::Fault(fault)) => {
-                if !fault.leaves_the_file_whole() && self.store.take().is_some() {
-                    self.opening = Opening::AfterFault;
+                if !fault.leaves_the_file_whole() {
+                    self.store = None;
                 }
                 Fate::again(fault.to_string())
             }

@@ -21,17 +21,9 @@ const PATIENCE: Duration = Duration::from_secs(2);
 /// How many series' row numbers are kept in memory; then they are read anew.
 const CACHED: usize = 100_000;
 
-/// What is known of the file's last use.
-#[derive(Clone, Copy, Debug, PartialEq, Eq)]
-pub(super) enum Opening {
-    First,
-    /// A call failed: what it wrote may be in the file as the system shows it, but not on the disk.
-    AfterFault,
-}
-
 pub(super) struct Store {
     path: PathBuf,
-    connection: Connection,
+    pub(super) connection: Connection,
     /// Device and number of the file.
     place: (u64, u64),
     /// Row numbers of series. Only what is committed is in it.
@@ -41,9 +33,8 @@ pub(super) struct Store {
 }
 
 impl Store {
-    pub(super) fn open(path: &Path, opening: Opening) -> Result<Store, SqliteFault> {
+    pub(super) fn open(path: &Path) -> Result<Store, SqliteFault> {
         let fault = |error| SqliteFault::of(path, error);
-        sync_log(path)?;
         let flags = OpenFlags::SQLITE_OPEN_READ_WRITE
             | OpenFlags::SQLITE_OPEN_CREATE
             | OpenFlags::SQLITE_OPEN_NO_MUTEX;
@@ -64,7 +55,7 @@ impl Store {
             .execute_batch("pragma synchronous = full; pragma foreign_keys = on")
             .map_err(fault)?;
         schema::migrate(&mut connection, path, STEPS)?;
-        settle(&connection, path, opening)?;
+        settle(&connection, path)?;
         let place =
             place(path).ok_or_else(|| SqliteFault::told(path, "it was deleted while it was opened"))?;
         Ok(Store {
@@ -79,11 +70,6 @@ impl Store {
     /// Whether the file of this name still is the one that is open.
     pub(super) fn is_in_place(&self) -> bool {
         place(&self.path) == Some(self.place)
-    }
-
-    #[cfg(test)]
-    pub(super) fn execute(&self, sql: &str) {
-        self.connection.execute_batch(sql).expect("SQL of a test");
     }
 
     /// Takes a request that is not taken yet.
@@ -118,31 +104,18 @@ impl Store {
     }
 }
 
-/// What an earlier run wrote into the log and did not sync must be on the disk before it is believed: a key that
-/// was read there is acknowledged, and its request leaves the outbox.
-fn sync_log(path: &Path) -> Result<(), SqliteFault> {
-    let mut log = path.as_os_str().to_owned();
-    log.push("-wal");
-    match std::fs::File::open(&log).and_then(|log| log.sync_all()) {
-        Err(error) if error.kind() != std::io::ErrorKind::NotFound => Err(SqliteFault::told(
-            path,
-            format!("its log can't be synced ({error}): look at the disk and the file's mode"),
-        )),
-        _ => Ok(()),
-    }
-}
-
-/// Copies the log into the file. Where a sync has failed the system forgets what it could not write, and the next
-/// sync says nothing of it; so behind a fault the copy must be whole: it is written and synced anew.
-fn settle(connection: &Connection, path: &Path, opening: Opening) -> Result<(), SqliteFault> {
-    let busy: i64 = connection
-        .query_row("pragma wal_checkpoint(truncate)", [], |row| row.get(0))
+/// Copies the log into the file, and syncs it. What an earlier run wrote and did not sync, or could not sync, may be
+/// read and yet not be on the disk; a key that is read is acknowledged, and its request leaves the outbox. So nothing
+/// is believed before it was written anew.
+fn settle(connection: &Connection, path: &Path) -> Result<(), SqliteFault> {
+    let (busy, log, copied): (i64, i64, i64) = connection
+        .query_row("pragma wal_checkpoint(full)", [], |row| {
+            Ok((row.get(0)?, row.get(1)?, row.get(2)?))
+        })
         .map_err(|error| SqliteFault::of(path, error))?;
-    if busy != 0 && opening == Opening::AfterFault {
-        return Err(SqliteFault::told(
-            path,
-            "a call failed, and another process reads it, so its log can't be made sure: end what reads it",
-        ));
+    if busy != 0 || log != copied {
+        let what = "another process has read it for long, so its log can't be made sure: end what reads it";
+        return Err(SqliteFault::told(path, what));
     }
     Ok(())
 }

@@ -128,7 +128,7 @@ mod tests {
         let list = r#"[{"key":"a","value":{"arrayValue":{"values":[{},{"boolValue":true},{"intValue":"-5"}]}}},
             {"key":"b","value":{}},{"key":"c\u0000\"","value":{"stringValue":"5"}},
             {"key":"d","value":{"intValue":"9223372036854775807"}}]"#;
-        let object = object(list).ok().expect("a list");
+        let object = object(list).expect("a list");
         assert_eq!(
             object,
             r#"{"a":[null,true,-5],"b":null,"c\u0000\"":"5","d":9223372036854775807}"#

@@ -1,0 +1,224 @@
+//! Requests drawn at random, in both encodings.
+
+use super::mapping::Spelling;
+use super::*;
+use crate::otlp::messages::*;
+
+/// xorshift64: the same draws in each run.
+struct Random(u64);
+
+impl Random {
+    fn below(&mut self, limit: u64) -> u64 {
+        self.0 ^= self.0 << 13;
+        self.0 ^= self.0 >> 7;
+        self.0 ^= self.0 << 17;
+        self.0 % limit
+    }
+
+    fn list<T>(&mut self, limit: u64, mut one: impl FnMut(&mut Self) -> T) -> Vec<T> {
+        (0..self.below(limit)).map(|_| one(self)).collect()
+    }
+
+    fn text(&mut self) -> String {
+        ["", "a", "b", "é\u{1}\"", "long name", "\u{1f600}\\"][self.below(6) as usize].to_string()
+    }
+
+    fn number(&mut self) -> u64 {
+        let edges = [
+            0,
+            1,
+            2,
+            5,
+            1 << 53,
+            (1 << 53) + 1,
+            i64::MAX as u64,
+            1 << 63,
+            u64::MAX,
+        ];
+        edges[self.below(9) as usize]
+    }
+
+    fn double(&mut self) -> f64 {
+        let edges = [
+            0.0,
+            -0.0,
+            5.0,
+            -5.0,
+            0.5,
+            9007199254740992.0,
+            1e300,
+            f64::MAX,
+            f64::NAN,
+            f64::INFINITY,
+            f64::NEG_INFINITY,
+            5e-324,
+        ];
+        edges[self.below(12) as usize]
+    }
+
+    fn any(&mut self, depth: u64) -> AnyValue {
+        let value = match self.below(if depth > 2 { 6 } else { 8 }) {
+            0 => None,
+            1 => Some(Any::Text(self.text())),
+            2 => Some(Any::Bool(self.below(2) == 0)),
+            3 => Some(Any::Int(self.number() as i64)),
+            4 if self.below(4) == 0 => Some(Any::Double(self.double())),
+            5 if self.below(4) == 0 => Some(Any::Bytes(self.text().into_bytes())),
+            6 => Some(Any::Array(ArrayValue {
+                values: self.list(3, |random| random.any(depth + 1)),
+            })),
+            7 if self.below(4) == 0 => Some(Any::Map(KeyValueList {
+                values: self.attributes(depth + 1),
+            })),
+            _ => Some(Any::Int(5)),
+        };
+        AnyValue { value }
+    }
+
+    fn attributes(&mut self, depth: u64) -> Vec<KeyValue> {
+        self.list(3, |random| KeyValue {
+            key: random.text(),
+            value: Some(random.any(depth)),
+        })
+    }
+
+    fn sum_point(&mut self) -> NumberDataPoint {
+        let value = match self.below(8) {
+            0 => None,
+            1 => Some(Number::AsDouble(self.double())),
+            _ => Some(Number::AsInt(self.number() as i64)),
+        };
+        let (start_time_unix_nano, flags) = (1 + self.below(3), self.below(8) as u32 / 6);
+        NumberDataPoint {
+            start_time_unix_nano,
+            time_unix_nano: self.number(),
+            value,
+            attributes: self.attributes(0),
+            flags,
+        }
+    }
+
+    fn histogram_point(&mut self) -> HistogramDataPoint {
+        let explicit_bounds: Vec<f64> = (0..self.below(4))
+            .map(|bound| bound as f64 * if self.0.is_multiple_of(5) { 0.5 } else { 2.0 })
+            .collect();
+        let bucket_counts: Vec<u64> = (0..=explicit_bounds.len()).map(|_| self.below(9)).collect();
+        HistogramDataPoint {
+            start_time_unix_nano: 1,
+            time_unix_nano: 5,
+            count: bucket_counts.iter().sum::<u64>() + self.below(5) / 4,
+            sum: (self.below(2) == 0).then(|| self.double()),
+            bucket_counts,
+            explicit_bounds,
+            attributes: self.attributes(0),
+            flags: 0,
+        }
+    }
+
+    fn metric(&mut self) -> Metric {
+        let aggregation_temporality = if self.below(6) == 0 { 2 } else { 1 };
+        let data = match self.below(9) {
+            0 => None,
+            1..=4 => Some(Data::Sum(Sum {
+                data_points: self.list(5, Self::sum_point),
+                aggregation_temporality,
+                is_monotonic: self.below(2) == 0,
+            })),
+            _ => Some(Data::Histogram(Histogram {
+                data_points: self.list(5, Self::histogram_point),
+                aggregation_temporality,
+            })),
+        };
+        Metric {
+            name: self.text(),
+            unit: self.text(),
+            data,
+        }
+    }
+
+    fn request(&mut self) -> ExportMetricsServiceRequest {
+        let resource_metrics = self.list(4, |random| ResourceMetrics {
+            resource: (random.below(3) > 0).then(|| Resource {
+                attributes: random.attributes(0),
+            }),
+            scope_metrics: random.list(4, |random| ScopeMetrics {
+                scope: (random.below(3) > 0).then(|| InstrumentationScope {
+                    name: random.text(),
+                    version: random.text(),
+                    attributes: random.attributes(0),
+                }),
+                metrics: random.list(4, Self::metric),
+            }),
+        });
+        ExportMetricsServiceRequest { resource_metrics }
+    }
+}
+
+#[test]
+fn both_encodings_of_a_request_mean_the_same() {
+    let mut random = Random(0x9e37_79b9_7f4a_7c15);
+    let (mut series, mut foreign) = (0, 0);
+    for _ in 0..600 {
+        let request = random.request();
+        let binary = prepared(Encoding::Protobuf, request.encode_to_vec()).unwrap();
+        let expected = posted(&binary[0]).unwrap();
+        let points = |metric: &Metric| match &metric.data {
+            None => 0,
+            Some(Data::Sum(sum)) => sum.data_points.len(),
+            Some(Data::Histogram(histogram)) => histogram.data_points.len(),
+        };
+        let all = request
+            .resource_metrics
+            .iter()
+            .flat_map(|one| &one.scope_metrics)
+            .flat_map(|one| &one.metrics)
+            .map(points)
+            .sum::<usize>();
+        assert!(expected.series.len() as u64 + expected.foreign <= all as u64);
+        for draw in 0..8 {
+            let spelling = Spelling {
+                proto_names: draw & 1 != 0,
+                numbers: draw & 2 != 0,
+                enum_names: draw & 4 != 0,
+            };
+            let text = spelling.request(&request);
+            let bodies = prepared(Encoding::Json, text.clone()).unwrap();
+            let found = posted(&bodies[0]).unwrap();
+            assert_eq!(
+                (found.series, found.foreign),
+                (expected.series.clone(), expected.foreign),
+                "{text}"
+            );
+        }
+        series += expected.series.len();
+        foreign += expected.foreign;
+    }
+    assert!(series > 500 && foreign > 500, "{series} {foreign}");
+}
+
+#[test]
+fn cut_and_changed_bytes_never_panic() {
+    let mut random = Random(7);
+    for _ in 0..10 {
+        let request = random.request();
+        let spelling = Spelling {
+            proto_names: false,
+            numbers: true,
+            enum_names: true,
+        };
+        for (encoding, body) in [
+            (Encoding::Protobuf, request.encode_to_vec()),
+            (Encoding::Json, spelling.request(&request).into_bytes()),
+        ] {
+            for place in 0..body.len() {
+                let cut = prepared(encoding, body[..place].to_vec());
+                assert!(encoding == Encoding::Protobuf || cut.is_err());
+                let mut changed = body.clone();
+                changed[place] = random.below(256) as u8;
+                for body in prepared(encoding, changed).into_iter().flatten() {
+                    assert!(posted(&body).is_some(), "{}", String::from_utf8_lossy(&body));
+                }
+            }
+        }
+    }
+}

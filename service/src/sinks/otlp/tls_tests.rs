@@ -1,0 +1,126 @@
+//! A sink behind TLS, with a root that the client knows or does not. The certificates are `openssl`'s.
+
+use super::*;
+use std::io::Read;
+use std::path::Path;
+use std::process::{Command, Stdio};
+use std::sync::Arc;
+
+/// Runs `openssl` in a folder.
+fn openssl(folder: &Path, arguments: &str) {
+    let words = arguments.split_whitespace();
+    let done = Command::new("openssl")
+        .current_dir(folder)
+        .args(words)
+        .stderr(Stdio::null())
+        .status();
+    assert!(done.expect("openssl is there").success(), "openssl {arguments}");
+}
+
+fn bytes(folder: &Path, name: &str) -> Vec<u8> {
+    std::fs::read(folder.join(name)).expect(name)
+}
+
+/// A root, and a server's certificate and key for `localhost`.
+fn certificates(folder: &Path) {
+    std::fs::write(folder.join("names"), "subjectAltName=DNS:localhost\n").expect("written");
+    let key = "-newkey ec -pkeyopt ec_paramgen_curve:prime256v1 -nodes";
+    openssl(
+        folder,
+        &format!("req -x509 {key} -keyout root.key -out root.pem -subj /CN=root -days 2"),
+    );
+    openssl(
+        folder,
+        &format!("req {key} -keyout key.pem -out request.pem -subj /CN=localhost"),
+    );
+    openssl(folder, "x509 -req -in request.pem -CA root.pem -CAkey root.key -CAcreateserial -days 2 -extfile names -outform DER -out server.der");
+    openssl(folder, "x509 -in root.pem -outform DER -out root.der");
+    openssl(
+        folder,
+        "pkcs8 -topk8 -nocrypt -in key.pem -outform DER -out key.der",
+    );
+}
+
+/// Answers one request 200, by this version of TLS alone.
+fn serve(
+    folder: &Path,
+    version: &'static rustls::SupportedProtocolVersion,
+) -> (u16, std::thread::JoinHandle<String>) {
+    let config = rustls::ServerConfig::builder()
+        .with_safe_default_cipher_suites()
+        .with_safe_default_kx_groups()
+        .with_protocol_versions(&[version])
+        .expect("a version")
+        .with_no_client_auth()
+        .with_single_cert(
+            vec![rustls::Certificate(bytes(folder, "server.der"))],
+            rustls::PrivateKey(bytes(folder, "key.der")),
+        )
+        .expect("a certificate");
+    let listener = std::net::TcpListener::bind("localhost:0").expect("a port");
+    let port = listener.local_addr().expect("its address").port();
+    let thread = std::thread::spawn(move || {
+        let (socket, _) = listener.accept().expect("a connection");
+        let session = rustls::ServerConnection::new(Arc::new(config)).expect("a session");
+        let mut stream = rustls::StreamOwned::new(session, socket);
+        let (mut read, mut part) = (Vec::new(), [0; 4096]);
+        while !read.ends_with(b"body") {
+            match stream.read(&mut part) {
+                Ok(length) if length > 0 => read.extend_from_slice(&part[..length]),
+                _ => return String::new(),
+            }
+        }
+        stream
+            .write_all(b"HTTP/1.1 200 OK\r\ncontent-length: 2\r\n\r\n{}")
+            .expect("an answer");
+        String::from_utf8(read).expect("text")
+    });
+    (port, thread)
+}
+
+fn sink(port: u16, roots: rustls::RootCertStore) -> OtlpSink {
+    OtlpSink {
+        url: format!("https://localhost:{port}/v1/metrics")
+            .parse()
+            .expect("a URL"),
+        encoding: Encoding::Json,
+        gzip: false,
+        headers: HeaderMap::new(),
+        client: connect::client_of(roots),
+        patience: Duration::from_secs(10),
+    }
+}
+
+#[tokio::test]
+async fn a_sink_behind_tls_takes_where_its_root_is_known() {
+    let folder = tempfile::tempdir().expect("a folder");
+    certificates(folder.path());
+    let request = Forwarded {
+        slot: 0,
+        epoch: "e".into(),
+        number: 1,
+        body: b"body".to_vec(),
+    };
+    for version in [&rustls::version::TLS12, &rustls::version::TLS13] {
+        let mut roots = rustls::RootCertStore::empty();
+        roots
+            .add(&rustls::Certificate(bytes(folder.path(), "root.der")))
+            .expect("a root");
+        let (port, thread) = serve(folder.path(), version);
+        assert_eq!(
+            sink(port, roots).deliver(&request).await,
+            Fate::Taken,
+            "{version:?}"
+        );
+        assert!(thread
+            .join()
+            .expect("it ended")
+            .contains("idempotency-key: 0-e-1"));
+    }
+    let (port, thread) = serve(folder.path(), &rustls::version::TLS13);
+    match sink(port, rustls::RootCertStore::empty()).deliver(&request).await {
+        Fate::Again { reason, .. } => assert!(reason.contains("certificate"), "{reason}"),
+        other => panic!("{other:?}"),
+    }
+    assert_eq!(thread.join().expect("it ended"), "", "nothing was sent");
+}

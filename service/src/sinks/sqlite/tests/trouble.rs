@@ -1,0 +1,192 @@
+//! What goes wrong around the file: nothing is lost by it, and its reason is told.
+
+use super::*;
+use rusqlite::Connection;
+use std::os::unix::fs::PermissionsExt;
+
+#[test]
+fn a_transaction_that_was_cut_is_not_there() {
+    let mut trial = Trial::new();
+    trial.taken(1, sum("a", 10, 20, 1));
+    let other = Connection::open(trial.path()).expect("open");
+    other
+        .execute_batch("begin immediate; insert into request values (99, 0, 'e', 2, 0, 1, 1, 2)")
+        .expect("a row");
+    drop(other);
+    trial.taken(2, sum("a", 20, 30, 2));
+    assert_eq!(trial.totals(), only("a", 3, 2));
+    // Killed behind the log's last commit: its files as they lie there, opened by another process.
+    let copy = tempfile::tempdir().expect("a folder");
+    for name in ["totals.db", "totals.db-wal"] {
+        std::fs::copy(trial.folder.path().join(name), copy.path().join(name)).expect("a copy");
+    }
+    let log = std::fs::OpenOptions::new()
+        .write(true)
+        .open(copy.path().join("totals.db-wal"))
+        .expect("the log");
+    log.set_len(log.metadata().expect("its length").len() - 100)
+        .expect("a torn end");
+    let mut torn = Trial {
+        writer: writer(&copy.path().join("totals.db")),
+        folder: copy,
+    };
+    torn.taken(1, sum("a", 10, 20, 1));
+    torn.taken(2, sum("a", 20, 30, 2));
+    assert_eq!(torn.totals(), only("a", 3, 2));
+}
+
+#[test]
+fn a_lock_is_waited_for() {
+    let mut trial = Trial::new();
+    trial.taken(1, sum("a", 10, 20, 1));
+    let other = Connection::open(trial.path()).expect("open");
+    other.execute_batch("begin immediate").expect("a lock");
+    trial.again(2, sum("new", 20, 30, 2), "locked");
+    other.execute_batch("rollback").expect("no lock");
+    trial.taken(2, sum("new", 20, 30, 2));
+    assert_eq!(trial.totals(), [("a".into(), 1, 1), ("new".into(), 2, 1)]);
+}
+
+/// A row number that is kept in memory is not believed behind another process's write.
+#[test]
+fn another_writer_is_noticed() {
+    let mut trial = Trial::new();
+    trial.taken(1, sum("a", 10, 20, 1));
+    let emptied = "pragma foreign_keys = off; delete from span; delete from series_total; delete from series; delete from request";
+    trial.ask(emptied);
+    trial.taken(2, sum("b", 10, 20, 2));
+    trial.taken(3, sum("a", 10, 20, 4));
+    assert_eq!(trial.totals(), [("a".into(), 4, 1), ("b".into(), 2, 1)]);
+}
+
+#[test]
+fn a_file_that_is_moved_is_not_written_on() {
+    let mut trial = Trial::new();
+    trial.taken(1, sum("a", 10, 20, 1));
+    std::fs::remove_file(trial.path()).expect("it is there");
+    trial.taken(2, sum("a", 20, 30, 2));
+    assert_eq!(trial.totals(), only("a", 2, 1));
+}
+
+#[test]
+fn a_missing_folder_is_told_and_waited_for() {
+    let mut trial = Trial::new();
+    let folder = trial.folder.path().join("later");
+    trial.writer = writer(&folder.join("totals.db"));
+    trial.again(1, sum("a", 10, 20, 1), "folder is missing");
+    std::fs::create_dir(&folder).expect("a folder");
+    trial.taken(1, sum("a", 10, 20, 1));
+}
+
+/// Root writes everywhere, so only the file's kind can stop it.
+#[test]
+fn what_can_not_be_written_is_told_and_waited_for() {
+    let mut trial = Trial::new();
+    trial.taken(1, sum("a", 10, 20, 1));
+    trial.writer.store = None;
+    let mode = |mode| {
+        std::fs::set_permissions(trial.folder.path(), std::fs::Permissions::from_mode(mode)).expect("a mode")
+    };
+    mode(0o500);
+    let writable = std::fs::write(trial.folder.path().join("probe"), "").is_ok();
+    mode(0o700);
+    if !writable {
+        mode(0o500);
+        assert_eq!(trial.totals(), only("a", 1, 1), "it can be read all the same");
+        trial.again(2, sum("a", 20, 30, 2), "write the file and its folder");
+        trial.writer.store = None;
+        std::fs::set_permissions(trial.folder.path(), std::fs::Permissions::from_mode(0o700))
+            .expect("a mode");
+    }
+    let aside = trial.folder.path().join("aside");
+    std::fs::rename(trial.path(), &aside).expect("moved");
+    std::fs::create_dir(trial.path()).expect("a folder in its place");
+    trial.again(2, sum("a", 20, 30, 2), "can't be opened");
+    std::fs::remove_dir(trial.path()).expect("gone");
+    std::fs::rename(&aside, trial.path()).expect("back");
+    trial.taken(2, sum("a", 20, 30, 2));
+    assert_eq!(trial.totals(), only("a", 3, 2));
+}
+
+#[test]
+fn a_full_disk_is_told_and_waited_for() {
+    let mut trial = Trial::new();
+    trial.taken(1, sum("a", 10, 20, 1));
+    let limit = |pages: &str, trial: &mut Trial| {
+        let store = trial.writer.store().expect("it is open");
+        store
+            .connection
+            .execute_batch(&format!("pragma max_page_count = {pages}"))
+            .expect("a limit");
+    };
+    limit("1", &mut trial);
+    let many: Vec<String> = (0..2000).map(|code| sum_point(code, 20, 30, 1)).collect();
+    trial.again(2, metrics(&sum_of("a", &many)), "disk is full");
+    assert_eq!(trial.totals(), only("a", 1, 1));
+    trial.taken(2, metrics(&sum_of("a", &many)));
+    assert_eq!(trial.totals().len(), 2000);
+}
+
+#[test]
+fn a_damaged_file_is_told_and_waited_for() {
+    let mut trial = Trial::new();
+    std::fs::write(
+        trial.path(),
+        "this is no database, and it is longer than a head of one".repeat(100),
+    )
+    .expect("a file");
+    trial.again(1, sum("a", 10, 20, 1), "no SQLite database");
+    assert!(
+        SqliteSink::open(&trial.path()).is_ok(),
+        "the service starts all the same"
+    );
+    std::fs::remove_file(trial.path()).expect("away");
+    trial.taken(1, sum("a", 10, 20, 1));
+    trial.writer.store = None;
+    let mut bytes = std::fs::read(trial.path()).expect("bytes");
+    let whole = bytes.clone();
+    bytes[4096..].fill(0x55);
+    std::fs::write(trial.path(), &bytes).expect("damage");
+    trial.again(2, sum("a", 20, 30, 2), "damaged");
+    std::fs::write(trial.path(), &whole).expect("put back");
+    trial.taken(2, sum("a", 20, 30, 2));
+    assert_eq!(trial.totals(), only("a", 3, 2));
+}
+
+#[test]
+fn a_later_schema_is_refused_by_name_and_left_alone() {
+    let mut trial = Trial::new();
+    trial.taken(1, sum("a", 10, 20, 1));
+    trial.writer.store = None;
+    trial.ask("pragma user_version = 2");
+    let error = SqliteSink::open(&trial.path())
+        .err()
+        .expect("it is later")
+        .to_string();
+    assert!(
+        error.contains("later version") && error.contains("schema 2"),
+        "{error}"
+    );
+    trial.again(2, sum("a", 20, 30, 2), "later version");
+    assert!(read(&trial.path(), &Filter::default()).is_err());
+    trial.ask("pragma user_version = 1");
+    trial.taken(2, sum("a", 20, 30, 2));
+}
+
+/// A reader of what was there before stops the copy of the log, and so that the log is believed.
+#[test]
+fn a_long_reader_is_told_and_waited_for() {
+    let mut trial = Trial::new();
+    trial.taken(1, sum("a", 10, 20, 1));
+    let reader = Connection::open(trial.path()).expect("open");
+    reader
+        .execute_batch("begin; select * from span")
+        .expect("a reader");
+    trial.taken(2, sum("a", 20, 30, 2));
+    trial.writer.store = None;
+    trial.again(3, sum("a", 30, 40, 4), "read it for long");
+    assert_eq!(trial.totals(), only("a", 3, 2), "others read");
+    reader.execute_batch("commit").expect("no reader");
+    trial.taken(3, sum("a", 30, 40, 4));
+    assert_eq!(trial.totals(), only("a", 7, 3));
+}

@@ -1,0 +1,443 @@
+"""What the tests of the service share: the program, senders that repeat until they are answered and note what they were
+told, and what a sink has at the end."""
+import gzip
+import http.client
+import http.server
+import json
+import os
+import random
+import signal
+import sqlite3
+import struct
+import subprocess
+import threading
+import time
+import zlib
+
+from loopback import free_port
+
+DELTA = 1
+SECONDS = 60
+BOUNDS = [1, 5, 25]
+JSON, PROTOBUF = "application/json", "application/x-protobuf"
+OUT_OF_ORDER = b"out of order"
+# Answers behind which a post is repeated.
+AGAIN = (403, 408, 425, 429, 502, 503, 504)
+
+
+def ask(port, method, path, body=b"", headers=None, seconds=20):
+    """The status and the body of an answer, or (None, why)."""
+    connection = http.client.HTTPConnection("127.0.0.1", port, timeout=seconds)
+    try:
+        connection.request(method, path, body, headers or {})
+        answer = connection.getresponse()
+        return answer.status, answer.read()
+    except (OSError, http.client.HTTPException) as error:
+        return None, f"{type(error).__name__} {error}".encode()
+    finally:
+        connection.close()
+
+
+def wait_until(what, seconds=SECONDS):
+    """Whether it came true within so many seconds."""
+    until = time.monotonic() + seconds
+    while not what():
+        if time.monotonic() > until:
+            return False
+        time.sleep(0.01)
+    return True
+
+
+# --------------------------------------------------------------------------------------------------------------------
+# The program
+
+
+class Service:
+    """The service on a folder, which may be killed and started again."""
+
+    def __init__(self, program, gateway, data, sink, *options):
+        self.listen, self.operate = free_port(), free_port()
+        self.words = [program, "serve", "--data", data, "--gateway", gateway, "--sink", sink, "--listen", f"127.0.0.1:{self.listen}",
+                      "--operate", f"127.0.0.1:{self.operate}", *options]
+        self.log = f"{data}.log"
+        self.process = None
+
+    def start(self, environment=None):
+        with open(self.log, "ab") as log:
+            self.process = subprocess.Popen(self.words, stdin=subprocess.DEVNULL, stdout=log, stderr=log,
+                                            env=dict(os.environ, **environment or {}))
+
+    def is_running(self):
+        return self.process is not None and self.process.poll() is None
+
+    def is_ready(self):
+        return ask(self.operate, "GET", "/ready", seconds=2)[0] == 200
+
+    def wait_ready(self, seconds=SECONDS):
+        """Whether it took posts within so many seconds; not where it ended."""
+        return wait_until(lambda: not self.is_running() or self.is_ready(), seconds) and self.is_running()
+
+    def gateways(self):
+        """The processes that the service has started."""
+        found = []
+        for name in os.listdir("/proc"):
+            try:
+                with open(f"/proc/{name}/stat") as file:
+                    state, parent = file.read().rpartition(")")[2].split()[:2]
+            except (OSError, ValueError):
+                continue
+            if parent == str(self.process.pid) and state != "Z":
+                found.append(int(name))
+        return found
+
+    def signal(self, number):
+        if self.is_running():
+            self.process.send_signal(number)
+
+    def signal_gateway(self, number):
+        for pid in self.gateways() if self.is_running() else ():
+            try:
+                os.kill(pid, number)
+            except ProcessLookupError:
+                pass
+
+    def kill(self):
+        """As `kill -9`."""
+        if self.process is not None:
+            self.signal(signal.SIGKILL)
+            self.process.wait()
+
+    def end(self, seconds=SECONDS):
+        """By SIGTERM: the status and how many seconds it took, or None where it did not end in time."""
+        begun = time.monotonic()
+        self.signal(signal.SIGTERM)
+        try:
+            return self.process.wait(seconds), time.monotonic() - begun
+        except subprocess.TimeoutExpired:
+            self.kill()
+            return None, time.monotonic() - begun
+
+    def order(self, path, seconds=SECONDS):
+        """An operator's order; its status."""
+        return ask(self.operate, "POST", path, seconds=seconds)[0]
+
+    def status(self):
+        status, body = ask(self.operate, "GET", "/status")
+        return json.loads(body) if status == 200 else None
+
+    def is_drained(self):
+        """Whether the sink has all that was flushed."""
+        status = self.status()
+        return status is not None and status["ready"] and all(slot["waiting"] == 0 for slot in status["slots"])
+
+    def faults(self):
+        """What must never be, as the service counts it: the lines of its metrics that are not 0."""
+        status, page = ask(self.operate, "GET", "/metrics")
+        lines = page.decode().splitlines() if status == 200 else ["no metrics"]
+        return [line for line in lines if line.startswith("totxegun_faults_total") and not line.endswith(" 0")] or (
+            lines if status != 200 else [])
+
+    def last_lines(self, count=12):
+        """The end of what it wrote, for a check that failed."""
+        with open(self.log, encoding="utf-8", errors="replace") as file:
+            return "".join(file.readlines()[-count:])
+
+
+# --------------------------------------------------------------------------------------------------------------------
+# Points and their sums
+
+# A point is (name, start, end, value): of a monotonic sum a whole number, of a histogram (buckets, sum).
+
+
+def added(total, value):
+    """A total, None at the beginning, with a value more."""
+    if total is None:
+        return value
+    if isinstance(value, int):
+        return total + value
+    return tuple(a + b for a, b in zip(total[0], value[0])), total[1] + value[1]
+
+
+def add_points(totals, points):
+    for name, _, _, value in points:
+        totals[name] = added(totals.get(name), value)
+
+
+def in_json(points):
+    """A request with these points."""
+    metrics = []
+    for name, start, end, value in points:
+        point = {"startTimeUnixNano": str(start), "timeUnixNano": str(end)}
+        if isinstance(value, int):
+            kind, more = "sum", {"isMonotonic": True}
+            point["asInt"] = str(value)
+        else:
+            kind, more = "histogram", {}
+            point |= {"bucketCounts": [str(count) for count in value[0]], "count": str(sum(value[0])), "sum": value[1],
+                      "explicitBounds": BOUNDS}
+        metrics.append({"name": name, kind: {"aggregationTemporality": DELTA, "dataPoints": [point], **more}})
+    return json.dumps({"resourceMetrics": [{"scopeMetrics": [{"metrics": metrics}]}]}).encode()
+
+
+def varint(number):
+    out = b""
+    while number > 127:
+        out += bytes([number & 127 | 128])
+        number >>= 7
+    return out + bytes([number])
+
+
+def field(number, value):
+    """A field of protobuf: bytes, or a small number."""
+    if isinstance(value, int):
+        return varint(number << 3) + varint(value)
+    return varint(number << 3 | 2) + varint(len(value)) + value
+
+
+def fixed(number, form, value):
+    """A field of eight bytes."""
+    return varint(number << 3 | 1) + struct.pack(form, value)
+
+
+def in_protobuf(points):
+    """The same request in protobuf."""
+    metrics = b""
+    for name, start, end, value in points:
+        point = fixed(2, "<Q", start) + fixed(3, "<Q", end)
+        if isinstance(value, int):
+            data = field(7, field(1, point + fixed(6, "<q", value)) + field(2, DELTA) + field(3, 1))
+        else:
+            point += fixed(4, "<Q", sum(value[0])) + fixed(5, "<d", value[1])
+            point += field(6, struct.pack(f"<{len(value[0])}Q", *value[0])) + field(7, struct.pack(f"<{len(BOUNDS)}d", *BOUNDS))
+            data = field(9, field(1, point) + field(2, DELTA))
+        metrics += field(2, field(1, name.encode()) + data)
+    return field(1, field(2, metrics))
+
+
+def forwarded_points(body):
+    """The points of a request that was forwarded, in JSON."""
+    for resource in json.loads(body)["resourceMetrics"]:
+        for scope in resource["scopeMetrics"]:
+            for metric in scope["metrics"]:
+                for kind in ("sum", "histogram"):
+                    for one in metric.get(kind, {}).get("dataPoints", ()):
+                        yield metric["name"], int(one["startTimeUnixNano"]), int(one["timeUnixNano"]), forwarded_value(one)
+
+
+def forwarded_value(one):
+    if "asInt" in one:
+        return int(one["asInt"])
+    return tuple(int(count) for count in one["bucketCounts"]), one["sum"]
+
+
+def overlaps(points):
+    """The names of the series of which two spans overlap: something was taken twice."""
+    last, found = {}, set()
+    for name, start, end, _ in sorted(points):
+        if start < last.get(name, 0):
+            found.add(name)
+        last[name] = end
+    return sorted(found)
+
+
+def differences(wanted, found):
+    """A few of the series that differ, or an empty list."""
+    names = [name for name in sorted(wanted.keys() | found.keys()) if wanted.get(name) != found.get(name)]
+    return [f"{name}: senders were told {wanted.get(name)}, the sink has {found.get(name)}" for name in names[:5]]
+
+
+# --------------------------------------------------------------------------------------------------------------------
+# Senders
+
+
+class Sender:
+    """Posts points of its own series, each post until it is answered, on a connection that is kept. `told` is what it was
+    told is taken, added up by series."""
+
+    def __init__(self, service, number, seed=0, seconds=3):
+        self.service = service
+        self.name = f"sender-{number}"
+        self.chance = random.Random(f"{seed} {number}")
+        self.seconds = seconds
+        self.connection = None
+        self.time = 1_000_000_000
+        self.told = {}
+        self.surprises = []
+        self.posts = self.repeats = 0
+        # The last post that was answered, for a late repeat.
+        self.last = None
+
+    def next_points(self):
+        """One to four points: a sum and a histogram at least, spans that begin where the ones before end or later."""
+        points = []
+        for which in range(self.chance.randrange(1, 3)):
+            start = self.time + self.chance.choice([0, 0, 5])
+            value = self.chance.randrange(1, 1000)
+            buckets = tuple(self.chance.randrange(5) for _ in range(len(BOUNDS) + 1))
+            points.append((f"{self.name}.sum.{which}", start, start + 10, value))
+            points.append((f"{self.name}.histogram.{which}", start, start + 10, (buckets, value)))
+        self.time += 20
+        return points
+
+    def encoded(self, points):
+        """A body and its headers: JSON or protobuf, packed or not."""
+        kind, write = self.chance.choice([(JSON, in_json), (PROTOBUF, in_protobuf)])
+        body, headers = write(points), {"Content-Type": kind, "x-sender": self.name}
+        if self.chance.random() < 0.3:
+            body, headers["Content-Encoding"] = gzip.compress(body, 1), "gzip"
+        return body, headers
+
+    def try_once(self, body, headers):
+        """The answer to one attempt, on the kept connection, or (None, why)."""
+        try:
+            if self.connection is None:
+                self.connection = http.client.HTTPConnection("127.0.0.1", self.service.listen, timeout=self.seconds)
+            self.connection.request("POST", "/v1/metrics", body, headers)
+            answer = self.connection.getresponse()
+            return answer.status, answer.read()
+        except (OSError, http.client.HTTPException) as error:
+            self.connection.close()
+            self.connection = None
+            return None, type(error).__name__.encode()
+
+    def post(self, points, between=lambda: None):
+        """Repeats a post until it is answered; whether it was taken. `between` is called before each repeat."""
+        body, headers = self.encoded(points)
+        for attempt in range(1_000_000):
+            status, text = self.try_once(body, headers)
+            is_taken = status == 200 or (status == 400 and OUT_OF_ORDER in text and attempt > 0)
+            if is_taken:
+                if b"points outside the profile" in text:
+                    self.surprises.append((status, text))
+                self.note(points, (body, headers))
+                return True
+            if status is not None and status not in AGAIN:
+                self.surprises.append((status, text))
+                return False
+            self.repeats += 1
+            time.sleep(min(0.01 * (attempt + 1), 0.2))
+            between()
+        return False
+
+    def note(self, points, last):
+        self.posts += 1
+        add_points(self.told, points)
+        self.last = last
+
+    def late_repeat(self):
+        """The answer to a repeat of the last post that was taken."""
+        while self.last:
+            answer = self.try_once(*self.last)
+            if answer[0] not in (None, *AGAIN):
+                return answer
+            time.sleep(0.1)
+        return 400, OUT_OF_ORDER
+
+    def close(self):
+        if self.connection is not None:
+            self.connection.close()
+
+
+def told_to_all(senders):
+    """What all senders were told is taken."""
+    return {name: total for sender in senders for name, total in sender.told.items()}
+
+
+# --------------------------------------------------------------------------------------------------------------------
+# Sinks
+
+
+class SqliteSink:
+    """The file that the service writes."""
+
+    def __init__(self, path):
+        self.path = path
+        self.address = f"sqlite:{path}"
+
+    def points(self):
+        if not os.path.exists(self.path):
+            return []
+        database = sqlite3.connect(f"file:{self.path}?mode=ro", uri=True)
+        rows = database.execute("select name, start_ns, end_ns, value, sum, buckets from span"
+                                " join series on series.id = span.series").fetchall()
+        database.close()
+        return [(name, int(start), int(end), value if buckets is None else (tuple(map(int, json.loads(buckets))), total))
+                for name, start, end, value, total, buckets in rows]
+
+    def mood(self, moods):
+        """It has none."""
+
+    def wrong(self):
+        return []
+
+    def close(self):
+        pass
+
+
+class OtlpSink:
+    """A sink of OTLP over HTTP that takes each key once. How it answers goes by its moods, one drawn for each request:
+    `well`, `late`, `busy` (503), `refuse` (400), `silent` (no answer), `lose` (takes, and its answer is lost)."""
+
+    def __init__(self, seed=0):
+        self.chance = random.Random(f"sink {seed}")
+        self.moods = ["well"]
+        self.lock = threading.Lock()
+        self.taken = {}
+        self.seen = {}
+        self.broken = []
+        sink = self
+
+        class Handler(http.server.BaseHTTPRequestHandler):
+            protocol_version = "HTTP/1.1"
+
+            def do_POST(self):
+                sink.serve(self)
+
+            def log_message(self, *_):
+                pass
+
+        self.server = http.server.ThreadingHTTPServer(("127.0.0.1", 0), Handler)
+        self.server.daemon_threads = True
+        threading.Thread(target=self.server.serve_forever, daemon=True).start()
+        self.address = f"http://127.0.0.1:{self.server.server_port}/v1/metrics"
+
+    def mood(self, moods):
+        self.moods = moods
+
+    def serve(self, request):
+        body = request.rfile.read(int(request.headers["Content-Length"]))
+        key = request.headers["Idempotency-Key"]
+        with self.lock:
+            mood = self.chance.choice(self.moods)
+            self.look_at(key, body)
+            if mood in ("well", "late", "lose"):
+                self.taken.setdefault(key, body)
+        if mood == "late":
+            time.sleep(0.3)
+        if mood in ("silent", "lose"):
+            request.close_connection = True
+            return
+        request.send_response({"busy": 503, "refuse": 400}.get(mood, 200))
+        if mood == "busy":
+            request.send_header("Retry-After", "0")
+        request.send_header("Content-Length", "2")
+        request.end_headers()
+        request.wfile.write(b"{}")
+
+    def look_at(self, key, body):
+        """A key comes with the same bytes each time."""
+        if not key:
+            self.broken.append("a request without a key")
+        elif self.seen.setdefault(key, zlib.crc32(body)) != zlib.crc32(body):
+            self.broken.append(f"other bytes under the key {key}")
+
+    def points(self):
+        with self.lock:
+            return [point for body in self.taken.values() for point in forwarded_points(body)]
+
+    def wrong(self):
+        return self.broken
+
+    def close(self):
+        self.server.shutdown()
+        self.server.server_close()

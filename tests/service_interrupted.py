@@ -1,0 +1,251 @@
+#!/usr/bin/env python3
+"""The service, interrupted at each of its calls on its files.
+
+    tests/service_interrupted.py TOTXEGUN GATEWAY [EVERY]
+
+It needs gcc. A preloaded library (interrupt_files.c) counts the calls that write, sync, cut, rename, delete or make files
+of the service's folder. A run is three senders' posts with flushes, a quarantine, a renewal, a release, and an end by
+SIGTERM. For each call of such a run, or each EVERY-th, the run is made again, and interrupted there in one of these ways:
+  - before, middle, behind: the process is killed there; of what is written half is there, or all;
+  - ENOSPC, EIO: the call fails;
+  - cut: the power is lost: of each file only what was synced is left, of each folder the names that were;
+  - torn: the power is lost, and all names and half of each file's bytes that were not synced are there.
+Then the service is started without the library, and the run goes on where it was: each sender repeats what was not
+answered, each order is given again. At the end the sink, a SQLite file, has each point once that a sender was told is
+taken, late repeats are refused, and the service has found nothing that must not be.
+
+A line for each run that failed; the last line counts those that passed and failed, and the status is 0 where none failed.
+"""
+import concurrent.futures
+import os
+import shutil
+import subprocess
+import sys
+import tempfile
+import threading
+import time
+
+from service import OUT_OF_ORDER, Sender, Service, SqliteSink, add_points, ask, differences, overlaps, told_to_all, wait_until
+
+HERE = os.path.dirname(os.path.abspath(__file__))
+WAYS = ("before", "middle", "behind", "ENOSPC", "EIO", "cut", "torn")
+POWER = ("cut", "torn")
+# How long a step may take: the service neither ends nor answers.
+SECONDS = 60
+SENDERS = "ABC"
+# A letter is a post of this sender.
+SCRIPT = ("A", "B", "A", "/flush", "B", "C", "/quarantine/sender-B", "A", "/flush", "C", "/renew", "A", "C", "/lift/sender-B", "B",
+          "/flush", "A", "B", "C")
+# Of memory: what is durable is what the library has seen synced.
+FOLDERS = "/dev/shm" if os.access("/dev/shm", os.W_OK) else None
+
+
+class Failed(Exception):
+    """What is wrong with a run."""
+
+
+def build(folder):
+    """The library, built into a folder."""
+    library = os.path.join(folder, "interrupt_files.so")
+    command = ["gcc", "-O1", "-Wall", "-Wextra", "-Werror", "-Wno-unused-result", "-shared", "-fPIC"]
+    subprocess.run(command + ["-o", library, os.path.join(HERE, "interrupt_files.c")], check=True)
+    return library
+
+
+# --------------------------------------------------------------------------------------------------------------------
+# A loss of power
+
+
+def lose_power(data, shadow, is_torn):
+    """Makes the folder what a loss of power leaves of it, by what the library has kept."""
+    left = f"{data}.left"
+    leave(data, left, shadow, is_torn)
+    shutil.rmtree(data)
+    os.rename(left, data)
+
+
+def leave(folder, left, shadow, is_torn):
+    """Copies what is left of a folder."""
+    os.mkdir(left)
+    names = synced_names(folder, shadow)
+    if is_torn:
+        names = {name: os.stat(f"{folder}/{name}").st_ino for name in os.listdir(folder)}
+    for name, inode in names.items():
+        path = f"{folder}/{name}"
+        if os.path.isdir(path):
+            leave(path, f"{left}/{name}", shadow, is_torn)
+        else:
+            with open(f"{left}/{name}", "wb") as file:
+                file.write(left_bytes(path if is_torn else None, f"{shadow}/file-{inode}"))
+
+
+def synced_names(folder, shadow):
+    """The names that a folder had when it was last synced, with the numbers of their files."""
+    try:
+        with open(f"{shadow}/folder-{os.stat(folder).st_ino}", encoding="utf-8") as file:
+            lines = [line.rstrip("\n").split(" ", 1) for line in file]
+    except FileNotFoundError:
+        return {}
+    return {name: int(inode) for inode, name in lines}
+
+
+def read(path):
+    try:
+        with open(path, "rb") as file:
+            return file.read()
+    except FileNotFoundError:
+        return b""
+
+
+def left_bytes(path, kept):
+    """What was synced of a file; where it is torn, also the first half of what has changed since."""
+    synced = read(kept)
+    if path is None:
+        return synced
+    now = read(path)
+    before = synced.ljust(len(now), b"\0")
+    changed = [place for place in range(0, len(now), 256) if now[place:place + 256] != before[place:place + 256]]
+    if not changed:
+        return synced
+    places = [place for start in changed for place in range(start, min(start + 256, len(now))) if now[place] != before[place]]
+    middle = places[len(places) // 2]
+    return now[:middle] + before[middle:]
+
+
+# --------------------------------------------------------------------------------------------------------------------
+# A run
+
+
+class Run:
+    """One run of the script, in a folder of its own."""
+
+    def __init__(self, programs, library, folder, at, way):
+        self.folder, self.at, self.way = folder, at, way
+        self.data, self.shadow, self.log = f"{folder}/data", f"{folder}/shadow", f"{folder}/calls"
+        os.mkdir(self.data)
+        os.mkdir(self.shadow)
+        self.sink = SqliteSink(f"{folder}/sink.db")
+        self.service = Service(*programs, self.data, self.sink.address, "--durable", "disk", "--flush-every", "1h")
+        self.senders = {name: Sender(self.service, name, seconds=5) for name in SENDERS}
+        self.environment = {"LD_PRELOAD": library, "INTERRUPT_FOLDER": self.data, "INTERRUPT_AT": str(at),
+                            "INTERRUPT_HOW": "before" if way in POWER else way, "INTERRUPT_LOG": self.log}
+        if way in POWER:
+            self.environment["INTERRUPT_SHADOW"] = self.shadow
+        self.until = time.monotonic() + SECONDS
+
+    def revive(self):
+        """Starts the service again where it has ended, without the library."""
+        if time.monotonic() > self.until:
+            raise Failed("no end in time")
+        if self.service.is_running():
+            return
+        if self.way in POWER and self.environment:
+            lose_power(self.data, self.shadow, self.way == "torn")
+        self.environment = None
+        self.service.start()
+        if not self.service.wait_ready(SECONDS):
+            raise Failed("it does not start again")
+
+    def step(self, step):
+        """A post, or an order of the operator, until it is done."""
+        self.until = time.monotonic() + SECONDS
+        self.revive()
+        if step in self.senders:
+            sender = self.senders[step]
+            if not sender.post(sender.next_points(), self.revive):
+                raise Failed(f"a post was answered {sender.surprises[-1]}")
+            return
+        while True:
+            status, text = ask(self.service.operate, "POST", step, seconds=10)
+            if status == 200 or (status == 400 and b"quarantined" in text):
+                return
+            if status not in (None, 503):
+                raise Failed(f"{step} was answered {status} {text}")
+            time.sleep(0.02)
+            self.revive()
+
+    def make(self):
+        """The whole run. Raises Failed."""
+        self.service.start(self.environment)
+        self.service.wait_ready(SECONDS)
+        for step in SCRIPT:
+            self.step(step)
+        status, _ = self.service.end(20)
+        if status != 0 and not self.environment:
+            raise Failed(f"SIGTERM ended it with status {status}")
+        self.revive()
+        self.step("/flush")
+        self.look()
+
+    def look(self):
+        """What is wrong at the end."""
+        if not wait_until(self.service.is_drained, SECONDS):
+            raise Failed("the sink does not get all")
+        found, points = {}, self.sink.points()
+        add_points(found, points)
+        wrong = differences(told_to_all(self.senders.values()), found) or overlaps(points) or self.service.faults()
+        repeats = [sender.late_repeat() for sender in self.senders.values()]
+        wrong = wrong or [repeat for repeat in repeats if repeat[0] != 400 or OUT_OF_ORDER not in repeat[1]]
+        if wrong:
+            raise Failed(str(wrong))
+
+    def calls(self):
+        """The calls that were noted: all of a run that was not interrupted, else the one."""
+        with open(self.log, encoding="utf-8") as file:
+            return file.read().splitlines()
+
+
+class Runs:
+    """All runs, and how they ended."""
+
+    def __init__(self, programs, library, folder):
+        self.programs, self.library, self.folder = programs, library, folder
+        self.lock = threading.Lock()
+        self.passed = self.failed = self.interrupted = 0
+
+    def one(self, at, way):
+        """Makes a run. Returns its calls."""
+        folder = tempfile.mkdtemp(dir=self.folder)
+        run = Run(self.programs, self.library, folder, at, way)
+        fault = None
+        try:
+            run.make()
+        except Failed as failed:
+            fault = f"{failed}; {run.service.last_lines(8)}"
+        except Exception as error:  # A test that breaks is a failure with its place.
+            fault = f"{type(error).__name__} {error}"
+        finally:
+            run.service.kill()
+        calls = run.calls() if os.path.exists(run.log) else []
+        self.count(at, way, calls, fault)
+        if fault is None:
+            shutil.rmtree(folder, ignore_errors=True)
+        return calls
+
+    def count(self, at, way, calls, fault):
+        with self.lock:
+            self.interrupted += bool(at and calls)
+            if fault is None:
+                self.passed += 1
+            else:
+                self.failed += 1
+                print(f"failed: {way} call {calls[0] if at and calls else at}: {fault}", flush=True)
+
+
+def main(program, gateway, every=1):
+    with tempfile.TemporaryDirectory(dir=FOLDERS, prefix="interrupted-") as folder:
+        runs = Runs((program, gateway), build(folder), folder)
+        calls = runs.one(0, "before")
+        print(f"note: {len(calls)} calls in a run without interruption", flush=True)
+        with concurrent.futures.ThreadPoolExecutor(os.cpu_count()) as pool:
+            places = [(at, way) for at in range(1, len(calls) + 1, every) for way in WAYS]
+            list(pool.map(lambda place: runs.one(*place), places))
+    print(f"note: {runs.interrupted} of {len(places)} runs were interrupted")
+    print(f"{runs.passed} passed, {runs.failed} failed", flush=True)
+    return 0 if runs.failed == 0 and runs.interrupted else 1
+
+
+if __name__ == "__main__":
+    if len(sys.argv) < 3:
+        sys.exit(f"usage: {sys.argv[0]} TOTXEGUN GATEWAY [EVERY]")
+    sys.exit(main(*map(os.path.abspath, sys.argv[1:3]), *map(int, sys.argv[3:4])))

@@ -1,0 +1,219 @@
+#!/usr/bin/env python3
+"""The service under load, while all that it is made of is killed, stopped and replaced.
+
+    tests/service_load.py TOTXEGUN GATEWAY [SECONDS] [SEED]
+
+Four runs of a quarter of the seconds each (60): durable `disk` and `process`, with a sink of OTLP and a SQLite file.
+Senders post sums and histograms, in JSON and protobuf, packed or not, on connections that they keep, and repeat each post
+until it is answered. Meanwhile the gateway, the service, or both are killed, also twice in a row; they are stopped and go
+on; gateways are renewed, senders are quarantined and released; the sink of OTLP answers late, 503, 400, not at all, or
+takes a request and loses its answer.
+
+At the end a repeat of what was taken is refused, SIGTERM ends the service within ten seconds with status 0, while the sink
+does not answer; a second start brings all to the sink, what the sink had refused is sent again, and the sink has, series
+by series and bucket by bucket, what the senders were told is taken.
+
+Each line is one check; the last line counts those that passed and failed, and the status is 0 where none failed.
+"""
+import json
+import os
+import random
+import signal
+import sys
+import tempfile
+import threading
+import time
+
+from checks import Checks
+from service import OUT_OF_ORDER, OtlpSink, Sender, Service, SqliteSink, ask, differences, add_points, overlaps, told_to_all, wait_until
+
+SENDERS = 6
+SECONDS = 60
+MOODS = ["well"] * 6 + ["late", "busy", "silent", "lose", "refuse"]
+TIME_TO_END = 10
+
+
+class Trouble:
+    """What is done to the service while senders post: one event after another, drawn by chance."""
+
+    def __init__(self, service, seed):
+        self.service = service
+        self.chance = random.Random(f"trouble {seed}")
+        self.quarantined = set()
+        self.counts = {}
+        self.events = [self.kill_gateway, self.kill_service, self.kill_both, self.kill_twice, self.stop_gateway, self.stop_service,
+                       self.renew, self.flush, self.quarantine, self.lift]
+
+    def go_on(self, until):
+        while time.monotonic() < until:
+            event = self.chance.choice(self.events)
+            self.counts[event.__name__] = self.counts.get(event.__name__, 0) + 1
+            event()
+            time.sleep(self.chance.choice([0.02, 0.3, 1.0, 2.0]))
+
+    def start(self):
+        """Starts it where it does not run: senders would try for ever."""
+        if not self.service.is_running():
+            self.service.start()
+
+    def kill_gateway(self):
+        self.service.signal_gateway(signal.SIGKILL)
+
+    def kill_service(self):
+        self.service.kill()
+        self.start()
+
+    def kill_both(self):
+        self.service.signal_gateway(signal.SIGKILL)
+        self.kill_service()
+
+    def kill_twice(self):
+        """The second kill meets a service that is starting."""
+        self.kill_service()
+        time.sleep(self.chance.choice([0, 0.01, 0.05, 0.2]))
+        self.kill_service()
+
+    def stop_gateway(self):
+        pids = self.service.gateways()
+        self.service.signal_gateway(signal.SIGSTOP)
+        time.sleep(self.chance.choice([0.05, 0.3, 1.0]))
+        for pid in pids:
+            try:
+                os.kill(pid, signal.SIGCONT)
+            except ProcessLookupError:
+                pass
+
+    def stop_service(self):
+        self.service.signal(signal.SIGSTOP)
+        time.sleep(self.chance.choice([0.05, 0.3, 1.0]))
+        self.service.signal(signal.SIGCONT)
+
+    def renew(self):
+        self.service.order("/renew", 5)
+
+    def flush(self):
+        self.service.order("/flush", 5)
+
+    def quarantine(self):
+        sender = f"sender-{self.chance.randrange(SENDERS)}"
+        self.quarantined.add(sender)
+        self.service.order(f"/quarantine/{sender}", 5)
+
+    def lift(self):
+        """What was ordered without an answer may be done or not, so it is ordered again at the end."""
+        if self.quarantined:
+            self.service.order(f"/lift/{self.chance.choice(sorted(self.quarantined))}", 5)
+
+    def lift_all(self):
+        """Whether none is quarantined, by what the service says."""
+        def is_done():
+            status = self.service.status()
+            left = [sender for slot in status["slots"] for sender in slot["quarantined"]] if status else [None]
+            for sender in filter(None, left):
+                self.service.order(f"/lift/{sender}", 5)
+            return not left
+        return wait_until(is_done)
+
+
+def post_meanwhile(senders, until):
+    """Threads in which the senders post until then; each ends with a post that was answered."""
+    def go_on(sender):
+        while time.monotonic() < until:
+            sender.post(sender.next_points())
+    threads = [threading.Thread(target=go_on, args=(sender,), daemon=True) for sender in senders]
+    for thread in threads:
+        thread.start()
+    return threads
+
+
+def load(checks, what, service, sink, seconds, seed):
+    """Senders and trouble at once; whether all senders were answered."""
+    service.start()
+    checks.true(f"{what}: it is ready", service.wait_ready(), service.last_lines())
+    until = time.monotonic() + seconds
+    senders = [Sender(service, number, seed) for number in range(SENDERS)]
+    trouble = Trouble(service, seed)
+    threads = post_meanwhile(senders, until)
+    sink.mood(MOODS)
+    trouble.go_on(until)
+    trouble.start()
+    checks.true(f"{what}: it is ready again", service.wait_ready(), service.last_lines())
+    checks.true(f"{what}: all senders are released", trouble.lift_all(), service.status())
+    for thread in threads:
+        thread.join(SECONDS)
+    checks.true(f"{what}: all posts are answered", not any(thread.is_alive() for thread in threads), service.last_lines())
+    print(f"note: {what}: {sum(sender.posts for sender in senders)} posts, {sum(sender.repeats for sender in senders)} repeats, "
+          + ", ".join(f"{count} {name}" for name, count in sorted(trouble.counts.items())), flush=True)
+    return senders
+
+
+def send_letters_again(service):
+    """Whether what the sink had refused is taken."""
+    def is_done():
+        status, body = ask(service.operate, "GET", "/dead")
+        letters = json.loads(body) if status == 200 else [None]
+        for letter in filter(None, letters):
+            service.order(f"/dead/{letter['key']}/resend")
+        return not letters
+    return wait_until(is_done)
+
+
+def end(checks, what, service, sink, senders):
+    """The end, a start behind it, and what the sink has."""
+    surprises = [surprise for sender in senders for surprise in sender.surprises]
+    checks.same(f"{what}: no post was answered otherwise", [], surprises[:3])
+    repeats = [sender.late_repeat() for sender in senders]
+    checks.true(f"{what}: late repeats are refused", all(status == 400 and OUT_OF_ORDER in text for status, text in repeats), repeats)
+    checks.same(f"{what}: the service found nothing that must not be", [], service.faults())
+    sink.mood(["silent"])
+    status, seconds = service.end()
+    checks.true(f"{what}: SIGTERM ends it with status 0 in {TIME_TO_END} s", status == 0 and seconds <= TIME_TO_END,
+                f"status {status}, {seconds:.1f} s: {service.last_lines()}")
+    sink.mood(["well"])
+    service.start()
+    checks.true(f"{what}: it starts again", service.wait_ready(), service.last_lines())
+    repeats = [sender.late_repeat() for sender in senders]
+    checks.true(f"{what}: late repeats are refused again", all(status == 400 and OUT_OF_ORDER in text for status, text in repeats), repeats)
+    service.order("/flush")
+    checks.true(f"{what}: all is delivered", wait_until(service.is_drained), service.status())
+    checks.true(f"{what}: what was refused is taken", send_letters_again(service), service.last_lines())
+    compare(checks, what, sink, senders)
+    service.end()
+
+
+def compare(checks, what, sink, senders):
+    points = sink.points()
+    found = {}
+    add_points(found, points)
+    checks.same(f"{what}: no spans of a series overlap at the sink", [], overlaps(points))
+    checks.same(f"{what}: a key brings the same bytes", [], sink.wrong())
+    wanted = told_to_all(senders)
+    checks.same(f"{what}: the sink has what the senders were told, {len(wanted)} series", [], differences(wanted, found))
+
+
+def run(checks, program, gateway, durable, kind, seconds, seed):
+    what = f"{durable}, {kind}"
+    with tempfile.TemporaryDirectory(prefix="service-") as folder:
+        sink = OtlpSink(seed) if kind == "OTLP" else SqliteSink(f"{folder}/sink.db")
+        service = Service(program, gateway, f"{folder}/data", sink.address, "--durable", durable, "--flush-every", "1s")
+        try:
+            senders = load(checks, what, service, sink, seconds, seed)
+            end(checks, what, service, sink, senders)
+        finally:
+            service.kill()
+            sink.close()
+
+
+def main(program, gateway, seconds=SECONDS, seed=1):
+    checks = Checks()
+    print(f"note: seed {seed}", flush=True)
+    for durable in ("disk", "process"):
+        for kind in ("OTLP", "SQLite"):
+            run(checks, program, gateway, durable, kind, float(seconds) / 4, f"{seed} {durable} {kind}")
+    return checks.end()
+
+
+if __name__ == "__main__":
+    if len(sys.argv) < 3:
+        sys.exit(f"usage: {sys.argv[0]} TOTXEGUN GATEWAY [SECONDS] [SEED]")
+    sys.exit(main(*map(os.path.abspath, sys.argv[1:3]), *sys.argv[3:5]))
