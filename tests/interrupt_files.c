@@ -9,6 +9,7 @@
  *   INTERRUPT_SHADOW=DIR      for a loss of power, what a sync made durable is kept here:
  *                               file-INODE      the bytes of a file as they were when it was synced
  *                               folder-INODE    a line `INODE NAME` for each entry of a folder when that was synced
+ *   INTERRUPT_FORGETS=1       of files nothing is kept there, as if they had never been synced
  *   INTERRUPT_LOG=FILE        a line `K CALL PATH` for the call that was interrupted; with INTERRUPT_AT=0 for each
  *
  * Calls that count: write, pwrite, writev, pwritev, fsync, fdatasync, ftruncate, fallocate, posix_fallocate, rename,
@@ -39,7 +40,7 @@ static size_t folder_length;
 static const char *log_path;
 static long at, calls;
 static enum how how;
-static int fault;
+static int fault, forgets;
 static pthread_mutex_t one_at_a_time = PTHREAD_MUTEX_INITIALIZER;
 
 __attribute__((constructor)) static void read_orders(void)
@@ -50,6 +51,7 @@ __attribute__((constructor)) static void read_orders(void)
     folder_length = strlen(folder);
     at = atol(getenv("INTERRUPT_AT") ? getenv("INTERRUPT_AT") : "0");
     log_path = getenv("INTERRUPT_LOG");
+    forgets = getenv("INTERRUPT_FORGETS") != NULL;
     if (kept)
         snprintf(shadow, sizeof shadow, "%s", kept);
     how = !text || !strcmp(text, "before") ? BEFORE : !strcmp(text, "middle") ? MIDDLE : !strcmp(text, "behind") ? BEHIND : FAIL;
@@ -161,7 +163,7 @@ static void keep(int file, const char *path)
         return;
     if (S_ISDIR(about.st_mode))
         keep_folder(path, about.st_ino);
-    else
+    else if (!forgets)
         keep_file(file, about.st_ino);
 }
 

@@ -1,5 +1,6 @@
 """What the tests of the service share: the program, senders that repeat until they are answered and note what they were
 told, and what a sink has at the end."""
+import contextlib
 import gzip
 import http.client
 import http.server
@@ -57,8 +58,8 @@ class Service:
 
     def __init__(self, program, gateway, data, sink, *options):
         self.listen, self.operate = free_port(), free_port()
-        self.words = [program, "serve", "--data", data, "--gateway", gateway, "--sink", sink, "--listen", f"127.0.0.1:{self.listen}",
-                      "--operate", f"127.0.0.1:{self.operate}", *options]
+        places = ["--listen", f"127.0.0.1:{self.listen}", "--operate", f"127.0.0.1:{self.operate}"]
+        self.words = [program, "serve", "--data", data, "--gateway", gateway, "--sink", sink, *places, *options]
         self.log = f"{data}.log"
         self.process = None
 
@@ -389,6 +390,10 @@ class OtlpSink:
 
         class Handler(http.server.BaseHTTPRequestHandler):
             protocol_version = "HTTP/1.1"
+
+            def handle(self):
+                with contextlib.suppress(ConnectionError):  # The service may be killed meanwhile.
+                    super().handle()
 
             def do_POST(self):
                 sink.serve(self)

@@ -7,9 +7,13 @@ It needs gcc. A preloaded library (interrupt_files.c) counts the calls that writ
 of the service's folder. A run is three senders' posts with flushes, a quarantine, a renewal, a release, and an end by
 SIGTERM. For each call of such a run, or each EVERY-th, the run is made again, and interrupted there in one of these ways:
   - before, middle, behind: the process is killed there; of what is written half is there, or all;
-  - ENOSPC, EIO: the call fails;
+  - ENOSPC, EIO: the call fails; where it is a write or a sync the service has to end by it;
   - cut: the power is lost: of each file only what was synced is left, of each folder the names that were;
-  - torn: the power is lost, and all names and half of each file's bytes that were not synced are there.
+  - torn: the power is lost, and all names and half of each file's bytes that were not synced are there;
+  - twice: the process is killed there, and again at one of the first calls of the next start;
+  - late: it is killed there, and at a later call of the next start the power is lost: so what an earlier run wrote and
+    did not sync is gone, unless the start has synced it.
+A last run forgets what was synced, and has to fail: so a loss of power is seen.
 Then the service is started without the library, and the run goes on where it was: each sender repeats what was not
 answered, each order is given again. At the end the sink, a SQLite file, has each point once that a sender was told is
 taken, late repeats are refused, and the service has found nothing that must not be.
@@ -28,14 +32,16 @@ import time
 from service import OUT_OF_ORDER, Sender, Service, SqliteSink, add_points, ask, differences, overlaps, told_to_all, wait_until
 
 HERE = os.path.dirname(os.path.abspath(__file__))
-WAYS = ("before", "middle", "behind", "ENOSPC", "EIO", "cut", "torn")
-POWER = ("cut", "torn")
+WAYS = ("before", "middle", "behind", "ENOSPC", "EIO", "cut", "torn", "twice", "late")
+POWER = ("cut", "torn", "late", "forgetful")
+FAULTS = ("ENOSPC", "EIO")
+WRITES_AND_SYNCS = ("write", "pwrite", "writev", "fsync", "fdatasync")
 # How long a step may take: the service neither ends nor answers.
 SECONDS = 60
 SENDERS = "ABC"
 # A letter is a post of this sender.
-SCRIPT = ("A", "B", "A", "/flush", "B", "C", "/quarantine/sender-B", "A", "/flush", "C", "/renew", "A", "C", "/lift/sender-B", "B",
-          "/flush", "A", "B", "C")
+SCRIPT = ("A", "B", "A", "/flush", "B", "C", "/quarantine/sender-B", "A", "/flush", "C", "/renew", "A", "C",
+          "/lift/sender-B", "B", "/flush", "A", "B", "C")
 # Of memory: what is durable is what the library has seen synced.
 FOLDERS = "/dev/shm" if os.access("/dev/shm", os.W_OK) else None
 
@@ -127,24 +133,34 @@ class Run:
         self.sink = SqliteSink(f"{folder}/sink.db")
         self.service = Service(*programs, self.data, self.sink.address, "--durable", "disk", "--flush-every", "1h")
         self.senders = {name: Sender(self.service, name, seconds=5) for name in SENDERS}
-        self.environment = {"LD_PRELOAD": library, "INTERRUPT_FOLDER": self.data, "INTERRUPT_AT": str(at),
-                            "INTERRUPT_HOW": "before" if way in POWER else way, "INTERRUPT_LOG": self.log}
-        if way in POWER:
-            self.environment["INTERRUPT_SHADOW"] = self.shadow
+        self.library = library
+        # The call at which each start is interrupted; later starts are without the library.
+        second = {"twice": at % 12 + 1, "late": at * 7 % 40 + 1}
+        self.stages = [at, second[way]] if way in second else [at]
         self.until = time.monotonic() + SECONDS
 
+    def start(self):
+        environment = {"LD_PRELOAD": self.library, "INTERRUPT_FOLDER": self.data, "INTERRUPT_LOG": self.log}
+        if self.way in POWER:
+            environment["INTERRUPT_SHADOW"] = self.shadow
+        if self.way == "forgetful":
+            environment["INTERRUPT_FORGETS"] = "1"
+        if self.stages:
+            environment["INTERRUPT_AT"] = str(self.stages[0])
+            environment["INTERRUPT_HOW"] = self.way if self.way in ("middle", "behind", *FAULTS) else "before"
+        self.service.start(environment if self.stages else None)
+
     def revive(self):
-        """Starts the service again where it has ended, without the library."""
+        """Starts the service again where it has ended."""
         if time.monotonic() > self.until:
             raise Failed("no end in time")
-        if self.service.is_running():
-            return
-        if self.way in POWER and self.environment:
-            lose_power(self.data, self.shadow, self.way == "torn")
-        self.environment = None
-        self.service.start()
-        if not self.service.wait_ready(SECONDS):
-            raise Failed("it does not start again")
+        while not self.service.is_running():
+            if len(self.stages) == 1 and self.way in POWER:
+                lose_power(self.data, self.shadow, self.way == "torn")
+            self.stages = self.stages[1:]
+            self.start()
+            if not self.service.wait_ready(SECONDS) and not self.stages:
+                raise Failed("it does not start again")
 
     def step(self, step):
         """A post, or an order of the operator, until it is done."""
@@ -166,13 +182,15 @@ class Run:
 
     def make(self):
         """The whole run. Raises Failed."""
-        self.service.start(self.environment)
+        self.start()
         self.service.wait_ready(SECONDS)
         for step in SCRIPT:
             self.step(step)
         status, _ = self.service.end(20)
-        if status != 0 and not self.environment:
+        if status != 0 and not self.stages:
             raise Failed(f"SIGTERM ended it with status {status}")
+        if status == 0 and self.went_on():
+            raise Failed("it went on behind a fault of the disk")
         self.revive()
         self.step("/flush")
         self.look()
@@ -189,8 +207,13 @@ class Run:
         if wrong:
             raise Failed(str(wrong))
 
+    def went_on(self):
+        """Whether a write or a sync failed and the service did not end."""
+        call = self.calls()[0].split(" ")[1] if self.way in FAULTS and os.path.exists(self.log) else None
+        return call in WRITES_AND_SYNCS and bool(self.stages)
+
     def calls(self):
-        """The calls that were noted: all of a run that was not interrupted, else the one."""
+        """The calls that were noted: all of a run that was not interrupted, else those that were."""
         with open(self.log, encoding="utf-8") as file:
             return file.read().splitlines()
 
@@ -204,7 +227,13 @@ class Runs:
         self.passed = self.failed = self.interrupted = 0
 
     def one(self, at, way):
-        """Makes a run. Returns its calls."""
+        """Makes a run and counts it. Returns its calls."""
+        calls, fault = self.made(at, way)
+        self.count(at, way, calls, fault)
+        return calls
+
+    def made(self, at, way):
+        """Makes a run: its calls, and what is wrong with it."""
         folder = tempfile.mkdtemp(dir=self.folder)
         run = Run(self.programs, self.library, folder, at, way)
         fault = None
@@ -217,10 +246,13 @@ class Runs:
         finally:
             run.service.kill()
         calls = run.calls() if os.path.exists(run.log) else []
-        self.count(at, way, calls, fault)
-        if fault is None:
-            shutil.rmtree(folder, ignore_errors=True)
-        return calls
+        shutil.rmtree(folder, ignore_errors=True)
+        return calls, fault
+
+    def forgetful(self, at):
+        """A loss of power at this call, of which no sync of a file had any effect: a run that has to fail."""
+        calls, fault = self.made(at, "forgetful")
+        self.count(at, "forgetful", calls, None if fault else "a power loss without syncs is not seen")
 
     def count(self, at, way, calls, fault):
         with self.lock:
@@ -229,7 +261,7 @@ class Runs:
                 self.passed += 1
             else:
                 self.failed += 1
-                print(f"failed: {way} call {calls[0] if at and calls else at}: {fault}", flush=True)
+                print(f"failed: {way} call {', '.join(calls) if at else at}: {fault}", flush=True)
 
 
 def main(program, gateway, every=1):
@@ -240,7 +272,8 @@ def main(program, gateway, every=1):
         with concurrent.futures.ThreadPoolExecutor(os.cpu_count()) as pool:
             places = [(at, way) for at in range(1, len(calls) + 1, every) for way in WAYS]
             list(pool.map(lambda place: runs.one(*place), places))
-    print(f"note: {runs.interrupted} of {len(places)} runs were interrupted")
+        runs.forgetful(len(calls) * 3 // 4)
+    print(f"note: {runs.interrupted} runs were interrupted")
     print(f"{runs.passed} passed, {runs.failed} failed", flush=True)
     return 0 if runs.failed == 0 and runs.interrupted else 1
 

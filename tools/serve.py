@@ -98,6 +98,8 @@ def build_unproved(folder):
         )
         try:
             command = command_that_listens(trying, port, words)
+            if command:
+                keep(command, folder)  # while it runs: what `rt` has made goes with it
         finally:
             trying.terminate()
             trying.wait()
@@ -105,23 +107,30 @@ def build_unproved(folder):
             log.seek(0)
             print(log.read().decode(errors="replace"))
             print("the gateway could not be built")
-    return bool(command) and keep(command, folder)
+    return bool(command)
 
 
 def command_that_listens(trying, port, words):
     """The words of the process that `rt try` runs, up to the gateway's own, once it listens."""
     begun = time.monotonic()
-    while trying.poll() is None and not listens(port):
+    command = None
+    # Another program may have taken the port since: it has to be this one that listens.
+    while trying.poll() is None and not (command and listens(port)):
         if sys.stdout.isatty():
             print(f"\rbuilding the gateway: {time.monotonic() - begun:.0f} s", end="", flush=True)
         time.sleep(0.5)
+        command = command_with(words)
     if sys.stdout.isatty():
         print()
+    return command
+
+
+def command_with(words):
+    """The words before these of a process that runs a program with these; `rt` and its parts have them otherwise."""
     for pid in filter(str.isdecimal, os.listdir("/proc")):
         line = (read(f"/proc/{pid}/cmdline") or "").split("\0")[:-1]
         at = len(line) - len(words)
-        # `rt` and its parts have the gateway's words too, behind words of their own.
-        if at > 0 and line[at:] == words and os.path.isfile(line[at - 1]) and line[at - 1].endswith("/program"):
+        if at > 0 and line[at:] == words and line[at - 1].endswith("/program") and os.path.isfile(line[at - 1]):
             return line[:at]
     return None
 
@@ -133,7 +142,6 @@ def keep(command, folder):
     words = " ".join([*command[:-1], f'"{folder}/program"'])
     write(f"{folder}/gateway", f'#!/bin/sh\nexec {words} "$@"\n')
     os.chmod(f"{folder}/gateway", 0o755)
-    return True
 
 
 def listens(port):

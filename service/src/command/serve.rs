@@ -5,7 +5,7 @@ use super::Failure;
 use crate::files::Durability;
 use crate::gateway;
 use crate::otlp::Dropped;
-use crate::service::{self, Settings};
+use crate::service::{self, init, Settings};
 use crate::sinks::Address;
 use anyhow::{bail, Context};
 use clap::{value_parser, Args};
@@ -154,6 +154,7 @@ impl Options {
             .with_target(false)
             .init();
         raise_open_files();
+        init::take_signals().context("signals can't be received")?; // before there are threads
         let mut building = tokio::runtime::Builder::new_multi_thread();
         building
             .worker_threads(usize::from(self.threads))

@@ -199,7 +199,10 @@ mod tests {
         let dead = open(folder.path());
         assert_eq!((dead.count(), dead.list().unwrap().len()), (2, 2));
         let letter = &dead.list().unwrap()[0];
-        assert_eq!((&*letter.key, &*letter.reason, letter.bytes), ("0-e-1", "400 bad\nline", body.len() as u64));
+        assert_eq!(
+            (&*letter.key, &*letter.reason, letter.bytes),
+            ("0-e-1", "400 bad\nline", body.len() as u64)
+        );
         assert_eq!(dead.body("0-e-1").unwrap().unwrap(), body);
         assert_eq!(dead.body("0-e-2").unwrap().unwrap(), b"");
         assert!(dead.drop_letter("0-e-1").unwrap());
@@ -212,7 +215,18 @@ mod tests {
         let folder = tempfile::tempdir().unwrap();
         std::fs::write(folder.path().join("other.json"), "{}").unwrap();
         let dead = open(&folder.path().join("dead"));
-        for key in ["", ".", "..", "../other", "a/b", "/etc/passwd", "a.b", "a\0b", "ä", &"a".repeat(129)] {
+        for key in [
+            "",
+            ".",
+            "..",
+            "../other",
+            "a/b",
+            "/etc/passwd",
+            "a.b",
+            "a\0b",
+            "ä",
+            &"a".repeat(129),
+        ] {
             assert!(dead.keep(key, "", b"").is_err(), "{key:?}");
             assert_eq!(dead.body(key).unwrap(), None);
             assert!(!dead.drop_letter(key).unwrap());

@@ -43,7 +43,10 @@ impl Disk {
     /// Asks `hook` before each call.
     #[cfg(test)]
     pub fn failing(hook: impl Fn(Call, &Path) -> io::Result<()> + Send + Sync + 'static) -> Disk {
-        Disk { hook: Some(Arc::new(hook)), end: None }
+        Disk {
+            hook: Some(Arc::new(hook)),
+            end: None,
+        }
     }
 
     /// Tells `end` of the fault that would have ended the process; who met it never goes on.

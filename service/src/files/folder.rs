@@ -14,6 +14,7 @@
 use super::disk::{io_fault, Disk};
 use super::room::Room;
 use super::{lock, Dead, Durability, Fault, Journal, Outbox};
+use nix::errno::Errno;
 use nix::fcntl::{flock, FlockArg};
 use std::fs::{File, OpenOptions};
 use std::io::Read;
@@ -21,9 +22,12 @@ use std::os::fd::AsRawFd;
 use std::os::unix::fs::{MetadataExt, OpenOptionsExt};
 use std::path::{Path, PathBuf};
 use std::sync::{Arc, Mutex};
+use std::time::{Duration, Instant};
 
 /// Of the folder: which files there are, and where.
 const VERSION: u32 = 1;
+/// How long a lock is waited for.
+const PATIENCE: Duration = Duration::from_secs(1);
 
 #[derive(Debug, thiserror::Error)]
 pub enum FolderFault {
@@ -158,10 +162,15 @@ fn locked(folder: &Path) -> Result<File, FolderFault> {
         .mode(0o600)
         .open(&path)
         .map_err(io_fault(&path))?;
-    match flock(file.as_raw_fd(), FlockArg::LockExclusiveNonblock) {
-        Ok(()) => Ok(file),
-        Err(nix::errno::Errno::EWOULDBLOCK) => Err(FolderFault::InUse(folder.into())),
-        Err(error) => Err(io_fault(&path)(error.into()).into()),
+    // A process that is just being started has the file open for a moment, though who started it has ended.
+    let began = Instant::now();
+    loop {
+        match flock(file.as_raw_fd(), FlockArg::LockExclusiveNonblock) {
+            Ok(()) => return Ok(file),
+            Err(Errno::EWOULDBLOCK) if began.elapsed() < PATIENCE => std::thread::sleep(PATIENCE / 50),
+            Err(Errno::EWOULDBLOCK) => return Err(FolderFault::InUse(folder.into())),
+            Err(error) => return Err(io_fault(&path)(error.into()).into()),
+        }
     }
 }
 

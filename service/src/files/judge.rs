@@ -38,15 +38,13 @@ pub fn is_torn(path: &Path, at: u64) -> Result<(), Fault> {
 }
 
 fn was_changed(at: u64, rest: &[u8]) -> bool {
-    let used = rest
-        .iter()
-        .rposition(|byte| *byte != 0)
-        .map_or(0, |last| last + 1);
-    let rest = &rest[..used];
+    let Some(last) = rest.iter().rposition(|byte| *byte != 0) else {
+        return false;
+    };
     let mut effort = EFFORT;
     let mut first = None;
     let mut here = 1;
-    while here + HEAD <= rest.len() {
+    while here <= last {
         match whole_record(&rest[here..], &mut effort) {
             None => here += 1,
             Some((kind, length)) => {

@@ -11,6 +11,8 @@ use tokio::net::{TcpSocket, TcpStream};
 
 /// How long an answer may take. A gateway that hangs holds its senders so long, and is then replaced.
 pub(super) const PATIENCE: Duration = Duration::from_secs(20);
+/// The same for a gateway that is refilled: nobody is served meanwhile, so a start anew is worth more waiting.
+pub(super) const PATIENCE_OF_REFILL: Duration = Duration::from_secs(60);
 /// How long before a connection is tried again that this side had no port or descriptor for.
 pub(super) const PAUSE: Duration = Duration::from_millis(5);
 /// What is shorter goes in one segment of loopback, at once. What is longer must not wait for an acknowledgement.
@@ -40,11 +42,11 @@ impl Request<'_> {
 }
 
 /// Asks, and reads the whole answer. An error says that the answer did not come or can't be read.
-pub(super) async fn exchange(address: SocketAddr, request: &Request<'_>) -> Result<Answer> {
-    exchange_within(PATIENCE, address, request).await
-}
-
-async fn exchange_within(patience: Duration, address: SocketAddr, request: &Request<'_>) -> Result<Answer> {
+pub(super) async fn exchange(
+    patience: Duration,
+    address: SocketAddr,
+    request: &Request<'_>,
+) -> Result<Answer> {
     let asked = async {
         let mut stream = connect(address).await?;
         if request.body.len() > ONE_SEGMENT {
@@ -155,7 +157,7 @@ mod tests {
         )
         .await;
         let begun = std::time::Instant::now();
-        let answer = exchange(address, &request).await.unwrap();
+        let answer = exchange(PATIENCE, address, &request).await.unwrap();
         assert!(
             begun.elapsed() < SHORT * 4,
             "the end of the connection was waited for"
@@ -185,7 +187,7 @@ mod tests {
             Duration::ZERO,
         )
         .await;
-        assert_eq!(exchange(address, &request).await.unwrap().status, 200);
+        assert_eq!(exchange(PATIENCE, address, &request).await.unwrap().status, 200);
         assert!(task.await.unwrap().ends_with(&body));
     }
 
@@ -195,7 +197,7 @@ mod tests {
         let answer = b"HTTP/1.1 413 Payload Too Large\r\nContent-Length: 0\r\n\r\n";
         let (address, _task) = listener(100, answer, SHORT).await;
         // The listener closes with bytes unread, so the answer may be lost with the connection: then it is a fault.
-        if let Ok(answer) = exchange(address, &post(&body)).await {
+        if let Ok(answer) = exchange(PATIENCE, address, &post(&body)).await {
             assert_eq!(answer.status, 413);
         }
     }
@@ -210,10 +212,10 @@ mod tests {
             b"HTTP/1.1 200 OK\r\nContent-Length: 9\r\n\r\n{}",
         ] {
             let (address, _task) = listener(length, cut, Duration::ZERO).await;
-            exchange(address, &request).await.unwrap_err();
+            exchange(PATIENCE, address, &request).await.unwrap_err();
         }
         let (address, _task) = listener(length, b"", SHORT * 10).await;
-        let late = exchange_within(SHORT, address, &request).await.unwrap_err();
+        let late = exchange(SHORT, address, &request).await.unwrap_err();
         assert_eq!(late.kind(), ErrorKind::TimedOut);
         let nobody = TcpListener::bind("127.0.0.1:0")
             .await
@@ -221,7 +223,7 @@ mod tests {
             .local_addr()
             .unwrap();
         assert_eq!(
-            exchange(nobody, &request).await.unwrap_err().kind(),
+            exchange(PATIENCE, nobody, &request).await.unwrap_err().kind(),
             ErrorKind::ConnectionRefused
         );
     }

@@ -1,7 +1,7 @@
 //! A gateway that listens: asked, flushed, killed.
 
 use super::back::BackSide;
-use super::client::{exchange, Request};
+use super::client::{exchange, Request, PATIENCE, PATIENCE_OF_REFILL};
 use super::{listening, Answer, Doubt, Options, Starter};
 use bytes::Bytes;
 use std::net::SocketAddr;
@@ -86,14 +86,22 @@ impl Gateway {
 
     /// Posts a body of a sender.
     pub async fn post(&self, sender: &str, body: &Bytes) -> Result<Answer, Doubt> {
-        let answer = self
-            .exchange(&Request {
-                method: "POST",
-                path: "/v1/metrics",
-                sender,
-                body,
-            })
-            .await?;
+        self.post_within(PATIENCE, sender, body).await
+    }
+
+    /// The same, of what a fresh gateway is refilled with.
+    pub async fn refill(&self, sender: &str, body: &Bytes) -> Result<Answer, Doubt> {
+        self.post_within(PATIENCE_OF_REFILL, sender, body).await
+    }
+
+    async fn post_within(&self, patience: Duration, sender: &str, body: &Bytes) -> Result<Answer, Doubt> {
+        let request = Request {
+            method: "POST",
+            path: "/v1/metrics",
+            sender,
+            body,
+        };
+        let answer = self.exchange(patience, &request).await?;
         if !POST_STATUSES.contains(&answer.status) {
             return Err(self.doubt(Doubt::NoAnswer(format!("a post was answered {}", shown(&answer)))));
         }
@@ -102,19 +110,22 @@ impl Gateway {
 
     /// Asks anything else: `POST /quarantine/NAME`, `GET /report`, ..
     pub async fn ask(&self, method: &str, path: &str) -> Result<Answer, Doubt> {
-        self.exchange(&Request {
-            method,
-            path,
-            sender: "-",
-            body: b"",
-        })
+        self.exchange(
+            PATIENCE,
+            &Request {
+                method,
+                path,
+                sender: "-",
+                body: b"",
+            },
+        )
         .await
     }
 
-    async fn exchange(&self, request: &Request<'_>) -> Result<Answer, Doubt> {
+    async fn exchange(&self, patience: Duration, request: &Request<'_>) -> Result<Answer, Doubt> {
         self.is_sound()?;
         self.used.fetch_add(1, Ordering::Relaxed);
-        let answer = exchange(self.address, request).await;
+        let answer = exchange(patience, self.address, request).await;
         answer.map_err(|fault| {
             self.doubt(Doubt::NoAnswer(format!(
                 "{} {}: {fault}",

@@ -98,6 +98,9 @@ mod tests {
         Head::read(&parts).map_err(|refusal| refusal.status())
     }
 
+    /// A method, a path, headers, and the status of the refusal.
+    type Case<'a> = (&'a str, &'a str, &'a [(&'a str, &'a str)], u16);
+
     const JSON: (&str, &str) = ("content-type", "application/json");
 
     #[test]
@@ -136,7 +139,7 @@ mod tests {
     #[test]
     fn the_first_thing_that_is_wrong_is_answered() {
         let long = "a".repeat(65);
-        let table: &[(&str, &str, &[(&str, &str)], u16)] = &[
+        let table: &[Case] = &[
             ("GET", "/flush", &[], 404),
             ("POST", "/v1/metrics/", &[JSON], 404),
             ("POST", "/quarantine/A", &[JSON], 404),

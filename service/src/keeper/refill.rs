@@ -14,6 +14,9 @@ use crate::otlp::series::{zeros, NotForwarded, SeriesKey};
 use std::collections::BTreeMap;
 use std::sync::Arc;
 
+/// So that several posts go side by side, and none takes long.
+const SERIES_OF_A_POST: usize = 250;
+
 impl Keeper {
     /// How many posts of the journal went in. What had to be flushed meanwhile belongs to the next group.
     pub(super) async fn refill(&mut self, gateway: &Arc<Gateway>) -> Result<u64, Trouble> {
@@ -72,12 +75,13 @@ fn priming_posts(outbox: &Outbox) -> Result<Vec<Post>, NotForwarded> {
     }
     let mut posts = Vec::new();
     for (sender, series) in owned {
-        for body in zeros(&series)? {
-            posts.push(Post {
+        for part in series.chunks(SERIES_OF_A_POST) {
+            let bodies = zeros(part)?.into_iter();
+            posts.extend(bodies.map(|body| Post {
                 sender: sender.clone(),
                 foreign: 0,
                 body: body.into(),
-            });
+            }));
         }
     }
     Ok(posts)

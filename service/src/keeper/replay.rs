@@ -29,6 +29,33 @@ pub(super) enum Use {
     Replay,
 }
 
+/// Which lane a post goes in.
+enum Choice {
+    /// The order of each sender is kept.
+    BySender(RandomState),
+    /// What primes is of series that are each in one post alone.
+    InTurn(usize),
+}
+
+impl Choice {
+    fn new(purpose: Use) -> Choice {
+        match purpose {
+            Use::Replay => Choice::BySender(RandomState::new()),
+            Use::Prime => Choice::InTurn(0),
+        }
+    }
+
+    fn lane(&mut self, post: &Post) -> usize {
+        match self {
+            Choice::BySender(hasher) => hasher.hash_one(&post.sender) as usize % LANES,
+            Choice::InTurn(lane) => {
+                *lane = (*lane + 1) % LANES;
+                *lane
+            }
+        }
+    }
+}
+
 /// Shared by the lanes.
 pub(super) struct Replay {
     slot: Arc<Slot>,
@@ -65,13 +92,8 @@ impl Replay {
             lanes.push(to);
             tasks.spawn(replay.clone().lane(posts));
         }
-        let hasher = RandomState::new();
-        let fed = blocking(move || {
-            feed(&mut |post| {
-                let lane = hasher.hash_one(&post.sender) as usize % LANES;
-                lanes[lane].blocking_send(post).is_ok()
-            })
-        });
+        let mut choice = Choice::new(replay.purpose);
+        let fed = blocking(move || feed(&mut |post| lanes[choice.lane(&post)].blocking_send(post).is_ok()));
         let (fed, put) = tokio::join!(fed, replay.finish(tasks));
         // A lane that failed has its own reason, and the feed stops by it without one.
         fed?;
@@ -117,13 +139,13 @@ impl Replay {
     }
 
     async fn put(&self, post: &Post) -> Result<(), Doubt> {
-        let mut answer = self.gateway.post(&post.sender, &post.body).await?;
+        let mut answer = self.gateway.refill(&post.sender, &post.body).await?;
         for _ in 1..TRIES {
             if answer.status != 503 {
                 break;
             }
             self.make_room().await?;
-            answer = self.gateway.post(&post.sender, &post.body).await?;
+            answer = self.gateway.refill(&post.sender, &post.body).await?;
         }
         match answer.status {
             200 if crate::slot::foreign_of(&answer) == post.foreign => Ok(()),

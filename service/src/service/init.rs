@@ -21,6 +21,11 @@ pub fn is_process_1() -> bool {
     std::process::id() == 1
 }
 
+/// Takes every signal: who started this process may have blocked some, as process 1 does.
+pub fn take_signals() -> std::io::Result<()> {
+    Ok(SigSet::all().thread_unblock()?)
+}
+
 /// Runs this program once more with the same words, and ends as it ends.
 pub fn run() -> std::io::Result<ExitCode> {
     let mut signals = SigSet::empty();
@@ -28,7 +33,7 @@ pub fn run() -> std::io::Result<ExitCode> {
         .iter()
         .chain([&Signal::SIGCHLD])
         .for_each(|signal| signals.add(*signal));
-    signals.thread_block()?; // before the child: none of them is missed, and std gives the child an empty set
+    signals.thread_block()?; // before the child: none of them is missed
     let mut command = Command::new(std::env::current_exe()?);
     // A group of its own: a terminal's interrupt comes to it once, by this process.
     let service = Pid::from_raw(

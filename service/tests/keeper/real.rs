@@ -127,7 +127,7 @@ async fn foreign_points_are_counted_and_compared() {
 async fn series_are_forgotten_for_their_age_alone() {
     let Some(place) = Place::of_real() else { return };
     let mut settings = place.settings();
-    settings.forget = Some(Duration::from_secs(1));
+    settings.forget = Some(Duration::from_secs(3600));
     let run = place.run_with(settings).await;
     assert_eq!(run.post("A", point("a", 10, 20, 5)).await, all());
     assert_eq!(run.post("B", point("b", 10, 20, 5)).await, all());
@@ -139,6 +139,10 @@ async fn series_are_forgotten_for_their_age_alone() {
     );
     assert_eq!(run.order(Order::Renew).await, Done::Flushed { requests: 0 });
     assert_eq!(run.outbox.series_count(), 2, "they were just seen");
+    run.abort().await;
+    let mut settings = place.settings();
+    settings.forget = Some(Duration::from_secs(1));
+    let run = place.run_with(settings).await;
     tokio::time::sleep(Duration::from_millis(2500)).await;
     assert_eq!(run.order(Order::Renew).await, Done::Flushed { requests: 0 });
     assert_eq!(run.metrics.forgotten_series.get(), 1);
@@ -246,19 +250,19 @@ async fn many_series_are_flushed_side_by_side_and_primed() {
     let mut settings = place.settings();
     settings.gateway.flushers = 4;
     let run = place.run_with(settings).await;
-    for sender in ["A", "B"] {
-        assert_eq!(run.post(sender, many(sender, 1750, 10)).await, all());
+    for part in ["Aa", "Ab", "Ac", "Ba", "Bb", "Bc"] {
+        assert_eq!(run.post(&part[..1], many(part, 200, 10)).await, all());
     }
-    assert_eq!(run.checkpoint().await, 4);
-    assert_eq!(run.post("A", many("A", 1750, 20)).await, all());
-    assert!(run.kill_gateway());
-    let repeat = run.post_until_answered("B", many("B", 1750, 10)).await;
-    assert_eq!(message(&repeat), (400, "out of order: point 0, frontier 20"));
-    let other = run.post("B", many("A", 1750, 30)).await;
-    assert_eq!(message(&other), (400, "other writer: point 0"));
     assert_eq!(run.checkpoint().await, 2);
+    assert_eq!(run.post("A", many("Aa", 200, 20)).await, all());
+    assert!(run.kill_gateway());
+    let repeat = run.post_until_answered("B", many("Bc", 200, 10)).await;
+    assert_eq!(message(&repeat), (400, "out of order: point 0, frontier 20"));
+    let other = run.post("B", many("Ac", 200, 30)).await;
+    assert_eq!(message(&other), (400, "other writer: point 0"));
+    assert_eq!(run.checkpoint().await, 1);
     assert_eq!(run.metrics.faults.with_label_values(&["owner"]).get(), 0);
     let taken = run.stop().await;
-    assert_eq!(taken.len(), 3500);
-    assert_eq!(taken.values().map(|(sum, _)| sum).sum::<i64>(), 3 * 1750);
+    assert_eq!(taken.len(), 1200);
+    assert_eq!(taken.values().map(|(sum, _)| sum).sum::<i64>(), 1400);
 }

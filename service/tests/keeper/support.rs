@@ -15,7 +15,7 @@ use totxegun::otlp::series::{forwarded, Value};
 use totxegun::otlp::Outcome;
 use totxegun::slot::Slot;
 
-const PATIENCE: Duration = Duration::from_secs(30);
+const PATIENCE: Duration = Duration::from_secs(120);
 
 /// A folder, and a gateway program.
 pub struct Place {
@@ -92,6 +92,8 @@ impl Place {
 
     /// Does not wait for the gateway.
     pub fn begin(&self, settings: Settings) -> Run {
+        // Shown where a test fails.
+        let _ = tracing_subscriber::fmt().with_test_writer().try_init();
         let folder = Arc::new(Folder::open(&self.folder.path().join("data"), Durability::Process).unwrap());
         let (journal, outbox) = folder.slot(1).unwrap();
         let (outbox, metrics) = (Arc::new(outbox), Arc::new(Metrics::new().unwrap()));

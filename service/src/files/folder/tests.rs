@@ -14,7 +14,9 @@ fn epoch(folder: &Folder) -> String {
 #[test]
 #[ignore]
 fn has_a_folder() {
-    let Some(path) = std::env::var_os("TOTXEGUN_TEST_FOLDER") else { return };
+    let Some(path) = std::env::var_os("TOTXEGUN_TEST_FOLDER") else {
+        return;
+    };
     assert!(matches!(open(Path::new(&path)), Err(FolderFault::InUse(_))));
     println!("refused");
 }
@@ -24,9 +26,17 @@ fn a_second_service_is_refused_by_name_until_the_first_has_ended() {
     let place = tempfile::tempdir().unwrap();
     let first = open(place.path()).unwrap();
     let again = open(place.path()).err().unwrap().to_string();
-    assert!(again.contains("in use by another service") && again.contains(place.path().to_str().unwrap()), "{again}");
+    assert!(
+        again.contains("in use by another service") && again.contains(place.path().to_str().unwrap()),
+        "{again}"
+    );
     let mut this = std::process::Command::new(std::env::current_exe().unwrap());
-    this.args(["--exact", "--ignored", "--nocapture", "files::folder::tests::has_a_folder"]);
+    this.args([
+        "--exact",
+        "--ignored",
+        "--nocapture",
+        "files::folder::tests::has_a_folder",
+    ]);
     let other = this.env("TOTXEGUN_TEST_FOLDER", place.path()).output().unwrap();
     assert!(other.status.success() && String::from_utf8_lossy(&other.stdout).contains("refused"));
     drop(first);
@@ -39,16 +49,29 @@ fn all_of_it_is_its_owners_alone() {
     let path = place.path().join("new/folder");
     let folder = open(&path).unwrap();
     let (journal, _outbox) = folder.slot(0).unwrap();
-    journal.append(&Post { sender: "s".into(), foreign: 0, body: bytes::Bytes::from_static(b"{}") });
+    journal.append(&Post {
+        sender: "s".into(),
+        foreign: 0,
+        body: bytes::Bytes::from_static(b"{}"),
+    });
     folder.dead().unwrap().keep("0-e-1", "400", b"{}").unwrap();
     let mut left = vec![path];
     let mut files = 0;
     while let Some(path) = left.pop() {
         let about = std::fs::metadata(&path).unwrap();
         let mode = about.permissions().mode() & 0o777;
-        assert_eq!(mode, if about.is_dir() { 0o700 } else { 0o600 }, "{}", path.display());
+        assert_eq!(
+            mode,
+            if about.is_dir() { 0o700 } else { 0o600 },
+            "{}",
+            path.display()
+        );
         if about.is_dir() {
-            left.extend(std::fs::read_dir(&path).unwrap().map(|entry| entry.unwrap().path()));
+            left.extend(
+                std::fs::read_dir(&path)
+                    .unwrap()
+                    .map(|entry| entry.unwrap().path()),
+            );
         } else {
             files += 1;
         }
@@ -69,7 +92,11 @@ fn the_epoch_stays_until_the_folder_is_copied_or_it_is_renewed() {
     let folder = open(&first).unwrap();
     assert_eq!(epoch(&folder), drawn);
     // An inode that is free is soon used again, so the first folder stays while it is copied.
-    let copied = std::process::Command::new("cp").arg("-a").args([&first, &second]).status().unwrap();
+    let copied = std::process::Command::new("cp")
+        .arg("-a")
+        .args([&first, &second])
+        .status()
+        .unwrap();
     assert!(copied.success());
     let copy = open(&second).unwrap();
     assert_ne!(epoch(&copy), drawn);
@@ -89,7 +116,12 @@ fn a_later_or_missing_version_is_refused_by_name() {
     let refused = || open(place.path()).err().unwrap().to_string();
     std::fs::write(&version, text.replacen("totxegun 1", "totxegun 2", 1)).unwrap();
     assert!(refused().contains("format version 2"), "{}", refused());
-    for wrong in ["", "totxegun\n", "totxegun 1\nepoch 12\nlock 1\n", "totxegun 1\nepoch 0123456789abcdef\n"] {
+    for wrong in [
+        "",
+        "totxegun\n",
+        "totxegun 1\nepoch 12\nlock 1\n",
+        "totxegun 1\nepoch 0123456789abcdef\n",
+    ] {
         std::fs::write(&version, wrong).unwrap();
         assert!(refused().contains("put a copy"), "{}", refused());
     }

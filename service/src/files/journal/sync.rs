@@ -13,7 +13,7 @@ const IDLE: Duration = Duration::from_secs(1);
 #[derive(Default)]
 pub struct Waiters {
     list: Vec<(u64, oneshot::Sender<()>)>,
-    ending: bool,
+    pub(super) ending: bool,
 }
 
 impl Shared {

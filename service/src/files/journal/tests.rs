@@ -5,8 +5,18 @@ use std::sync::atomic::{AtomicBool, AtomicUsize};
 use std::sync::mpsc;
 use std::time::Duration;
 
+fn open_from(disk: &Disk, path: &Path, durability: Durability, reach: u64) -> Result<Journal, Fault> {
+    Journal::open(
+        disk,
+        path,
+        durability,
+        Arc::new(Room::new(Path::new("/"))?),
+        reach,
+    )
+}
+
 fn open_on(disk: &Disk, path: &Path, durability: Durability) -> Result<Journal, Fault> {
-    Journal::open(disk, path, durability, Arc::new(Room::new(Path::new("/"))?), 1)
+    open_from(disk, path, durability, 1)
 }
 
 fn open(path: &Path) -> Journal {
@@ -14,7 +24,11 @@ fn open(path: &Path) -> Journal {
 }
 
 fn post(text: &str) -> Post {
-    Post { sender: format!("sender {}", text.len()), foreign: text.len() as u64, body: Bytes::from(text.to_string()) }
+    Post {
+        sender: format!("sender {}", text.len()),
+        foreign: text.len() as u64,
+        body: Bytes::from(text.to_string()),
+    }
 }
 
 fn append(journal: &Journal, text: &str) {
@@ -41,11 +55,8 @@ fn kill(mut journal: Journal) {
     std::mem::forget(journal);
 }
 
-/// The bytes of a segment without the zeros behind its records.
 fn bytes(path: &Path) -> Vec<u8> {
-    let mut bytes = std::fs::read(path).unwrap();
-    bytes.truncate(bytes.iter().rposition(|byte| *byte != 0).unwrap() + 1);
-    bytes
+    std::fs::read(path).unwrap()
 }
 
 fn damaged_at(opened: Result<Journal, Fault>) -> Option<u64> {
@@ -77,10 +88,19 @@ fn posts_come_back_in_order_and_copies_only_where_they_are_first() {
     let journal = open(folder.path());
     check(&journal);
     let mut some = Vec::new();
-    journal.posts(1, 2, |post| { some.push(post.foreign); false }).unwrap();
+    journal
+        .posts(1, 2, |post| {
+            some.push(post.foreign);
+            false
+        })
+        .unwrap();
     assert_eq!(some, [1]);
     journal.forget(2).unwrap();
-    assert_eq!(texts(&journal, 0), ["ccc"], "copies count where their segment is the first that is replayed");
+    assert_eq!(
+        texts(&journal, 0),
+        ["ccc"],
+        "copies count where their segment is the first that is replayed"
+    );
     assert_eq!(texts(&journal, 2), ["bb", "ccc"]);
 }
 
@@ -103,7 +123,11 @@ fn a_torn_record_is_cut_wherever_it_was_torn() {
             assert_eq!(texts(&journal, 1), ["first", "second"], "{cut} {zeros}");
             journal.append(&post("another"));
             kill(journal);
-            assert_eq!(texts(&open(torn.path()), 1), ["first", "second", "another"], "{cut} {zeros}");
+            assert_eq!(
+                texts(&open(torn.path()), 1),
+                ["first", "second", "another"],
+                "{cut} {zeros}"
+            );
         }
     }
 }
@@ -125,7 +149,14 @@ fn a_changed_byte_in_the_middle_is_named_and_nothing_is_deleted() {
         std::fs::write(&path, &changed).unwrap();
         let found = damaged_at(open_on(&Disk::default(), folder.path(), Durability::Process));
         let begin = found.unwrap_or_else(|| panic!("byte {at} was not missed")) as usize;
-        assert!(if at < header { begin == 0 } else { (header..=at).contains(&begin) }, "{at} {begin}");
+        assert!(
+            if at < header {
+                begin == 0
+            } else {
+                (header..=at).contains(&begin)
+            },
+            "{at} {begin}"
+        );
         assert_eq!(std::fs::read(&path).unwrap(), changed);
     }
     std::fs::write(&path, &sound).unwrap();
@@ -144,7 +175,10 @@ fn in_a_segment_that_was_ended_each_changed_or_missing_byte_is_named() {
         let mut changed = sound.clone();
         changed[at] ^= 1;
         std::fs::write(&path, &changed).unwrap();
-        assert!(damaged_at(open_on(&Disk::default(), folder.path(), Durability::Process)).is_some(), "{at}");
+        assert!(
+            damaged_at(open_on(&Disk::default(), folder.path(), Durability::Process)).is_some(),
+            "{at}"
+        );
     }
 }
 
@@ -158,12 +192,25 @@ fn a_later_version_and_a_missing_segment_are_refused_by_name() {
     let path = segment::path(folder.path(), 2);
     let sound = std::fs::read(&path).unwrap();
     std::fs::remove_file(&path).unwrap();
-    let fault = open_on(&Disk::default(), folder.path(), Durability::Process).err().unwrap().to_string();
-    assert!(fault.contains("000000000002.seg") && fault.contains("missing"), "{fault}");
+    let fault = open_on(&Disk::default(), folder.path(), Durability::Process)
+        .err()
+        .unwrap()
+        .to_string();
+    assert!(
+        fault.contains("000000000002.seg") && fault.contains("missing"),
+        "{fault}"
+    );
     let mut later = Vec::new();
-    records::put(&mut later, records::HEADER, &[b"totxegun", &2u16.to_le_bytes(), b"what comes"]);
+    records::put(
+        &mut later,
+        records::HEADER,
+        &[b"totxegun", &2u16.to_le_bytes(), b"what comes"],
+    );
     std::fs::write(&path, &later).unwrap();
-    let fault = open_on(&Disk::default(), folder.path(), Durability::Process).err().unwrap().to_string();
+    let fault = open_on(&Disk::default(), folder.path(), Durability::Process)
+        .err()
+        .unwrap()
+        .to_string();
     assert!(fault.contains("format version 2"), "{fault}");
     std::fs::write(&path, &sound).unwrap();
     open(folder.path());
@@ -187,7 +234,12 @@ fn what_follows_a_torn_segment_goes_with_it_unless_it_was_durable() {
         kill(journal);
         let path = segment::path(folder.path(), 1);
         let length = bytes(&path).len();
-        File::options().write(true).open(&path).unwrap().set_len(length as u64 - 20).unwrap();
+        File::options()
+            .write(true)
+            .open(&path)
+            .unwrap()
+            .set_len(length as u64 - 20)
+            .unwrap();
         let opened = open_on(&Disk::default(), folder.path(), Durability::Process);
         if durable {
             assert!(damaged_at(opened).is_some());
@@ -236,7 +288,9 @@ async fn a_process_only_journal_waits_for_nothing() {
     let journal = open(folder.path());
     let _held = lock(&journal.shared.syncing);
     let ticket = journal.append(&post("a"));
-    tokio::time::timeout(Duration::from_secs(5), journal.durable(ticket)).await.unwrap();
+    tokio::time::timeout(Duration::from_secs(5), journal.durable(ticket))
+        .await
+        .unwrap();
 }
 
 #[tokio::test(flavor = "multi_thread")]
@@ -253,7 +307,11 @@ async fn after_a_failed_sync_nobody_is_told_and_nothing_is_tried_again() {
     let journal = open_on(&disk, folder.path(), Durability::Disk).unwrap();
     fails.store(true, SeqCst);
     let ticket = journal.append(&post("a"));
-    assert!(tokio::time::timeout(Duration::from_millis(1500), journal.durable(ticket)).await.is_err());
+    assert!(
+        tokio::time::timeout(Duration::from_millis(1500), journal.durable(ticket))
+            .await
+            .is_err()
+    );
     assert!(told.recv().unwrap().contains("no disk"));
     assert_eq!(calls.load(SeqCst), 1);
     std::mem::forget(journal);
@@ -263,12 +321,16 @@ async fn after_a_failed_sync_nobody_is_told_and_nothing_is_tried_again() {
 #[test]
 #[ignore]
 fn ends_by_its_disk() {
-    let Some(folder) = std::env::var_os("TOTXEGUN_TEST_FOLDER") else { return };
+    let Some(folder) = std::env::var_os("TOTXEGUN_TEST_FOLDER") else {
+        return;
+    };
     let calls = AtomicUsize::new(0);
-    let disk = Disk::failing(move |call, _| match call == Call::Write && calls.fetch_add(1, SeqCst) > 4 {
-        true => Err(std::io::ErrorKind::StorageFull.into()),
-        false => Ok(()),
-    });
+    let disk = Disk::failing(
+        move |call, _| match call == Call::Write && calls.fetch_add(1, SeqCst) > 4 {
+            true => Err(std::io::ErrorKind::StorageFull.into()),
+            false => Ok(()),
+        },
+    );
     let journal = open_on(&disk, Path::new(&folder), Durability::Process).unwrap();
     (0..100).for_each(|_| append(&journal, "a"));
 }
@@ -277,11 +339,19 @@ fn ends_by_its_disk() {
 fn a_failed_write_ends_the_process_with_a_named_line() {
     let folder = tempfile::tempdir().unwrap();
     let mut this = std::process::Command::new(std::env::current_exe().unwrap());
-    this.args(["--exact", "--ignored", "--nocapture", "files::journal::tests::ends_by_its_disk"]);
+    this.args([
+        "--exact",
+        "--ignored",
+        "--nocapture",
+        "files::journal::tests::ends_by_its_disk",
+    ]);
     let ended = this.env("TOTXEGUN_TEST_FOLDER", folder.path()).output().unwrap();
     let line = String::from_utf8_lossy(&ended.stderr);
     assert_eq!(ended.status.code(), Some(FAILED), "{line}");
-    assert!(line.contains("the disk failed") && line.contains("000000000001.seg"), "{line}");
+    assert!(
+        line.contains("the disk failed") && line.contains("000000000001.seg"),
+        "{line}"
+    );
     assert!(!texts(&open(folder.path()), 1).is_empty());
 }
 
@@ -300,7 +370,11 @@ fn what_was_copied_is_durable_before_its_first_place_is_deleted() {
     journal.append_copy(&post("a"));
     journal.forget(2).unwrap();
     let calls = calls.lock().unwrap();
-    let position = |call, number| calls.iter().rposition(|one| *one == (call, segment::path(folder.path(), number)));
+    let position = |call, number| {
+        calls
+            .iter()
+            .rposition(|one| *one == (call, segment::path(folder.path(), number)))
+    };
     assert!(position(Call::Sync, 2).unwrap() < position(Call::Remove, 1).unwrap());
     assert!(position(Call::Write, 2).unwrap() < position(Call::Sync, 2).unwrap());
 }
@@ -323,7 +397,10 @@ struct Numbers(u64);
 
 impl Numbers {
     fn below(&mut self, end: u64) -> u64 {
-        self.0 = self.0.wrapping_mul(6364136223846793005).wrapping_add(1442695040888963407);
+        self.0 = self
+            .0
+            .wrapping_mul(6364136223846793005)
+            .wrapping_add(1442695040888963407);
         (self.0 >> 33) % end
     }
 }
@@ -333,23 +410,31 @@ fn it_is_as_a_list_in_memory_over_any_calls_and_starts() {
     for seed in 0..12 {
         let mut numbers = Numbers(seed);
         let folder = tempfile::tempdir().unwrap();
-        let mut journal = open(folder.path());
+        let open = |reach| open_from(&Disk::default(), folder.path(), Durability::Process, reach).unwrap();
+        let mut journal = open(1);
         let mut model: Vec<(u64, bool, String)> = Vec::new();
-        let mut segment = 1;
+        let (mut segment, mut reach) = (1, 1);
         for step in 0..60 {
             let text = format!("{step:>0width$}", width = numbers.below(900) as usize);
             match numbers.below(10) {
-                0..=3 => { journal.append(&post(&text)); model.push((segment, false, text)); }
-                4 => { journal.append_copy(&post(&text)); model.push((segment, true, text)); }
+                0..=3 => {
+                    journal.append(&post(&text));
+                    model.push((segment, false, text));
+                }
+                4 => {
+                    journal.append_copy(&post(&text));
+                    model.push((segment, true, text));
+                }
                 5 => segment = journal.turn().0,
                 6 => {
                     let before = numbers.below(segment + 1);
                     journal.forget(before).unwrap();
+                    reach = reach.max(before);
                     model.retain(|one| one.0 >= before);
                 }
                 7 => {
                     drop(journal);
-                    journal = open(folder.path());
+                    journal = open(reach);
                     segment += 1;
                 }
                 _ => {
@@ -358,16 +443,23 @@ fn it_is_as_a_list_in_memory_over_any_calls_and_starts() {
                     let mut torn = Vec::new();
                     records::put(&mut torn, POST, &[&vec![7; numbers.below(2000) as usize]]);
                     torn.truncate(numbers.below(torn.len() as u64) as usize);
-                    let file = File::options().write(true).open(segment::path(folder.path(), segment)).unwrap();
+                    let file = File::options()
+                        .write(true)
+                        .open(segment::path(folder.path(), segment))
+                        .unwrap();
                     std::os::unix::fs::FileExt::write_all_at(&file, &torn, at).unwrap();
-                    journal = open(folder.path());
+                    journal = open(reach);
                     segment += 1;
                 }
             }
             let first = numbers.below(segment + 1);
-            let counts = |one: &&(u64, bool, String)| one.0 > first || (one.0 == first && first > 0) && one.0 >= first;
-            let expected: Vec<_> = model.iter().filter(counts).filter(|one| !one.1 || one.0 == first).map(|one| &one.2).collect();
-            assert_eq!(texts(&journal, first).iter().collect::<Vec<_>>(), expected, "seed {seed} step {step}");
+            let counts = |one: &&(u64, bool, String)| one.0 >= first && (!one.1 || one.0 == first);
+            let expected: Vec<_> = model.iter().filter(counts).map(|one| &one.2).collect();
+            assert_eq!(
+                texts(&journal, first).iter().collect::<Vec<_>>(),
+                expected,
+                "seed {seed} step {step}"
+            );
         }
     }
 }

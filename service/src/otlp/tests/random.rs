@@ -199,7 +199,7 @@ fn both_encodings_of_a_request_mean_the_same() {
 #[test]
 fn cut_and_changed_bytes_never_panic() {
     let mut random = Random(7);
-    for _ in 0..10 {
+    for _ in 0..3 {
         let request = random.request();
         let spelling = Spelling {
             proto_names: false,
@@ -210,7 +210,7 @@ fn cut_and_changed_bytes_never_panic() {
             (Encoding::Protobuf, request.encode_to_vec()),
             (Encoding::Json, spelling.request(&request).into_bytes()),
         ] {
-            for place in 0..body.len() {
+            for place in (0..body.len()).step_by(1 + body.len() / 500) {
                 let cut = prepared(encoding, body[..place].to_vec());
                 assert!(encoding == Encoding::Protobuf || cut.is_err());
                 let mut changed = body.clone();
