@@ -3,7 +3,7 @@ use Rattle.std.specs.Prelude.{ℕ, ◌≤◌, ◌<◌, List, ◌++◌, length, O
 use Rattle.httparse.specs.declared.spans.HeaderSpan.{HeaderSpan}
 use Rattle.httparse.specs.declared.spans.RequestSpans.{RequestSpans}
 use Rattle.httparse.specs.Grammar.{RequestHead, print_request, ReadsRequest, HasNoRequest}
-use Rattle.httparse.specs.Grammar.{NeverHasRequest}
+use Rattle.httparse.specs.Grammar.{NeverHasRequest, MayBecomeRequest}
 use Rattle.httparse.specs.Spans.{IsRequestAt, IsRequestWithin, RequestOverflows, RequestExceeds}
 use Rattle.http_edge.specs.declared.fault.HttpFault.{HttpFault}
 use Rattle.http_edge.specs.declared.fault.HttpFault.TheVariants.{BadHead, TooManyHeaders}
@@ -30,7 +30,7 @@ HasLongHead buf =
 
 abbrev pub LooksForHead : List ℕ → List HeaderSpan → Result (Option RequestSpans) HttpFault → Type 0
 LooksForHead buf spans (Ok (Some r)) = (head : RequestHead) × FindsHead buf spans r head
-LooksForHead buf spans (Ok None) = HasNoRequest buf × (length buf < MAX_HEAD)
+LooksForHead buf spans (Ok None) = HasNoRequest buf × (length buf < MAX_HEAD) × MayBecomeRequest buf
 LooksForHead buf spans (Err BadHead) = NeverHasRequest buf
 LooksForHead buf spans (Err TooManyHeaders) = HasTooManyFields buf
 LooksForHead buf spans (Err HeadTooLong) = HasLongHead buf

@@ -2,7 +2,7 @@
 use Rattle.std.specs.Prelude.{◌≡◌, ◌≢◌, ℕ, ◌<◌, ◌≤◌, List, [], ◌∷◌, ◌++◌, length, map, Option, Some}
 use Rattle.std.specs.Prelude.{None, option_map, Result, Ok, Err, codes, ⊤}
 use Rattle.httparse.specs.Grammar.{ResponseHead, print_response, ReadsResponse, HasNoResponse}
-use Rattle.httparse.specs.Grammar.{NeverHasResponse, status_code}
+use Rattle.httparse.specs.Grammar.{NeverHasResponse, MayBecomeResponse, status_code}
 use Rattle.httparse.specs.Spans.{name_and_value, ResponseOverflows, ResponseExceeds}
 use Rattle.http_edge.specs.declared.fault.HttpFault.{HttpFault}
 use Rattle.http_edge.specs.declared.fault.HttpFault.TheVariants.{Closed, BadHead, TooManyHeaders}
@@ -75,7 +75,7 @@ reply_form =
 -- what a look for a reply answers
 abbrev pub LooksForReply : List ℕ → Result (Option Reply) HttpFault → Type 0
 LooksForReply buf (Ok (Some r)) = BeginsWithReply buf (reply_in r)
-LooksForReply buf (Ok None) = HasNoResponse buf × (length buf < MAX_HEAD)
+LooksForReply buf (Ok None) = HasNoResponse buf × (length buf < MAX_HEAD) × MayBecomeResponse buf
 LooksForReply buf (Err e) = IsLasting e × ExplainsReply e buf
 
 -- what an answer says of all the bytes of a source
