@@ -1,8 +1,11 @@
 -- What a machine holds, step by step.
-use Rattle.std.proofs.Common.{◌≡◌, ◌≢◌, ℕ, ◌-◌, ◌<◌, ◌≤◌, Bool, true, false, List, [], ◌∷◌, ◌++◌, length, map, drop, take, min, Option, Some, None, Ok, Err, refl, sym, ap, subst, ◌∙◌, arith, append_assoc}
+use Rattle.std.proofs.Common.{◌≡◌, ◌≢◌, ℕ, ◌-◌, ◌<◌, ◌≤◌, Bool, true, false, zero, suc, List, [], ◌∷◌, ◌++◌, length, map, drop, take, min, Option, Some, None, Ok, Err, inl, refl, sym, ap, subst, ◌∙◌, arith, append_assoc}
 use Rattle.std.specs.Prelude.{Result, IfOk, IfErr}
+use Rattle.std.proofs.lemmas.Str.{IsUtf8-from_ascii}
+use Rattle.std.proofs.lemmas.List.Elements.{All-cons, All-nil}
+use Rattle.std.specs.Prelude.{IsAscii}
 use Rattle.std.proofs.lemmas.List.{length-append, length-take, length-drop, append-nil, take-append-drop, take_at, nil_from_length}
-use Rattle.httparse.specs.Grammar.{RequestHead, print_request, ReadsRequest, HasNoRequest}
+use Rattle.httparse.specs.Grammar.{RequestHead, print_request, ReadsRequest, HasNoRequest, MayBecomeRequest, lf, is_token_byte, is_uri_byte}
 use Rattle.httparse.specs.declared.spans.HeaderSpan.{HeaderSpan}
 use Rattle.httparse.specs.declared.spans.RequestSpans.{RequestSpans}
 use Rattle.httparse.specs.Spans.{IsRequestAt, header_bytes}
@@ -18,18 +21,18 @@ use Rattle.http_edge.specs.Framing.{framing_by, Frames}
 use Rattle.http_edge.specs.Chunks.{HasTrailer, HasChunks}
 use Rattle.http_edge.specs.Head.{FindsHead}
 use Rattle.http_edge.specs.Reading.{HasBody, framing_in, message_of, Reads, BeginsWith, NotYet}
-use Rattle.http_edge.specs.Body.{BodyState, Becomes, IsOpen, is_whole, Reaches, Refuses}
+use Rattle.http_edge.specs.Body.{BodyState, Becomes, Grows, IsOpen, is_whole, Reaches, Refuses}
 use Rattle.http_edge.specs.Answer.{Fails, Reports}
 use Rattle.http_edge.specs.Holds.{Progress, in_head, in_body, failed, start, IsBehind, Holds, IsSound, IsFramed, Starts, EndsHead, Advances, Stops, fault_in, is_done}
 use Rattle.http_edge.proofs.ListLemmas.{text_taken, EndsIn}
 use Rattle.http_edge.proofs.ChunkLemmas.{no_chunks}
-use Rattle.http_edge.proofs.BodyLemmas.{at, no_line_yet}
+use Rattle.http_edge.proofs.BodyLemmas.{at, no_line_yet, line_may_come}
 use Rattle.http_edge.proofs.FaultLemmas.{IsHeadAt-append}
 
 -- ---- how a body begins
 
 pub starts_chunked : Starts Chunked (at Line [] [])
-starts_chunked = record { opened = (omega arith, omega arith, no_line_yet); forward = λ more o h. h; backward = λ more o h. h; less = omega arith }
+starts_chunked = record { opened = (omega arith, omega arith, no_line_yet, line_may_come); forward = λ more o h. h; backward = λ more o h. h; less = omega arith; empty = refl }
 
 empty_forward : (more : List ℕ) (o : Option (List ℕ)) → HasBody (Some (Sized 0)) more o → Becomes (at Whole [] []) more o
 empty_forward more (Some body) h = nil_from_length body h.1
@@ -40,7 +43,7 @@ empty_backward more (Some body) h = (omega arith, ap length h, (more, ap (λ s. 
 empty_backward more None h = absurd h
 
 pub starts_empty : Starts (Sized 0) (at Whole [] [])
-starts_empty = record { opened = (omega arith, refl); forward = empty_forward; backward = empty_backward; less = omega arith }
+starts_empty = record { opened = (omega arith, refl); forward = empty_forward; backward = empty_backward; less = omega arith; empty = refl }
 
 -- ---- a head that is whole
 
@@ -89,6 +92,9 @@ nothing_fed head bytes k w body is short at framed starts =
       bounded = λ e. omega (arith, ap length is, short, starts.less);
       forward = λ more o h. starts.forward more o (subst (λ (f : Option Framing). HasBody f more o) framed h);
       backward = λ more o h. subst (λ (f : Option Framing). HasBody f more o) (sym framed) (starts.backward more o h);
+      past = [];
+      fed_is = sym starts.empty;
+      before_part = λ more o h. subst (λ (f : Option Framing). HasBody f more o) (sym framed) (starts.backward more o (subst (λ (p : List ℕ). Grows body.phase body.content p more o) (sym starts.empty) h));
     }
 
 -- ---- behind a head
@@ -157,6 +163,9 @@ goes_on_behind head old new piece short reaches = record {
       bounded = λ e. omega (arith, h.2.bounded (reaches.kept e), reaches.less e, length-append bytes piece);
       forward = λ more o x. reaches.steps.forward more o (h.2.forward (piece ++ more) o (subst (λ (s : List ℕ). HasBody (framing_in h.0) s o) (append_assoc h.1 piece more) x));
       backward = λ more o x. subst (λ (s : List ℕ). HasBody (framing_in h.0) s o) (sym (append_assoc h.1 piece more)) (h.2.backward (piece ++ more) o (reaches.steps.backward more o x));
+      past = h.2.past ++ reaches.splits.past;
+      fed_is = ap (λ s. s ++ piece) h.2.fed_is ∙ append_assoc h.2.past old.part piece ∙ ap (λ s. h.2.past ++ s) reaches.splits.are ∙ sym (append_assoc h.2.past reaches.splits.past new.part);
+      before_part = λ more o x. subst (λ (s : List ℕ). HasBody (framing_in h.0) s o) (sym (append_assoc h.2.past reaches.splits.past more)) (h.2.before_part (reaches.splits.past ++ more) o (reaches.splits.backward more o x));
     },
   );
   less = reaches.less;
@@ -215,7 +224,7 @@ reports_in_body head bytes fed body k true e opened is =
 reports_in_body head bytes fed body k false e opened is = not_yet_in_body head bytes fed body k opened (sym e) is
 
 pub reports_at : (p : Progress) (bytes : List ℕ) → IsSound p → fault_in p ≡ None → Holds p bytes → Reports bytes (Ok (is_done p))
-reports_at (in_head head) bytes sound fine h = not_yet_in_head head bytes sound.1 h
+reports_at (in_head head) bytes sound fine h = not_yet_in_head head bytes sound.0 h
 reports_at (in_body head body) bytes sound fine h = reports_in_body head bytes h.1 body h.0 (is_whole body.phase) refl sound.1 h.2
 reports_at (failed e) bytes sound fine h = absurd cc
 
@@ -246,8 +255,37 @@ stops_behind e part text piece n w first ends starts refuses bytes h =
 
 -- ---- before the first byte, and at an answer
 
+target_is_ascii : IsAscii (47 ∷ [])
+target_is_ascii zero = omega arith
+target_is_ascii (suc i) = omega arith
+
+letter_is_token : is_token_byte 65 ≡ true
+unfolding is_token_byte
+letter_is_token = refl
+
+abbrev first_head : RequestHead
+first_head = record { blank = []; method = 65 ∷ []; target = 47 ∷ []; minor = 0; line_end = lf; fields = []; last = lf }
+
+-- any head may follow where there is no byte of one
+head_may_come : MayBecomeRequest []
+head_may_come =
+    inl (
+      print_request first_head,
+      first_head,
+      (
+        record {
+          method = (omega arith, All-cons (λ b. is_token_byte b ≡ true) 65 [] letter_is_token (All-nil _));
+          target = (omega arith, All-cons (λ b. is_uri_byte b ≡ true) 47 [] refl (All-nil _));
+          target_text = IsUtf8-from_ascii (47 ∷ []) target_is_ascii;
+          minor = omega arith;
+          fields = All-nil _;
+        },
+        sym (append-nil (print_request first_head)),
+      ),
+    )
+
 pub start_is_sound : IsSound start
-start_is_sound = (omega arith, λ k rest r. omega (arith, ap length r.1, length-append (print_request k) rest, no_bytes k))
+start_is_sound = (λ k rest r. omega (arith, ap length r.1, length-append (print_request k) rest, no_bytes k), omega arith, head_may_come)
 
 pub reports_of : (r : Result Bool HttpFault) (old new : Progress) (piece bytes : List ℕ) → IfOk r (Advances old new piece) → IfErr r (Stops old piece) → Holds old bytes → Reports (bytes ++ piece) r
 reports_of (Err e) old new piece bytes ok err h = err bytes h

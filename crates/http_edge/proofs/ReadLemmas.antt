@@ -10,7 +10,8 @@ use Rattle.http_edge.specs.Message.{Message}
 use Rattle.http_edge.specs.Reading.{BeginsWith, NotYet}
 use Rattle.http_edge.specs.Form.{IsAnswer, IsClosed}
 use Rattle.http_edge.specs.Answer.{Explains, request_form, Fails}
-use Rattle.http_edge.specs.Holds.{Progress, Holds, fault_in}
+use Rattle.http_edge.specs.Delivery.{IsStillOpen}
+use Rattle.http_edge.specs.Holds.{Progress, Holds, IsSound, fault_in}
 use Rattle.http_edge.proofs.FaultLemmas.{fails_more}
 use Rattle.http_edge.proofs.MachineLemmas.{not_yet_in_head, start_is_sound}
 use Rattle.http_edge.proofs.FormLemmas.{Said, known_front, said_of_front}
@@ -25,7 +26,7 @@ pub record Fed (old now : Option (List ℕ)) (p : Progress) (fed : List ℕ) : T
   pub is_open : NotYet fed
 
 nothing_yet : NotYet []
-nothing_yet = not_yet_in_head [] [] start_is_sound.1 refl
+nothing_yet = not_yet_in_head [] [] start_is_sound.0 refl
 
 pub begins : (old : Option (List ℕ)) (p : Progress) → Holds p [] → fault_in p ≡ None → Fed old old p []
 begins None p holds fine = record { holds = holds; known = tt; fine = fine; is_open = nothing_yet }
@@ -33,6 +34,9 @@ begins (Some bytes) p holds fine = record { holds = holds; known = refl; fine = 
 
 pub goes_on : (old now next : Option (List ℕ)) (p q : Progress) (fed piece : List ℕ) → Fed old now p fed → Consumes now next piece → Holds q (fed ++ piece) → fault_in q ≡ None → NotYet (fed ++ piece) → Fed old next q (fed ++ piece)
 goes_on old now next p q fed piece so took holds fine none = record { holds = holds; known = known_more old now next fed piece so.known took; fine = fine; is_open = none }
+
+pub still_open : (old now : Option (List ℕ)) (p : Progress) (fed : List ℕ) → IsSound p → Fed old now p fed → IsStillOpen fed
+still_open old now p fed sound so = (so.is_open, (p, (so.holds, sound, so.fine)))
 
 -- once a message was fed
 pub at_message : (old now : Option (List ℕ)) (fed : List ℕ) (r : Result Request HttpFault) (m : Message) → Consumes old now fed → BeginsWith fed m → IsAnswer request_form fed r → Said request_form old r

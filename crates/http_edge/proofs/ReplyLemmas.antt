@@ -1,9 +1,11 @@
 -- The head of a response that is being read.
 use Rattle.std.proofs.Common.{◌≡◌, ◌≢◌, ℕ, ◌+◌, ◌<◌, ◌≤◌, true, false, List, [], ◌∷◌, ◌++◌, length, map, take, drop, get_or, Option, Some, None, Ok, Err, refl, sym, ap, subst, ◌∙◌, arith, append_assoc}
 use Rattle.std.specs.Prelude.{codes}
+use Rattle.std.specs.Char.{is_ascii_digit}
+use Rattle.std.proofs.lemmas.List.Elements.{All-cons, All-nil}
 use Rattle.std.proofs.lemmas.List.{length-append, append-nil, take-append-drop, map-append, length-map, length-take-le}
 use Rattle.std.specs.Io.KnownBytes.{Consumes}
-use Rattle.httparse.specs.Grammar.{ResponseHead, print_response, ReadsResponse, HasNoResponse}
+use Rattle.httparse.specs.Grammar.{ResponseHead, print_response, ReadsResponse, HasNoResponse, MayBecomeResponse, lf}
 use Rattle.httparse.specs.declared.spans.HeaderSpan.{HeaderSpan}
 use Rattle.httparse.specs.declared.spans.ResponseSpans.{ResponseSpans}
 use Rattle.httparse.specs.Spans.{header_bytes, name_and_value, IsSectionWithin, IsResponseAt as IsResponseIn}
@@ -13,7 +15,7 @@ use Rattle.http_edge.specs.declared.fault.HttpFault.TheVariants.{Closed, BadHead
 use Rattle.http_edge.specs.declared.reply.Reply.{Reply}
 use Rattle.http_edge.specs.Message.{Header}
 use Rattle.http_edge.specs.Framing.{is_named, values_of}
-use Rattle.http_edge.specs.Reply.{ReplyHead, first_of, reply_of, reply_in, BeginsWithReply, NoReply, ExplainsReply, reply_form}
+use Rattle.http_edge.specs.Reply.{ReplyHead, first_of, reply_of, reply_in, BeginsWithReply, NoReply, IsReplyOpen, ExplainsReply, reply_form}
 use Rattle.http_edge.specs.Form.{IsLasting}
 use Rattle.http_edge.proofs.FormLemmas.{IsSilent, Laws, Said, BeginsAs, known_front, shorter_front, said_of_front}
 use Rattle.http_edge.proofs.SourceLemmas.{known_more}
@@ -30,6 +32,26 @@ some_bytes bytes after k r = omega (arith, ap length r.1, length-append (print_r
 
 pub none_at_first : HasNoResponse []
 none_at_first k after r = omega (arith, some_bytes [] after k r)
+
+abbrev first_reply : ResponseHead
+first_reply = record { blank = []; minor = 0; digits = 50 ∷ 48 ∷ 48 ∷ []; reason = None; line_end = lf; fields = []; last = lf }
+
+-- any head may follow where there is no byte of one
+reply_may_come : MayBecomeResponse []
+reply_may_come =
+    let P : ℕ → Type 0 = λ b. is_ascii_digit b ≡ true in (
+      print_response first_reply,
+      first_reply,
+      (
+        record {
+          minor = omega arith;
+          digits = (refl, All-cons P 50 (48 ∷ 48 ∷ []) refl (All-cons P 48 (48 ∷ []) refl (All-cons P 48 [] refl (All-nil P))));
+          reason = All-nil _;
+          fields = All-nil _;
+        },
+        sym (append-nil (print_response first_reply)),
+      ),
+    )
 
 -- ---- a head that was found
 
@@ -135,13 +157,14 @@ pub record HeadSoFar (old now : Option (List ℕ)) (kept : List ℕ) : Type 0 wh
   pub known : Consumes old now kept
   pub none : HasNoResponse kept
   pub short : length kept < 16384
+  pub unfinished : MayBecomeResponse kept
 
 pub begins : (old : Option (List ℕ)) → HeadSoFar old old []
-begins None = record { known = tt; none = none_at_first; short = omega arith }
-begins (Some bytes) = record { known = refl; none = none_at_first; short = omega arith }
+begins None = record { known = tt; none = none_at_first; short = omega arith; unfinished = reply_may_come }
+begins (Some bytes) = record { known = refl; none = none_at_first; short = omega arith; unfinished = reply_may_come }
 
-pub no_reply : (old now : Option (List ℕ)) (kept : List ℕ) → HeadSoFar old now kept → NoReply kept
-no_reply old now kept so k after b = so.none k after b.reads
+pub reply_open : (old now : Option (List ℕ)) (kept : List ℕ) → HeadSoFar old now kept → IsReplyOpen kept
+reply_open old now kept so = (so.none, so.short, so.unfinished)
 
 -- the front of a piece was kept
 pub grows : (old now next : Option (List ℕ)) (kept piece front back new : List ℕ) → Consumes old now kept → Consumes now next piece → piece ≡ front ++ back → new ≡ kept ++ front → BeginsAs old new

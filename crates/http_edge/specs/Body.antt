@@ -1,7 +1,8 @@
 -- What a body that is being read can still become.
 use Rattle.std.specs.Prelude.{◌≡◌, ℕ, ◌+◌, ◌-◌, ◌*◌, ◌<◌, ◌≤◌, Bool, true, false, List, [], ◌∷◌}
 use Rattle.std.specs.Prelude.{◌++◌, length, take, Option, Some, None, Result, Ok, Err, ⊤}
-use Rattle.httparse.specs.Grammar.{HasNoChunkLine, HasNoSection}
+use Rattle.httparse.specs.Grammar.{HasNoChunkLine, MayBecomeChunkLine, HasNoSection}
+use Rattle.httparse.specs.Grammar.{MayBecomeSection}
 use Rattle.http_edge.specs.declared.fault.HttpFault.{HttpFault}
 use Rattle.http_edge.specs.declared.fault.HttpFault.TheVariants.{BodyTooLong, BadChunk, NoMemory}
 use Rattle.http_edge.specs.declared.phase.Phase.{Phase}
@@ -43,16 +44,22 @@ Grows Whole content part more None = ⊥
 abbrev pub Becomes : BodyState → List ℕ → Option (List ℕ) → Type 0
 Becomes s more body = Grows s.phase s.content s.part more body
 
--- what is kept in each phase
+-- the same state with no part
+abbrev pub bare : BodyState → BodyState
+bare s = record { phase = s.phase; content = s.content; part = [] }
+
+-- what is kept in each phase, where a part can still become a line or a section
 abbrev pub Fits : Phase → List ℕ → List ℕ → Type 0
 Fits (Counted n) content part = (0 < n) × (length content + n ≤ MAX_BODY) × (part ≡ [])
 Fits Line content part =
     (length part < MAX_LINE) × (length content ≤ MAX_BODY) × HasNoChunkLine part
+    × MayBecomeChunkLine part
 Fits (Content n) content part = (0 < n) × (length content + n ≤ MAX_BODY) × (part ≡ [])
 Fits Return content part = (length content ≤ MAX_BODY) × (part ≡ [])
 Fits LineFeed content part = (length content ≤ MAX_BODY) × (part ≡ [])
 Fits Trailer content part =
     (length part < MAX_TRAILER) × (length content ≤ MAX_BODY) × HasNoSection part
+    × MayBecomeSection part
 Fits Whole content part = (length content ≤ MAX_BODY) × (part ≡ [])
 
 abbrev pub IsOpen : BodyState → Type 0
@@ -92,10 +99,19 @@ pub record Steps (old new : BodyState) (bytes : List ℕ) : Type 0 where
   pub backward : (more : List ℕ) (body : Option (List ℕ)) → Becomes new more body
       → Becomes old (bytes ++ more) body
 
+-- the old part and the bytes are done with but for the new part: what the body becomes from where the
+-- new part begins, it becomes from where the old part began
+pub record Splits (old new : BodyState) (bytes : List ℕ) : Type 0 where
+  pub past : List ℕ
+  pub are : old.part ++ bytes ≡ past ++ new.part
+  pub backward : (more : List ℕ) (body : Option (List ℕ)) → Becomes (bare new) more body
+      → Becomes (bare old) (past ++ more) body
+
 -- the bytes lead from old to new, which is open and has so many bytes less to come
 pub record Reaches (old new : BodyState) (bytes : List ℕ) : Type 0 where
   pub opened : IsOpen new
   pub steps : Steps old new bytes
+  pub splits : Splits old new bytes
   pub kept : is_whole new.phase ≡ false → is_whole old.phase ≡ false
   pub less : is_whole new.phase ≡ false → most_left new + length bytes ≤ most_left old
 

@@ -28,9 +28,13 @@ HasLongHead buf =
     (MAX_HEAD ≤ length buf) × ((more : List ℕ) (head : RequestHead) (after : List ℕ)
     → ReadsRequest (buf ++ more) head after → MAX_HEAD < length (print_request head))
 
+-- no head is there, there is room for more of it, and it can still be one
+abbrev pub IsHeadOpen : List ℕ → Type 0
+IsHeadOpen buf = HasNoRequest buf × (length buf < MAX_HEAD) × MayBecomeRequest buf
+
 abbrev pub LooksForHead : List ℕ → List HeaderSpan → Result (Option RequestSpans) HttpFault → Type 0
 LooksForHead buf spans (Ok (Some r)) = (head : RequestHead) × FindsHead buf spans r head
-LooksForHead buf spans (Ok None) = HasNoRequest buf × (length buf < MAX_HEAD) × MayBecomeRequest buf
+LooksForHead buf spans (Ok None) = IsHeadOpen buf
 LooksForHead buf spans (Err BadHead) = NeverHasRequest buf
 LooksForHead buf spans (Err TooManyHeaders) = HasTooManyFields buf
 LooksForHead buf spans (Err HeadTooLong) = HasLongHead buf

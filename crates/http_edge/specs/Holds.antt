@@ -1,7 +1,7 @@
 -- What a decoder keeps of the bytes that it was fed.
-use Rattle.std.specs.Prelude.{◌≡◌, ◌≢◌, ℕ, ◌+◌, ◌-◌, ◌<◌, ◌≤◌, Bool, true, false, List, [], ◌++◌}
+use Rattle.std.specs.Prelude.{◌≡◌, ◌≢◌, ℕ, ◌+◌, ◌-◌, ◌≤◌, Bool, true, false, List, [], ◌++◌}
 use Rattle.std.specs.Prelude.{length, take, Option, Some, None, Result, Ok, Err, IfOk, IfErr, ⊤}
-use Rattle.httparse.specs.Grammar.{RequestHead, HasNoRequest}
+use Rattle.httparse.specs.Grammar.{RequestHead}
 use Rattle.http_edge.specs.declared.fault.HttpFault.{HttpFault}
 use Rattle.http_edge.specs.declared.framing.Framing.{Framing}
 use Rattle.http_edge.specs.declared.framing.Framing.TheVariants.{Sized, Chunked}
@@ -9,8 +9,9 @@ use Rattle.http_edge.specs.declared.machine.Machine.{Machine}
 use Rattle.http_edge.specs.declared.machine.Machine.TheVariants.{InHead, InBody, Failed}
 use Rattle.http_edge.specs.declared.limits.TheConstants.{MAX_BODY, MAX_HEAD}
 use Rattle.http_edge.specs.Message.{IsHeadAt}
+use Rattle.http_edge.specs.Head.{IsHeadOpen}
 use Rattle.http_edge.specs.Reading.{HasBody, framing_in}
-use Rattle.http_edge.specs.Body.{BodyState, body_state, Becomes, IsOpen, is_whole, most_left}
+use Rattle.http_edge.specs.Body.{BodyState, body_state, Becomes, bare, IsOpen, is_whole, most_left}
 use Rattle.http_edge.specs.Body.{most_of_chunks}
 use Rattle.http_edge.specs.Answer.{Fails}
 
@@ -32,7 +33,7 @@ start = in_head []
 
 -- a head that may still come; or a body that may still come or is whole
 abbrev pub IsSound : Progress → Type 0
-IsSound (in_head head) = (length head < MAX_HEAD) × HasNoRequest head
+IsSound (in_head head) = IsHeadOpen head
 IsSound (in_body head body) = (length head ≤ MAX_HEAD) × IsOpen body
 IsSound (failed e) = ⊤
 
@@ -41,7 +42,8 @@ abbrev pub most_of_a_message : ℕ
 most_of_a_message = MAX_HEAD + most_of_chunks MAX_BODY
 
 -- bytes are a whole head and what was fed of its body: with any more bytes the body is what it
--- becomes from here
+-- becomes from here; the part so far is at their end, and behind them without it too the body is what
+-- it becomes
 pub record IsBehind (head : List ℕ) (body : BodyState) (bytes : List ℕ) (k : RequestHead)
     (fed : List ℕ) : Type 0 where
   pub at : IsHeadAt head k []
@@ -52,6 +54,10 @@ pub record IsBehind (head : List ℕ) (body : BodyState) (bytes : List ℕ) (k :
       → Becomes body more o
   pub backward : (more : List ℕ) (o : Option (List ℕ)) → Becomes body more o
       → HasBody (framing_in k) (fed ++ more) o
+  pub past : List ℕ
+  pub fed_is : fed ≡ past ++ body.part
+  pub before_part : (more : List ℕ) (o : Option (List ℕ)) → Becomes (bare body) more o
+      → HasBody (framing_in k) (past ++ more) o
 
 -- after these bytes, however they were cut, this is how far the message was read
 abbrev pub Holds : Progress → List ℕ → Type 0
@@ -104,6 +110,7 @@ pub record Starts (framing : Framing) (body : BodyState) : Type 0 where
   pub backward : (more : List ℕ) (o : Option (List ℕ)) → Becomes body more o
       → HasBody (Some framing) more o
   pub less : most_left body ≤ most_of_chunks MAX_BODY
+  pub empty : body.part ≡ []
 
 -- the head ends n bytes into the piece, and frames the body so
 pub record EndsHead (old new piece : List ℕ) (n : ℕ) (framing : Framing) : Type 0 where
@@ -117,7 +124,7 @@ pub record EndsHead (old new piece : List ℕ) (n : ℕ) (framing : Framing) : T
 
 -- the piece has more of the head, or its end
 abbrev pub TakesHead : List ℕ → List ℕ → List ℕ → Option (ℕ × Framing) → Type 0
-TakesHead old new piece None = (new ≡ old ++ piece) × (length new < MAX_HEAD) × HasNoRequest new
+TakesHead old new piece None = (new ≡ old ++ piece) × IsHeadOpen new
 TakesHead old new piece (Some found) = EndsHead old new piece found.0 found.1
 
 -- the piece leads from old to new, and done says whether the message is whole

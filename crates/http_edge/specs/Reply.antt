@@ -49,6 +49,10 @@ BeginsWithReply buf t =
 abbrev pub NoReply : List ℕ → Type 0
 NoReply buf = (k : ResponseHead) (after : List ℕ) → ¬ (IsResponseAt buf k after)
 
+-- no head is there, there is room for more of it, and it can still be one
+abbrev pub IsReplyOpen : List ℕ → Type 0
+IsReplyOpen buf = HasNoResponse buf × (length buf < MAX_HEAD) × MayBecomeResponse buf
+
 -- what each fault says of the bytes; NoMemory says nothing of them, and no other fault comes
 abbrev pub ExplainsReply : HttpFault → List ℕ → Type 0
 ExplainsReply Closed bytes = bytes ≡ []
@@ -75,7 +79,7 @@ reply_form =
 -- what a look for a reply answers
 abbrev pub LooksForReply : List ℕ → Result (Option Reply) HttpFault → Type 0
 LooksForReply buf (Ok (Some r)) = BeginsWithReply buf (reply_in r)
-LooksForReply buf (Ok None) = HasNoResponse buf × (length buf < MAX_HEAD) × MayBecomeResponse buf
+LooksForReply buf (Ok None) = IsReplyOpen buf
 LooksForReply buf (Err e) = IsLasting e × ExplainsReply e buf
 
 -- what an answer says of all the bytes of a source

@@ -1,8 +1,7 @@
 //! Reads a request from a source.
 ghost use Rattle.std.specs.Prelude.{◌≡◌, ◌≢◌, Err, IfSome};
 ghost use Rattle.std.specs.Io.KnownBytes.{IsAtEnd};
-ghost use Rattle.http_edge.specs.Reading.{NotYet};
-ghost use Rattle.http_edge.specs.Delivery.{Says, StopsReading};
+ghost use Rattle.http_edge.specs.Delivery.{Says, StopsReading, IsStillOpen};
 
 use crate::decoder::Decoder;
 use crate::fault::HttpFault;
@@ -23,11 +22,11 @@ use std::alloc::Global;
 ///
 /// Truncated comes only at the end of the source, and the limits end a source that never ends.
 /// Exactly one call failed at Io, and none at any other answer. The source is not read again once
-/// there is a message, or a size that is too long: what was read before the last call has neither.
-/// Bytes behind the message that came with its last ones are thrown away.
+/// there is a message, or a fault in the head, the length or a chunk: what was read before the last
+/// call has neither. Bytes behind the message that came with its last ones are thrown away.
 pub fn read_message<S: Source>(alloc: Global, source: &mut S) -> Result<Request, HttpFault>
     ensures says { IfSome (S.remaining source.old) (λ bytes. Says bytes result) }
-    ensures stops { StopsReading NotYet
+    ensures stops { StopsReading IsStillOpen
         (S.remaining source.old) (S.remaining source.new) (S.given source.new) }
     ensures truncated { IfSome (S.remaining source.old) (λ _.
         result ≡ Err HttpFault.Truncated → IsAtEnd (S.remaining source.new)) }

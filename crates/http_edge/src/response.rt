@@ -5,7 +5,7 @@ ghost use Rattle.std.specs.Io.KnownBytes.{IsAtEnd};
 ghost use Rattle.httparse.specs.Spans.{header_bytes, IsHeaderWithin};
 ghost use Rattle.http_edge.specs.Framing.{values_of};
 ghost use Rattle.http_edge.specs.Delivery.{StopsReading};
-ghost use Rattle.http_edge.specs.Reply.{first_of, NoReply, LooksForReply, SaysReply};
+ghost use Rattle.http_edge.specs.Reply.{first_of, IsReplyOpen, LooksForReply, SaysReply};
 
 use crate::fault::HttpFault;
 use crate::framing::is_named;
@@ -78,11 +78,12 @@ fn look_for_reply(alloc: Global, buf: &[u8]) -> Result<Option<Reply>, HttpFault>
 ///
 /// Truncated comes only at the end of the source, and the limits end a source that never ends.
 /// Exactly one call failed at Io, and none at any other answer. The source is not read again once
-/// there is a head: what was read before the last call has none. Bytes behind the head that came
-/// with its last ones are thrown away.
+/// there is a head, or what was read shows that none can come: what was read before the last call
+/// has no head and can still become one. Bytes behind the head that came with its last ones are
+/// thrown away.
 pub fn read_response<S: Source>(alloc: Global, source: &mut S) -> Result<Reply, HttpFault>
     ensures says { IfSome (S.remaining source.old) (λ bytes. SaysReply bytes result) }
-    ensures stops { StopsReading NoReply
+    ensures stops { StopsReading IsReplyOpen
         (S.remaining source.old) (S.remaining source.new) (S.given source.new) }
     ensures truncated { IfSome (S.remaining source.old) (λ _.
         result ≡ Err HttpFault.Truncated → IsAtEnd (S.remaining source.new)) }

@@ -1,12 +1,13 @@
-use Rattle.std.proofs.Common.{◌<◌, [], refl, ◌++◌, length, take, arith, true, false, Ok, Err}
+use Rattle.std.proofs.Common.{◌<◌, [], refl, ◌++◌, length, take, arith, true, false, Ok, Err, subst}
 use Rattle.std.specs.Io.KnownBytes.{Consumes}
 use Rattle.std.proofs.lemmas.List.{length-take-le, length-append}
 use Rattle.std.proofs.lemmas.Result.{err_from_is_err_and}
 use Rattle.http_edge.specs.Answer.{request_form, Reports}
-use Rattle.http_edge.specs.Reading.{NotYet}
+use Rattle.http_edge.specs.Delivery.{IsStillOpen}
+use Rattle.http_edge.specs.Holds.{IsSound}
 use Rattle.http_edge.proofs.AnswerLemmas.{request_laws}
 use Rattle.http_edge.proofs.FormLemmas.{says, said_at_end, known_front, not_empty}
-use Rattle.http_edge.proofs.ReadLemmas.{begins, goes_on, at_message, at_fault, closed_at_end, not_cut}
+use Rattle.http_edge.proofs.ReadLemmas.{begins, goes_on, at_message, at_fault, closed_at_end, not_cut, still_open}
 use Rattle.http_edge.proofs.SourceLemmas.{known_more, at_end, stops}
 use Rattle.http_edge.proofs.read.read_message.Goals as goal
 
@@ -38,8 +39,8 @@ returns-then-n-eq0-clause-says g c =
 
 pub returns-then-n-eq0-clause-stops : goal.returns-then-n-eq0-clause-stops
 returns-then-n-eq0-clause-stops g c =
-    stops NotYet (g.S.Source.remaining c.args.source.now) (g.S.Source.remaining c.pieces.source) (g.S.Source.remaining c.read.new.self) (g.S.Source.given c.read.new.self) c.in-Ok.n c.pieces.invariant.so_far.0 c.read.new.buf c.pieces.invariant.so_far.1.known c.in-Ok.ensures.bytes.0
-    c.in-Ok.ensures.bound c.in-Ok.ensures.given c.pieces.invariant.so_far.1.is_open
+    stops IsStillOpen (g.S.Source.remaining c.args.source.now) (g.S.Source.remaining c.pieces.source) (g.S.Source.remaining c.read.new.self) (g.S.Source.given c.read.new.self) c.in-Ok.n c.pieces.invariant.so_far.0 c.read.new.buf c.pieces.invariant.so_far.1.known c.in-Ok.ensures.bytes.0
+    c.in-Ok.ensures.bound c.in-Ok.ensures.given (still_open (g.S.Source.remaining c.args.source.now) (g.S.Source.remaining c.pieces.source) _ c.pieces.invariant.so_far.0 (subst IsSound c.decoder.view_is c.decoder.invariant) c.pieces.invariant.so_far.1)
 
 pub returns-then-n-eq0-clause-truncated : goal.returns-then-n-eq0-clause-truncated
 returns-then-n-eq0-clause-truncated g c =
@@ -66,8 +67,8 @@ returns-in_err-feed-clause-says g c =
 
 pub returns-in_err-feed-clause-stops : goal.returns-in_err-feed-clause-stops
 returns-in_err-feed-clause-stops g c =
-    stops NotYet (g.S.Source.remaining c.args.source.now) (g.S.Source.remaining c.pieces.source) (g.S.Source.remaining c.read.new.self) (g.S.Source.given c.read.new.self) c.in-Ok.n c.pieces.invariant.so_far.0 c.read.new.buf c.pieces.invariant.so_far.1.known c.in-Ok.ensures.bytes.0
-    c.in-Ok.ensures.bound c.in-Ok.ensures.given c.pieces.invariant.so_far.1.is_open
+    stops IsStillOpen (g.S.Source.remaining c.args.source.now) (g.S.Source.remaining c.pieces.source) (g.S.Source.remaining c.read.new.self) (g.S.Source.given c.read.new.self) c.in-Ok.n c.pieces.invariant.so_far.0 c.read.new.buf c.pieces.invariant.so_far.1.known c.in-Ok.ensures.bytes.0
+    c.in-Ok.ensures.bound c.in-Ok.ensures.given (still_open (g.S.Source.remaining c.args.source.now) (g.S.Source.remaining c.pieces.source) _ c.pieces.invariant.so_far.0 (subst IsSound c.decoder.view_is c.decoder.invariant) c.pieces.invariant.so_far.1)
 
 -- ---- a message was fed
 
@@ -89,8 +90,8 @@ returns-then-branch-clause-says g c =
 
 pub returns-then-branch-clause-stops : goal.returns-then-branch-clause-stops
 returns-then-branch-clause-stops g c =
-    stops NotYet (g.S.Source.remaining c.args.source.now) (g.S.Source.remaining c.pieces.source) (g.S.Source.remaining c.read.new.self) (g.S.Source.given c.read.new.self) c.in-Ok.n c.pieces.invariant.so_far.0 c.read.new.buf c.pieces.invariant.so_far.1.known c.in-Ok.ensures.bytes.0
-    c.in-Ok.ensures.bound c.in-Ok.ensures.given c.pieces.invariant.so_far.1.is_open
+    stops IsStillOpen (g.S.Source.remaining c.args.source.now) (g.S.Source.remaining c.pieces.source) (g.S.Source.remaining c.read.new.self) (g.S.Source.given c.read.new.self) c.in-Ok.n c.pieces.invariant.so_far.0 c.read.new.buf c.pieces.invariant.so_far.1.known c.in-Ok.ensures.bytes.0
+    c.in-Ok.ensures.bound c.in-Ok.ensures.given (still_open (g.S.Source.remaining c.args.source.now) (g.S.Source.remaining c.pieces.source) _ c.pieces.invariant.so_far.0 (subst IsSound c.decoder.view_is c.decoder.invariant) c.pieces.invariant.so_far.1)
 
 pub returns-then-branch-clause-truncated : goal.returns-then-branch-clause-truncated
 returns-then-branch-clause-truncated g c =

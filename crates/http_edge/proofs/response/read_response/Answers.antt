@@ -4,10 +4,10 @@ use Rattle.std.proofs.lemmas.Result.{err_from_is_err_and}
 use Rattle.std.specs.Io.KnownBytes.{Consumes}
 use Rattle.http_edge.specs.declared.fault.HttpFault.TheVariants.{NoMemory}
 use Rattle.http_edge.specs.Form.{IsLasting}
-use Rattle.http_edge.specs.Reply.{NoReply, ExplainsReply, reply_form}
+use Rattle.http_edge.specs.Reply.{IsReplyOpen, ExplainsReply, reply_form}
 use Rattle.http_edge.proofs.FormLemmas.{says, said_of_memory, known_front, not_empty}
 use Rattle.http_edge.proofs.SourceLemmas.{known_more, at_end, stops}
-use Rattle.http_edge.proofs.ReplyLemmas.{begins, grows, fault_says, head_says, no_reply, reply_laws}
+use Rattle.http_edge.proofs.ReplyLemmas.{begins, grows, fault_says, head_says, reply_open, reply_laws}
 use Rattle.http_edge.proofs.response.read_response.Goals as goal
 
 pub pieces-init : goal.pieces-init
@@ -72,23 +72,23 @@ returns-in-Some-clause-says g c =
 
 pub returns-then-n-eq0-clause-stops : goal.returns-then-n-eq0-clause-stops
 returns-then-n-eq0-clause-stops g c =
-    stops NoReply (g.S.Source.remaining c.args.source.now) (g.S.Source.remaining c.pieces.source) (g.S.Source.remaining c.read.new.self) (g.S.Source.given c.read.new.self) c.in-Ok.n c.pieces.kept.items c.read.new.buf c.pieces.invariant.so_far.known c.in-Ok.ensures.bytes.0
-    c.in-Ok.ensures.bound c.in-Ok.ensures.given (no_reply (g.S.Source.remaining c.args.source.now) (g.S.Source.remaining c.pieces.source) c.pieces.kept.items c.pieces.invariant.so_far)
+    stops IsReplyOpen (g.S.Source.remaining c.args.source.now) (g.S.Source.remaining c.pieces.source) (g.S.Source.remaining c.read.new.self) (g.S.Source.given c.read.new.self) c.in-Ok.n c.pieces.kept.items c.read.new.buf c.pieces.invariant.so_far.known c.in-Ok.ensures.bytes.0
+    c.in-Ok.ensures.bound c.in-Ok.ensures.given (reply_open (g.S.Source.remaining c.args.source.now) (g.S.Source.remaining c.pieces.source) c.pieces.kept.items c.pieces.invariant.so_far)
 
 pub returns-in_err-extend_from_slice-clause-stops : goal.returns-in_err-extend_from_slice-clause-stops
 returns-in_err-extend_from_slice-clause-stops g c =
-    stops NoReply (g.S.Source.remaining c.args.source.now) (g.S.Source.remaining c.pieces.source) (g.S.Source.remaining c.read.new.self) (g.S.Source.given c.read.new.self) c.in-Ok.n c.pieces.kept.items c.read.new.buf c.pieces.invariant.so_far.known c.in-Ok.ensures.bytes.0
-    c.in-Ok.ensures.bound c.in-Ok.ensures.given (no_reply (g.S.Source.remaining c.args.source.now) (g.S.Source.remaining c.pieces.source) c.pieces.kept.items c.pieces.invariant.so_far)
+    stops IsReplyOpen (g.S.Source.remaining c.args.source.now) (g.S.Source.remaining c.pieces.source) (g.S.Source.remaining c.read.new.self) (g.S.Source.given c.read.new.self) c.in-Ok.n c.pieces.kept.items c.read.new.buf c.pieces.invariant.so_far.known c.in-Ok.ensures.bytes.0
+    c.in-Ok.ensures.bound c.in-Ok.ensures.given (reply_open (g.S.Source.remaining c.args.source.now) (g.S.Source.remaining c.pieces.source) c.pieces.kept.items c.pieces.invariant.so_far)
 
 pub returns-in_err-reply-clause-stops : goal.returns-in_err-reply-clause-stops
 returns-in_err-reply-clause-stops g c =
-    stops NoReply (g.S.Source.remaining c.args.source.now) (g.S.Source.remaining c.pieces.source) (g.S.Source.remaining c.read.new.self) (g.S.Source.given c.read.new.self) c.in-Ok.n c.pieces.kept.items c.read.new.buf c.pieces.invariant.so_far.known c.in-Ok.ensures.bytes.0
-    c.in-Ok.ensures.bound c.in-Ok.ensures.given (no_reply (g.S.Source.remaining c.args.source.now) (g.S.Source.remaining c.pieces.source) c.pieces.kept.items c.pieces.invariant.so_far)
+    stops IsReplyOpen (g.S.Source.remaining c.args.source.now) (g.S.Source.remaining c.pieces.source) (g.S.Source.remaining c.read.new.self) (g.S.Source.given c.read.new.self) c.in-Ok.n c.pieces.kept.items c.read.new.buf c.pieces.invariant.so_far.known c.in-Ok.ensures.bytes.0
+    c.in-Ok.ensures.bound c.in-Ok.ensures.given (reply_open (g.S.Source.remaining c.args.source.now) (g.S.Source.remaining c.pieces.source) c.pieces.kept.items c.pieces.invariant.so_far)
 
 pub returns-in-Some-clause-stops : goal.returns-in-Some-clause-stops
 returns-in-Some-clause-stops g c =
-    stops NoReply (g.S.Source.remaining c.args.source.now) (g.S.Source.remaining c.pieces.source) (g.S.Source.remaining c.read.new.self) (g.S.Source.given c.read.new.self) c.in-Ok.n c.pieces.kept.items c.read.new.buf c.pieces.invariant.so_far.known c.in-Ok.ensures.bytes.0
-    c.in-Ok.ensures.bound c.in-Ok.ensures.given (no_reply (g.S.Source.remaining c.args.source.now) (g.S.Source.remaining c.pieces.source) c.pieces.kept.items c.pieces.invariant.so_far)
+    stops IsReplyOpen (g.S.Source.remaining c.args.source.now) (g.S.Source.remaining c.pieces.source) (g.S.Source.remaining c.read.new.self) (g.S.Source.given c.read.new.self) c.in-Ok.n c.pieces.kept.items c.read.new.buf c.pieces.invariant.so_far.known c.in-Ok.ensures.bytes.0
+    c.in-Ok.ensures.bound c.in-Ok.ensures.given (reply_open (g.S.Source.remaining c.args.source.now) (g.S.Source.remaining c.pieces.source) c.pieces.kept.items c.pieces.invariant.so_far)
 
 pub returns-then-n-eq0-clause-truncated : goal.returns-then-n-eq0-clause-truncated
 returns-then-n-eq0-clause-truncated g c =

@@ -4,7 +4,7 @@ use Rattle.http_edge.specs.Body.{IsOpen, Refuses}
 use Rattle.http_edge.specs.Chunks.{HasChunks}
 use Rattle.http_edge.specs.declared.fault.HttpFault.TheVariants.{BadChunk, BodyTooLong}
 use Rattle.http_edge.specs.declared.phase.Phase.TheVariants.{Line}
-use Rattle.http_edge.proofs.BodyLemmas.{at, at_line, line_zero, line_fits, line_over, line_refused}
+use Rattle.http_edge.proofs.BodyLemmas.{at, at_line, line_zero, line_fits, line_over, line_refused, line_more}
 use Rattle.http_edge.proofs.ChunkLemmas.{never_line, never_long_line}
 use Rattle.http_edge.proofs.body.Body.take_line.Goals as goal
 
@@ -81,3 +81,14 @@ returns-in-Err c =
     let P : List ℕ → Type 0 = λ s. Refuses BadChunk (at Line b.content.items b.part.items) s in
     let Q : List ℕ → Type 0 = λ s. (more : List ℕ) (body : Option (List ℕ)) → ¬ (HasChunks b.content.items (s ++ more) body) in
     rw c.requires.phase (subst P whole (line_refused b.content.items b.part.items u (drop c.line_len-n.result piece) (subst Q is (never_line b.content.items c.extend_from_slice.new.self.items never))))
+
+pub returns-else-len-ge-MAX_LINE : goal.returns-else-len-ge-MAX_LINE
+returns-else-len-ge-MAX_LINE c =
+    let b = c.args.self.now in
+    let piece = c.args.piece.now in
+    let u = take c.line_len-n.result piece in
+    let is = c.in_ok-extend_from_slice.ensures.items in
+    let none = rw (c.in-Ok-Partial.field-0-is, c.deref.ensures.value) at c.in-Ok-Partial.ensures.partial in
+    let may = rw (c.in-Ok-Partial.field-0-is, c.deref.ensures.value) at c.in-Ok-Partial.ensures.unfinished in
+    let opened : IsOpen (at Line b.content.items b.part.items) = rw c.requires.phase at c.requires.is_open in
+    (c.line_len-n.ensures.some, c.line_len-n.ensures.within, rw c.requires.phase (line_more b.content.items b.part.items c.extend_from_slice.new.self.items u opened is none may (omega (arith, c.extend_from_slice.new.self.ok.0, c.len-in-Ok-Partial.ensures))))

@@ -5,7 +5,7 @@ use Rattle.httparse.specs.Spans.{SectionOverflows, IsSectionAt, IsSectionWithin}
 use Rattle.http_edge.specs.Body.{IsOpen, Refuses, Reaches}
 use Rattle.http_edge.specs.declared.fault.HttpFault.TheVariants.{BadChunk}
 use Rattle.http_edge.specs.declared.phase.Phase.TheVariants.{Trailer, Whole}
-use Rattle.http_edge.proofs.BodyLemmas.{at, trailer_whole, trailer_overflows, trailer_long}
+use Rattle.http_edge.proofs.BodyLemmas.{at, trailer_whole, trailer_overflows, trailer_long, trailer_more}
 use Rattle.http_edge.proofs.body.Body.take_trailer.Goals as goal
 
 pub returns-then-len-ge-MAX_TRAILER : goal.returns-then-len-ge-MAX_TRAILER
@@ -51,3 +51,15 @@ returns-in-Ok-Complete c =
     let whole : u ++ drop c.min-n.result piece ≡ take (length piece) piece = take-append-drop c.min-n.result piece ∙ sym (take_all (length piece) piece (omega arith)) in
     let R : List ℕ → Type 0 = λ s. Reaches (at Trailer b.content.items b.part.items) (at Whole b.content.items []) s in
     (omega arith, omega arith, rw (c.requires.phase, c.clear.ensures.items) (subst R whole reaches))
+
+pub returns-else-len-ge-MAX_TRAILER : goal.returns-else-len-ge-MAX_TRAILER
+returns-else-len-ge-MAX_TRAILER c =
+    let b = c.args.self.now in
+    let piece = c.args.piece.now in
+    let u = take c.min-n.result piece in
+    let is = c.in_ok-extend_from_slice.ensures.items in
+    let none = rw (c.in-Ok-Partial.field-0-is, c.deref.ensures.value) at c.in-Ok-Partial.ensures.partial in
+    let may = rw (c.in-Ok-Partial.field-0-is, c.deref.ensures.value) at c.in-Ok-Partial.ensures.unfinished in
+    let opened : IsOpen (at Trailer b.content.items b.part.items) = rw c.requires.phase at c.requires.is_open in
+    let u_len : length u ≡ c.min-n.result = length-take-le c.min-n.result piece (omega arith) in
+    (omega (arith, b.part.ok.0), omega arith, rw c.requires.phase (trailer_more b.content.items b.part.items c.extend_from_slice.new.self.items u opened is none may (omega (arith, c.extend_from_slice.new.self.ok.0, c.len-in-Ok-Partial.ensures))))
