@@ -4,7 +4,7 @@ use Rattle.back_answers.specs.Answers.{answer_of}
 use Rattle.back_answers.specs.declared.answer.Answer.{Answer}
 use Rattle.back_answers.specs.declared.answer.Answer.TheVariants.{Unknown}
 use Rattle.http_edge.specs.Delivery.{StopsReading}
-use Rattle.http_edge.specs.Reply.{NoReply, SaysReply}
+use Rattle.http_edge.specs.Reply.{IsReplyOpen, SaysReply}
 use Rattle.http_edge.specs.declared.reply.Reply.{Reply}
 use Rattle.http_edge.specs.declared.fault.HttpFault.{HttpFault}
 use Rattle.http_edge.specs.declared.fault.HttpFault.TheVariants.{Io}
@@ -18,11 +18,11 @@ answer_to (Err e) = Unknown
 
 -- what was read, and the answer: the reader's bytes before and after, how many its last call
 -- returned, its count of failed calls before and after, and the head or the fault. No read follows
--- the one that completes the head
+-- the one that completes the head or shows that none can come
 pub record IsRead (input left : Option (List ℕ)) (given : ℕ) (one_more : ℕ → ℕ) (old new : ℕ)
     (r : Result Reply HttpFault) (answer : Answer) : Type 0 where
   pub says : IfSome input (λ bytes. SaysReply bytes r)
-  pub stops : StopsReading NoReply input left given
+  pub stops : StopsReading IsReplyOpen input left given
   pub io : r ≡ Err Io → new ≡ one_more old
   pub well : r ≢ Err Io → new ≡ old
   pub class : answer ≡ answer_to r

@@ -97,8 +97,9 @@ pub fn flush_turn<K: Store, U: Uplink, P: Pace>(
     }
 }
 
-/// Posts the body, and reads the head of the answer. No read follows the one that completes it.
-/// The answer is Unknown unless the whole request was written and a head was read.
+/// Posts the body, and reads the head of the answer. No read follows the one that completes it or
+/// shows that none can come. The answer is Unknown unless the whole request was written and a head
+/// was read.
 pub fn exchange<S: Source, W: Sink>(
     alloc: Global,
     reader: &mut S,

@@ -1,7 +1,6 @@
 //! Serves a request: reads it, handles it, writes the response and closes its batch.
 ghost use Rattle.std.specs.Prelude.{◌≡◌};
-ghost use Rattle.http_edge.specs.Delivery.{StopsReading};
-ghost use Rattle.http_edge.specs.Reading.{NotYet};
+ghost use Rattle.http_edge.specs.Delivery.{StopsReading, IsStillOpen};
 ghost use Rattle.gate_workers.specs.Heard.{Hears, HearingFails, heard_of};
 ghost use Rattle.gate_workers.specs.Conversations.{IsConfirmed, IsClosed, IsEnded};
 ghost use Rattle.gate_workers.specs.Served.{IsServed, ReadingFails, WritingFails};
@@ -73,13 +72,13 @@ fn heard_of(fault: HttpFault) -> Heard
 }
 
 /// Reads a message, and finds what it asks for. No read follows the one that completes the message
-/// or shows that there is none.
+/// or shows a fault.
 fn listen<S: Source, P: Pace>(alloc: Global, reader: &mut S, pace: &mut P, memo: &mut Memo) -> Heard
     ensures heard { Hears (S.remaining reader.old) result }
     ensures failed { HearingFails S.one_more (S.failures reader.old) (S.failures reader.new)
         result }
-    ensures stops { StopsReading NotYet (S.remaining reader.old) (S.remaining reader.new)
-        (S.given reader.new) }
+    ensures stops { StopsReading IsStillOpen (S.remaining reader.old)
+        (S.remaining reader.new) (S.given reader.new) }
 {
     match read_message(alloc, reader) {
         Err(fault) => return heard_of(fault),
@@ -133,7 +132,7 @@ fn close<K: Store>(keeper: &mut K, batch: Option<u64>, written: Written) -> End
 }
 
 /// Serves the request that the reader's bytes begin with. No read follows the one that completes
-/// it, so a client that keeps its side open is not waited for.
+/// it or shows a fault, so a client that keeps its side open is not waited for.
 pub fn serve<K: Keeper, S: Source, W: Sink, P: Pace>(
     alloc: Global,
     keeper: &mut K,
@@ -143,8 +142,8 @@ pub fn serve<K: Keeper, S: Source, W: Sink, P: Pace>(
 ) -> Served
     ensures served { IsServed K.gives (S.remaining reader.old) keeper.old keeper.new
         (W.contents writer.old) (W.contents writer.new) result }
-    ensures stops { StopsReading NotYet (S.remaining reader.old) (S.remaining reader.new)
-        (S.given reader.new) }
+    ensures stops { StopsReading IsStillOpen (S.remaining reader.old)
+        (S.remaining reader.new) (S.given reader.new) }
     ensures read { ReadingFails S.one_more (S.failures reader.old) (S.failures reader.new) result }
     ensures written { WritingFails W.one_more (W.failures writer.old) (W.failures writer.new)
         result }
@@ -165,8 +164,8 @@ pub fn serve_with<K: Keeper, S: Source, W: Sink, P: Pace>(
 ) -> Served
     ensures served { IsServed K.gives (S.remaining reader.old) keeper.old keeper.new
         (W.contents writer.old) (W.contents writer.new) result }
-    ensures stops { StopsReading NotYet (S.remaining reader.old) (S.remaining reader.new)
-        (S.given reader.new) }
+    ensures stops { StopsReading IsStillOpen (S.remaining reader.old)
+        (S.remaining reader.new) (S.given reader.new) }
     ensures read { ReadingFails S.one_more (S.failures reader.old) (S.failures reader.new) result }
     ensures written { WritingFails W.one_more (W.failures writer.old) (W.failures writer.new)
         result }
@@ -187,7 +186,7 @@ pub fn serve_with<K: Keeper, S: Source, W: Sink, P: Pace>(
     }
 }
 
-/// Serves one request over a book. No read follows the one that completes it.
+/// Serves one request over a book. No read follows the one that completes it or shows a fault.
 pub fn serve_book<U: Uplink + Drop, S: Source, W: Sink, P: Pace>(
     alloc: Global,
     keeper: &mut BookKeeper<U>,
@@ -201,8 +200,8 @@ pub fn serve_book<U: Uplink + Drop, S: Source, W: Sink, P: Pace>(
         (S.remaining reader.old) (book_of keeper.old) (book_of keeper.new)
         (uplink_of keeper.old) (uplink_of keeper.new)
         (W.contents writer.old) (W.contents writer.new) result }
-    ensures stops { StopsReading NotYet (S.remaining reader.old) (S.remaining reader.new)
-        (S.given reader.new) }
+    ensures stops { StopsReading IsStillOpen (S.remaining reader.old)
+        (S.remaining reader.new) (S.given reader.new) }
     ensures read { ReadingFails S.one_more (S.failures reader.old) (S.failures reader.new) result }
     ensures written { WritingFails W.one_more (W.failures writer.old) (W.failures writer.new)
         result }
