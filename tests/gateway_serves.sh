@@ -265,6 +265,8 @@ faulty 'too many connections' "error: invalid value '1000001' for '--connections
     serve --backend "$nobody" --connections 1000001
 faulty 'flushes of no series' "error: invalid value '0' for '--flush-series <N>': 0 is not in 1..=1000" \
     serve --backend "$nobody" --connections 0 --flush-series 0
+faulty 'an argument that is no text' 'error: invalid UTF-8 was detected in one or more arguments' \
+    serve --backend "$(printf '\377')" --connections 0
 faulty 'a call for help' 'Serves senders, forwards what is flushed, and prints the report at its end' serve --help
 
 run serve --backend "$nobody" --connections 0 --listen 127.0.0.1:0

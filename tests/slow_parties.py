@@ -12,13 +12,16 @@ runs the crowd of 24 too, which takes three minutes.
     so many thrice.
   - Bodies of 9, 20 and 50 MB are refused, each read by a client that sends all before it reads.
   - A refused sender that keeps its side open reads the end of its answer at once, and holds its receiver
-    for five seconds.
+    for five seconds. Where its request was read whole, it holds none.
+  - The gateway is stopped and goes on while nobody has come, in the middle of a head, of a body and of an
+    answer, and while a back end has not answered: each request is answered all the same.
   - Two orders to a back end that hangs: posts and the report are answered by the receivers that are left.
 All run side by side, in a little more than a minute, nearly all of it waiting. Each line is one check;
 the last line counts those that passed and failed, and the status is 0 where none failed.
 """
 import http.client
 import os
+import signal
 import socket
 import sys
 import threading
@@ -236,6 +239,87 @@ def refused_sender(program, checks):
     checks.same("a refused sender: the end", (0, report(1), b""), end_of(gateway))
 
 
+def refused_whole(program, checks):
+    """Senders whose request is whole and refused, and who keep their side open and say nothing more."""
+    refused = [
+        ("out of order", batch(0), b'{"message":"out of order: point 0, frontier 20"}'),
+        ("no JSON", posted(b"{"), b'{"message":"not JSON"}'),
+        ("another name", ordered("POST /lift/B"), b'{"message":"not quarantined"}'),
+    ]
+    gateway = Gateway(program, NOBODY, 1 + 2 * len(refused), options=["--receivers", "1"])
+    checks.same("a whole request: one before", DONE, asked(gateway, batch(0))[0])
+    for number, (what, request, text) in enumerate(refused, 1):
+        with gateway.connect() as connection:
+            begin = time.monotonic()
+            connection.settimeout(REQUEST_SECONDS)
+            connection.sendall(request)
+            wanted = response(b"400 Bad Request", b"application/json", text)
+            checks.same(f"a whole request, {what}: it is refused", wanted, read_all(connection))
+            checks.same(f"a whole request, {what}: the next one is answered", DONE, asked(gateway, batch(number))[0])
+            checks.between(f"a whole request, {what}: at once", 0, REFUSED_SECONDS / 2, time.monotonic() - begin)
+    checks.same("a whole request: the end", (0, report(1 + len(refused)), b""), end_of(gateway))
+
+
+def stop_and_go(gateway):
+    """Stops the gateway while it waits, and lets it go on."""
+    for pause in (signal.SIGSTOP, signal.SIGCONT):
+        time.sleep(0.5)
+        gateway.process.send_signal(pause)
+    time.sleep(0.5)
+
+
+class LateBackEnd(BackEnd):
+    """A back end that takes requests and answers them once it is released."""
+
+    def __init__(self):
+        self.released = threading.Event()
+        super().__init__()
+
+    def answer(self, connection):
+        self.released.wait(REQUEST_SECONDS)
+        super().answer(connection)
+
+
+def stopped(program, checks):
+    """The gateway is stopped and goes on in the middle of each thing that it waits for."""
+    back_end = LateBackEnd()
+    gateway = Gateway(program, back_end.port, 6, options=["--receivers", "2"])
+    wait_until(lambda: listens(gateway.port))
+    stop_and_go(gateway)
+    checks.same("stopped while nobody has come: a post", DONE, asked(gateway, many_series(9000))[0])
+    for number, (what, end) in enumerate((("a head", 20), ("a body", -100))):
+        request = batch(number)
+        with gateway.connect() as connection:
+            connection.settimeout(REQUEST_SECONDS)
+            connection.sendall(request[:end])
+            stop_and_go(gateway)
+            try:
+                connection.sendall(request[end:])
+                answer = read_all(connection)
+            except OSError as error:
+                answer = type(error).__name__
+        checks.same(f"stopped in {what}: it is answered", DONE, answer)
+    whole = asked(gateway, ordered("GET /report"))[0]
+    with narrow(gateway) as connection:
+        connection.settimeout(REQUEST_SECONDS)
+        connection.sendall(ordered("GET /report"))
+        stop_and_go(gateway)
+        answer = read_all(connection)
+    checks.true("stopped in an answer: it is whole", answer == whole, f"{len(answer)} of {len(whole)} bytes")
+    turns = []
+    order = threading.Thread(target=lambda: turns.append(asked(gateway, ordered("POST /flush"))[0]))
+    order.start()
+    stop_and_go(gateway)
+    back_end.released.set()
+    order.join(REQUEST_SECONDS)
+    settled = response(b"200 OK", b"application/json", b'{"act":"settled","flush":"1","points":"1000"}')
+    checks.same("stopped before a back end answers: the flush is settled", [settled], turns)
+    status, out, err = end_of(gateway)
+    # Both points of the series that comes first were forwarded as one.
+    checks.same("stopped: the end", (0, b"admitted 9002 acknowledged 1001", b""), (status, out.splitlines()[-1], err))
+    back_end.close()
+
+
 class HungBackEnd(BackEnd):
     """A back end that takes requests and answers none until it is released."""
 
@@ -284,6 +368,8 @@ def main(program, long):
         (crowd, 8, REQUEST_SECONDS),
         (long_bodies,),
         (refused_sender,),
+        (refused_whole,),
+        (stopped,),
         (hung_back_end,),
     ]
     if long:

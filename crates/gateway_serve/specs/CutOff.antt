@@ -5,11 +5,22 @@ use Rattle.gate_workers.specs.declared.refusal.Refusal.TheVariants.{Malformed, B
 use Rattle.gate_workers.specs.declared.refusal.Refusal.TheVariants.{NoMemory}
 use Rattle.gate_workers.specs.declared.service.Served.{Served}
 use Rattle.gate_workers.specs.declared.service.Served.TheVariants.{Closed, Broken, Replied}
+use Rattle.gate_workers.specs.declared.worker.Spot.{Spot}
+use Rattle.gate_workers.specs.declared.worker.Spot.TheVariants.{BodyRead, BeforeSend}
+use Rattle.gateway_serve.specs.declared.reading.Reading.{Reading}
+use Rattle.gateway_serve.specs.declared.reading.Reading.TheVariants.{Open, Whole}
 
--- the request may have been refused before all of it was read: it has the status of such a refusal
-abbrev pub is_cut_off : Served → Bool
-is_cut_off Closed = false
-is_cut_off Broken = false
-is_cut_off (Replied status written end) =
+-- how much of a request was read once its worker was at this spot
+abbrev pub reading_at : Spot → Reading → Reading
+reading_at BodyRead reading = Whole
+reading_at BeforeSend reading = reading
+
+-- the request may have been refused before all of it was read: no more of it is known, and it has
+-- the status of such a refusal
+abbrev pub is_cut_off : Served → Reading → Bool
+is_cut_off Closed reading = false
+is_cut_off Broken reading = false
+is_cut_off (Replied status written end) Whole = false
+is_cut_off (Replied status written end) Open =
     (status == refusal_status Malformed) || (status == refusal_status BodyTooLong)
     || (status == refusal_status NoMemory)

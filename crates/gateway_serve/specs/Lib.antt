@@ -6,3 +6,5 @@ pub mod Dialled
 pub mod Passed
 pub mod Accepted
 pub mod CutOff
+pub mod Tasks
+pub mod Closing

@@ -1,12 +1,15 @@
 ghost use Rattle.std.specs.Prelude.{◌≡◌, ◌<◌, ◌^◌, Option, length};
 ghost use Rattle.http_edge.specs.Texts.{post_text};
-ghost use Rattle.gateway_serve.specs.Dialled.{IsCalled};
+ghost use Rattle.gateway_serve.specs.Dialled.{IsCalled, IsExchanged};
 
 use crate::dial::Dial;
+use crate::piece_source::PieceSource;
+use crate::uninterrupted::Uninterrupted;
 use back_answers::Answer;
-use byte_ends::{FromReader, ToWriter};
+use byte_ends::ToWriter;
 use gate_workers::{Uplink, exchange};
 use std::alloc::Global;
+use std::io::{Read, Write};
 
 /// The back end that a dialler reaches. Each request goes on a connection of its own.
 #[derive(Drop)]
@@ -32,6 +35,28 @@ impl<'a, D: Dial> Backend<'a, D> {
     }
 }
 
+/// Posts a body on a connection, and reads the head of the answer. No read follows the one that
+/// completes it, so a back end that keeps its side open is not waited for. Input and output come
+/// back as the calls have left them.
+fn call<I: Read + Drop, O: Write + Drop>(
+    alloc: Global,
+    input: I,
+    output: O,
+    host: &str,
+    bytes: &[u8],
+) -> (Answer, I, O)
+    requires { length host.now < 2 ^ 32 }
+    ensures { IsExchanged (I.remaining input) (I.remaining result.1) (O.contents output)
+        (O.contents result.2) (post_text host.now bytes.now) result.0 }
+{
+    let mut reader = PieceSource::new(Uninterrupted::new(input));
+    let mut writer = ToWriter::new(Uninterrupted::new(output));
+    let answer = exchange(alloc, &mut reader, &mut writer, host, bytes);
+    let input = reader.into_reader().into_stream();
+    let output = writer.into_inner().into_stream();
+    (answer, input, output)
+}
+
 impl<D: Dial> Uplink for Backend<'_, D> {
     /// One connection is made, and at most one request is written to it.
     ghost sends = { λ before bytes answer after. (line : Option (D.Reader × D.Writer))
@@ -45,8 +70,7 @@ impl<D: Dial> Uplink for Backend<'_, D> {
         let Some((reader, writer)) = self.dialler.dial() else {
             return Answer::Unknown;
         };
-        let mut reader = FromReader::new(reader);
-        let mut writer = ToWriter::new(writer);
-        exchange(self.alloc, &mut reader, &mut writer, self.host, bytes)
+        let (answer, _, _) = call(self.alloc, reader, writer, self.host, bytes);
+        answer
     }
 }

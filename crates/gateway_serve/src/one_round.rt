@@ -68,7 +68,9 @@ pub fn one_round<
     connections: u64,
 ) -> Result<(Book, Audit), GatewayFault>
     requires empty { book.entries ≡ [] }
-    ensures { IfOk result (λ r. IsOver book r.0 r.1) }
+    ensures over { IfOk result (λ r. IsOver book r.0 r.1) }
+    ensures accepted { OnOk result ((begun : Entrance) × (end : Entrance)
+        × ∥ AreAccepted ⟦<Entrance as Accepts>⟧.accepts (Some begun) connections 0 end ∥₁) }
 {
     let parts = u64::from(options.receivers) + u64::from(options.flushers);
     let blank = Blank::new(parts);

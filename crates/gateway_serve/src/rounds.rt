@@ -1,6 +1,8 @@
 //! Rounds: the book is shared anew after so many connections.
-ghost use Rattle.std.specs.Prelude.{◌≡◌, IfOk, OnOk, List, ◌∷◌, min};
-ghost use Rattle.delta_book.specs.Rounds.{closed};
+ghost use Rattle.std.specs.Prelude.{◌≡◌, IfErr, IfOk, OnOk, List, ◌∷◌, min, unwrap_or};
+ghost use Rattle.delta_book.specs.Journal.{history};
+ghost use Rattle.delta_book.specs.Rounds.{closed, round_refusal};
+ghost use Rattle.gateway_serve.specs.Closing.{close_fault};
 ghost use Rattle.gateway_serve.specs.Rounds.{AreServed, CanServe, IsLastRound, IsRun, ServedRound};
 
 use crate::fault::GatewayFault;
@@ -13,7 +15,9 @@ use std::alloc::Global;
 
 /// Closes the round of a book, and opens the next one.
 fn close(book: &mut Book) -> Result<(), GatewayFault>
-    ensures { OnOk result (book.new ≡ closed book.old) }
+    ensures closed { OnOk result (book.new ≡ closed book.old) }
+    ensures fault { IfErr result (λ fault. fault ≡ close_fault
+        (unwrap_or (round_refusal (history book.old)) RoundFault.NoMemory)) }
 {
     match book.close_round() {
         Ok(_) => Ok(()),

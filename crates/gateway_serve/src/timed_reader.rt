@@ -1,4 +1,5 @@
-ghost use Rattle.std.specs.Prelude.{◌≡◌, Option};
+ghost use Rattle.std.specs.Prelude.{◌≡◌, ◌*◌, Option, None};
+ghost use Rattle.std.specs.Duration.{as_nanos};
 ghost use Rattle.std.specs.Io.{ReadsAtMost};
 ghost use Rattle.std.specs.Io.KnownBytes.{ReadConsumes};
 ghost use Rattle.std.specs.declared.time.Duration.{Duration};
@@ -23,7 +24,9 @@ pub struct TimedReader<S, M> {
 impl<S: Read + Waits, M: Moments> TimedReader<S, M> {
     /// A reader of this stream, whose seconds have not begun.
     pub fn new(stream: S, moments: M, seconds: u64) -> Self
-        ensures { ⟦<TimedReader<S, M> as Read>⟧.remaining result ≡ S.remaining stream }
+        ensures bytes { ⟦<TimedReader<S, M> as Read>⟧.remaining result ≡ S.remaining stream }
+        ensures seconds { as_nanos result.limit.whole ≡ seconds * 1_000_000_000 }
+        ensures run { result.limit.run ≡ None }
     {
         TimedReader {
             stream,

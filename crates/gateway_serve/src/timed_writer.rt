@@ -1,4 +1,5 @@
-ghost use Rattle.std.specs.Prelude.{◌≡◌, Option};
+ghost use Rattle.std.specs.Prelude.{◌≡◌, ◌*◌, Option, None};
+ghost use Rattle.std.specs.Duration.{as_nanos};
 ghost use Rattle.std.specs.Io.{WritesAtMost};
 ghost use Rattle.std.specs.Io.KnownBytes.{WriteAppends};
 ghost use Rattle.std.specs.declared.time.Duration.{Duration};
@@ -23,12 +24,23 @@ pub struct TimedWriter<S, M> {
 impl<S: Write + Waits, M: Moments> TimedWriter<S, M> {
     /// A writer to this stream, whose seconds have not begun.
     pub fn new(stream: S, moments: M, seconds: u64) -> Self
-        ensures { ⟦<TimedWriter<S, M> as Write>⟧.contents result ≡ S.contents stream }
+        ensures bytes { ⟦<TimedWriter<S, M> as Write>⟧.contents result ≡ S.contents stream }
+        ensures seconds { as_nanos result.limit.whole ≡ seconds * 1_000_000_000 }
+        ensures run { result.limit.run ≡ None }
     {
         TimedWriter {
             stream,
             limit: TimeLimit::new(moments, seconds),
         }
+    }
+}
+
+impl<S, M: Drop> TimedWriter<S, M> {
+    /// The stream, with all that was written to it.
+    pub fn into_stream(self) -> S
+        ensures { result ≡ self.stream }
+    {
+        self.stream
     }
 }
 

@@ -1,5 +1,6 @@
 //! The workers of a round, each in a thread of its own.
-ghost use Rattle.std.specs.Prelude.{◌≡◌, IfErr, OnOk, Some};
+ghost use Rattle.std.specs.Prelude.{◌≡◌, IfErr, IfOk, OnOk, Some, nat_lt};
+ghost use Rattle.gateway_serve.specs.Tasks.{is_flush};
 ghost use Rattle.gateway_serve.specs.Accepted.{AreAccepted};
 ghost use Rattle.gateway_serve.specs.declared.fault.GatewayFault.TheVariants.{NoMemory};
 
@@ -26,7 +27,8 @@ use std::time::Clock;
 /// The work of the seat of this number: the first seats are the flushers', so that these are there
 /// before the first receiver.
 fn work_of(orders: &OrderChannel, flushers: u16, number: u16) -> Result<Work, GatewayFault>
-    ensures { IfErr result (λ fault. fault ≡ NoMemory) }
+    ensures task { IfOk result (λ work. is_flush work ≡ nat_lt number flushers) }
+    ensures fault { IfErr result (λ fault. fault ≡ NoMemory) }
 {
     if number < flushers {
         let orders = orders.receiver()?;

@@ -23,7 +23,7 @@ pub loop-left-preserved : goal.loop-left-preserved
 loop-left-preserved g c =
     let options = c.args.options.now in
     let old = c.loop-left.invariant in
-    let closing = c.in_ok-close.ensures in
+    let closing = c.in_ok-close.ensures.closed in
     let over = c.requires.over _ _ c.close.new.book c.in_ok-next.next _ c.in_ok-next.audit (ap (λ (J : Journal). J.entries) closing) c.in_ok-next.ensures in
     let count = c.next_count-count.ensures in
     let sums = c.and-sums.ensures in
