@@ -1,39 +1,47 @@
 #!/usr/bin/env python3
-"""Two gateways behind a real haproxy and a real nginx, by the files of operate/.
+"""The service behind a real haproxy and a real nginx, by the files of operate/.
 
-    tests/behind_proxies.py PROGRAM [haproxy|nginx|levels ..]
+    tests/behind_proxies.py TOTXEGUN GATEWAY [haproxy|nginx ..]
 
-Sixteen senders post on connections that they keep, flushes are ordered, and the back ends refuse one request in three.
-Meanwhile the proxy is killed and started again, and one gateway is replaced by operate/handover. What was
-answered to the senders is compared with what the back ends took, sender by sender: each post once, in order, and each
-sender in one gateway alone. Then names by token and certificate, HTTP/2, hidden routes, sizes, codings, and senders
-that stall.
-The levels are these gateways with an upper gateway as their back end, and a haproxy between them.
+Names first: a sender has the name of its certificate or token, whatever name it gives itself, and without one it is
+refused. Then what is hidden, sizes, encodings, HTTP/2. Then senders, half of them by certificates, post on connections that
+they keep and repeat each post until it is answered, while the proxy, the gateway, both, and the service are killed by
+`kill -9`. At the end the SQLite sink has, series by series, what the senders were told is taken, and each series has the
+sender that the proxy named.
 
-It needs haproxy, nginx, curl, openssl and socat, for gzip libnginx-mod-http-lua and lua-zlib. Where one is missing a line
-says what is left out, and the status is 77. Each other line is one check; the last one counts those that passed and
-failed, and the status is 1 where one failed.
+It needs haproxy, nginx, curl and openssl. Where one is missing a line says so, and the status is 77. Each other line is one
+check; the last one counts those that passed and failed, and the status is 1 where one failed.
 """
 import contextlib
 import gzip
-import json
+import http.client
 import os
-import socket
+import re
+import signal
+import ssl
 import subprocess
 import sys
-import threading
 import time
 
-from loopback import SECONDS, BackEnd, free_port
-from shipped import (Senders, TakingBackEnd, ask, body_of, end_gateway, end_group, flush_all, folder, gateway_at,
-                     listens, missing, owners, posting, run_script, script, shipped, started, taken, wait_until)
+from loopback import SECONDS, free_port
+from service import (JSON, PROTOBUF, Sender, Service, SqliteSink, add_points, differences, in_json, in_protobuf,
+                     overlaps, told_to_all)
+from service_load import post_meanwhile
+from shipped import end_group, folder, listens, missing, run_script, shipped, started, wait_until
 
-SENDERS = [f"s{number}" for number in range(16)]
-LOAD_SECONDS = 4
-STALLED = 24
-GUNZIP = "/usr/share/nginx/modules/ngx_http_lua_module.so"
-HIDDEN = ["/", "/flush", "/report", "/quarantine/s1", "/lift/s1", "//flush", "/%66lush", "/v1/metrics/../../flush",
-          "/v1/metrics/"]
+SENDERS = 6
+LOAD_SECONDS = 15
+LIMIT = 4_194_304
+HIDDEN = ["/", "/flush", "/report", "/metrics", "/status", "/dead", "/quarantine/sender-1", "//flush", "/%66lush",
+          "/v1/metrics/../../flush", "/v1/metrics/"]
+TOKENS = {f"t0ken-{number}": f"sender-{number}" for number in range(1, SENDERS, 2)} | {"t0ken": "by-token"}
+# Of each certificate its subject.
+CERTIFICATES = {f"sender-{number}": f"/CN=sender-{number}" for number in range(0, SENDERS, 2)} | {
+    "server": "/CN=localhost", "client": "/O=x,CN=other/CN=by-certificate", "nameless": "/CN=no name"}
+
+
+# --------------------------------------------------------------------------------------------------------------------
+# Names
 
 
 def openssl(at, *words):
@@ -41,315 +49,233 @@ def openssl(at, *words):
 
 
 def make_names(at):
-    """Certificates of the proxy and of a client, and tokens, as the proxies look for them."""
+    """Certificates of the proxy and of clients, and tokens, as the proxies look for them; `stranger` is signed by itself."""
     key = ["-newkey", "ec", "-pkeyopt", "ec_paramgen_curve:prime256v1", "-nodes"]
-    openssl(at, "req", "-x509", *key, "-keyout", "ca.key", "-out", "ca.pem", "-subj", "/CN=ca", "-days", "2")
-    names = {"server": "/CN=localhost", "client": "/O=x,CN=other/CN=by-certificate", "bad": "/CN=no name"}
-    for name, subject in names.items():
+    for name in ("ca", "stranger"):
+        openssl(at, "req", "-x509", *key, "-keyout", f"{name}.key", "-out", f"{name}.pem", "-subj", f"/CN={name}", "-days", "2")
+    with open(f"{at}/names", "w") as file:
+        file.write("subjectAltName=DNS:localhost,IP:127.0.0.1\n")
+    for name, subject in CERTIFICATES.items():
         openssl(at, "req", *key, "-keyout", f"{name}.key", "-out", f"{name}.csr", "-subj", subject)
         openssl(at, "x509", "-req", "-in", f"{name}.csr", "-CA", "ca.pem", "-CAkey", "ca.key", "-CAcreateserial",
-                "-out", f"{name}.crt", "-days", "2")
+                "-extfile", "names", "-out", f"{name}.crt", "-days", "2")
         with open(f"{at}/{name}.pem", "w") as both:
             for part in ("crt", "key"):
                 with open(f"{at}/{name}.{part}") as file:
                     both.write(file.read())
     with open(f"{at}/tokens.map", "w") as file:
-        file.write("t0ken by-token\n")
+        file.writelines(f"{token} {name}\n" for token, name in TOKENS.items())
     with open(f"{at}/tokens.nginx", "w") as file:
-        file.write('"Bearer t0ken" by-token;\n')
+        file.writelines(f'"Bearer {token}" {name};\n' for token, name in TOKENS.items())
 
 
-def users():
-    """Only root can change users."""
-    return {} if os.getuid() == 0 else {"    user haproxy\n": "", "    group haproxy\n": ""}
+def context(at, certificate=None, key=None):
+    made = ssl.create_default_context(cafile=f"{at}/ca.pem")
+    if certificate:
+        made.load_cert_chain(f"{at}/{certificate}.pem", key and f"{at}/{key}.key")
+    return made
 
 
-def start_proxy(stack, words, at, port):
-    """A proxy's process, once it listens."""
-    process = started(stack, words, f"{at}/log")
-    if not wait_until(lambda: listens(port) or process.poll() is not None) or process.poll() is not None:
-        with open(f"{at}/log") as log:
-            raise OSError(f"{words[0]} does not start: {log.read()[-1000:]}")
-    return process
+# --------------------------------------------------------------------------------------------------------------------
+# Proxies
 
 
 class Proxy:
-    """A proxy with a copy of its shipped file."""
+    """A proxy with a copy of its shipped file, in front of the service."""
 
-    def __init__(self, stack, kind, at, gateways):
+    def __init__(self, stack, kind, at, listen):
         self.stack, self.kind, self.at = stack, kind, at
-        self.plain, self.secure = free_port(), free_port()
+        self.port = free_port()
         self.file = f"{at}/{kind}"
-        ports = {":4318": f":{self.plain}", ":4319": f":{self.secure}", "/etc/totxegun": at}
-        for number, gateway in enumerate(gateways):
-            ports[f"127.0.0.1:{4400 + number}"] = f"127.0.0.1:{gateway.port}"
+        ports = {":4318": f":{listen}", " 4320 ": f" 127.0.0.1:{self.port} ", ":4320": f"127.0.0.1:{self.port}"}
+        ports.pop(":4320" if kind == "nginx" else " 4320 ")
         with open(self.file, "w") as copy:
-            copy.write(self.haproxy(ports) if kind == "haproxy" else self.nginx(ports))
+            copy.write(shipped({"haproxy": "haproxy.cfg", "nginx": "nginx.conf"}[kind],
+                               {**self.own()[kind], **ports, "/etc/totxegun": at}))
         self.process = None
 
-    def haproxy(self, ports):
-        return shipped("haproxy.cfg", {**ports, **users(), "/run/haproxy/admin.sock": f"{self.at}/socket"})
-
-    def nginx(self, ports):
-        paths = "".join(f"    {name}_temp_path {self.at}/{name};\n"
-                        for name in ("client_body", "proxy", "fastcgi", "uwsgi", "scgi"))
-        own = {"/run/nginx.pid": f"{self.at}/pid", "/var/log/nginx": self.at, "http {\n": "http {\n" + paths}
-        if not missing([], GUNZIP):
-            os.mkdir(f"{self.at}/gunzip")
-            for part in ("module", "location"):
-                with open(f"{self.at}/gunzip/{part}.conf", "w") as copy:
-                    copy.write(shipped(f"gunzip/{part}.conf", {}))
-        return shipped("nginx.conf", {**ports, **own})
+    def own(self):
+        """Places, and users, which only root can change; the remarks name the ports too."""
+        temporary = "".join(f"    {name}_temp_path {self.at}/{name};\n"
+                            for name in ("client_body", "proxy", "fastcgi", "uwsgi", "scgi"))
+        users = {} if os.getuid() == 0 else {"    user haproxy\n": "", "    group haproxy\n": ""}
+        return {"haproxy": {"at port 4320": "", **users},
+                "nginx": {"at port 4320": "", "/run/nginx.pid": f"{self.at}/pid", "/var/log/nginx": self.at,
+                          "http {\n": "http {\n" + temporary}}
 
     def start(self):
         words = {"haproxy": ["haproxy", "-db", "-f", self.file],
                  "nginx": ["nginx", "-p", self.at, "-c", self.file, "-g", "daemon off;"]}[self.kind]
-        self.process = start_proxy(self.stack, words, self.at, self.plain)
+        self.process = started(self.stack, words, f"{self.at}/log")
+        if not wait_until(lambda: listens(self.port) or self.process.poll() is not None) or self.process.poll() is not None:
+            with open(f"{self.at}/log") as log:
+                raise OSError(f"{self.kind} does not start: {log.read()[-1000:]}")
 
     def kill(self):
+        """As `kill -9` of all its processes."""
         end_group(self.process)
         # A worker of nginx may outlive the process that started it by a moment, and listens until then.
-        wait_until(lambda: not listens(self.plain))
-
-    def handover(self, old, new):
-        """The words of operate/handover behind the two addresses."""
-        how = {"haproxy": ["haproxy", f"{self.at}/socket", "g0/g0", self.file],
-               "nginx": ["nginx", f"{self.at}/pid", self.file]}[self.kind]
-        return script("handover", f"127.0.0.1:{old.port}", f"127.0.0.1:{new.port}", *how)
+        wait_until(lambda: not listens(self.port))
 
 
-def orders(gateways, stop):
-    """Orders flushes of all until it is stopped."""
-    def order(gateway):
-        while not stop.wait(0.1):
-            with contextlib.suppress(OSError):
-                ask(gateway.port, "POST", "/flush")
-    threads = [threading.Thread(target=order, args=(gateway,), daemon=True) for gateway in gateways]
-    for thread in threads:
-        thread.start()
-    return threads
+def connection(proxy, seconds=SECONDS, **by):
+    return http.client.HTTPSConnection("127.0.0.1", proxy.port, timeout=seconds, context=context(proxy.at, **by))
 
 
-def under_load(program, checks, stack, proxy, gateways, back_ends):
-    """Posts and flushes, the proxy killed and started, one gateway replaced; and what came of all."""
-    kind = proxy.kind
-    stop = threading.Event()
-    stack.callback(stop.set)
-    flushing = orders(gateways, stop)
-    senders = Senders(proxy.plain, SENDERS, LOAD_SECONDS)
-    time.sleep(LOAD_SECONDS / 3)
-    proxy.kill()
-    time.sleep(0.1)
-    proxy.start()
-    time.sleep(LOAD_SECONDS / 3)
-    stop.set()
-    for thread in flushing:
-        thread.join(SECONDS)
-    new = gateway_at(stack, program, back_ends[0].port, "--receivers", "4", "--flushers", "2")
-    back_ends[0].refuses = False
-    old = gateways[0]
-    said = (f"127.0.0.1:{old.port} is drained\n"
-            f"127.0.0.1:{old.port} may be stopped, and 127.0.0.1:{new.port} be flushed")
-    checks.same(f"{kind}: a gateway is replaced under load", (0, said), proxy.handover(old, new))
-    end_gateway(old)
-    gateways[0] = new
-    checks.same(f"{kind}: all senders end", True, senders.end())
-    for gateway, back_end in zip(gateways, back_ends):
-        back_end.refuses = False
-        flush_all(gateway.port)
-    checks.same(f"{kind}: what the back ends took, by sender, once and in order", senders.accepted, taken(back_ends))
-    checks.same(f"{kind}: some of it in each", [True, True], [bool(back_end.series) for back_end in back_ends])
-    checks.same(f"{kind}: no sender in two gateways", set(), back_ends[0].senders() & back_ends[1].senders())
-    checks.same(f"{kind}: no refusal but those that are sent again", set(), set(senders.statuses) - {0, 502, 503, 504})
-    checks.same(f"{kind}: senders are where they were when it starts anew", True, started_anew(proxy, gateways))
-    print(f"note: {kind}: {sum(senders.accepted.values())} posts in {LOAD_SECONDS} s, sent again {dict(senders.statuses)}")
-
-
-def started_anew(proxy, gateways):
-    """Whether the proxy's file has the new gateway: each sender posts once more behind a start of it."""
-    proxy.kill()
-    proxy.start()
-    late = 100_000
-    answers = {ask(proxy.plain, "POST", "/v1/metrics", body_of(name, late), posting(name))[0] for name in SENDERS}
-    both = [owners(gateway.port) for gateway in gateways]
-    return answers == {200} and not both[0] & both[1] and set(SENDERS) <= both[0] | both[1]
-
-
-class Curl:
-    """Posts by curl, each of a point of its own where no body is given."""
+class Poster:
+    """Posts a point of a series of its own by each call, and gives the status: None where there is no answer."""
 
     def __init__(self, proxy):
         self.proxy = proxy
-        self.count = 0
+        self.number = 0
 
-    def __call__(self, *words, path="/v1/metrics", secure=False, body=None, pad=0):
-        """The status of the answer and its version of HTTP."""
-        self.count += 1
-        file = f"{self.proxy.at}/body"
-        with open(file, "wb") as out:
-            out.write(body or body_of("by-curl", self.count, pad))
-        to = f"https://localhost:{self.proxy.secure}" if secure else f"http://127.0.0.1:{self.proxy.plain}"
-        run = subprocess.run(
-            ["curl", "-s", "-m", str(SECONDS), "--path-as-is", "-o", "/dev/null", "-w", "%{http_code} %{http_version}",
-             "--cacert", f"{self.proxy.at}/ca.pem", "-H", "Content-Type: application/json", *words,
-             "--data-binary", f"@{file}", to + path], capture_output=True, text=True, timeout=2 * SECONDS)
-        status, version = run.stdout.split()
-        return int(status), version
-
-
-def names(checks, proxy, curl, gateways):
-    kind, victim, at = proxy.kind, ("-H", "x-sender: victim"), proxy.at
-    checks.same(f"{kind}: no name", 401, curl()[0])
-    checks.same(f"{kind}: a bad name", 401, curl("-H", "x-sender: a b")[0])
-    checks.same(f"{kind}: TLS, a name of one's own", 401, curl(*victim, secure=True)[0])
-    checks.same(f"{kind}: TLS, a token of nobody", 401, curl(*victim, "-H", "Authorization: Bearer no", secure=True)[0])
-    checks.same(f"{kind}: TLS, a token, over HTTP/2", (200, "2"),
-                curl(*victim, "-H", "Authorization: Bearer t0ken", body=body_of("t", 1), secure=True))
-    checks.same(f"{kind}: TLS, a certificate", 200,
-                curl(*victim, "--cert", f"{at}/client.pem", body=body_of("k", 1), secure=True)[0])
-    checks.same(f"{kind}: TLS, a certificate of no sender", 401, curl("--cert", f"{at}/bad.pem", secure=True)[0])
-    found = {name for gateway in gateways for name in owners(gateway.port)}
-    checks.same(f"{kind}: whose these series are", {"by-token", "by-certificate"},
-                found & {"by-token", "by-certificate", "victim", "other", "x,CN=other"})
+    def __call__(self, token=None, path="/v1/metrics", kind=JSON, pad=0, packed=False, headers=None, **by):
+        self.number += 1
+        point = (f"by-{token or by.get('certificate')}", 10 * self.number, 10 * self.number + 10, 1)
+        body = {JSON: in_json, PROTOBUF: in_protobuf}[kind]([point]) + b" " * pad
+        headers = {"Content-Type": kind, "x-sender": "victim", **(headers or {})}
+        if token:
+            headers["Authorization"] = f"Bearer {token}"
+        if packed:
+            body, headers["Content-Encoding"] = gzip.compress(body), "gzip"
+        with contextlib.closing(connection(self.proxy, **by)) as client:
+            try:
+                client.request("POST", path, body, headers)
+                return client.getresponse().status
+            except (OSError, http.client.HTTPException):
+                return None
 
 
-def sizes(checks, proxy, curl):
-    kind, named = proxy.kind, ("-H", "x-sender: by-curl")
+class Client(Sender):
+    """A sender by way of the proxy: with a certificate where its number is even, else with a token."""
+
+    def __init__(self, service, proxy, number):
+        super().__init__(service, number, seconds=SECONDS)
+        self.proxy, self.number = proxy, number
+
+    def try_once(self, body, headers):
+        by = {} if self.number % 2 else {"certificate": self.name}
+        token = {"Authorization": f"Bearer t0ken-{self.number}"} if self.number % 2 else {}
+        self.connection = self.connection or connection(self.proxy, self.seconds, **by)
+        return super().try_once(body, {**headers, **token, "x-sender": "victim"})
+
+
+# --------------------------------------------------------------------------------------------------------------------
+# What is checked
+
+
+def owners(service):
+    """The senders of all series, by the gateway's report."""
+    with contextlib.closing(http.client.HTTPConnection("127.0.0.1", service.operate, timeout=SECONDS)) as client:
+        client.request("GET", "/report")
+        return dict(re.findall(r"^series (\S+) .* owner (\S+) ", client.getresponse().read().decode(), re.MULTILINE))
+
+
+def names(checks, proxy, service, post):
+    kind = proxy.kind
+    checks.same(f"{kind}: no name but its own", 401, post())
+    checks.same(f"{kind}: a token of nobody", 401, post("no"))
+    checks.same(f"{kind}: a certificate of no sender", 401, post(certificate="nameless"))
+    checks.same(f"{kind}: that with a token", 401, post("t0ken", certificate="nameless"))
+    checks.true(f"{kind}: a certificate that nobody signed", (found := post("t0ken", certificate="stranger", key="stranger")) != 200, found)
+    checks.same(f"{kind}: a token", 200, post("t0ken"))
+    checks.same(f"{kind}: a certificate", 200, post(certificate="client"))
+    checks.same(f"{kind}: whose these series are", {"by-t0ken": "by-token", "by-client": "by-certificate"}, owners(service))
+
+
+def encodings(checks, proxy, post):
+    kind = proxy.kind
+    for encoding in (JSON, PROTOBUF):
+        for packed in (False, True):
+            checks.same(f"{kind}: {encoding}{', packed' * packed}", 200, post("t0ken", kind=encoding, packed=packed))
+    checks.same(f"{kind}: the longest body", 200, post("t0ken", pad=LIMIT - 1000))
+    checks.same(f"{kind}: a body over that", 413, post("t0ken", pad=LIMIT))
+    checks.same(f"{kind}: packed, and over that", 413, post("t0ken", pad=LIMIT, packed=True))
+    checks.same(f"{kind}: text", 415, post("t0ken", headers={"Content-Type": "text/plain"}))
     for path in HIDDEN:
-        checks.same(f"{kind}: {path} is not there", 404, curl(*named, path=path)[0])
-    checks.same(f"{kind}: 1.5 MB", 200, curl(*named, pad=1_500_000)[0])
-    checks.same(f"{kind}: 4,190,000 bytes and more", 200, curl(*named, pad=4_190_000)[0])
-    checks.same(f"{kind}: in chunks", 200, curl(*named, "-H", "Transfer-Encoding: chunked", pad=100_000)[0])
-    checks.same(f"{kind}: 5 MB", 413, curl(*named, "-H", "Expect:", pad=5_000_000)[0])
-    head = b"POST /v1/metrics HTTP/1.1\r\nHost: x\r\nContent-Type: application/json\r\nx-sender: e\r\n"
-    with socket.create_connection(("127.0.0.1", proxy.plain), SECONDS) as client:
-        client.sendall(head + b"Content-Length: 2\r\nExpect: 100-continue\r\n\r\n")
-        checks.same(f"{kind}: a client that waits is asked to go on", b"HTTP/1.1 100", client.recv(12))
+        checks.same(f"{kind}: {path} is not there", 404, post("t0ken", path=path))
 
 
-def codings(checks, proxy, curl):
-    kind, coded = proxy.kind, ("-H", "x-sender: by-curl", "-H", "Content-Encoding: gzip")
-    body = gzip.compress(body_of("by-curl", 1000))
-    if kind == "haproxy":
-        checks.same(f"{kind}: gzip", 415, curl(*coded, body=body)[0])
-    elif checks.has("nginx: gzip", *missing([], GUNZIP)):
-        bodies = {"gzip": (200, body), "gzip that unpacks to 5 MB": (413, gzip.compress(b" " * 5_000_000)),
-                  "gzip of 1 MB": (200, gzip.compress(body_of("by-curl", 1001, 1_000_000), 0)),
-                  "no gzip": (400, b"{}"), "a part of gzip": (400, body[:-9])}
-        for what, (status, coded_body) in bodies.items():
-            checks.same(f"{kind}: {what}", status, curl(*coded, body=coded_body)[0])
-        checks.same(f"{kind}: another coding", 415, curl("-H", "x-sender: by-curl", "-H", "Content-Encoding: br")[0])
+def by_curl(checks, proxy):
+    """HTTP/2, and a long body that curl asks for leave to send."""
+    with open(f"{proxy.at}/body", "wb") as file:
+        file.write(in_json([("by-curl", 10, 20, 1)]) + b" " * 2_000_000)
+    asking = ["-H", "Expect: 100-continue", "--expect100-timeout", str(SECONDS)]
+    # The second one repeats the first. nginx asks nobody to go on over HTTP/2.
+    for how, wanted in ((["--http2", "-H", "Expect:"], "200 2"), (["--http1.1", *asking], "400 1.1")):
+        run = subprocess.run(
+            ["curl", "-s", "-m", str(SECONDS), *how, "-o", "/dev/null", "-w", "%{http_code} %{http_version}",
+             "--cacert", f"{proxy.at}/ca.pem", "-H", "Content-Type: application/json", "-H", "Authorization: Bearer t0ken",
+             "--data-binary", f"@{proxy.at}/body", f"https://localhost:{proxy.port}/v1/metrics"],
+            capture_output=True, text=True, timeout=2 * SECONDS)
+        checks.same(f"{proxy.kind}: curl {how[0]}", wanted, run.stdout)
 
 
-def stalled(checks, proxy, curl):
-    """Senders that stop in their bodies."""
-    with contextlib.ExitStack() as clients:
-        for number in range(STALLED):
-            client = clients.enter_context(socket.create_connection(("127.0.0.1", proxy.plain), SECONDS))
-            client.sendall(b"POST /v1/metrics HTTP/1.1\r\nHost: x\r\nContent-Type: application/json\r\nx-sender: w%d\r\n"
-                           b"Content-Length: 1000000\r\n\r\n" % number + b" " * 100_000)
-        time.sleep(0.3)
-        found = curl("-H", "x-sender: by-curl", body=body_of("by-curl", 2000))[0]
-        checks.same(f"{proxy.kind}: beside {STALLED} senders that stall", 200, found)
+def kills(proxy, service):
+    """What is done while senders post, one after the other."""
+    def kill_proxy():
+        proxy.kill()
+        proxy.start()
+
+    def kill_gateway():
+        service.signal_gateway(signal.SIGKILL)
+
+    def kill_service():
+        service.kill()
+        service.start()
+    return [kill_proxy, kill_gateway, lambda: (kill_gateway(), kill_proxy()), kill_service, kill_proxy, kill_gateway]
 
 
-def behind(program, checks, outer, kind):
+def under_load(checks, proxy, service, sink):
+    kind = proxy.kind
+    before = sink.points() if service.order("/flush") == 200 and wait_until(service.is_drained) else None
+    clients = [Client(service, proxy, number) for number in range(SENDERS)]
+    threads = post_meanwhile(clients, time.monotonic() + LOAD_SECONDS)
+    for kill in kills(proxy, service):
+        service.wait_ready()
+        time.sleep(LOAD_SECONDS / 15)
+        kill()
+    checks.true(f"{kind}: the service is ready again", service.wait_ready(), service.last_lines())
+    for thread in threads:
+        thread.join(SECONDS)
+    checks.true(f"{kind}: all posts are answered", not any(thread.is_alive() for thread in threads), service.last_lines())
+    checks.same(f"{kind}: no post was answered otherwise", [], [it for client in clients for it in client.surprises][:3])
+    checks.true(f"{kind}: each sender repeated a post", all(client.repeats for client in clients), [client.repeats for client in clients])
+    checks.same(f"{kind}: all is flushed and delivered", (200, True), (service.order("/flush"), wait_until(service.is_drained)))
+    points, found, wanted = sink.points(), {}, told_to_all(clients)
+    add_points(wanted, before)
+    add_points(found, points)
+    checks.same(f"{kind}: the sink has what the senders were told, {len(wanted)} series", [], differences(wanted, found))
+    checks.same(f"{kind}: no spans of a series overlap at the sink", [], overlaps(points))
+    checks.same(f"{kind}: each series has the sender that the proxy named", {name: name.partition(".")[0] for name in told_to_all(clients)},
+                {name: owner for name, owner in owners(service).items() if not name.startswith("by-")})
+    print(f"note: {kind}: {sum(it.posts for it in clients)} posts, {sum(it.repeats for it in clients)} repeats", flush=True)
+
+
+def behind(totxegun, gateway, checks, kind):
     with contextlib.ExitStack() as stack:
-        back_ends = [TakingBackEnd(), TakingBackEnd()]
-        for back_end in back_ends:
-            stack.callback(back_end.close)
-        gateways = [gateway_at(stack, program, back_end.port, "--receivers", "4", "--flushers", "2")
-                    for back_end in back_ends]
         at = folder(stack)
         make_names(at)
-        proxy = Proxy(stack, kind, at, gateways)
+        sink = SqliteSink(f"{at}/sink.db")
+        service = Service(totxegun, gateway, f"{at}/data", sink.address, "--flush-every", "1s")
+        stack.callback(service.kill)
+        service.start()
+        checks.true(f"{kind}: the service is ready", service.wait_ready(), service.last_lines())
+        proxy = Proxy(stack, kind, at, service.listen)
         proxy.start()
-        under_load(program, checks, stack, proxy, gateways, back_ends)
-        curl = Curl(proxy)
-        names(checks, proxy, curl, gateways)
-        sizes(checks, proxy, curl)
-        codings(checks, proxy, curl)
-        stalled(checks, proxy, curl)
+        post = Poster(proxy)
+        names(checks, proxy, service, post)
+        encodings(checks, proxy, post)
+        by_curl(checks, proxy)
+        under_load(checks, proxy, service, sink)
+        checks.same(f"{kind}: SIGTERM ends the service", 0, service.end()[0])
 
 
-def start_upper(stack, upper):
-    """The haproxy between the levels, and its port for each of two lower gateways."""
-    at = folder(stack)
-    ports = (free_port(), free_port())
-    own = {"127.0.0.1:4500-4501": ",".join(f"127.0.0.1:{port}" for port in ports), "/run/haproxy": at,
-           "127.0.0.1:4600": f"127.0.0.1:{upper.port}", **users()}
-    with open(f"{at}/upper.cfg", "w") as copy:
-        copy.write(shipped("upper.cfg", own))
-    start_proxy(stack, ["haproxy", "-db", "-f", f"{at}/upper.cfg"], at, ports[1])
-    return ports
-
-
-class Losing(BackEnd):
-    """Hands each request on to a port, and gives the answer back but for the first one."""
-
-    def __init__(self, onward):
-        self.onward = onward
-        super().__init__()
-
-    def answer_to(self, body):
-        first = not self.bodies
-        self.bodies.append(body)
-        status, _ = ask(self.onward, "POST", "/v1/metrics", body, posting("by-losing"))
-        return None if first else f"{status} Handed on\r\n".encode()
-
-
-def levels(program, checks, outer, kind):
-    """Senders, haproxy, two gateways, haproxy, an upper gateway, and a back end that refuses one request in three."""
-    with contextlib.ExitStack() as stack:
-        back_end = TakingBackEnd()
-        stack.callback(back_end.close)
-        upper = gateway_at(stack, program, back_end.port, "--receivers", "4", "--flushers", "2")
-        ports = start_upper(stack, upper)
-        gateways = [gateway_at(stack, program, port, "--receivers", "4", "--flushers", "2") for port in ports]
-        at = folder(stack)
-        make_names(at)
-        proxy = Proxy(stack, "haproxy", at, gateways)
-        proxy.start()
-        stop = threading.Event()
-        stack.callback(stop.set)
-        flushing = orders([*gateways, upper], stop)
-        senders = Senders(proxy.plain, SENDERS, LOAD_SECONDS / 2)
-        checks.same(f"{kind}: all senders end", True, senders.end())
-        stop.set()
-        for thread in flushing:
-            thread.join(SECONDS)
-        back_end.refuses = False
-        for gateway in [*gateways, upper]:
-            flush_all(gateway.port)
-        checks.same(f"{kind}: what the back end took, by sender, once and in order", senders.accepted, taken([back_end]))
-        checks.same(f"{kind}: whose series these are at the upper one", {f"lower-{port}" for port in ports},
-                    owners(upper.port))
-        print(f"note: {kind}: {sum(senders.accepted.values())} posts in {LOAD_SECONDS / 2} s, by {back_end.asked} requests")
-        lost_answer(program, checks, stack, upper)
-
-
-def lost_answer(program, checks, stack, upper):
-    """What docs/OPERATING.md says of an answer that is lost between the levels."""
-    between = Losing(upper.port)
-    stack.callback(between.close)
-    lower = gateway_at(stack, program, between.port)
-    turns = []
-    for number in (0, 1):
-        ask(lower.port, "POST", "/v1/metrics", body_of("late", number), posting("late"))
-        turns.append(json.loads(ask(lower.port, "POST", "/flush")[1])["act"])
-    checks.same("levels: a lost answer loses the next flush of its series", ["returned", "dropped"], turns)
-
-
-KINDS = {"haproxy": (behind, ["haproxy"]), "nginx": (behind, ["nginx"]), "levels": (levels, ["haproxy"])}
-NEEDED = ["curl", "openssl", "socat"]
-
-
-def work(program, checks, stack):
-    for kind in sys.argv[2:] or KINDS:
-        part, proxies = KINDS[kind]
-        if checks.has(kind, *missing([*proxies, *NEEDED])):
-            part(program, checks, stack, kind)
+def work(totxegun, gateway, checks, stack):
+    for kind in sys.argv[3:] or ["haproxy", "nginx"]:
+        if checks.has(kind, *missing([kind, "curl", "openssl"])):
+            behind(totxegun, gateway, checks, kind)
 
 
 if __name__ == "__main__":
-    run_script(170, work)
+    run_script(300, work, ("TOTXEGUN", "GATEWAY"))

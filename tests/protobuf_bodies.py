@@ -1,28 +1,34 @@
 #!/usr/bin/env python3
-"""Bodies as protobuf's own JSON writer writes them, and what is forwarded of them read strictly by its reader.
+"""Bodies as protobuf's own library writes them, and what comes of them read by its reader.
 
-    tests/protobuf_bodies.py PROGRAM
+    tests/protobuf_bodies.py GATEWAY
+    tests/protobuf_bodies.py TOTXEGUN GATEWAY
 
 Each round makes a few requests of random sums, histograms and points outside the profile, with the messages of the OTLP
-definitions, which are built here by their names and numbers. They are posted as the writer writes them, or with whole
-doubles written as whole numbers, as JavaScript writes them. The answers count the foreign points. One flush then forwards
-for each series one point, over all its spans, with its values, buckets and sums added up here.
+definitions, which are built here by their names and numbers. A gateway alone gets them in JSON as the writer writes it, or
+with whole doubles written as whole numbers, as JavaScript writes them; what it forwards is read strictly. The service gets
+them in protobuf too, and in JSON with names of fields and enums as in the definitions, packed or not, and its sink gets
+protobuf. The answers count the foreign points. One flush then forwards for each series one point, over all its spans, with
+its values, buckets and sums added up here.
 
 It needs python3-protobuf; where that is missing a line says so, and the status is 77. Each other line is one check;
 the last one counts those that passed and failed, and the status is 1 where one failed.
 """
+import gzip
 import importlib.util
 import json
 import os
 import random
 import sys
+import tempfile
 
 # Debian's package is for Debian's Python.
 if importlib.util.find_spec("google") is None and os.path.realpath(sys.executable) != os.path.realpath("/usr/bin/python3"):
     os.execv("/usr/bin/python3", ["/usr/bin/python3", *sys.argv])
 
 from loopback import BackEnd
-from shipped import ask, flush_all, gateway_at, posting, run_script
+from service import JSON, PROTOBUF, OtlpSink, Service, ask, wait_until
+from shipped import flush_all, gateway_at, run_script
 
 try:
     from google.protobuf import descriptor_pb2, descriptor_pool, json_format, message_factory
@@ -254,16 +260,70 @@ def whole_numbers(value):
     return int(value) if isinstance(value, float) and value.is_integer() else value
 
 
-def written(request, whole):
+def written(request, how):
+    """The kind and the bytes of a request."""
+    if how == "protobuf":
+        return PROTOBUF, request.SerializeToString()
+    if how == "JSON with the names of the definitions":
+        return JSON, json_format.MessageToJson(request, preserving_proto_field_name=True).encode()
     text = json_format.MessageToJson(request, use_integers_for_enums=True)
-    return json.dumps(whole_numbers(json.loads(text))) if whole else text
+    return JSON, (json.dumps(whole_numbers(json.loads(text))) if how == "JSON with whole numbers" else text).encode()
 
 
-def forwarded(classes, bodies):
-    """What the back end got, by a strict reading: unknown names and wrong types are refused."""
+class Alone:
+    """The gateway, and a back end that keeps what it forwards."""
+
+    writings = ("JSON", "JSON with whole numbers")
+    packs = False
+
+    def __init__(self, stack, gateway):
+        self.back_end = BackEnd()
+        stack.callback(self.back_end.close)
+        self.port = gateway_at(stack, gateway, self.back_end.port).port
+
+    def reads(self, how):
+        """Whether whole doubles are read as they are written so."""
+        return how == "JSON with whole numbers"
+
+    def forwarded(self, message):
+        """What one flush forwards. Unknown names and wrong types are refused."""
+        self.back_end.bodies.clear()
+        flush_all(self.port)
+        return [json_format.Parse(body, message(), ignore_unknown_fields=False) for body in self.back_end.bodies]
+
+
+class Around:
+    """The service around the gateway, and a sink that gets protobuf."""
+
+    writings = ("protobuf", "JSON", "JSON with whole numbers", "JSON with the names of the definitions")
+    packs = True
+
+    def __init__(self, stack, totxegun, gateway):
+        self.sink = OtlpSink()
+        stack.callback(self.sink.close)
+        data = stack.enter_context(tempfile.TemporaryDirectory(prefix="bodies-"))
+        # No flush but those that are ordered.
+        self.service = Service(totxegun, gateway, f"{data}/data", self.sink.address, "--sink-protobuf", "--flush-every", "1h")
+        stack.callback(self.service.kill)
+        self.service.start()
+        if not self.service.wait_ready():
+            raise OSError(f"the service is not ready: {self.service.last_lines()}")
+        self.service.order("/flush")  # the first one is due at once
+        self.port = self.service.listen
+
+    def reads(self, how):
+        return True
+
+    def forwarded(self, message):
+        self.sink.taken.clear()
+        if self.service.order("/flush") != 200 or not wait_until(self.service.is_drained):
+            raise OSError(f"what was flushed is not delivered: {self.service.last_lines()}")
+        return [message.FromString(body) for body in self.sink.taken.values()]
+
+
+def points_in(requests):
     found = []
-    for body in bodies:
-        request = json_format.Parse(body, classes["ExportMetricsServiceRequest"](), ignore_unknown_fields=False)
+    for request in requests:
         for group in request.resource_metrics:
             for part in group.scope_metrics:
                 for metric in part.metrics:
@@ -274,41 +334,54 @@ def forwarded(classes, bodies):
     return found
 
 
-def one_round(classes, checks, gateway, back_end, number):
+def rejected(response, kind, text):
+    """How many points the answer counts as rejected."""
+    said = response.FromString(text) if kind == PROTOBUF else json_format.Parse(text, response(), ignore_unknown_fields=False)
+    return said.partial_success.rejected_data_points
+
+
+def one_round(classes, checks, party, number):
     """Requests of one kind of writing, posted one after another, and the flush of them."""
     chance = random.Random(SEED + number)
-    whole = number % 2 == 1
+    how = party.writings[number % len(party.writings)]
     request = classes["ExportMetricsServiceRequest"]()
-    points, foreign = fill_request(chance, request, number, 10**18, whole)
+    points, foreign = fill_request(chance, request, number, 10**18, party.reads(how))
     wanted, answers, alike = [], [], []
     for post in range(chance.randrange(1, 4)):
         if post:
             points = later(request, 10**6, points)
-        status, text = ask(gateway.port, "POST", "/v1/metrics", written(request, whole), posting("A"))
-        said = json_format.Parse(text, classes["ExportMetricsServiceResponse"](), ignore_unknown_fields=False)
-        answers.append((status, said.partial_success.rejected_data_points))
+        kind, body = written(request, how)
+        headers = {"Content-Type": kind, "x-sender": "A"}
+        if party.packs and chance.random() < 0.3:
+            body, headers["Content-Encoding"] = gzip.compress(body), "gzip"
+        status, text = ask(party.port, "POST", "/v1/metrics", body, headers)
+        answers.append((status, rejected(classes["ExportMetricsServiceResponse"], kind, text) if status == 200 else text))
         alike.append((200, foreign))
         wanted += points
-    back_end.bodies.clear()
-    flush_all(gateway.port)
-    found = forwarded(classes, back_end.bodies)
-    same = (answers, len(found), added(found)) == (alike, len(added(wanted)), added(wanted))
-    what = f"round {number}: {len(added(wanted))} series, {foreign} foreign points a request, whole numbers {whole}"
-    checks.same(what, True, same)
+    found = points_in(party.forwarded(classes["ExportMetricsServiceRequest"]))
+    what = f"round {number}, {how}: {len(added(wanted))} series, {foreign} foreign points a request"
+    checks.same(f"{what}: the answers", alike, answers)
+    checks.true(f"{what}: what is forwarded", (len(found), added(found)) == (len(added(wanted)), added(wanted)),
+                differences(added(wanted), added(found)))
     return len(added(wanted)), foreign
 
 
-def work(program, checks, stack):
+def differences(wanted, found):
+    """The first of the series that differ."""
+    return next(((series, wanted.get(series), found.get(series)) for series in {**wanted, **found}
+                 if wanted.get(series) != found.get(series)), "a series is forwarded twice")
+
+
+def work(checks, stack, *programs):
     if not checks.has("all", *([] if descriptor_pb2 else ["python3-protobuf"])):
         return
     classes = message_classes()
-    back_end = BackEnd()
-    stack.callback(back_end.close)
-    gateway = gateway_at(stack, program, back_end.port)
-    counts = [one_round(classes, checks, gateway, back_end, number) for number in range(ROUNDS)]
+    party = Alone(stack, *programs) if len(programs) == 1 else Around(stack, *programs)
+    counts = [one_round(classes, checks, party, number) for number in range(ROUNDS)]
     checks.same("series and foreign points were there", (True, True),
                 (sum(count for count, _ in counts) > ROUNDS, sum(foreign for _, foreign in counts) > ROUNDS))
 
 
 if __name__ == "__main__":
-    run_script(120, work)
+    names = ("GATEWAY",) if len(sys.argv) == 2 else ("TOTXEGUN", "GATEWAY")
+    run_script(240, lambda *given: work(*given[-2:], *given[:-2]), names)

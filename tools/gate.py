@@ -27,8 +27,6 @@ GROWTHS = "crates/growths/out/growths"
 STEPS = (
     ("slow_parties.py", GATEWAY, 70, False),
     ("gateway_serves.sh", GATEWAY, 60, False),
-    ("behind_proxies.py", GATEWAY, 60, False),
-    ("operating_scripts.py", GATEWAY, 30, False),
     ("refused_growths.py", PLAY, 20, False),
     ("protobuf_bodies.py", GATEWAY, 10, False),
     ("refused_gateway.py", GATEWAY, 10, False),
@@ -49,7 +47,9 @@ CARGO_STEPS = (
 # Behind the program's name: further words, and about how many seconds it takes.
 SERVICE_STEPS = (
     ("service_load.py", ["60"], 120),
-    ("service_interrupted.py", ["9"], 120),
+    ("service_interrupted.py", ["9"], 150),
+    ("behind_proxies.py", [], 60),
+    ("protobuf_bodies.py", [], 40),
 )
 STEP_LIMIT = 600
 # A network of its own for each step, so that none takes another's port.
@@ -117,7 +117,7 @@ def has_tests(crate):
     return any(IS_TEST.search(content(file)) for file in crate.files())
 
 
-def step_of(script, program, seconds, is_timed, before):
+def step_of(script, program, seconds, is_timed, before, of=""):
     """The step that runs a script of tests/ on a program, behind these words. With none, steps run in turn."""
     command = [f"tests/{script}", *program.split()]
 
@@ -128,7 +128,7 @@ def step_of(script, program, seconds, is_timed, before):
             raise Failed(last)
         return f"LEFT OUT: {last}" if status == LEFT_OUT else last
 
-    name = script.partition(".")[0]
+    name = of + script.partition(".")[0].removeprefix(of)
     lane = None if before else "ports"
     return Step(name, work, " ".join(command), weight=seconds, lane=lane, alone=is_timed)
 
@@ -154,7 +154,7 @@ def service_steps(before):
     """The steps that run the service around the gateway, behind the one that builds it."""
     steps = [step_of("service_model.py", "", 60, False, [])]
     for script, words, seconds in SERVICE_STEPS:
-        step = step_of(script, " ".join([SERVICE_MADE, GATEWAY, *words]), seconds, False, before)
+        step = step_of(script, " ".join([SERVICE_MADE, GATEWAY, *words]), seconds, False, before, "service_")
         step.after = ["service_is_built"]
         steps.append(step)
     return steps

@@ -5,6 +5,8 @@ mod disk;
 pub mod folder;
 pub mod journal;
 mod judge;
+#[cfg(test)]
+mod numbers;
 pub mod outbox;
 mod records;
 mod room;

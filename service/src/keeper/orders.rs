@@ -53,7 +53,7 @@ impl Keeper {
         match self.ask_for(change, &sender).await {
             Ok(Answer { status: 200, .. }) => {
                 self.note(change, sender).await?;
-                Ok((Next::GoOn, Some(Done::Answered(Outcome::Taken { rejected: 0 }))))
+                Ok((Next::GoOn, Some(Done::Answered(Outcome::taken(0)))))
             }
             Ok(answer) => Ok((Next::GoOn, Some(Done::Answered(refused(&answer))))),
             Err(doubt) => {

@@ -29,11 +29,15 @@ pub(super) fn body(outcome: &Outcome, encoding: Encoding) -> Vec<u8> {
 
 fn json(outcome: &Outcome) -> String {
     match outcome {
-        Outcome::Taken { rejected: 0 } => "{}".to_string(),
-        Outcome::Taken { rejected } => {
-            format!(
-                r#"{{"partialSuccess":{{"errorMessage":"{OUTSIDE}","rejectedDataPoints":"{rejected}"}}}}"#
-            )
+        Outcome::Taken {
+            rejected: 0,
+            message: None,
+        } => "{}".to_string(),
+        Outcome::Taken { rejected, message } => {
+            let mut text = r#"{"partialSuccess":{"errorMessage":"#.to_string();
+            write_text(&mut text, message.as_deref().unwrap_or(OUTSIDE));
+            text.push_str(&format!(r#","rejectedDataPoints":"{rejected}"}}}}"#));
+            text
         }
         Outcome::Refused { status, message } => {
             let mut text = format!(r#"{{"code":{},"message":"#, code(*status));
@@ -46,10 +50,11 @@ fn json(outcome: &Outcome) -> String {
 
 fn protobuf(outcome: &Outcome) -> Vec<u8> {
     match outcome {
-        Outcome::Taken { rejected } => {
-            let partial_success = (*rejected > 0).then(|| ExportMetricsPartialSuccess {
+        Outcome::Taken { rejected, message } => {
+            let is_partial = *rejected > 0 || message.is_some();
+            let partial_success = is_partial.then(|| ExportMetricsPartialSuccess {
                 rejected_data_points: i64::try_from(*rejected).unwrap_or(i64::MAX),
-                error_message: OUTSIDE.to_string(),
+                error_message: message.as_deref().unwrap_or(OUTSIDE).to_string(),
             });
             ExportMetricsServiceResponse { partial_success }.encode_to_vec()
         }

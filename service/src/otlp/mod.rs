@@ -64,13 +64,21 @@ pub fn prepare(encoding: Encoding, body: Bytes, dropped: &Dropped) -> Result<Vec
 /// What a sender is answered.
 #[derive(Clone, Debug, PartialEq, Eq)]
 pub enum Outcome {
-    /// All points were taken but these; 0 where all were.
-    Taken { rejected: u64 },
+    /// All points were taken but these; 0 where all were. Without a message they are outside the profile.
+    Taken { rejected: u64, message: Option<String> },
     /// With this HTTP status and for this reason nothing was taken.
     Refused { status: u16, message: String },
 }
 
 impl Outcome {
+    /// All points were taken but these, which are outside the profile.
+    pub fn taken(rejected: u64) -> Outcome {
+        Outcome::Taken {
+            rejected,
+            message: None,
+        }
+    }
+
     pub fn status(&self) -> u16 {
         match self {
             Outcome::Taken { .. } => 200,

@@ -241,12 +241,12 @@ fn resource_attributes_are_dropped() {
 
 #[test]
 fn answers_are_of_the_request_s_kind() {
-    let all = Outcome::Taken { rejected: 0 };
+    let all = Outcome::taken(0);
     assert_eq!(
         (all.body(Encoding::Json), all.body(Encoding::Protobuf)),
         (b"{}".to_vec(), Vec::new())
     );
-    let some = Outcome::Taken { rejected: 7 };
+    let some = Outcome::taken(7);
     let text =
         br#"{"partialSuccess":{"errorMessage":"points outside the profile","rejectedDataPoints":"7"}}"#;
     assert_eq!(some.body(Encoding::Json), text);
@@ -257,6 +257,22 @@ fn answers_are_of_the_request_s_kind() {
     assert_eq!(
         (partial.rejected_data_points, &*partial.error_message),
         (7, "points outside the profile")
+    );
+    let said = Outcome::Taken {
+        rejected: 2,
+        message: Some("a \"b\"".to_string()),
+    };
+    assert_eq!(
+        said.body(Encoding::Json),
+        br#"{"partialSuccess":{"errorMessage":"a \"b\"","rejectedDataPoints":"2"}}"#
+    );
+    let partial = ExportMetricsServiceResponse::decode(&said.body(Encoding::Protobuf)[..])
+        .unwrap()
+        .partial_success
+        .unwrap();
+    assert_eq!(
+        (partial.rejected_data_points, &*partial.error_message),
+        (2, "a \"b\"")
     );
     for (status, code) in [
         (400, 3),

@@ -10,8 +10,8 @@ mod verdict;
 mod whole;
 
 pub(crate) use gate::Phase;
-pub(crate) use whole::Whole;
 pub(crate) use verdict::{foreign_of, message_of};
+pub(crate) use whole::Whole;
 
 use crate::files::{Folder, Journal, Outbox};
 use crate::gateway::Gateway;

@@ -5,7 +5,10 @@
 //!
 //! - Before the first body is taken, a 503 is the answer: nothing is known of the request, and the sender repeats it.
 //! - A body that is refused for good does not block the others. Its points are counted as rejected, where another
-//!   one is taken; a repeat goes this way too, whose first bodies were taken by the attempt before.
+//!   one is taken, and the answer says why. A repeat goes this way too, whose first bodies were taken by the attempt
+//!   before: they are `out of order`, as what is really late is. Nobody can tell the two apart, so both are counted
+//!   as rejected, and the answer says that these points may be in the books. To say nothing of them would hide
+//!   points that are lost.
 //! - Behind a body that was taken, a 503 is waited out. The gateway may have been replaced meanwhile: what was taken
 //!   is in the journal, and the body that was not is put to the fresh one.
 //! - Where that takes too long the answer is 503. The repeat's bodies that are in the books are refused as
@@ -47,9 +50,10 @@ struct Sum {
     /// Points of bodies that were taken, outside the profile.
     foreign: u64,
     taken: bool,
-    /// Points of bodies that were refused for good, and the first of these refusals.
+    /// Points of bodies that were refused for good, the first of these refusals, and what is said of each.
     lost: u64,
     refused: Option<Refusal>,
+    reasons: Vec<String>,
     ticket: Option<Ticket>,
 }
 
@@ -126,7 +130,7 @@ impl Slot {
         {
             Ok(Said::Taken(taken)) => {
                 let one = taken.journal(&self.journal);
-                if let Verdict::Taken { rejected } = one.verdict() {
+                if let Verdict::Taken { rejected, .. } = one.verdict() {
                     self.count_taken(sender, *rejected);
                 }
                 Put::Journalled(one)
@@ -166,12 +170,14 @@ impl Sum {
         };
         self.ticket = self.ticket.max(Some(one.ticket()));
         match one.verdict() {
-            Verdict::Taken { rejected } => {
+            Verdict::Taken { rejected, .. } => {
                 self.taken = true;
                 self.foreign += rejected;
             }
             Verdict::Refused(refusal) if refusal.is_final() => {
-                self.lost += points(body);
+                let points = points(body);
+                self.lost += points;
+                self.reasons.push(reason(points, refusal));
                 self.refused.get_or_insert(refusal.clone());
             }
             Verdict::Refused(refusal) => return Err(refusal.clone()),
@@ -182,26 +188,39 @@ impl Sum {
     fn verdict(self, sender: &str) -> Verdict {
         match self.refused {
             Some(refusal) if !self.taken => Verdict::Refused(refusal),
-            Some(refusal) => {
-                let Refusal { status, message } = &refusal;
-                tracing::warn!(
-                    "of a request of {sender} {} points were refused with {status}: {message}",
-                    self.lost
-                );
+            Some(_) => {
+                let mut reasons = self.reasons;
+                if self.foreign > 0 {
+                    reasons.push(format!("{} points outside the profile", self.foreign));
+                }
+                let message = reasons.join("; ");
+                tracing::warn!("a request of {sender} was taken in part: {message}");
                 Verdict::Taken {
                     rejected: self.foreign + self.lost,
+                    message: Some(message),
                 }
             }
             None => Verdict::Taken {
                 rejected: self.foreign,
+                message: None,
             },
         }
     }
 }
 
+/// What a sender is told of a body that was refused, where another one of its request was taken.
+fn reason(points: u64, refusal: &Refusal) -> String {
+    let Refusal { status, message } = refusal;
+    let doubt = match message.starts_with("out of order") {
+        true => " (or an earlier attempt brought them, and they are counted)",
+        false => "",
+    };
+    format!("{points} points refused with {status}: {message}{doubt}")
+}
+
 fn outcome(verdict: Verdict) -> Outcome {
     match verdict {
-        Verdict::Taken { rejected } => Outcome::Taken { rejected },
+        Verdict::Taken { rejected, message } => Outcome::Taken { rejected, message },
         Verdict::Refused(Refusal { status, message }) => Outcome::Refused { status, message },
     }
 }

@@ -36,7 +36,11 @@ pub(super) struct Journalled {
 
 #[derive(Clone, Debug, PartialEq, Eq)]
 pub(super) enum Verdict {
-    Taken { rejected: u64 },
+    /// All was taken but these points. Without a message the gateway calls them foreign.
+    Taken {
+        rejected: u64,
+        message: Option<String>,
+    },
     Refused(Refusal),
 }
 
@@ -64,6 +68,7 @@ impl Taken {
     pub fn journal(self, journal: &Journal) -> Journalled {
         let verdict = Verdict::Taken {
             rejected: self.post.foreign,
+            message: None,
         };
         Journalled {
             ticket: journal.append(&self.post),

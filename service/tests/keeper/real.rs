@@ -108,10 +108,7 @@ async fn foreign_points_are_counted_and_compared() {
     let Some(place) = Place::of_real() else { return };
     let run = place.run().await;
     let foreign = "{\"resourceMetrics\":[{\"scopeMetrics\":[{\"metrics\":[{\"name\":\"g\",\"gauge\":{\"dataPoints\":[{},{}]}}]}]}]}";
-    assert_eq!(
-        run.post("A", foreign.into()).await,
-        Outcome::Taken { rejected: 2 }
-    );
+    assert_eq!(run.post("A", foreign.into()).await, Outcome::taken(2));
     assert_eq!(run.post("A", point("a", 10, 20, 5)).await, all());
     assert!(run.kill_gateway());
     assert_eq!(run.post_until_answered("A", point("a", 20, 30, 5)).await, all());

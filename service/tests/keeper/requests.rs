@@ -85,11 +85,14 @@ async fn several_bodies_are_neither_lost_nor_doubled() {
         point("d", 10, 20, 4),
         point("b", 10, 20, 2),
     ];
-    assert_eq!(
-        run.slot.post("A".into(), partly).await,
-        Outcome::Taken { rejected: 2 },
-        "the first does not block"
-    );
+    let part = run.slot.post("A".into(), partly).await;
+    let late = "1 points refused with 400: out of order: point 0, frontier 20 \
+                (or an earlier attempt brought them, and they are counted)";
+    let said = Outcome::Taken {
+        rejected: 2,
+        message: Some(format!("{late}; {late}")),
+    };
+    assert_eq!(part, said, "the first does not block");
     place.tell("post-full", 1);
     let refused = run
         .slot

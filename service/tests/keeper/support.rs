@@ -206,7 +206,7 @@ pub async fn taken(outbox: &Outbox) -> Taken {
             };
             let (sum, spans) = taken.entry(point.series.parts().unwrap().name).or_default();
             assert!(
-                spans.last().map_or(true, |(_, end)| *end <= point.start),
+                spans.last().is_none_or(|(_, end)| *end <= point.start),
                 "{spans:?}, then {}",
                 point.start
             );
@@ -236,7 +236,7 @@ pub fn point(name: &str, start: u64, end: u64, value: i64) -> Bytes {
 }
 
 pub fn all() -> Outcome {
-    Outcome::Taken { rejected: 0 }
+    Outcome::taken(0)
 }
 
 pub fn message(outcome: &Outcome) -> (u16, &str) {

@@ -1,0 +1,148 @@
+//! Records that are torn or changed, and segments that are missing or of another version.
+
+use super::*;
+
+#[test]
+fn a_torn_record_is_cut_wherever_it_was_torn() {
+    let folder = tempfile::tempdir().unwrap();
+    let journal = open(folder.path());
+    ["first", "second"].iter().for_each(|text| append(&journal, text));
+    let path = segment::path(folder.path(), 1);
+    let whole = bytes(&path).len();
+    journal.append(&post("the last one"));
+    kill(journal);
+    let all = bytes(&path);
+    for cut in whole..all.len() {
+        for zeros in [0, 700] {
+            let torn = tempfile::tempdir().unwrap();
+            let path = segment::path(torn.path(), 1);
+            std::fs::write(&path, [&all[..cut], &vec![0; zeros]].concat()).unwrap();
+            let journal = open(torn.path());
+            assert_eq!(texts(&journal, 1), ["first", "second"], "{cut} {zeros}");
+            journal.append(&post("another"));
+            kill(journal);
+            assert_eq!(
+                texts(&open(torn.path()), 1),
+                ["first", "second", "another"],
+                "{cut} {zeros}"
+            );
+        }
+    }
+}
+
+#[test]
+fn a_changed_byte_in_the_middle_is_named_and_nothing_is_deleted() {
+    let folder = tempfile::tempdir().unwrap();
+    let journal = open(folder.path());
+    let path = segment::path(folder.path(), 1);
+    let header = bytes(&path).len();
+    journal.append(&post("first"));
+    let first = bytes(&path).len();
+    journal.append(&post("second"));
+    kill(journal);
+    let sound = bytes(&path);
+    for at in 0..first {
+        let mut changed = sound.clone();
+        changed[at] ^= 0x40;
+        std::fs::write(&path, &changed).unwrap();
+        let found = damaged_at(open_on(&Disk::default(), folder.path(), Durability::Process));
+        let begin = found.unwrap_or_else(|| panic!("byte {at} was not missed")) as usize;
+        assert!(
+            if at < header {
+                begin == 0
+            } else {
+                (header..=at).contains(&begin)
+            },
+            "{at} {begin}"
+        );
+        assert_eq!(std::fs::read(&path).unwrap(), changed);
+    }
+    std::fs::write(&path, &sound).unwrap();
+    assert_eq!(texts(&open(folder.path()), 1), ["first", "second"]);
+}
+
+#[test]
+fn in_a_segment_that_was_ended_each_changed_or_missing_byte_is_named() {
+    let folder = tempfile::tempdir().unwrap();
+    let journal = open(folder.path());
+    ["first", "second"].iter().for_each(|text| append(&journal, text));
+    drop(journal);
+    let path = segment::path(folder.path(), 1);
+    let sound = bytes(&path);
+    for at in 0..sound.len() - 17 {
+        let mut changed = sound.clone();
+        changed[at] ^= 1;
+        std::fs::write(&path, &changed).unwrap();
+        assert!(
+            damaged_at(open_on(&Disk::default(), folder.path(), Durability::Process)).is_some(),
+            "{at}"
+        );
+    }
+}
+
+#[test]
+fn a_later_version_and_a_missing_segment_are_refused_by_name() {
+    let folder = tempfile::tempdir().unwrap();
+    let journal = open(folder.path());
+    journal.turn();
+    journal.turn();
+    drop(journal);
+    let path = segment::path(folder.path(), 2);
+    let sound = std::fs::read(&path).unwrap();
+    std::fs::remove_file(&path).unwrap();
+    let fault = open_on(&Disk::default(), folder.path(), Durability::Process)
+        .err()
+        .unwrap()
+        .to_string();
+    assert!(
+        fault.contains("000000000002.seg") && fault.contains("missing"),
+        "{fault}"
+    );
+    let mut later = Vec::new();
+    records::put(
+        &mut later,
+        records::HEADER,
+        &[b"totxegun", &2u16.to_le_bytes(), b"what comes"],
+    );
+    std::fs::write(&path, &later).unwrap();
+    let fault = open_on(&Disk::default(), folder.path(), Durability::Process)
+        .err()
+        .unwrap()
+        .to_string();
+    assert!(fault.contains("format version 2"), "{fault}");
+    std::fs::write(&path, &sound).unwrap();
+    open(folder.path());
+}
+
+/// A power loss between a turn and the next sync.
+#[test]
+fn what_follows_a_torn_segment_goes_with_it_unless_it_was_durable() {
+    for durable in [false, true] {
+        let folder = tempfile::tempdir().unwrap();
+        let journal = open(folder.path());
+        let held = lock(&journal.shared.syncing);
+        ["first", "second"].iter().for_each(|text| append(&journal, text));
+        journal.turn();
+        journal.append(&post("third"));
+        drop(held);
+        if durable {
+            journal.shared.sync().unwrap();
+            journal.append(&post("fourth"));
+        }
+        kill(journal);
+        let path = segment::path(folder.path(), 1);
+        let length = bytes(&path).len();
+        File::options()
+            .write(true)
+            .open(&path)
+            .unwrap()
+            .set_len(length as u64 - 20)
+            .unwrap();
+        let opened = open_on(&Disk::default(), folder.path(), Durability::Process);
+        if durable {
+            assert!(damaged_at(opened).is_some());
+        } else {
+            assert_eq!(texts(&opened.unwrap(), 1), ["first"]);
+        }
+    }
+}

@@ -1,0 +1,136 @@
+//! Who waits for the disk, and what happens where it fails.
+
+use super::*;
+
+#[tokio::test(flavor = "multi_thread")]
+async fn one_sync_is_for_all_that_wait_and_nobody_is_told_before() {
+    let folder = tempfile::tempdir().unwrap();
+    let (syncs, open_gate) = (Arc::new(AtomicUsize::new(0)), Arc::new(AtomicBool::new(true)));
+    let (counted, gate) = (syncs.clone(), open_gate.clone());
+    let disk = Disk::failing(move |call, _| {
+        if call == Call::Sync {
+            counted.fetch_add(1, SeqCst);
+            while !gate.load(SeqCst) {
+                std::thread::sleep(Duration::from_millis(1));
+            }
+        }
+        Ok(())
+    });
+    let journal = Arc::new(open_on(&disk, folder.path(), Durability::Disk).unwrap());
+    open_gate.store(false, SeqCst);
+    let before = syncs.load(SeqCst);
+    let posts: Vec<_> = (0..200).map(|_| journal.append(&post("one"))).collect();
+    let wait = |ticket| {
+        let journal = journal.clone();
+        tokio::spawn(async move { journal.durable(ticket).await })
+    };
+    let waiting: Vec<_> = posts.into_iter().map(wait).collect();
+    tokio::time::sleep(Duration::from_millis(50)).await;
+    assert!(waiting.iter().all(|one| !one.is_finished()));
+    open_gate.store(true, SeqCst);
+    for one in waiting {
+        one.await.unwrap();
+    }
+    assert!(syncs.load(SeqCst) - before <= 3);
+    journal.durable(journal.now()).await;
+}
+
+#[test]
+fn a_process_only_journal_waits_for_nothing() {
+    let folder = tempfile::tempdir().unwrap();
+    let journal = open(folder.path());
+    let _held = lock(&journal.shared.syncing);
+    let ticket = journal.append(&post("a"));
+    let runtime = tokio::runtime::Builder::new_current_thread()
+        .enable_time()
+        .build()
+        .unwrap();
+    let durable = async { tokio::time::timeout(Duration::from_secs(5), journal.durable(ticket)).await };
+    runtime.block_on(durable).unwrap();
+}
+
+#[tokio::test(flavor = "multi_thread")]
+async fn after_a_failed_sync_nobody_is_told_and_nothing_is_tried_again() {
+    let folder = tempfile::tempdir().unwrap();
+    let (fails, calls) = (Arc::new(AtomicBool::new(false)), Arc::new(AtomicUsize::new(0)));
+    let (failing, called) = (fails.clone(), calls.clone());
+    let (tell, told) = mpsc::channel();
+    let disk = Disk::failing(move |call, _| match failing.load(SeqCst) && call == Call::Sync {
+        true if called.fetch_add(1, SeqCst) == 0 => Err(std::io::Error::other("no disk")),
+        _ => Ok(()),
+    });
+    let disk = disk.ending(move |fault| tell.send(fault.to_string()).unwrap());
+    let journal = open_on(&disk, folder.path(), Durability::Disk).unwrap();
+    fails.store(true, SeqCst);
+    let ticket = journal.append(&post("a"));
+    assert!(
+        tokio::time::timeout(Duration::from_millis(1500), journal.durable(ticket))
+            .await
+            .is_err()
+    );
+    assert!(told.recv().unwrap().contains("no disk"));
+    assert_eq!(calls.load(SeqCst), 1);
+    std::mem::forget(journal);
+}
+
+/// Run by the next test in a process of its own.
+#[test]
+#[ignore]
+fn ends_by_its_disk() {
+    let Some(folder) = std::env::var_os("TOTXEGUN_TEST_FOLDER") else {
+        return;
+    };
+    let calls = AtomicUsize::new(0);
+    let disk = Disk::failing(
+        move |call, _| match call == Call::Write && calls.fetch_add(1, SeqCst) > 4 {
+            true => Err(std::io::ErrorKind::StorageFull.into()),
+            false => Ok(()),
+        },
+    );
+    let journal = open_on(&disk, Path::new(&folder), Durability::Process).unwrap();
+    (0..100).for_each(|_| append(&journal, "a"));
+}
+
+#[test]
+fn a_failed_write_ends_the_process_with_a_named_line() {
+    let folder = tempfile::tempdir().unwrap();
+    let mut this = std::process::Command::new(std::env::current_exe().unwrap());
+    this.args([
+        "--exact",
+        "--ignored",
+        "--nocapture",
+        "files::journal::tests::syncs::ends_by_its_disk",
+    ]);
+    let ended = this.env("TOTXEGUN_TEST_FOLDER", folder.path()).output().unwrap();
+    let line = String::from_utf8_lossy(&ended.stderr);
+    assert_eq!(ended.status.code(), Some(FAILED), "{line}");
+    assert!(
+        line.contains("the disk failed") && line.contains("000000000001.seg"),
+        "{line}"
+    );
+    assert!(!texts(&open(folder.path()), 1).is_empty());
+}
+
+#[test]
+fn what_was_copied_is_durable_before_its_first_place_is_deleted() {
+    let folder = tempfile::tempdir().unwrap();
+    let calls = Arc::new(Mutex::new(Vec::new()));
+    let seen = calls.clone();
+    let disk = Disk::failing(move |call, path| {
+        seen.lock().unwrap().push((call, path.to_path_buf()));
+        Ok(())
+    });
+    let journal = open_on(&disk, folder.path(), Durability::Process).unwrap();
+    journal.append(&post("a"));
+    journal.turn();
+    journal.append_copy(&post("a"));
+    journal.forget(2).unwrap();
+    let calls = calls.lock().unwrap();
+    let position = |call, number| {
+        calls
+            .iter()
+            .rposition(|one| *one == (call, segment::path(folder.path(), number)))
+    };
+    assert!(position(Call::Sync, 2).unwrap() < position(Call::Remove, 1).unwrap());
+    assert!(position(Call::Write, 2).unwrap() < position(Call::Sync, 2).unwrap());
+}

@@ -1,0 +1,177 @@
+//! Groups that are cut or changed, and calls on the disk that fail.
+
+use super::*;
+
+#[tokio::test]
+async fn a_group_that_is_cut_anywhere_is_not_there() {
+    let folder = tempfile::tempdir().unwrap();
+    let outbox = open(folder.path());
+    outbox.commit(&[body(&[("a", 1)], "first")], 2).unwrap();
+    let (before, begin) = (
+        view(&outbox),
+        std::fs::metadata(last_segment(folder.path())).unwrap().len() as usize,
+    );
+    outbox
+        .commit(
+            &[body(&[("a", 2), ("b", 2)], "second"), body(&[("c", 2)], "third")],
+            3,
+        )
+        .unwrap();
+    let after = view(&outbox);
+    kill(outbox);
+    let all = std::fs::read(last_segment(folder.path())).unwrap();
+    for cut in begin..=all.len() {
+        for zeros in [0, 600] {
+            let found = [&all[..cut], &vec![0; zeros]].concat();
+            let torn = copied(folder.path(), &found);
+            // Where its last bytes are zeros, zeros make it whole.
+            let expected = if found.starts_with(&all) { &after } else { &before };
+            assert_eq!(view(&open(torn.path())), *expected, "{cut} {zeros}");
+        }
+    }
+    let torn = copied(folder.path(), &all[..all.len() - 1]);
+    let outbox = open(torn.path());
+    outbox.commit(&[body(&[("d", 2)], "another")], 3).unwrap();
+    take(&outbox).await;
+    assert_eq!(take(&outbox).await, (2, body(&[("d", 2)], "another")));
+}
+
+#[test]
+fn a_group_whose_middle_was_lost_is_not_there_though_its_commit_is() {
+    let folder = tempfile::tempdir().unwrap();
+    let outbox = open(folder.path());
+    let before = view(&outbox);
+    let mut numbers = Numbers(1);
+    let noise: String = (0..9000)
+        .map(|_| char::from(b'a' + numbers.below(26) as u8))
+        .collect();
+    outbox.commit(&[body(&[("a", 1)], &noise)], 2).unwrap();
+    kill(outbox);
+    let mut all = std::fs::read(last_segment(folder.path())).unwrap();
+    assert!(all.len() > 2000);
+    all[1024..1536].fill(0);
+    let torn = copied(folder.path(), &all);
+    assert_eq!(view(&open(torn.path())), before);
+}
+
+#[tokio::test]
+async fn a_changed_byte_is_named_at_the_start_or_at_the_delivery_and_nothing_is_deleted() {
+    let folder = tempfile::tempdir().unwrap();
+    let outbox = open(folder.path());
+    outbox.commit(&[body(&[("a", 1)], "first")], 2).unwrap();
+    outbox.own(HashMap::from([(key_of("a"), "me".into())])).unwrap();
+    outbox.quarantine("me").unwrap();
+    let end = std::fs::metadata(last_segment(folder.path())).unwrap().len() as usize;
+    outbox.lift("me").unwrap();
+    kill(outbox);
+    let path = last_segment(folder.path());
+    let all = std::fs::read(&path).unwrap();
+    let named = |path: &Path| {
+        matches!(
+            open_on(&Disk::default(), path, "e", SEGMENT).err(),
+            Some(Fault::Damaged { .. })
+        )
+    };
+    for at in 0..end {
+        let mut changed = all.clone();
+        changed[at] ^= 4;
+        std::fs::write(&path, &changed).unwrap();
+        assert!(named(folder.path()), "byte {at}");
+        assert_eq!(std::fs::read(&path).unwrap(), changed);
+    }
+    std::fs::write(&path, &all).unwrap();
+    drop(open(folder.path()));
+    // The first segment is closed now, and its bodies are passed over.
+    let all = std::fs::read(&path).unwrap();
+    for at in 0..all.len() {
+        let mut changed = all.clone();
+        changed[at] ^= 4;
+        std::fs::write(&path, &changed).unwrap();
+        if !named(folder.path()) {
+            let outbox = open(folder.path());
+            let first = outbox.first().await;
+            let sound = first
+                .as_ref()
+                .is_ok_and(|first| first.1 == body(&[("a", 1)], "first"));
+            assert!(sound || matches!(first, Err(Fault::Damaged { .. })), "byte {at}");
+        }
+    }
+}
+
+#[test]
+fn after_a_failed_sync_nothing_is_tried_again() {
+    let folder = tempfile::tempdir().unwrap();
+    let (fails, calls) = (Arc::new(AtomicBool::new(false)), Arc::new(AtomicUsize::new(0)));
+    let (failing, called) = (fails.clone(), calls.clone());
+    let disk = Disk::failing(move |call, _| {
+        called.fetch_add(1, SeqCst);
+        match call == Call::Sync && failing.swap(false, SeqCst) {
+            true => Err(io::Error::other("no disk")),
+            false => Ok(()),
+        }
+    });
+    let outbox = open_on(&disk, folder.path(), "e", SEGMENT).unwrap();
+    let before = view(&outbox);
+    fails.store(true, SeqCst);
+    assert!(outbox
+        .commit(&[body(&[("a", 1)], "")], 2)
+        .unwrap_err()
+        .to_string()
+        .contains("no disk"));
+    assert_eq!(
+        view(&outbox),
+        before,
+        "nobody sees a group that may not be durable"
+    );
+    let done = calls.load(SeqCst);
+    assert!(outbox.quarantine("me").is_err());
+    assert!(outbox.commit(&[], 3).is_err());
+    assert_eq!(calls.load(SeqCst), done);
+}
+
+/// Each call fails once, in turn; a start then shows what was before, or what was to be.
+#[test]
+fn whichever_call_fails_a_start_finds_the_state_before_or_behind() {
+    for fail in 0.. {
+        let folder = tempfile::tempdir().unwrap();
+        let calls = Arc::new(AtomicUsize::new(0));
+        let called = calls.clone();
+        let disk = Disk::failing(move |_, _| match called.fetch_add(1, SeqCst) == fail {
+            true => Err(io::Error::other("no disk")),
+            false => Ok(()),
+        });
+        let mut seen = vec![];
+        if let Ok(outbox) = open_on(&disk, folder.path(), "e", 300) {
+            seen.push(view(&outbox));
+            for number in 1..4 {
+                if outbox
+                    .commit(&[body(&[("a", number)], "filling")], number + 1)
+                    .is_err()
+                {
+                    break;
+                }
+                seen.push(view(&outbox));
+            }
+            kill(outbox);
+        }
+        let found = open_on(&Disk::default(), folder.path(), "e", 300).unwrap();
+        let behind = outbox_view_behind(&found, seen.len() as u64);
+        assert!(
+            seen.last().is_none_or(|last| *last == view(&found)) || behind,
+            "call {fail}"
+        );
+        if calls.load(SeqCst) <= fail {
+            assert_eq!(seen.len(), 4);
+            return;
+        }
+    }
+}
+
+/// Whether one group more is there, whole.
+fn outbox_view_behind(outbox: &Outbox, commits: u64) -> bool {
+    (outbox.waiting().0, outbox.journal()) == (commits, commits + 1)
+        && outbox
+            .series()
+            .get(&key_of("a"))
+            .is_some_and(|known| known.frontier == commits)
+}

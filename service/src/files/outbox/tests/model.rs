@@ -1,0 +1,125 @@
+//! It is as a model of it in memory, over any calls and starts.
+
+use super::*;
+
+/// What an outbox has to be, without a file.
+#[derive(Default)]
+struct Model {
+    waiting: std::collections::VecDeque<(u64, Vec<u8>)>,
+    next: u64,
+    journal: u64,
+    series: std::collections::BTreeMap<String, (u64, Option<String>)>,
+    quarantined: BTreeSet<String>,
+}
+
+impl Model {
+    fn change(&mut self, outbox: &Outbox, numbers: &mut Numbers) {
+        let key = format!("key {}", numbers.below(30));
+        let sender = format!("s{}", numbers.below(4));
+        match numbers.below(8) {
+            0..=2 => self.commit(outbox, numbers),
+            3 | 4 => {
+                if let Some((number, _)) = self.waiting.pop_front() {
+                    outbox.acknowledge(number).unwrap();
+                }
+            }
+            5 => {
+                outbox
+                    .own(HashMap::from([(key_of(&key), sender.clone())]))
+                    .unwrap();
+                if let Some(known) = self.series.get_mut(&key) {
+                    known.1 = Some(sender);
+                }
+            }
+            6 if numbers.below(2) == 0 => {
+                outbox.quarantine(&sender).unwrap();
+                self.quarantined.insert(sender);
+            }
+            6 => {
+                outbox.lift(&sender).unwrap();
+                self.quarantined.remove(&sender);
+            }
+            _ => {
+                let keep = HashSet::from([key_of(&key)]);
+                let count = self.series.len();
+                self.series.retain(|one, known| known.1.is_none() || *one == key);
+                assert_eq!(outbox.forget(u64::MAX, &keep).unwrap(), count - self.series.len());
+            }
+        }
+    }
+
+    fn commit(&mut self, outbox: &Outbox, numbers: &mut Numbers) {
+        let mut bodies = Vec::new();
+        self.journal += 1;
+        for _ in 0..numbers.below(4) {
+            let (key, end) = (format!("key {}", numbers.below(30)), self.journal);
+            bodies.push(body(&[(&key, end)], &"x".repeat(numbers.below(3000) as usize)));
+            self.next += 1;
+            self.waiting
+                .push_back((self.next, bodies[bodies.len() - 1].clone()));
+            self.series.entry(key).or_default().0 = end;
+        }
+        outbox.commit(&bodies, self.journal).unwrap();
+    }
+
+    async fn check(&self, outbox: &Outbox, about: &str) {
+        let known = |(key, known): (SeriesKey, Series)| (key.0.to_string(), (known.frontier, known.owner));
+        let series: std::collections::BTreeMap<_, _> = outbox.series().into_iter().map(known).collect();
+        assert_eq!(series, self.series, "{about}");
+        assert_eq!(
+            (outbox.journal().max(1), outbox.quarantined()),
+            (self.journal.max(1), self.quarantined.clone()),
+            "{about}"
+        );
+        assert_eq!(outbox.waiting().0, self.waiting.len() as u64, "{about}");
+        if let Some(first) = self.waiting.front() {
+            let (waiting, body) = outbox.first().await.unwrap();
+            assert_eq!((waiting.number, &body), (first.0, &first.1), "{about}");
+        }
+    }
+}
+
+#[tokio::test]
+async fn it_is_as_its_model_over_any_calls_and_starts() {
+    for seed in 0..10 {
+        let mut numbers = Numbers(seed);
+        let folder = tempfile::tempdir().unwrap();
+        let open = || open_on(&Disk::default(), folder.path(), "e", 2500).unwrap();
+        let (mut outbox, mut model) = (open(), Model::default());
+        for step in 0..120 {
+            model.change(&outbox, &mut numbers);
+            match numbers.below(12) {
+                0 => {
+                    drop(outbox);
+                    outbox = open();
+                }
+                1 => {
+                    kill(outbox);
+                    outbox = open();
+                }
+                2 => {
+                    kill(outbox);
+                    let mut file = File::options()
+                        .append(true)
+                        .open(last_segment(folder.path()))
+                        .unwrap();
+                    let mut torn = Vec::new();
+                    crate::files::records::put(&mut torn, rows::GROUP, &[&[9; 60]]);
+                    torn.truncate(numbers.below(torn.len() as u64) as usize);
+                    io::Write::write_all(&mut file, &torn).unwrap();
+                    outbox = open();
+                }
+                _ => {}
+            }
+            model.check(&outbox, &format!("seed {seed} step {step}")).await;
+        }
+        while let Some((number, body)) = model.waiting.pop_front() {
+            assert_eq!(take(&outbox).await, (number, body));
+        }
+        outbox.commit(&[], model.journal + 1).unwrap();
+        assert!(
+            segment::numbers(folder.path()).unwrap().len() <= 1,
+            "segments without a waiting request are deleted"
+        );
+    }
+}

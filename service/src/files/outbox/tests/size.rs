@@ -1,0 +1,110 @@
+//! How many bytes it takes, and how long a start with a long backlog.
+
+use super::*;
+
+/// A request as the gateway forwards it, of that many series.
+fn request(series: usize, end: u64) -> Vec<u8> {
+    let point = |n: usize| {
+        format!(
+            r#"{{"resource":{{"attributes":[{{"key":"service.instance.id","value":{{"stringValue":"{:08x}-42"}}}},{{"key":"service.name","value":{{"stringValue":"checkout"}}}}]}},"scopeMetrics":[{{"scope":{{"name":"http","version":"1.2.3","attributes":[]}},"metrics":[{{"name":"http.server.requests.{}","unit":"1","sum":{{"aggregationTemporality":1,"isMonotonic":true,"dataPoints":[{{"attributes":[{{"key":"http.route","value":{{"stringValue":"/route/{}"}}}}],"startTimeUnixNano":"{}","timeUnixNano":"{end}","asInt":"{}"}}]}}}}]}}]}}"#,
+            (n / 100).wrapping_mul(2654435761) as u32,
+            n % 10,
+            n % 100,
+            end - 10_000_000_000,
+            n.wrapping_mul(7919) % 1000,
+        )
+    };
+    format!(
+        "{{\"resourceMetrics\":[{}]}}",
+        (0..series).map(point).collect::<Vec<_>>().join(",")
+    )
+    .into_bytes()
+}
+
+fn request_ends(body: &[u8]) -> Result<Vec<(SeriesKey, u64)>, NotForwarded> {
+    let text = String::from_utf8_lossy(body);
+    let parts = text.split("\"resource\":").skip(1);
+    Ok(parts
+        .map(|part| {
+            (
+                key_of(part.split("\"startTime").next().unwrap_or("")),
+                1_700_000_000_000_000_000,
+            )
+        })
+        .collect())
+}
+
+#[test]
+fn it_is_at_most_a_fifth_of_what_is_forwarded() {
+    let folder = tempfile::tempdir().unwrap();
+    let room = Arc::new(Room::new(folder.path()).unwrap());
+    let outbox =
+        Outbox::open_with(&Disk::default(), folder.path(), "e", room, request_ends, SEGMENT).unwrap();
+    let mut forwarded = 0;
+    for round in 0..5 {
+        let body = request(1000, 1_700_000_000_000_000_000 + round * 10_000_000_000);
+        forwarded += body.len() as u64;
+        outbox.commit(&[body], round + 2).unwrap();
+    }
+    let written = std::fs::metadata(last_segment(folder.path())).unwrap().len();
+    println!(
+        "{written} bytes of {forwarded} forwarded, 1 to {}",
+        forwarded / written
+    );
+    assert!(written * 5 <= forwarded);
+}
+
+/// Prints how long a start takes with 1,000,000 waiting requests: `cargo test --release -- --ignored --nocapture backlog`.
+#[test]
+#[ignore]
+fn backlog() {
+    for in_group in [1000, 1] {
+        let folder = tempfile::tempdir().unwrap();
+        let outbox = open(folder.path());
+        let bodies: Vec<_> = (0..in_group)
+            .map(|n| body(&[(&format!("key {n}"), 5)], &format!("{n}").repeat(100)))
+            .collect();
+        // Nothing is synced here: the time is that of a start.
+        for round in 0..1_000_000 / in_group as u64 {
+            commit_without_sync(&outbox, &bodies, round + 2);
+        }
+        kill(outbox);
+        let began = std::time::Instant::now();
+        let outbox = open(folder.path());
+        println!(
+            "{in_group} in a group: {:?} for {} waiting, {} bytes",
+            began.elapsed(),
+            outbox.waiting().0,
+            outbox.waiting().1
+        );
+        assert_eq!(outbox.waiting().0, 1_000_000);
+    }
+}
+
+fn commit_without_sync(outbox: &Outbox, bodies: &[Vec<u8>], journal: u64) {
+    let items: Vec<_> = bodies.iter().map(|body| rows::deflated(body)).collect();
+    let ends = bodies.iter().flat_map(|body| read_ends(body).unwrap()).collect();
+    let mut writer = lock(&outbox.writer);
+    let (group, bytes) = {
+        let state = lock(&outbox.state);
+        let group = Group {
+            first: state.next,
+            epoch: state.next_epoch.clone(),
+            since: 1,
+            journal,
+            ends,
+        };
+        let bytes = rows::group(&group, &items, &state);
+        (group, bytes)
+    };
+    let change = |begin: u64| {
+        let items = begin + bytes.items.start as u64..begin + bytes.items.end as u64;
+        Change::Group {
+            group,
+            count: bodies.len() as u64,
+            segment: 0,
+            items,
+        }
+    };
+    outbox.write(&mut writer, &bytes.records, false, change).unwrap();
+}

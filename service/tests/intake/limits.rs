@@ -1,0 +1,111 @@
+//! Bytes, times and connections that are bounded, and the end.
+
+use crate::support::{gzip, json, post, Served, BODY, LATE};
+use std::time::Instant;
+use tokio::io::AsyncWriteExt;
+use tokio::net::TcpStream;
+use totxegun::otlp::Outcome;
+
+#[tokio::test]
+async fn a_bomb_ends_at_the_limit() {
+    let served = Served::start().await;
+    let bomb = gzip(&vec![b' '; 100 << 20]);
+    let answer = served
+        .ask(&post(
+            "Content-Type: application/json\r\nContent-Encoding: gzip\r\n",
+            &bomb,
+        ))
+        .await;
+    assert_eq!((answer.status, answer.message().as_str()), (413, "body too long"));
+    assert_eq!(served.budget.used(), 0);
+    assert!(served.bodies().is_empty());
+}
+
+#[tokio::test]
+async fn a_body_over_the_limit_is_answered_and_its_rest_thrown_away() {
+    let served = Served::start().await;
+    let mut client = served.client().await;
+    client.write(&json(&vec![b' '; (4 << 20) + 1])).await;
+    let answer = client.answer().await;
+    assert_eq!((answer.status, answer.message().as_str()), (413, "body too long"));
+    client.write(&json(BODY.as_bytes())).await;
+    assert_eq!(client.answer().await.status, 200);
+}
+
+#[tokio::test]
+async fn a_slow_head_and_a_slow_body_are_ended() {
+    let served = Served::start().await;
+    let mut head = served.client().await;
+    head.write(b"POST /v1/metrics HTTP/1.1\r\nHost:").await;
+    assert_eq!(head.answer().await.status, 408);
+    assert!(head.ends().await);
+    let mut body = served.client().await;
+    let begun = Instant::now();
+    body.write(b"POST /v1/metrics HTTP/1.1\r\nContent-Type: application/json\r\nContent-Length: 9\r\n\r\n{")
+        .await;
+    let answer = body.answer().await;
+    assert_eq!(
+        (answer.status, answer.message().as_str()),
+        (408, "the request did not come whole")
+    );
+    assert!(begun.elapsed() >= LATE);
+    assert!(body.ends().await);
+    let mut idle = served.client().await;
+    assert!(idle.ends().await);
+}
+
+#[tokio::test]
+async fn a_cut_body_is_no_post() {
+    let served = Served::start().await;
+    let mut client = served.client().await;
+    client.write(&json(BODY.as_bytes())[..80]).await;
+    drop(client);
+    let mut half = served.client().await;
+    half.write(b"POST /v1/metrics HTTP/1.1\r\nContent-Type: application/json\r\nContent-Length: 9\r\n\r\n{}")
+        .await;
+    half.stream.shutdown().await.unwrap();
+    assert_eq!(half.answer().await.status, 400);
+    assert!(served.bodies().is_empty());
+    assert_eq!(served.budget.used(), 0);
+}
+
+#[tokio::test]
+async fn what_is_over_the_bytes_in_flight_may_be_sent_again() {
+    let served = Served::with(Outcome::taken(0), 1000, 8).await;
+    let answer = served.ask(&json(&[b' '; 900])).await;
+    assert_eq!(
+        (answer.status, answer.message().as_str()),
+        (503, "too many bytes in flight")
+    );
+    assert!(answer.has("retry-after: 1"), "{}", answer.head);
+    assert_eq!(served.ask(&json(BODY.as_bytes())).await.status, 200);
+}
+
+#[tokio::test]
+async fn connections_over_the_bound_wait() {
+    let served = Served::with(Outcome::taken(0), 1 << 20, 1).await;
+    let mut first = served.client().await;
+    first.write(&json(BODY.as_bytes())).await;
+    assert_eq!(first.answer().await.status, 200);
+    let mut second = served.client().await;
+    second.write(&json(BODY.as_bytes())).await;
+    tokio::time::sleep(LATE / 4).await;
+    assert_eq!(served.bodies().len(), 1);
+    drop(first);
+    assert_eq!(second.answer().await.status, 200);
+}
+
+#[tokio::test]
+async fn an_intake_that_is_stopped_answers_what_is_under_way() {
+    let served = Served::start().await;
+    let (mut idle, mut busy) = (served.client().await, served.client().await);
+    let request = json(BODY.as_bytes());
+    busy.write(&request[..request.len() - 1]).await;
+    tokio::time::sleep(LATE / 4).await;
+    served.stop.send_replace(true);
+    assert!(idle.ends().await);
+    busy.write(&request[request.len() - 1..]).await;
+    assert_eq!(busy.answer().await.status, 200);
+    served.task.await.unwrap();
+    assert!(TcpStream::connect(served.address).await.is_err());
+}

@@ -1,0 +1,192 @@
+//! An intake on a port of its own, and a client that writes bytes.
+
+use bytes::Bytes;
+use flate2::{write::GzEncoder, Compression};
+use std::future::Future;
+use std::io::Write;
+use std::sync::{Arc, Mutex};
+use std::time::Duration;
+use tokio::io::{AsyncReadExt, AsyncWriteExt};
+use tokio::net::{TcpListener, TcpStream};
+use tokio::sync::watch;
+use totxegun::intake::connections::{serve, Limits};
+use totxegun::intake::{Budget, Intake, Taker};
+use totxegun::metrics::Metrics;
+use totxegun::otlp::{Dropped, Outcome};
+
+pub const BODY: &str = r#"{"resourceMetrics":[]}"#;
+pub const LATE: Duration = Duration::from_millis(400);
+
+/// Keeps what it is given, and answers as it was told.
+pub struct Kept {
+    pub posts: Mutex<Vec<(String, Vec<Bytes>)>>,
+    pub outcome: Outcome,
+}
+
+impl Taker for Kept {
+    fn post(self: &Arc<Self>, sender: String, bodies: Vec<Bytes>) -> impl Future<Output = Outcome> + Send {
+        self.posts.lock().unwrap().push((sender, bodies));
+        std::future::ready(self.outcome.clone())
+    }
+}
+
+/// An intake on a port of its own.
+pub struct Served {
+    pub address: std::net::SocketAddr,
+    pub kept: Arc<Kept>,
+    pub budget: Arc<Budget>,
+    pub metrics: Arc<Metrics>,
+    pub stop: watch::Sender<bool>,
+    pub task: tokio::task::JoinHandle<()>,
+}
+
+impl Served {
+    pub async fn start() -> Served {
+        Served::with(Outcome::taken(0), 64 << 20, 8).await
+    }
+
+    pub async fn with(outcome: Outcome, most_bytes: usize, connections: usize) -> Served {
+        let kept = Arc::new(Kept {
+            posts: Mutex::new(Vec::new()),
+            outcome,
+        });
+        let metrics = Arc::new(Metrics::new().unwrap());
+        let budget = Budget::new(most_bytes);
+        let intake = Intake::new(kept.clone(), Dropped::default(), budget.clone(), metrics.clone())
+            .with_patience(LATE);
+        let listener = TcpListener::bind("127.0.0.1:0").await.unwrap();
+        let address = listener.local_addr().unwrap();
+        let limits = Limits {
+            connections,
+            head: LATE,
+            idle: 3 * LATE,
+        };
+        let (stop, stopped) = watch::channel(false);
+        let task = tokio::spawn(serve(listener, limits, Arc::new(intake), stopped));
+        Served {
+            address,
+            kept,
+            budget,
+            metrics,
+            stop,
+            task,
+        }
+    }
+
+    pub async fn client(&self) -> Client {
+        Client {
+            stream: TcpStream::connect(self.address).await.unwrap(),
+            read: Vec::new(),
+        }
+    }
+
+    /// One request on a connection of its own.
+    pub async fn ask(&self, request: &[u8]) -> Answer {
+        let mut client = self.client().await;
+        client.write(request).await;
+        client.answer().await
+    }
+
+    pub fn bodies(&self) -> Vec<Bytes> {
+        self.kept
+            .posts
+            .lock()
+            .unwrap()
+            .iter()
+            .flat_map(|(_, bodies)| bodies.clone())
+            .collect()
+    }
+}
+
+pub struct Client {
+    pub stream: TcpStream,
+    pub read: Vec<u8>,
+}
+
+#[derive(Debug)]
+pub struct Answer {
+    pub status: u16,
+    pub head: String,
+    pub body: Vec<u8>,
+}
+
+impl Answer {
+    pub fn message(&self) -> String {
+        let read: serde_json::Value = serde_json::from_slice(&self.body).expect("JSON");
+        read["message"].as_str().unwrap_or_default().to_string()
+    }
+
+    pub fn has(&self, header: &str) -> bool {
+        self.head.to_ascii_lowercase().lines().any(|line| line == header)
+    }
+}
+
+impl Client {
+    pub async fn write(&mut self, bytes: &[u8]) {
+        self.stream.write_all(bytes).await.unwrap();
+    }
+
+    /// Reads until `until` is found in what was read. False where the connection ends before.
+    pub async fn more(&mut self) -> bool {
+        let mut part = [0; 4096];
+        let reading = tokio::time::timeout(Duration::from_secs(20), self.stream.read(&mut part));
+        match reading.await.expect("an answer in time") {
+            Ok(0) | Err(_) => false,
+            Ok(length) => {
+                self.read.extend_from_slice(&part[..length]);
+                true
+            }
+        }
+    }
+
+    pub async fn answer(&mut self) -> Answer {
+        let end = loop {
+            if let Some(end) = self.read.windows(4).position(|four| four == b"\r\n\r\n") {
+                break end + 4;
+            }
+            assert!(
+                self.more().await,
+                "the connection ended: {:?}",
+                String::from_utf8_lossy(&self.read)
+            );
+        };
+        let head = String::from_utf8(self.read.drain(..end).collect()).unwrap();
+        let status = head[9..12].parse().unwrap();
+        let length = head
+            .to_ascii_lowercase()
+            .lines()
+            .find_map(|line| line.strip_prefix("content-length: ")?.parse().ok());
+        let length = length.unwrap_or(0);
+        while self.read.len() < length {
+            assert!(self.more().await, "the connection ended within a body");
+        }
+        Answer {
+            status,
+            head,
+            body: self.read.drain(..length).collect(),
+        }
+    }
+
+    /// Whether the connection ends without a further byte.
+    pub async fn ends(&mut self) -> bool {
+        self.read.is_empty() && !self.more().await
+    }
+}
+
+pub fn post(headers: &str, body: &[u8]) -> Vec<u8> {
+    let head = format!(
+        "POST /v1/metrics HTTP/1.1\r\nHost: a\r\n{headers}Content-Length: {}\r\n\r\n",
+        body.len()
+    );
+    [head.as_bytes(), body].concat()
+}
+
+pub fn json(body: &[u8]) -> Vec<u8> {
+    post("Content-Type: application/json\r\n", body)
+}
+
+pub fn gzip(plain: &[u8]) -> Vec<u8> {
+    let mut packer = GzEncoder::new(Vec::new(), Compression::best());
+    packer.write_all(plain).unwrap();
+    packer.finish().unwrap()
+}
