@@ -41,8 +41,8 @@ STEPS = (
 CARGO_STEPS = (
     ("service_is_laid_out", ["fmt", "--check"]),
     ("service_is_built", ["build", "--release"]),
-    ("service_is_linted", ["clippy", "--release", "--all-targets", "--", "-D", "warnings"]),
-    ("service_tests", ["test", "--release"]),
+    ("service_is_linted", ["clippy", "--all-targets", "--", "-D", "warnings"]),
+    ("service_tests", ["test"]),
 )
 # Behind the program's name: further words, and about how many seconds it takes.
 SERVICE_STEPS = (

@@ -103,7 +103,7 @@ impl Gateway {
         };
         let answer = self.exchange(patience, &request).await?;
         if !POST_STATUSES.contains(&answer.status) {
-            return Err(self.doubt(Doubt::NoAnswer(format!("a post was answered {}", shown(&answer)))));
+            return Err(self.doubt_of_answer("a post", &answer));
         }
         Ok(answer)
     }
@@ -193,6 +193,11 @@ impl Gateway {
     pub(crate) fn doubt(&self, doubt: Doubt) -> Doubt {
         self.doubted.store(true, Ordering::SeqCst);
         doubt
+    }
+
+    /// No gateway answers so.
+    pub(crate) fn doubt_of_answer(&self, asked: &str, answer: &Answer) -> Doubt {
+        self.doubt(Doubt::NoAnswer(format!("{asked} was answered {}", shown(answer))))
     }
 
     pub fn is_doubted(&self) -> bool {

@@ -11,7 +11,7 @@ use super::{Keeper, Trouble};
 use crate::files::{Outbox, Post};
 use crate::gateway::{Doubt, Gateway};
 use crate::otlp::series::{zeros, NotForwarded, SeriesKey};
-use std::collections::BTreeMap;
+use std::collections::{BTreeMap, BTreeSet};
 use std::sync::Arc;
 
 /// So that several posts go side by side, and none takes long.
@@ -21,16 +21,39 @@ impl Keeper {
     /// How many posts of the journal went in. What had to be flushed meanwhile belongs to the next group.
     pub(super) async fn refill(&mut self, gateway: &Arc<Gateway>) -> Result<u64, Trouble> {
         self.prime(gateway).await?;
-        let first = self.slot.outbox.journal();
-        let journal = self.slot.journal.clone();
-        let replay = Replay::new(self.slot.clone(), gateway.clone(), Use::Replay);
-        let (replayed, carried) = replay
-            .run(move |each| journal.posts(first, u64::MAX, each))
-            .await?;
-        self.quarantine(gateway).await?;
+        let held = Arc::new(self.slot.outbox.quarantined());
+        let (mut replayed, mut carried) = self.replay(gateway, &held, false).await?;
+        if !held.is_empty() {
+            // Behind the others: what is flushed to make room for these must not be of a quarantined sender.
+            if !carried.is_empty() {
+                carried.extend(gateway.flush_all().await?);
+            }
+            let (of_held, more) = self.replay(gateway, &held, true).await?;
+            replayed += of_held;
+            carried.extend(more);
+        }
+        self.quarantine(gateway, &held).await?;
         self.carried = carried;
         self.slot.set_ungrouped(replayed);
         Ok(replayed)
+    }
+
+    /// Puts the posts of the quarantined senders, or those of all others: how many, and what had to be flushed.
+    async fn replay(
+        &self,
+        gateway: &Arc<Gateway>,
+        held: &Arc<BTreeSet<String>>,
+        of_held: bool,
+    ) -> Result<(u64, Vec<Vec<u8>>), Trouble> {
+        let first = self.slot.outbox.journal();
+        let (journal, held) = (self.slot.journal.clone(), held.clone());
+        let replay = Replay::new(self.slot.clone(), gateway.clone(), Use::Replay);
+        let feed = move |each: &mut dyn FnMut(Post) -> bool| {
+            journal.posts(first, u64::MAX, |post| {
+                held.contains(&post.sender) != of_held || each(post)
+            })
+        };
+        replay.run(feed).await
     }
 
     async fn prime(&self, gateway: &Arc<Gateway>) -> Result<(), Trouble> {
@@ -50,8 +73,8 @@ impl Keeper {
     }
 
     /// Last, so that the posts of quarantined senders are taken before.
-    async fn quarantine(&self, gateway: &Gateway) -> Result<(), Doubt> {
-        for sender in self.slot.outbox.quarantined() {
+    async fn quarantine(&self, gateway: &Gateway, held: &BTreeSet<String>) -> Result<(), Doubt> {
+        for sender in held {
             let answer = gateway.ask("POST", &format!("/quarantine/{sender}")).await?;
             if answer.status != 200 {
                 let text = String::from_utf8_lossy(&answer.body);

@@ -148,7 +148,7 @@ impl Replay {
             answer = self.gateway.refill(&post.sender, &post.body).await?;
         }
         match answer.status {
-            200 if crate::slot::foreign_of(&answer) == post.foreign => Ok(()),
+            200 if crate::slot::foreign_of(&answer) == Some(post.foreign) => Ok(()),
             503 => Err(self.refused(post, &answer)),
             _ if self.purpose == Use::Prime => Err(self.refused(post, &answer)),
             _ => {

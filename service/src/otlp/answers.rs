@@ -9,15 +9,12 @@ use prost::Message;
 /// The gateway's own words for points that it did not take.
 const OUTSIDE: &str = "points outside the profile";
 
-/// How many points an answer of the gateway says were not taken.
-pub fn rejected(answer: &[u8]) -> u64 {
-    let count = || {
-        let document = Document::parse(answer).ok()?;
-        let [partial] = document.root().named(["partialSuccess"])?;
-        let [rejected] = partial?.named(["rejectedDataPoints"])?;
-        u64::try_from(gateway_whole(rejected?)?).ok()
-    };
-    count().unwrap_or(0)
+/// How many points an answer of the gateway says were not taken, where it says so.
+pub fn rejected(answer: &[u8]) -> Option<u64> {
+    let document = Document::parse(answer).ok()?;
+    let [partial] = document.root().named(["partialSuccess"])?;
+    let [rejected] = partial?.named(["rejectedDataPoints"])?;
+    u64::try_from(gateway_whole(rejected?)?).ok()
 }
 
 pub(super) fn body(outcome: &Outcome, encoding: Encoding) -> Vec<u8> {

@@ -307,6 +307,6 @@ fn answers_are_of_the_request_s_kind() {
             rejected(b"{"),
             rejected(br#"{"partialSuccess":5}"#)
         ),
-        (7, 0, 0, 0)
+        (Some(7), None, None, None)
     );
 }

@@ -123,11 +123,10 @@ impl Slot {
         let Some(gateway) = gate.as_ref().filter(|_| self.is_ready()) else {
             return Put::Not(self.at_the_door().unwrap_or(Refusal::unavailable("recovering")));
         };
-        match gateway
-            .post(sender, body)
-            .await
-            .map(|answer| Said::of(&answer, sender, body))
-        {
+        let answer = gateway.post(sender, body).await;
+        match answer.and_then(|answer| {
+            Said::of(&answer, sender, body).ok_or_else(|| gateway.doubt_of_answer("a post", &answer))
+        }) {
             Ok(Said::Taken(taken)) => {
                 let one = taken.journal(&self.journal);
                 if let Verdict::Taken { rejected, .. } = one.verdict() {

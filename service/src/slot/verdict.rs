@@ -45,21 +45,20 @@ pub(super) enum Verdict {
 }
 
 impl Said {
-    pub fn of(answer: &Answer, sender: &str, body: &Bytes) -> Said {
+    /// None where a gateway does not answer so: that is a doubt.
+    pub fn of(answer: &Answer, sender: &str, body: &Bytes) -> Option<Said> {
         if answer.status != 200 {
-            return Said::Refused(Refusal {
+            return Some(Said::Refused(Refusal {
                 status: answer.status,
                 message: message_of(&answer.body),
-            });
+            }));
         }
-        let foreign = foreign_of(answer);
-        Said::Taken(Taken {
-            post: Post {
-                sender: sender.into(),
-                foreign,
-                body: body.clone(),
-            },
-        })
+        let post = Post {
+            sender: sender.into(),
+            foreign: foreign_of(answer)?,
+            body: body.clone(),
+        };
+        Some(Said::Taken(Taken { post }))
     }
 }
 
@@ -115,11 +114,11 @@ impl Journalled {
     }
 }
 
-/// How many points of a post that was taken are foreign.
-pub(crate) fn foreign_of(answer: &Answer) -> u64 {
+/// How many points of a post that was taken are foreign. None where the answer does not say so as a gateway does.
+pub(crate) fn foreign_of(answer: &Answer) -> Option<u64> {
     match &answer.body[..] {
         // As a rule: it needs no reading.
-        b"{}" => 0,
+        b"{}" => Some(0),
         body => crate::otlp::rejected(body),
     }
 }
@@ -140,7 +139,7 @@ pub(crate) fn message_of(body: &[u8]) -> String {
 mod tests {
     use super::*;
 
-    fn said(status: u16, body: &'static str) -> Said {
+    fn said(status: u16, body: &'static str) -> Option<Said> {
         Said::of(
             &Answer {
                 status,
@@ -153,7 +152,7 @@ mod tests {
 
     #[test]
     fn answers_are_read() {
-        let Said::Taken(taken) = said(200, "{}") else {
+        let Some(Said::Taken(taken)) = said(200, "{}") else {
             panic!("taken")
         };
         assert_eq!(
@@ -169,15 +168,18 @@ mod tests {
             (503, "{\"message\":\"full\"}", false),
         ];
         for (status, body, is_final) in cases {
-            let Said::Refused(refusal) = said(status, body) else {
+            let Some(Said::Refused(refusal)) = said(status, body) else {
                 panic!("{body}")
             };
             assert_eq!((refusal.status, refusal.is_final()), (status, is_final));
             assert!(body.contains(&refusal.message) && !refusal.message.contains('{'));
         }
-        let Said::Refused(refusal) = said(400, "no JSON") else {
+        let Some(Said::Refused(refusal)) = said(400, "no JSON") else {
             panic!("refused")
         };
         assert_eq!(refusal.message, "no JSON");
+        for body in ["", "<html>", "{\"a\":1}", "{\"partialSuccess\":{}}"] {
+            assert!(said(200, body).is_none(), "{body}");
+        }
     }
 }

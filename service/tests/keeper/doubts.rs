@@ -7,7 +7,7 @@ use totxegun::otlp::Outcome;
 
 #[tokio::test(flavor = "multi_thread")]
 async fn a_post_without_an_answer_is_in_no_book() {
-    for what in ["post-lost", "post-cut", "post-ends", "post-elsewhere"] {
+    for what in ["post-lost", "post-cut", "post-ends", "post-elsewhere", "post-odd"] {
         let place = Place::of_fake();
         let run = place.run().await;
         assert_eq!(run.post("A", point("a", 10, 20, 5)).await, all(), "{what}");
@@ -72,6 +72,31 @@ async fn a_quarantine_without_an_answer_is_none() {
         "{done:?}"
     );
     assert_eq!(sums(&run.stop().await), [("a", 5)]);
+}
+
+#[tokio::test(flavor = "multi_thread")]
+async fn room_in_a_replay_is_not_made_by_what_is_quarantined() {
+    let place = Place::of_fake();
+    let run = place.run().await;
+    for sender in ["A", "B", "C", "D"] {
+        assert_eq!(run.post(sender, point(sender, 10, 20, 5)).await, all());
+    }
+    run.order(Order::Quarantine("A".into())).await;
+    place.tell("post-full-behind-another", 1);
+    assert!(run.kill_gateway());
+    run.post_until_answered("E", point("E", 10, 20, 5)).await;
+    run.checkpoint().await;
+    let names = |taken: &crate::support::Taken| taken.keys().cloned().collect::<Vec<_>>();
+    let taken = crate::support::taken(&run.outbox).await;
+    assert_eq!(names(&taken), ["B", "C", "D", "E"]);
+    run.order(Order::Lift("A".into())).await;
+    assert!(run.kill_gateway());
+    run.post_until_answered("E", point("E", 20, 30, 5)).await;
+    let faults = run.metrics.faults.with_label_values(&["replay"]).get();
+    assert_eq!(
+        (names(&run.stop().await), faults),
+        (vec!["A".into(), "E".into()], 0)
+    );
 }
 
 #[tokio::test(flavor = "multi_thread")]

@@ -122,11 +122,13 @@ def answer_to(path, sender, body):
         return ordered(path)
     if told("post-ends"):
         os._exit(3)
-    if told("post-full"):
+    if told("post-full") or pending and told("post-full-behind-another"):
         return 503, {"message": "full"}
     if told("post-elsewhere"):
         return 404, {"message": "no such path"}
     status, text = admit(sender, body)
+    if status == 200 and told("post-odd"):
+        return 200, {"odd": 1}
     return (None, None) if told("post-lost") else (status, text)
 
 
