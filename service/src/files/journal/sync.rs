@@ -139,7 +139,7 @@ impl Drop for Journal {
             .sync()
             .and_then(|()| lock(&self.shared.place).segment.end());
         if let Err(fault) = ended.and_then(|()| self.shared.sync()) {
-            tracing::error!("the journal was not closed: {fault}");
+            self.shared.disk.end(&fault);
         }
     }
 }
