@@ -352,8 +352,9 @@ impl Drop for Outbox {
             .sync()
             .and_then(|()| segment.end())
             .and_then(|()| segment.sync());
+        drop(writer);
         if let Err(fault) = ended {
-            tracing::error!("the outbox was not closed: {fault}");
+            self.disk.end(&fault);
         }
     }
 }

@@ -229,6 +229,16 @@ impl Running {
         self.stop_intake.send_replace(true);
         let _ = tokio::time::timeout(LAST_POSTS, &mut self.intake).await; // who is slower was not answered
         self.stop_keeper.send_replace(true);
+        let kept = self.last_checkpoint().await;
+        // A delivery that is under way is made again at the next start. That a file failed under it is told.
+        self.delivery.abort();
+        match (&mut self.delivery).await {
+            Ok(Err(fault)) => kept.and(Err(Ended::Disk(fault))),
+            _ => kept,
+        }
+    }
+
+    async fn last_checkpoint(&mut self) -> Result<(), Ended> {
         match tokio::time::timeout(LAST_CHECKPOINT, &mut self.keeper).await {
             Ok(Ok(Ok(()))) => tracing::info!("ended: all that was taken is in the outbox"),
             Ok(end) => return Err(cause("the keeper", end)),
