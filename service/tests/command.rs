@@ -120,6 +120,7 @@ fn what_is_not_possible_has_status_1_and_is_named() {
     }
     refused(&["check", data], 1, "no folder of totxegun");
     refused(&["totals", "--sink", "http://h/"], 1, "SQLite");
+    refused(&["totals", "--sink", "postgres://u@h/d"], 1, "PostgreSQL");
 }
 
 #[test]

@@ -1,7 +1,7 @@
 //! Asks the running service at its operator's address.
 
-use anyhow::{bail, Context, Result};
-use std::io::{Read, Write};
+use anyhow::{anyhow, bail, Context, Result};
+use std::io::{Error, ErrorKind, Read, Write};
 use std::net::{TcpStream, ToSocketAddrs};
 use std::time::Duration;
 
@@ -21,7 +21,7 @@ pub struct Reply {
 
 /// Asks, and returns the answer's body where its status is 200, else its message.
 pub fn ask(address: &str, method: &str, path: &str) -> Result<Vec<u8>> {
-    let reply = reply(address, method, path)?;
+    let reply = reply(address, method, path, ANSWER)?;
     match reply.status {
         200 => Ok(reply.body),
         status => bail!(
@@ -31,11 +31,11 @@ pub fn ask(address: &str, method: &str, path: &str) -> Result<Vec<u8>> {
     }
 }
 
-fn reply(address: &str, method: &str, path: &str) -> Result<Reply> {
+fn reply(address: &str, method: &str, path: &str, patience: Duration) -> Result<Reply> {
     let mut stream = connected(address).with_context(|| {
         format!("no service answers at {address}: start it, or give its operator's address by --operate")
     })?;
-    stream.set_read_timeout(Some(ANSWER))?;
+    stream.set_read_timeout(Some(patience))?;
     let request = format!(
         "{method} {path} HTTP/1.1\r\nHost: {address}\r\nContent-Length: 0\r\nConnection: close\r\n\r\n"
     );
@@ -46,8 +46,23 @@ fn reply(address: &str, method: &str, path: &str) -> Result<Reply> {
     stream
         .take(MOST)
         .read_to_end(&mut bytes)
-        .with_context(|| format!("the service at {address} did not answer whole"))?;
+        .map_err(|error| unanswered(address, method, patience, error))?;
     parsed(&bytes).with_context(|| format!("what listens at {address} is no operator's address of totxegun"))
+}
+
+/// Why there is no whole answer. An order goes on in the service though nobody waits for it.
+fn unanswered(address: &str, method: &str, patience: Duration, error: Error) -> anyhow::Error {
+    let seconds = patience.as_secs();
+    match (error.kind(), method) {
+        (ErrorKind::WouldBlock | ErrorKind::TimedOut, "POST") => anyhow!(
+            "the service at {address} did not answer in {seconds} seconds. It goes on with the order: \
+             `totxegun status` shows how it is"
+        ),
+        (ErrorKind::WouldBlock | ErrorKind::TimedOut, _) => {
+            anyhow!("the service at {address} did not answer in {seconds} seconds: ask again")
+        }
+        _ => anyhow!("the service at {address} did not answer whole: {error}"),
+    }
 }
 
 fn connected(address: &str) -> Result<TcpStream> {
@@ -58,7 +73,7 @@ fn connected(address: &str) -> Result<TcpStream> {
             Err(error) => last = Some(error),
         }
     }
-    Err(last.map_or_else(|| anyhow::anyhow!("there is no such address"), Into::into))
+    Err(last.map_or_else(|| anyhow!("there is no such address"), Into::into))
 }
 
 /// An answer that ends with its connection, and says how long it is.
@@ -115,6 +130,23 @@ mod tests {
         ] {
             assert!(parsed(bytes).is_err(), "{}", String::from_utf8_lossy(bytes));
         }
+    }
+
+    #[test]
+    fn who_takes_too_long_is_said_to_go_on() {
+        let listener = std::net::TcpListener::bind("127.0.0.1:0").unwrap();
+        let address = listener.local_addr().unwrap().to_string();
+        let said = |method| {
+            let tried = reply(&address, method, "/flush", Duration::from_secs(1));
+            format!("{:#}", tried.unwrap_err())
+        };
+        let order = said("POST");
+        assert!(
+            order.contains("did not answer in 1 seconds. It goes on with the order"),
+            "{order}"
+        );
+        let question = said("GET");
+        assert!(question.contains("in 1 seconds: ask again"), "{question}");
     }
 
     #[test]

@@ -37,7 +37,7 @@ pub struct Options {
         default_value = "127.0.0.1:4319"
     )]
     operate: String,
-    /// Where to deliver: sqlite:PATH, http://HOST:PORT/PATH or https://HOST/PATH [default: sqlite:DIR/metrics.db]
+    /// Where to deliver: sqlite:PATH, postgres://USER@HOST:PORT/DB, http://HOST:PORT/PATH or https://HOST/PATH [default: sqlite:DIR/metrics.db]
     #[arg(long, env = "TOTXEGUN_SINK", value_name = "ADDRESS", hide_env_values = true)]
     sink: Option<Address>,
     #[command(flatten)]
@@ -111,10 +111,13 @@ impl OfSink {
                     headers,
                 })
             }
-            Address::Sqlite(_) if self.sink_protobuf || self.sink_gzip || !self.sink_headers.is_empty() => {
+            Address::Sqlite(_) | Address::Postgres(_)
+                if self.sink_protobuf || self.sink_gzip || !self.sink_headers.is_empty() =>
+            {
                 bail!("--sink-protobuf, --sink-gzip and --sink-header are for a sink of OTLP: give --sink http://.. too")
             }
             Address::Sqlite(path) => Ok(Address::Sqlite(absolute(&path)?)),
+            Address::Postgres(server) => Ok(Address::Postgres(server)),
         }
     }
 }

@@ -24,6 +24,9 @@ const COLUMNS: [&str; 10] = [
     "resource",
 ];
 
+const IN_POSTGRES: &str =
+    "only a SQLite sink has totals here; of a PostgreSQL sink ask psql: select * from totxegun.totals";
+
 #[derive(Args)]
 pub struct Options {
     /// The sink's file, as sqlite:PATH; without it, the running service says where it is
@@ -64,11 +67,15 @@ impl Options {
     fn file(&self) -> Result<PathBuf> {
         match &self.sink {
             Some(Address::Sqlite(path)) => return Ok(path.clone()),
+            Some(Address::Postgres(_)) => bail!(IN_POSTGRES),
             Some(_) => bail!("only a SQLite sink has totals here: ask the sink itself"),
             None => {}
         }
         let body = client::ask(&self.at.operate, "GET", "/status")?;
         let status: Status = serde_json::from_slice(&body).context("this service is of another version")?;
+        if status.sink.starts_with("postgres ") {
+            bail!(IN_POSTGRES);
+        }
         match status.sink.strip_prefix("sqlite ") {
             Some(path) => Ok(path.into()),
             None => bail!(

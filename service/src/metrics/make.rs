@@ -87,6 +87,14 @@ fn levels(maker: &Maker) -> Result<Levels> {
             "dead_requests",
             "Requests that the sink refused for good, kept aside",
         )?,
+        quarantined_senders: maker.gauge(
+            "quarantined_senders",
+            "Senders whose points are kept back and whose posts are refused",
+        )?,
+        disk_free_bytes: maker.gauge(
+            "disk_free_bytes",
+            "Bytes that are free on the file system of the folder",
+        )?,
         gateway_resident_memory_bytes: maker
             .gauge("gateway_resident_memory_bytes", "Memory of the gateway's process")?,
     })

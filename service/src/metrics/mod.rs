@@ -48,6 +48,8 @@ pub struct Levels {
     pub outbox_bytes: IntGauge,
     pub outbox_age_seconds: IntGauge,
     pub dead_requests: IntGauge,
+    pub quarantined_senders: IntGauge,
+    pub disk_free_bytes: IntGauge,
     pub gateway_resident_memory_bytes: IntGauge,
 }
 
@@ -129,6 +131,7 @@ mod tests {
             "totxegun_deliveries_total{outcome=\"taken\"} 0",
             "totxegun_checkpoints_total{outcome=\"failed\"} 0",
             "totxegun_dead_requests 0",
+            "totxegun_quarantined_senders 0",
             "totxegun_ready 0",
             concat!(
                 "totxegun_build_info{version=\"",

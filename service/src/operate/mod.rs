@@ -4,9 +4,11 @@
 
 mod letters;
 mod status;
+mod totals;
 
 pub use letters::Resent;
 pub use status::{SlotStatus, Status, Stock};
+pub use totals::Totals;
 
 use crate::files::{Dead, Outbox};
 use crate::intake::{connections::Handler, Budget};
@@ -32,6 +34,8 @@ pub struct Desk {
     pub outbox: Arc<Outbox>,
     pub dead: Arc<Dead>,
     pub sink: Arc<dyn Sink>,
+    /// Where the sink is a file that has them.
+    pub totals: Option<Totals>,
     pub delivery: Arc<Mutex<Delivery>>,
     pub metrics: Arc<Metrics>,
     pub budget: Arc<Budget>,
@@ -48,6 +52,7 @@ enum Route {
     Order(Order),
     Report,
     Metrics,
+    Totals,
     Health,
     Ready,
     Status,
@@ -68,6 +73,7 @@ impl Route {
             ["lift", sender] => (Method::POST, Route::Order(Order::Lift(sender.into()))),
             ["report"] => (Method::GET, Route::Report),
             ["metrics"] => (Method::GET, Route::Metrics),
+            ["totals"] => (Method::GET, Route::Totals),
             ["health"] => (Method::GET, Route::Health),
             ["ready"] => (Method::GET, Route::Ready),
             ["status"] => (Method::GET, Route::Status),
@@ -109,6 +115,7 @@ impl Desk {
                 self.read_levels();
                 reply(200, PROMETHEUS, self.metrics.page())
             }
+            Route::Totals => self.totals().await,
             Route::Health => reply(200, TEXT, "ok\n"),
             Route::Ready if self.slot.is_ready() => reply(200, TEXT, "ready\n"),
             Route::Ready => message(503, "recovering"),
@@ -168,6 +175,7 @@ mod tests {
             ("/lift/A", Method::POST),
             ("/report", Method::GET),
             ("/metrics", Method::GET),
+            ("/totals", Method::GET),
             ("/health", Method::GET),
             ("/ready", Method::GET),
             ("/status", Method::GET),

@@ -122,6 +122,10 @@ impl Desk {
             .outbox_age_seconds
             .set(status.outbox.age_seconds.unwrap_or(0) as i64);
         levels.dead_requests.set(self.dead.count() as i64);
+        levels.quarantined_senders.set(status.quarantined.len() as i64);
+        if let Some(free) = free_bytes(&self.data) {
+            levels.disk_free_bytes.set(free as i64);
+        }
         self.metrics.series.set(status.series as i64);
         let resident = status
             .gateway
@@ -139,6 +143,12 @@ fn resident_bytes(pid: u32) -> Option<u64> {
     Some(kibibytes * 1024)
 }
 
+/// What a file system has left for this process. It is asked as `files` asks before each post: some microseconds.
+fn free_bytes(folder: &str) -> Option<u64> {
+    let disk = nix::sys::statvfs::statvfs(folder).ok()?;
+    Some(disk.blocks_available() * disk.fragment_size())
+}
+
 fn now() -> u64 {
     SystemTime::now()
         .duration_since(UNIX_EPOCH)
@@ -153,6 +163,12 @@ mod tests {
     fn a_process_has_memory() {
         assert!(resident_bytes(std::process::id()).unwrap() > 100_000);
         assert_eq!(resident_bytes(u32::MAX), None);
+    }
+
+    #[test]
+    fn a_folder_is_on_a_disk() {
+        assert!(free_bytes("/").is_some());
+        assert_eq!(free_bytes("/no/such/folder"), None);
     }
 
     #[test]

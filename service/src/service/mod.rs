@@ -11,7 +11,7 @@ use crate::intake::connections::{serve, Limits};
 use crate::intake::{Budget, Intake};
 use crate::keeper::{Keeper, Orders, Settings as Keeping};
 use crate::metrics::Metrics;
-use crate::operate::Desk;
+use crate::operate::{Desk, Totals};
 use crate::otlp::Dropped;
 use crate::sinks::{self, Address, Delivery, Sink};
 use crate::slot::Slot;
@@ -193,6 +193,7 @@ impl Parts {
             outbox: self.outbox,
             dead: self.dead,
             sink: self.sink,
+            totals: Totals::of(&settings.sink),
             delivery,
             metrics: self.metrics,
             budget: self.budget,

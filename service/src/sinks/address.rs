@@ -1,5 +1,6 @@
 //! How a sink is written on the command line.
 
+use super::postgres::Server;
 use std::path::PathBuf;
 use std::str::FromStr;
 
@@ -7,6 +8,7 @@ use std::str::FromStr;
 #[derive(Clone, Debug, PartialEq, Eq)]
 pub enum Address {
     Sqlite(PathBuf),
+    Postgres(Server),
     Otlp {
         url: String,
         protobuf: bool,
@@ -17,30 +19,35 @@ pub enum Address {
 
 #[derive(Clone, Debug, PartialEq, Eq, thiserror::Error)]
 pub enum BadAddress {
-    #[error("the sink's address is empty: write sqlite:PATH, http://HOST:PORT/PATH or https://HOST/PATH")]
+    #[error("the sink's address is empty: write sqlite:PATH, postgres://USER@HOST:PORT/DB, http://HOST:PORT/PATH or https://HOST/PATH")]
     Empty,
-    #[error("no sink is known for `{0}:`: write sqlite:PATH, http://HOST:PORT/PATH or https://HOST/PATH")]
+    #[error("no sink is known for `{0}:`: write sqlite:PATH, postgres://USER@HOST:PORT/DB, http://HOST:PORT/PATH or https://HOST/PATH")]
     Unknown(String),
     #[error("`{0}` is no URL of a sink: {1}")]
     Url(String, String),
+    /// It shows no address, since that may have a password.
+    #[error("no address of a PostgreSQL sink: {0}; write postgres://USER@HOST:PORT/DB, or postgres://USER@/DB?host=/FOLDER")]
+    Postgres(String),
 }
 
 /// Reads what follows a scheme and its colon.
 type Read = fn(&str) -> Result<Address, BadAddress>;
 
-const SCHEMES: [(&str, Read); 3] = [
+const SCHEMES: [(&str, Read); 5] = [
     ("sqlite", |rest| match rest {
         "" => Err(BadAddress::Empty),
         path => Ok(Address::Sqlite(path.into())),
     }),
     ("http", |rest| otlp(format!("http:{rest}"))),
     ("https", |rest| otlp(format!("https:{rest}"))),
+    ("postgres", postgres),
+    ("postgresql", postgres),
 ];
 
 impl FromStr for Address {
     type Err = BadAddress;
 
-    /// `sqlite:PATH`, `http://..`, `https://..`, or a path.
+    /// `sqlite:PATH`, `postgres://..`, `http://..`, `https://..`, or a path.
     fn from_str(text: &str) -> Result<Address, BadAddress> {
         if text.is_empty() {
             return Err(BadAddress::Empty);
@@ -57,6 +64,12 @@ impl FromStr for Address {
             None => Ok(Address::Sqlite(text.into())),
         }
     }
+}
+
+fn postgres(rest: &str) -> Result<Address, BadAddress> {
+    Server::read(rest)
+        .map(Address::Postgres)
+        .map_err(BadAddress::Postgres)
 }
 
 /// A URL without a path is a collector's base, whose metrics are at `/v1/metrics`.
@@ -121,7 +134,7 @@ mod tests {
         for (text, part) in [
             ("", "empty"),
             ("sqlite:", "empty"),
-            ("postgres://h/db", "`postgres:`"),
+            ("kafka://h/db", "`kafka:`"),
             ("http:/x", "no URL"),
             ("http://", "no URL"),
             ("http://a b/", "no URL"),

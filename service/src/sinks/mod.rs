@@ -3,9 +3,11 @@
 //! A further kind of sink is one file that implements [`Sink`], a variant of [`Address`] and its line in [`open`].
 
 mod address;
+mod attributes;
 mod backoff;
 mod delivery;
 mod otlp;
+mod postgres;
 pub mod sqlite;
 
 pub use address::{Address, BadAddress};
@@ -73,7 +75,8 @@ impl Forwarded {
 pub trait Sink: Send + Sync {
     fn deliver<'a>(&'a self, request: &'a Forwarded) -> Pin<Box<dyn Future<Output = Fate> + Send + 'a>>;
 
-    /// What it is, for `status`: `sqlite PATH`, `otlp URL`. It shows no header, since a header may be a secret.
+    /// What it is, for `status`: `sqlite PATH`, `otlp URL`, `postgres USER@HOST:PORT/DB`. It shows no header and no
+    /// password.
     fn name(&self) -> String;
 }
 
@@ -82,6 +85,7 @@ pub trait Sink: Send + Sync {
 pub fn open(address: &Address) -> anyhow::Result<Arc<dyn Sink>> {
     match address {
         Address::Sqlite(path) => Ok(Arc::new(sqlite::SqliteSink::open(path)?)),
+        Address::Postgres(server) => Ok(Arc::new(postgres::PostgresSink::open(server)?)),
         Address::Otlp {
             url,
             protobuf,

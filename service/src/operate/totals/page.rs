@@ -1,0 +1,205 @@
+//! The page: families, each under a name of its own, and their samples.
+
+use super::labels::{self, Labels};
+use super::names;
+use crate::sinks::sqlite::totals::{Histogram, Kind, SeriesTotal};
+use std::collections::{BTreeMap, BTreeSet, HashMap, HashSet};
+use std::fmt::Write;
+
+const TARGET: &str = "target_info";
+
+/// All series of one kind whose names come to the same.
+type Families<'a> = BTreeMap<(Rank, String), Vec<&'a SeriesTotal>>;
+
+/// Which kind keeps its name where two kinds come to one: the first.
+#[derive(Clone, Copy, PartialEq, Eq, PartialOrd, Ord)]
+enum Rank {
+    Counter,
+    Histogram,
+    Gauge,
+}
+
+impl Rank {
+    fn of(kind: Kind) -> Rank {
+        match kind {
+            Kind::Monotonic => Rank::Counter,
+            Kind::Histogram => Rank::Histogram,
+            Kind::Sum => Rank::Gauge,
+        }
+    }
+
+    fn text(self) -> &'static str {
+        match self {
+            Rank::Counter => "counter",
+            Rank::Histogram => "histogram",
+            Rank::Gauge => "gauge",
+        }
+    }
+
+    /// What a family of this name has as names of families or samples.
+    fn names(self, name: &str) -> Vec<String> {
+        let mut names = vec![name.to_string()];
+        if self == Rank::Histogram {
+            names.extend(["bucket", "count", "sum"].map(|last| format!("{name}_{last}")));
+        }
+        names
+    }
+}
+
+/// A file's totals in Prometheus' text form.
+pub fn page(totals: &[SeriesTotal]) -> String {
+    let mut families = Families::new();
+    for series in totals {
+        let name = names::metric(&series.name, &series.unit, series.kind);
+        families
+            .entry((Rank::of(series.kind), name))
+            .or_default()
+            .push(series);
+    }
+    let mut page = String::new();
+    let mut used = HashSet::from([TARGET.to_string()]);
+    for ((rank, name), series) in &families {
+        let name = free(name, *rank, &mut used);
+        family(&mut page, &name, *rank, series);
+    }
+    targets(&mut page, totals);
+    page
+}
+
+/// The name, or one that also says the kind, where another family has it.
+fn free(name: &str, rank: Rank, used: &mut HashSet<String>) -> String {
+    let mut name = name.to_string();
+    while rank.names(&name).iter().any(|name| used.contains(name)) {
+        name = format!("{name}_{}", rank.text());
+    }
+    used.extend(rank.names(&name));
+    name
+}
+
+fn family(page: &mut String, name: &str, rank: Rank, series: &[&SeriesTotal]) {
+    let sources: BTreeSet<(&str, &str)> = series
+        .iter()
+        .map(|one| (one.name.as_str(), one.unit.as_str()))
+        .collect();
+    head(page, name, rank, &sources);
+    let is_mixed = sources
+        .iter()
+        .map(|(name, _)| name)
+        .collect::<BTreeSet<_>>()
+        .len()
+        > 1;
+    for (series, labels) in series.iter().zip(distinct(series, is_mixed)) {
+        match &series.histogram {
+            Some(histogram) => buckets(page, name, &labels, series, histogram),
+            None => line(page, name, &labels::written(&labels, None), series.total),
+        }
+    }
+}
+
+fn head(page: &mut String, name: &str, rank: Rank, sources: &BTreeSet<(&str, &str)>) {
+    let told: Vec<String> = sources
+        .iter()
+        .map(|(name, unit)| match *unit {
+            "" => name.to_string(),
+            unit => format!("{name} in {unit}"),
+        })
+        .collect();
+    let help = told
+        .join(", ")
+        .replace('\\', "\\\\")
+        .replace('\n', "\\n")
+        .replace('\0', "\u{fffd}");
+    let kind = rank.text();
+    let _ = writeln!(page, "# HELP {name} OpenTelemetry: {help}"); // a text takes all
+    let _ = writeln!(page, "# TYPE {name} {kind}"); // a text takes all
+}
+
+/// The labels of each series. Those that come to the same are told apart by what names them for good.
+fn distinct(series: &[&SeriesTotal], is_mixed: bool) -> Vec<Labels> {
+    let mut all: Vec<Labels> = series.iter().map(|one| labels::of_series(one)).collect();
+    if is_mixed {
+        for (labels, one) in all.iter_mut().zip(series) {
+            labels.insert(labels::METRIC.into(), one.name.clone());
+        }
+    }
+    let mut times: HashMap<String, u32> = HashMap::new();
+    let written: Vec<String> = all.iter().map(|one| labels::written(one, None)).collect();
+    for one in &written {
+        *times.entry(one.clone()).or_default() += 1;
+    }
+    for ((labels, one), written) in all.iter_mut().zip(series).zip(&written) {
+        if times.get(written).is_some_and(|times| *times > 1) {
+            labels.insert(labels::SERIES.into(), identity(one));
+        }
+    }
+    all
+}
+
+/// By all that makes it a series of its own, so it is the same at each scrape.
+fn identity(series: &SeriesTotal) -> String {
+    let bounds = series.histogram.as_ref().map(|histogram| &histogram.bounds);
+    let all = serde_json::json!([
+        series.name,
+        series.unit,
+        series.attributes,
+        series.resource,
+        series.scope_name,
+        series.scope_version,
+        series.scope_attributes,
+        bounds,
+    ])
+    .to_string();
+    let turned: Vec<u8> = all.bytes().rev().collect();
+    format!(
+        "{:08x}{:08x}",
+        crc32fast::hash(all.as_bytes()),
+        crc32fast::hash(&turned)
+    )
+}
+
+/// A bucket of the page has all that is not over its bound.
+fn buckets(page: &mut String, name: &str, labels: &Labels, series: &SeriesTotal, histogram: &Histogram) {
+    let bucket = format!("{name}_bucket");
+    let mut below = 0;
+    for (bound, count) in histogram.bounds.iter().zip(&histogram.buckets) {
+        below += count.0;
+        line(
+            page,
+            &bucket,
+            &labels::written(labels, Some(&bound.to_string())),
+            below,
+        );
+    }
+    line(
+        page,
+        &bucket,
+        &labels::written(labels, Some("+Inf")),
+        histogram.count,
+    );
+    let labels = labels::written(labels, None);
+    // The sum of a part of the points would give a mean that is none.
+    if histogram.points_without_sum == 0 {
+        line(page, &format!("{name}_sum"), &labels, series.total);
+    }
+    line(page, &format!("{name}_count"), &labels, histogram.count);
+}
+
+fn targets(page: &mut String, totals: &[SeriesTotal]) {
+    let targets: BTreeSet<String> = totals
+        .iter()
+        .filter_map(|series| labels::of_resource(&series.resource))
+        .map(|labels| labels::written(&labels, None))
+        .collect();
+    if targets.is_empty() {
+        return;
+    }
+    let _ = writeln!(page, "# HELP {TARGET} Attributes of the resources"); // a text takes all
+    let _ = writeln!(page, "# TYPE {TARGET} gauge"); // a text takes all
+    for labels in targets {
+        line(page, TARGET, &labels, 1);
+    }
+}
+
+fn line(page: &mut String, name: &str, labels: &str, value: impl std::fmt::Display) {
+    let _ = writeln!(page, "{name}{labels} {value}"); // a text takes all
+}

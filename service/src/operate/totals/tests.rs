@@ -1,0 +1,255 @@
+//! Names, labels and pages; `promtool` looks at one where it is there.
+
+use super::names::{label, metric};
+use super::page::page;
+use crate::sinks::sqlite::totals::{Histogram, Kind, SeriesTotal};
+use crate::sinks::sqlite::Exact;
+use serde_json::{json, Map, Value};
+
+fn object(value: Value) -> Map<String, Value> {
+    value.as_object().unwrap().clone()
+}
+
+fn series(name: &str, unit: &str, kind: Kind, total: i128, attributes: Value) -> SeriesTotal {
+    SeriesTotal {
+        name: name.into(),
+        unit: unit.into(),
+        kind,
+        attributes: object(attributes),
+        resource: Map::new(),
+        scope_name: String::new(),
+        scope_version: String::new(),
+        scope_attributes: Map::new(),
+        points: 1,
+        start_ns: 1,
+        end_ns: 2,
+        total: Exact(total),
+        histogram: None,
+    }
+}
+
+fn histogram(name: &str, bounds: &[i64], buckets: &[i128], points_without_sum: u64) -> SeriesTotal {
+    let mut made = series(name, "s", Kind::Histogram, 77, json!({}));
+    made.histogram = Some(Histogram {
+        count: Exact(buckets.iter().sum()),
+        points_without_sum,
+        bounds: bounds.to_vec(),
+        buckets: buckets.iter().copied().map(Exact).collect(),
+    });
+    made
+}
+
+/// All lines but the heads.
+fn samples(totals: &[SeriesTotal]) -> Vec<String> {
+    let page = page(totals);
+    page.lines()
+        .filter(|line| !line.starts_with('#'))
+        .map(String::from)
+        .collect()
+}
+
+#[test]
+fn names_have_units_and_no_word_twice() {
+    for (name, unit, kind, expected) in [
+        ("orders", "", Kind::Monotonic, "orders_total"),
+        ("orders", "{order}", Kind::Monotonic, "orders_total"),
+        ("orders.total", "1", Kind::Monotonic, "orders_total"),
+        ("total.orders", "1", Kind::Monotonic, "orders_total"),
+        (
+            "http.server-sent",
+            "By",
+            Kind::Monotonic,
+            "http_server_sent_bytes_total",
+        ),
+        ("sent_bytes_total", "By", Kind::Monotonic, "sent_bytes_total"),
+        ("wait", "s", Kind::Histogram, "wait_seconds"),
+        ("wait.seconds", "s", Kind::Histogram, "wait_seconds"),
+        ("wait", "ms", Kind::Histogram, "wait_milliseconds"),
+        ("speed", "m/s", Kind::Sum, "speed_meters_per_second"),
+        ("speed", "{packet}/s", Kind::Sum, "speed_per_second"),
+        ("use", "1", Kind::Sum, "use_ratio"),
+        ("use.ratio", "1", Kind::Sum, "use_ratio"),
+        ("use", "By{used}", Kind::Sum, "use_bytes"),
+        ("area", "m^2", Kind::Sum, "area_m_2"),
+        ("2xx", "", Kind::Sum, "_2xx"),
+        ("a::b//c", "", Kind::Sum, "a_b_c"),
+        ("ä", "", Kind::Sum, "_"),
+    ] {
+        assert_eq!(metric(name, unit, kind), expected, "{name} {unit}");
+    }
+}
+
+#[test]
+fn names_of_labels() {
+    for (key, expected) in [
+        ("http.route", "http_route"),
+        ("a--b", "a_b"),
+        ("__name__", "_name_"),
+        ("2xx", "key_2xx"),
+        ("", "_"),
+        ("ö", "_"),
+    ] {
+        assert_eq!(label(key), expected, "{key}");
+    }
+}
+
+#[test]
+fn numbers_are_written_in_full_and_values_escaped() {
+    let large = i128::from(u64::MAX) * 3;
+    let attributes = json!({"a": "\"\\\n\u{0}ä", "code": 200, "on": true, "list": [1, "x"], "none": null});
+    assert_eq!(
+        samples(&[
+            series("a", "", Kind::Monotonic, large, attributes),
+            series("b", "", Kind::Sum, -9_007_199_254_740_993, json!({})),
+        ]),
+        [
+            "a_total{a=\"\\\"\\\\\\n\u{fffd}ä\",code=\"200\",list=\"[1,\\\"x\\\"]\",on=\"true\"} 55340232221128654845",
+            "b -9007199254740993",
+        ]
+    );
+}
+
+#[test]
+fn buckets_add_up() {
+    assert_eq!(
+        samples(&[histogram("wait", &[-5, 10], &[1, 2, 4], 0)]),
+        [
+            "wait_seconds_bucket{le=\"-5\"} 1",
+            "wait_seconds_bucket{le=\"10\"} 3",
+            "wait_seconds_bucket{le=\"+Inf\"} 7",
+            "wait_seconds_sum 77",
+            "wait_seconds_count 7",
+        ]
+    );
+    let partly = samples(&[histogram("wait", &[], &[4], 1)]);
+    assert_eq!(
+        partly,
+        ["wait_seconds_bucket{le=\"+Inf\"} 4", "wait_seconds_count 4"]
+    );
+}
+
+#[test]
+fn a_resource_is_a_target() {
+    let mut one = series(
+        "a",
+        "",
+        Kind::Monotonic,
+        5,
+        json!({"job": "mine", "exported.job": "x"}),
+    );
+    one.resource = object(
+        json!({"service.name": "shop", "service.namespace": "eu", "service.instance.id": 7,
+        "host.name": "h", "host_name": "i"}),
+    );
+    one.scope_name = "lib".into();
+    one.scope_version = "1.2".into();
+    one.scope_attributes = object(json!({"name": "n", "x": "y"}));
+    assert_eq!(
+        samples(&[one]),
+        [
+            "a_total{exported_job=\"x;mine\",exported_otel_scope_name=\"n\",instance=\"7\",job=\"eu/shop\",\
+             otel_scope_name=\"lib\",otel_scope_version=\"1.2\",otel_scope_x=\"y\"} 5",
+            "target_info{host_name=\"h;i\",instance=\"7\",job=\"eu/shop\"} 1",
+        ]
+    );
+}
+
+#[test]
+fn what_comes_to_one_name_is_told_apart() {
+    let mixed = samples(&[
+        series("a.b", "", Kind::Monotonic, 1, json!({})),
+        series("a_b", "", Kind::Monotonic, 2, json!({})),
+    ]);
+    assert_eq!(
+        mixed,
+        [
+            "a_b_total{otel_metric_name=\"a.b\"} 1",
+            "a_b_total{otel_metric_name=\"a_b\"} 2"
+        ]
+    );
+    let kinds = samples(&[
+        series("a.total", "", Kind::Sum, 1, json!({})),
+        series("a", "", Kind::Monotonic, 2, json!({})),
+        series("w_seconds_count", "", Kind::Sum, 3, json!({})),
+        histogram("w", &[], &[4], 0),
+        series("target_info", "", Kind::Sum, 5, json!({})),
+    ]);
+    for line in [
+        "a_total 2",
+        "a_total_gauge 1",
+        "w_seconds_count 4",
+        "w_seconds_count_gauge 3",
+        "target_info_gauge 5",
+    ] {
+        assert!(kinds.iter().any(|found| found == line), "{line} in {kinds:?}");
+    }
+}
+
+#[test]
+fn series_of_the_same_labels_are_told_apart_and_keep_their_names() {
+    let mut other = series("a", "", Kind::Monotonic, 2, json!({"code": 5}));
+    other.resource = object(json!({"host": "h"}));
+    let all = [
+        series("a", "", Kind::Monotonic, 1, json!({"code": "5"})),
+        series("a", "{x}", Kind::Monotonic, 3, json!({"code": "5"})),
+        other,
+        histogram("w", &[1], &[1, 1], 0),
+        histogram("w", &[2], &[1, 1], 0),
+    ];
+    let lines = samples(&all);
+    let names: std::collections::HashSet<&str> = lines
+        .iter()
+        .filter_map(|line| Some(line.rsplit_once(' ')?.0))
+        .collect();
+    assert_eq!(names.len(), lines.len(), "{lines:?}");
+    assert!(lines.iter().filter(|line| line.contains("otel_series=")).count() == 3 + 8);
+    let turned: Vec<SeriesTotal> = all.iter().rev().cloned().collect();
+    let mut again = samples(&turned);
+    let mut lines = lines;
+    again.sort();
+    lines.sort();
+    assert_eq!(again, lines);
+}
+
+#[test]
+fn promtool_finds_nothing() {
+    let mut one = series(
+        "http.requests",
+        "{request}",
+        Kind::Monotonic,
+        5,
+        json!({"http.route": "/\"\\\n"}),
+    );
+    one.resource = object(json!({"service.name": "shop", "host.name": "h"}));
+    one.scope_name = "lib".into();
+    let page = page(&[
+        one,
+        series("queue", "{job}", Kind::Sum, -5, json!({})),
+        series(
+            "sent",
+            "By",
+            Kind::Monotonic,
+            i128::from(u64::MAX) + 1,
+            json!({"b": 1}),
+        ),
+        series("load", "1", Kind::Sum, 5, json!({})),
+        histogram("wait", &[-5, 10], &[1, 2, 4], 0),
+        histogram("wait", &[-5, 11], &[1, 2, 4], 1),
+    ]);
+    use std::io::Write;
+    use std::process::{Command, Stdio};
+    let started = Command::new("promtool")
+        .args(["check", "metrics"])
+        .stdin(Stdio::piped())
+        .stdout(Stdio::piped())
+        .stderr(Stdio::piped())
+        .spawn();
+    let Ok(mut promtool) = started else {
+        eprintln!("skipped: there is no promtool");
+        return;
+    };
+    promtool.stdin.take().unwrap().write_all(page.as_bytes()).unwrap();
+    let output = promtool.wait_with_output().unwrap();
+    let said = String::from_utf8_lossy(&output.stdout) + String::from_utf8_lossy(&output.stderr);
+    assert!(output.status.success() && said.is_empty(), "{said}\n{page}");
+}

@@ -1,0 +1,117 @@
+//! Where a server is, and as whom to come to it.
+
+use std::str::FromStr;
+use std::time::Duration;
+use tokio_postgres::config::{Host, SslMode};
+use tokio_postgres::Config;
+
+/// How long a connection may take to be made.
+const CONNECT: Duration = Duration::from_secs(5);
+const PORT: u16 = 5432;
+
+/// Its `Debug` shows no password.
+#[derive(Clone, Debug, PartialEq, Eq)]
+pub struct Server(Config);
+
+impl Server {
+    /// Reads what follows `postgres:`. What it says of a faulty one has no part of it, since that may be a password.
+    pub(crate) fn read(rest: &str) -> Result<Server, String> {
+        if !rest.starts_with("//") {
+            return Err("`//` is missing".into());
+        }
+        if rest.contains("sslmode=verify") || rest.contains("sslmode=require") {
+            return Err(NO_TLS.into());
+        }
+        let mut config = Config::from_str(&format!("postgres:{rest}")).map_err(|error| error.to_string())?;
+        if config.get_user().is_none() {
+            return Err("there is no user".into());
+        }
+        if config.get_dbname().is_none_or(str::is_empty) {
+            return Err("there is no database".into());
+        }
+        match config.get_hosts() {
+            [] => return Err("there is no host".into()),
+            [_] => {}
+            _ => return Err("there is more than one host, and two servers would count apart".into()),
+        }
+        if config.get_ssl_mode() == SslMode::Require {
+            return Err(NO_TLS.into());
+        }
+        config.ssl_mode(SslMode::Disable);
+        config.application_name("totxegun");
+        config.keepalives_idle(Duration::from_secs(30));
+        if config.get_connect_timeout().is_none() {
+            config.connect_timeout(CONNECT);
+        }
+        Ok(Server(config))
+    }
+
+    /// With the password of the environment, where the address has none.
+    pub(super) fn config(&self) -> Config {
+        let mut config = self.0.clone();
+        if config.get_password().is_none() {
+            if let Some(password) = std::env::var_os("PGPASSWORD") {
+                config.password(password.as_encoded_bytes());
+            }
+        }
+        config
+    }
+}
+
+const NO_TLS: &str = "this program speaks no TLS to PostgreSQL: leave `sslmode` out, and come by a Unix socket, a private network or a tunnel";
+
+impl std::fmt::Display for Server {
+    fn fmt(&self, formatter: &mut std::fmt::Formatter<'_>) -> std::fmt::Result {
+        let host = match self.0.get_hosts().first() {
+            Some(Host::Tcp(host)) => host.clone(),
+            Some(Host::Unix(folder)) => folder.display().to_string(),
+            None => String::new(),
+        };
+        let port = self.0.get_ports().first().copied().unwrap_or(PORT);
+        let (user, database) = (
+            self.0.get_user().unwrap_or_default(),
+            self.0.get_dbname().unwrap_or_default(),
+        );
+        write!(formatter, "{user}@{host}:{port}/{database}")
+    }
+}
+
+#[cfg(test)]
+mod tests {
+    use super::*;
+
+    #[test]
+    fn addresses_are_shown_without_a_password() {
+        for (rest, shown) in [
+            ("//u@h/d", "u@h:5432/d"),
+            ("//u:secret@h:5433/d", "u@h:5433/d"),
+            ("//u@/d?host=/run/pg", "u@/run/pg:5432/d"),
+            ("//u@/d?host=/run/pg&port=5433&sslmode=prefer", "u@/run/pg:5433/d"),
+            ("//u@%2Frun%2Fpg/d?sslmode=disable", "u@/run/pg:5432/d"),
+        ] {
+            let server = Server::read(rest).expect(rest);
+            assert_eq!(server.to_string(), shown);
+            assert!(!format!("{server:?}").contains("secret"));
+        }
+    }
+
+    #[test]
+    fn faulty_addresses_say_why_and_show_nothing() {
+        for (rest, part) in [
+            ("u@h/d", "`//`"),
+            ("//h/d", "no user"),
+            ("//u:secret@h", "no database"),
+            ("//u:secret@/d", "no host"),
+            ("//u:secret@h1,h2/d", "more than one"),
+            ("//u:secret@h/d?sslmode=require", "no TLS"),
+            ("//u:secret@h/d?sslmode=verify-full", "no TLS"),
+            ("//u:secret@h:x/d", "port"),
+        ] {
+            let error = Server::read(rest).expect_err(rest);
+            assert!(
+                error.contains(part) && !error.contains("secret"),
+                "{rest}: {error}"
+            );
+        }
+    }
+}

@@ -1,0 +1,96 @@
+//! What can be wrong with the server, and what to do about it.
+
+use crate::otlp::series::NotForwarded;
+use tokio_postgres::error::DbError;
+
+#[derive(Debug, thiserror::Error)]
+pub enum PostgresFault {
+    #[error("the schema totxegun of {server} was written by a later version of totxegun (schema {found}; this one knows {known}): use that version, or another database")]
+    Later { server: String, found: i32, known: i32 },
+    #[error("the schema totxegun of {server} is of another program: name another database")]
+    Foreign { server: String },
+    #[error("the database of {server} is in {encoding}, which can't hold each text: make one with `encoding utf8`")]
+    Encoding { server: String, encoding: String },
+    #[error("{server}: {what}")]
+    Server { server: String, what: String },
+}
+
+impl PostgresFault {
+    pub(super) fn told(server: &str, what: impl Into<String>) -> PostgresFault {
+        PostgresFault::Server {
+            server: server.into(),
+            what: what.into(),
+        }
+    }
+
+    pub(super) fn of(server: &str, error: &tokio_postgres::Error) -> PostgresFault {
+        PostgresFault::told(server, shown(error))
+    }
+
+    /// Whether it stays until somebody names another database or starts another version.
+    pub(super) fn is_lasting(&self) -> bool {
+        !matches!(self, PostgresFault::Server { .. })
+    }
+}
+
+/// An error with what to do about it.
+pub(super) fn shown(error: &tokio_postgres::Error) -> String {
+    let Some(said) = error.as_db_error() else {
+        return error.to_string();
+    };
+    let detail = said
+        .detail()
+        .map_or(String::new(), |detail| format!(" ({detail})"));
+    let text = format!("{}{detail} [{}]", said.message(), said.code().code());
+    match what_to_do(said) {
+        Some(what) => format!("{what}: {text}"),
+        None => text,
+    }
+}
+
+fn what_to_do(said: &DbError) -> Option<&'static str> {
+    Some(match said.code().code() {
+        "28P01" => "the password is wrong, correct it in the address or in PGPASSWORD",
+        "28000" => "the server does not let this user in, look at pg_hba.conf",
+        "3D000" => "the database is missing, make it",
+        "42501" => "the role lacks a right, grant it",
+        "25006" => "the server or the role is read-only, name one that writes",
+        "53100" => "the server's disk is full, make room",
+        "53300" => "the server has no connection left, raise max_connections",
+        "57P01" | "57P02" | "57P03" => "the server is starting or ending",
+        "57014" | "55P03" => "the server took too long",
+        "40P01" | "40001" => "another writer was in the way",
+        _ => return None,
+    })
+}
+
+/// Why a request was not taken.
+#[derive(Debug, thiserror::Error)]
+pub(super) enum NotTaken {
+    /// It never will be.
+    #[error("{0}")]
+    Refused(String),
+    #[error(transparent)]
+    Fault(#[from] PostgresFault),
+}
+
+impl NotTaken {
+    /// Content that no PostgreSQL takes (a data exception, a program's limit) is refused for good; all else may mend
+    /// itself.
+    pub(super) fn of(server: &str, error: &tokio_postgres::Error) -> NotTaken {
+        let is_content = error.code().is_some_and(|code| {
+            let code = code.code();
+            code.starts_with("22") || code.starts_with("54")
+        });
+        if is_content {
+            return NotTaken::Refused(format!("no PostgreSQL takes it: {}", shown(error)));
+        }
+        NotTaken::Fault(PostgresFault::of(server, error))
+    }
+}
+
+impl From<NotForwarded> for NotTaken {
+    fn from(error: NotForwarded) -> NotTaken {
+        NotTaken::Refused(error.to_string())
+    }
+}

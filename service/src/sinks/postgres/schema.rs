@@ -1,0 +1,97 @@
+//! The schema `totxegun` of a database: a version in it, and the steps that lead from each version to the next.
+
+use super::fault::PostgresFault;
+use tokio_postgres::{Client, GenericClient};
+
+/// Step N leads from version N to version N+1. A step that was released is never changed.
+const STEPS: &[&str] = &[include_str!("version1.sql")];
+
+/// The version that this program writes.
+pub(super) const KNOWN: i32 = STEPS.len() as i32;
+
+/// `totxegun`, as the number of an advisory lock: one of several services brings the schema up, the others wait.
+const LOCK: i64 = 0x746f_7478_6567_756e;
+
+/// What the database has under our name.
+struct Found {
+    is_there: bool,
+    version: i32,
+}
+
+/// Brings the schema to the last version, or says why it must not be touched.
+pub(super) async fn migrate(client: &mut Client, server: &str) -> Result<(), PostgresFault> {
+    let fault = |error| PostgresFault::of(server, &error);
+    if check(client, server).await?.version == KNOWN {
+        return Ok(());
+    }
+    let transaction = client.transaction().await.map_err(fault)?;
+    transaction
+        .execute("select pg_advisory_xact_lock($1)", &[&LOCK])
+        .await
+        .map_err(fault)?;
+    // Another service may have done it since: the version is read anew, under the lock.
+    let found = check(&transaction, server).await?;
+    if found.version == KNOWN {
+        return transaction.commit().await.map_err(fault);
+    }
+    if !found.is_there {
+        transaction
+            .batch_execute("create schema totxegun")
+            .await
+            .map_err(fault)?;
+    }
+    for step in &STEPS[found.version as usize..] {
+        transaction.batch_execute(step).await.map_err(fault)?;
+    }
+    let row =
+        format!("delete from totxegun.version; insert into totxegun.version values ('totxegun', {KNOWN})");
+    transaction.batch_execute(&row).await.map_err(fault)?;
+    transaction.commit().await.map_err(fault)?;
+    tracing::info!(
+        "{server}: the schema totxegun was brought from version {} to {KNOWN}",
+        found.version
+    );
+    Ok(())
+}
+
+/// The version of a schema that is ours; 0 where there is none, or an empty one.
+async fn check(client: &impl GenericClient, server: &str) -> Result<Found, PostgresFault> {
+    let fault = |error| PostgresFault::of(server, &error);
+    let query = "select exists (select from pg_namespace where nspname = 'totxegun'),
+        exists (select from pg_class join pg_namespace on pg_namespace.oid = relnamespace where nspname = 'totxegun'),
+        2 = (select count(*) from pg_attribute join pg_class on pg_class.oid = attrelid
+            join pg_namespace on pg_namespace.oid = relnamespace where nspname = 'totxegun' and relname = 'version'
+            and attname in ('program', 'version')),
+        current_setting('server_encoding')";
+    let row = client.query_one(query, &[]).await.map_err(fault)?;
+    let encoding: String = row.get(3);
+    if encoding != "UTF8" {
+        return Err(PostgresFault::Encoding {
+            server: server.into(),
+            encoding,
+        });
+    }
+    let (is_there, is_used, is_marked): (bool, bool, bool) = (row.get(0), row.get(1), row.get(2));
+    if !is_used {
+        return Ok(Found { is_there, version: 0 });
+    }
+    let foreign = || PostgresFault::Foreign {
+        server: server.into(),
+    };
+    if !is_marked {
+        return Err(foreign());
+    }
+    let query = "select version::text from totxegun.version where program::text = 'totxegun'";
+    let rows = client.query(query, &[]).await.map_err(fault)?;
+    let [row] = &rows[..] else { return Err(foreign()) };
+    let version = row.get::<_, Option<String>>(0).and_then(|text| text.parse().ok());
+    match version {
+        Some(found) if found > KNOWN => Err(PostgresFault::Later {
+            server: server.into(),
+            found,
+            known: KNOWN,
+        }),
+        Some(version) if version > 0 => Ok(Found { is_there, version }),
+        _ => Err(foreign()),
+    }
+}

@@ -1,0 +1,74 @@
+//! A connection with its statements, to a schema of the right version.
+
+use super::address::Server;
+use super::fault::PostgresFault;
+use super::{schema, statements};
+use tokio::task::JoinHandle;
+use tokio_postgres::{Client, NoTls, Statement};
+
+/// Each statement is bounded, and a transaction whose client is gone does not keep its locks. Texts and times mean the
+/// same whatever the role's own settings are. A commit that is told must be on the server's disk.
+const SETTINGS: &str =
+    "set search_path = pg_catalog; set statement_timeout = '20s'; set lock_timeout = '10s';
+    set idle_in_transaction_session_timeout = '30s'; set default_transaction_isolation = 'read committed';
+    set timezone = 'UTC'; set client_min_messages = 'warning'; set jit = off;
+    select set_config('synchronous_commit', 'on', false) where current_setting('synchronous_commit') = 'off'";
+
+pub(super) struct Session {
+    pub(super) client: Client,
+    pub(super) statements: Statements,
+    _connection: Driver,
+}
+
+pub(super) struct Statements {
+    pub(super) key: Statement,
+    pub(super) is_taken: Statement,
+    pub(super) find: Statement,
+    pub(super) make: Statement,
+    pub(super) overlap: Statement,
+    pub(super) spans: Statement,
+    pub(super) totals: Statement,
+}
+
+impl Session {
+    pub(super) async fn open(server: &Server) -> Result<Session, PostgresFault> {
+        let name = server.to_string();
+        let fault = |error| PostgresFault::of(&name, &error);
+        let (mut client, connection) = server.config().connect(NoTls).await.map_err(fault)?;
+        let connection = Driver(tokio::spawn(async move {
+            // Whoever waits for an answer is told of its fault.
+            let _ = connection.await;
+        }));
+        client.batch_execute(SETTINGS).await.map_err(fault)?;
+        schema::migrate(&mut client, &name).await?;
+        let statements = Statements::prepare(&client).await.map_err(fault)?;
+        Ok(Session {
+            client,
+            statements,
+            _connection: connection,
+        })
+    }
+}
+
+/// The task that moves a connection's bytes: it ends with this, so no statement goes on unseen.
+struct Driver(JoinHandle<()>);
+
+impl Drop for Driver {
+    fn drop(&mut self) {
+        self.0.abort();
+    }
+}
+
+impl Statements {
+    async fn prepare(client: &Client) -> Result<Statements, tokio_postgres::Error> {
+        Ok(Statements {
+            key: client.prepare(statements::KEY).await?,
+            is_taken: client.prepare(statements::IS_TAKEN).await?,
+            find: client.prepare(statements::FIND).await?,
+            make: client.prepare(statements::MAKE).await?,
+            overlap: client.prepare(statements::OVERLAP).await?,
+            spans: client.prepare(statements::SPANS).await?,
+            totals: client.prepare(statements::TOTALS).await?,
+        })
+    }
+}

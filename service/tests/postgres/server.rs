@@ -1,0 +1,277 @@
+//! A server in a folder of its own, a proxy that cuts, and bodies.
+
+use std::io::Write;
+use std::os::unix::fs::MetadataExt;
+use std::os::unix::process::CommandExt;
+use std::path::PathBuf;
+use std::process::{Child, Command, Stdio};
+use std::sync::atomic::{AtomicBool, Ordering};
+use std::sync::Arc;
+use tokio::io::{AsyncReadExt, AsyncWriteExt};
+use tokio::net::{TcpListener, TcpStream};
+
+pub struct Server {
+    folder: tempfile::TempDir,
+    programs: PathBuf,
+    pub port: u16,
+    child: Option<Child>,
+}
+
+/// PostgreSQL does not run as root.
+const USER: u32 = 65534;
+
+fn is_root() -> bool {
+    std::fs::metadata("/proc/self").unwrap().uid() == 0
+}
+
+fn programs() -> Option<PathBuf> {
+    let folders = std::fs::read_dir("/usr/lib/postgresql").ok()?;
+    let mut folders: Vec<PathBuf> = folders.flatten().map(|entry| entry.path().join("bin")).collect();
+    folders.retain(|folder| folder.join("initdb").exists());
+    folders.sort();
+    folders.pop()
+}
+
+impl Server {
+    pub fn start() -> Option<Server> {
+        let Some(programs) = programs() else {
+            println!("skipped: there is no initdb; `tools/needs test` installs postgresql");
+            return None;
+        };
+        let folder = tempfile::tempdir().unwrap();
+        if is_root() {
+            std::os::unix::fs::chown(folder.path(), Some(USER), Some(USER)).unwrap();
+        }
+        let port = std::net::TcpListener::bind("127.0.0.1:0").unwrap();
+        let mut server = Server {
+            port: port.local_addr().unwrap().port(),
+            folder,
+            programs,
+            child: None,
+        };
+        drop(port);
+        let data = server.data();
+        let made = server
+            .command("initdb")
+            .args(["-U", "postgres", "-E", "UTF8", "--locale=C", "-N"])
+            .args(["--auth-local=trust", "--auth-host=scram-sha-256", "-D"])
+            .arg(data)
+            .output()
+            .unwrap();
+        assert!(made.status.success(), "{}", String::from_utf8_lossy(&made.stderr));
+        server.run();
+        Some(server)
+    }
+
+    fn data(&self) -> PathBuf {
+        self.folder.path().join("data")
+    }
+
+    fn command(&self, program: &str) -> Command {
+        let mut command = Command::new(self.programs.join(program));
+        command.current_dir(self.folder.path()).stdin(Stdio::null());
+        if is_root() {
+            command.uid(USER).gid(USER);
+        }
+        command
+    }
+
+    pub fn run(&mut self) {
+        let log = std::fs::File::create(self.folder.path().join("log")).unwrap();
+        let child = self
+            .command("postgres")
+            .arg("-D")
+            .arg(self.data())
+            .args([
+                "-c",
+                "listen_addresses=127.0.0.1",
+                "-p",
+                &self.port.to_string(),
+                "-k",
+            ])
+            .arg(self.folder.path())
+            .stdout(Stdio::null())
+            .stderr(log)
+            .spawn()
+            .unwrap();
+        self.child = Some(child);
+        for _ in 0..200 {
+            if self
+                .psql("postgres", "select 1")
+                .output()
+                .unwrap()
+                .status
+                .success()
+            {
+                return;
+            }
+            std::thread::sleep(std::time::Duration::from_millis(50));
+        }
+        panic!("the server has not started");
+    }
+
+    /// At once, as a crash does.
+    pub fn stop(&mut self) {
+        if let Some(mut child) = self.child.take() {
+            let id = nix::unistd::Pid::from_raw(child.id() as i32);
+            nix::sys::signal::kill(id, nix::sys::signal::Signal::SIGQUIT).unwrap();
+            child.wait().unwrap();
+        }
+    }
+
+    fn psql(&self, database: &str, query: &str) -> Command {
+        let mut command = self.command("psql");
+        command
+            .args([
+                "-U",
+                "postgres",
+                "-X",
+                "-A",
+                "-t",
+                "-q",
+                "-v",
+                "ON_ERROR_STOP=1",
+                "-h",
+            ])
+            .arg(self.folder.path())
+            .args(["-p", &self.port.to_string(), "-d", database])
+            .env("PGCLIENTENCODING", "UTF8");
+        for part in query.split("; ") {
+            command.args(["-c", part]);
+        }
+        command
+    }
+
+    pub fn ask(&self, query: &str) -> String {
+        self.ask_of("postgres", query)
+    }
+
+    pub fn ask_of(&self, database: &str, query: &str) -> String {
+        let output = self.psql(database, query).output().unwrap();
+        let error = String::from_utf8_lossy(&output.stderr);
+        assert!(output.status.success(), "{query}: {error}");
+        String::from_utf8(output.stdout).unwrap().trim().into()
+    }
+
+    /// Goes on beside the test until it is dropped.
+    pub fn hold(&self, query: &str) -> Held {
+        let mut psql = self.psql("postgres", query);
+        Held(psql.stdout(Stdio::null()).spawn().unwrap())
+    }
+
+    pub fn by_socket(&self, database: &str) -> String {
+        let (folder, port) = (self.folder.path().display(), self.port);
+        format!("postgresql://postgres@/{database}?host={folder}&port={port}")
+    }
+
+    pub fn by_tcp(&self, user: &str, database: &str) -> String {
+        format!("postgres://{user}@127.0.0.1:{}/{database}", self.port)
+    }
+}
+
+impl Drop for Server {
+    fn drop(&mut self) {
+        self.stop();
+        let _ = std::io::stdout().flush();
+    }
+}
+
+pub struct Held(Child);
+
+impl Drop for Held {
+    fn drop(&mut self) {
+        let _ = self.0.kill();
+        let _ = self.0.wait();
+    }
+}
+
+/// Passes bytes on. Told to, it lets the next COMMIT through, waits until the server has answered, and cuts.
+pub struct Proxy {
+    pub port: u16,
+    cut: Arc<AtomicBool>,
+}
+
+impl Proxy {
+    pub async fn start(to: u16) -> Proxy {
+        let listener = TcpListener::bind("127.0.0.1:0").await.unwrap();
+        let port = listener.local_addr().unwrap().port();
+        let cut = Arc::new(AtomicBool::new(false));
+        let told = cut.clone();
+        tokio::spawn(async move {
+            while let Ok((client, _)) = listener.accept().await {
+                tokio::spawn(pass(client, to, told.clone()));
+            }
+        });
+        Proxy { port, cut }
+    }
+
+    pub fn cut_the_next_commit(&self) {
+        self.cut.store(true, Ordering::SeqCst);
+    }
+}
+
+async fn pass(mut client: TcpStream, to: u16, cut: Arc<AtomicBool>) {
+    let Ok(mut server) = TcpStream::connect(("127.0.0.1", to)).await else {
+        return;
+    };
+    let (mut up, mut down) = (vec![0; 65536], vec![0; 65536]);
+    loop {
+        tokio::select! {
+            read = client.read(&mut up) => {
+                let Ok(count @ 1..) = read else { return };
+                if server.write_all(&up[..count]).await.is_err() { return }
+                if up[..count].windows(6).any(|six| six == b"COMMIT") && cut.swap(false, Ordering::SeqCst) {
+                    let _ = server.read(&mut down).await;
+                    return;
+                }
+            }
+            read = server.read(&mut down) => {
+                let Ok(count @ 1..) = read else { return };
+                if client.write_all(&down[..count]).await.is_err() { return }
+            }
+        }
+    }
+}
+
+fn metrics(metrics: &str) -> String {
+    format!(
+        r#"{{"resourceMetrics":[{{"resource":{{"attributes":[]}},"scopeMetrics":[{{"metrics":[{metrics}],"scope":{{"attributes":[],"name":"s","version":"1"}}}}]}}]}}"#
+    )
+}
+
+fn sum_of(name: &str, points: &str) -> String {
+    metrics(&format!(
+        r#"{{"name":"{name}","sum":{{"aggregationTemporality":1,"dataPoints":[{points}],"isMonotonic":false}},"unit":"1"}}"#
+    ))
+}
+
+fn point(value: &str, start: u64, end: u64, counted: i64) -> String {
+    format!(
+        r#"{{"asInt":"{counted}","attributes":[{{"key":"k","value":{{"stringValue":"{value}"}}}}],"startTimeUnixNano":"{start}","timeUnixNano":"{end}"}}"#
+    )
+}
+
+pub fn sum(name: &str, start: u64, end: u64, counted: i64) -> String {
+    sum_named(name, "v", start, end, counted)
+}
+
+/// A sum whose attribute `k` has this value; both texts as they stand in JSON.
+pub fn sum_named(name: &str, value: &str, start: u64, end: u64, counted: i64) -> String {
+    sum_of(name, &point(value, start, end, counted))
+}
+
+pub fn many(first: u64, count: u64, start: u64) -> String {
+    let points: Vec<String> = (first..first + count)
+        .map(|code| point(&code.to_string(), start, start + 10, 1))
+        .collect();
+    sum_of("requests", &points.join(","))
+}
+
+pub fn histogram(name: &str, start: u64, end: u64, sum: Option<u64>, buckets: [u64; 3]) -> String {
+    let counts = buckets.map(|bucket| format!("\"{bucket}\"")).join(",");
+    let sum = sum.map_or(String::new(), |sum| format!("\"sum\":{sum},"));
+    metrics(&format!(
+        r#"{{"histogram":{{"aggregationTemporality":1,"dataPoints":[{{"attributes":[],"bucketCounts":[{counts}],"count":"{}","explicitBounds":[-5,10],"startTimeUnixNano":"{start}",{sum}"timeUnixNano":"{end}"}}]}},"name":"{name}","unit":"ms"}}"#,
+        buckets[0]
+    ))
+}
