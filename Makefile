@@ -1,6 +1,6 @@
 # The commands of the README. Their scripts are in tools/; what they log is in out/logs.
 
-.PHONY: run serve build check test edits
+.PHONY: run serve build check test edits soak
 
 # Runs the script program on its stored script, with no proof, in about a minute at most.
 run:
@@ -28,3 +28,7 @@ test:
 # Tries all edits, those too that the gate leaves out, many in one check: make edits, or make edits NAME=delta_book.
 edits:
 	@tools/edits.py $(NAME)
+
+# The service under load for an hour, with what `make build` has built, while all that it is made of is killed.
+soak:
+	@tests/service_load.py bin/totxegun bin/gateway 3600
