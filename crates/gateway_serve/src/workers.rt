@@ -21,8 +21,12 @@ use std::net::{Net, TcpListener, TcpStream};
 use std::sync::ledger::Ledger;
 use std::sync::{Mutex, Wait};
 use std::thread;
-use std::thread::{JoinHandle, Threads};
+use std::thread::{Builder, JoinHandle, Threads};
 use std::time::Clock;
+
+/// The stack of a worker, in bytes. Small, so that the stacks of a round's workers find room where
+/// posts have used up the memory.
+const STACK: usize = 1 << 20;
 
 /// The work of the seat of this number: the first seats are the flushers', so that these are there
 /// before the first receiver.
@@ -84,9 +88,12 @@ fn run_workers<
                     break;
                 }
             };
-            let Ok(worker) = scope.spawn(move || work(
-                rt, alloc, shared, seat, options, acceptor, task,
-            )) else {
+            let started = Builder::new()
+                .stack_size(STACK)
+                .spawn_scoped(scope, move || {
+                    work(rt, alloc, shared, seat, options, acceptor, task)
+                });
+            let Ok(worker) = started else {
                 closed.close(GatewayFault::CannotStart);
                 break;
             };
