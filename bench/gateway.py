@@ -1,121 +1,99 @@
 #!/usr/bin/env python3
-"""Prints what the gateway takes for each point and request under load, beside a plain program of the same job.
+"""Prints what the gateway takes for each point and request under load, beside plain programs of the same job.
 
-    bench/gateway.py [--gateway FILE] [--points N,..] [--kinds sum,histogram] [--series N,..]
-                     [--receivers N,..] [--runs N] [--clients N] [--preload FILE] [--no-calls]
+    bench/gateway.py [--gateway FILE] [--totxegun FILE] [--points N,..] [--kinds sum,histogram] [--series N,..]
+                     [--senders N,..] [--receivers N,..] [--beside NAME,..] [--allocators NAME,..]
+                     [--preload FILE] [--environment NAME=VALUE]* [--runs N] [--seconds N] [--kept] [--calls]
 
-FILE is bin/gateway, as `make build` makes it, where none is named. With no option the rows are sums of 1,
-20 and 1,000 points a request and histograms of 20 (11 buckets each), over 800 series with 2 receivers;
-else each of the points with each of the kinds, series and receivers that are named. It needs gcc, for
-load.c, which posts; cargo and the Debian packages librust-serde-json-dev, librust-serde-derive-dev and
-librust-httparse-dev, for the plain program; and strace, for the system calls. What is missing is left out,
-and a line says so.
+FILE is bin/gateway, as `make build` makes it, where none is named. With no option the rows are sums of 1, 20 and 1,000
+points a request and histograms of 20 (11 buckets each), over 800 series, with 8 senders and 2 receivers, beside `plain` and
+with the C library's allocator; else each of the points with each of the kinds, series and so on that are named.
 
-bench/plain is a gateway as one writes it in stock Rust: serde's derive, a hash map under a mutex, receivers
-as threads, one write an answer. It proves nothing, keeps nothing of a batch, undoes none, and has no
-journal, no quarantine and no audit.
+The plain programs are of bench/plain, whose src/lib.rs says what they are: plain, plain-answers, plain-fast. None proves or
+undoes anything, or keeps a journal. What can't be built is left out, and a line says so.
 
-The programs run in turn, each run in a fresh process whose series are there already. Figures are those of
-the run with the least processor time. A median and a 99th percentile are of whole requests, as a sender
-sees them with all others beside it. Bytes kept are what the process has grown by, by points. --preload puts
-a library before the gateway, such as another allocator. What is printed says what was measured here, and
-asserts nothing.
+An allocator is given to all programs of a row alike: libc; tuned, which is libc with GLIBC_TUNABLES' tcache_count and
+MALLOC_TRIM_THRESHOLD_; mimalloc, tcmalloc, jemalloc, by Debian's packages libmimalloc2.0, libtcmalloc-minimal4 and
+libjemalloc2; and service, the environment that the service gives its gateway, read from one that bin/totxegun has started.
+--preload names another library and --environment what it or the C library reads: these are a row `own`.
+
+The programs run in turn, each run in a fresh process whose series are there already, and of about so many seconds. Figures
+are medians of the runs; a ratio is of the gateway's run to the plain program's beside it, its median, and the least and the
+most in brackets. A median and a 99th percentile of a request are as a sender sees them with all others beside it. With
+--kept the last run ends by 20 loads more, and bytes kept are what the process has grown by over these. --calls counts system
+calls by strace. What is printed says what was measured here, and asserts nothing.
 """
-import argparse
 import collections
 import os
 import re
 import shutil
 import signal
+import statistics
 import subprocess
-import sys
 import tempfile
 
-from process import ROOT, memory, processor_seconds
+import loading
+import plain
+from allocators import add_options, environment, names_there
+from loading import Posts, Senders, rounded
+from process import memory, numbers, processor_seconds, spread
+from running import bare, options, shown
 
-from loopback import free_port
-from shipped import listens, wait_until
-
-LOAD = f"{ROOT}/out/bench/load"
-PLAIN = f"{ROOT}/out/plain/release/plain"
 DEFAULT_ROWS = [("sum", 1), ("sum", 20), ("sum", 1000), ("histogram", 20)]
-# A run posts so many points, by at least and at most so many requests.
-POINTS_A_RUN = 200_000
-REQUESTS = (200, 20_000)
+LEAST_POSTS = 10
+# How many requests of so many points are looked for in the first second.
+FIRST_POINTS = 20_000
 # A run that is traced is many times slower.
 TRACED_REQUESTS = 400
-NOBODY = "127.0.0.1:9"
+KEPT_LOADS = 20
+# So few that the gateway's round, of 32,000 connections, does not end within them.
+KEPT_REQUESTS, BEFORE_KEPT = 1200, 4000
 
-Row = collections.namedtuple("Row", "kind points series receivers")
-Figures = collections.namedtuple("Figures", "a_point a_request a_second median last kept failed")
-
-
-class Server:
-    """A program that serves, in a process of its own, for as long as a `with` lasts."""
-
-    def __init__(self, command, environment):
-        self.port = free_port()
-        listen = ["--listen", f"127.0.0.1:{self.port}", "--backend", NOBODY]
-        self.process = subprocess.Popen([*command, *listen], env=environment, stdout=subprocess.DEVNULL)
-        self.posted = 0
-
-    def __enter__(self):
-        if not wait_until(lambda: listens(self.port)):
-            sys.exit(f"{self.process.args[0]} does not listen")
-        return self
-
-    def __exit__(self, *_):
-        self.process.kill()
-        self.process.wait()
-
-    def load(self, row, requests, clients):
-        """Posts so many requests, each sender's points behind those that it has posted."""
-        words = [self.port, clients, requests, row.points, row.series, row.kind, self.posted]
-        ran = subprocess.run([LOAD, *map(str, words)], stdout=subprocess.PIPE, text=True, check=True)
-        whole, failed, *times = ran.stdout.split()
-        self.posted += int(whole) // clients * row.points
-        return int(whole), int(failed), *map(float, times)
-
-    def seconds(self):
-        return processor_seconds(self.process.pid)
-
-    def memory(self):
-        return memory(self.process.pid)
+Row = collections.namedtuple("Row", "kind points series senders receivers allocator")
+Figures = collections.namedtuple("Figures", "a_point a_request a_second points_a_second median last kept failed")
+Program = collections.namedtuple("Program", "words environment")
 
 
-def rounded(requests, clients):
-    """So many requests, or a few more, that each sender has as many."""
-    return -(-requests // clients) * clients
-
-
-def with_all_series(server, row, clients):
-    """Posts a point of each series, so that what is measured is of known series alone."""
-    server.load(row, clients * -(-row.series // clients // row.points) + clients, clients)
-
-
-def measure(command, environment, row, clients):
+def measure(program, row, requests, is_kept):
     """The figures of one run."""
-    requests = rounded(min(max(POINTS_A_RUN // row.points, REQUESTS[0]), REQUESTS[1]), clients)
-    with Server(command, environment) as server:
-        with_all_series(server, row, clients)
-        seconds, kept = server.seconds(), server.memory()
-        whole, failed, took, median, last = server.load(row, requests, clients)
-        seconds, kept = server.seconds() - seconds, server.memory() - kept
-    points = whole * row.points
-    a_point, a_request = seconds / points * 1e6, seconds / whole * 1e6
-    return Figures(a_point, a_request, whole / took, median, last, kept / points, failed)
+    words = [*program.words, "--receivers", str(row.receivers)]
+    with bare(words, program.environment) as (port, process):
+        senders = Senders(port, row.senders, Posts(row.kind, row.points, row.series, "json", "each"))
+        senders.make_series()
+        seconds, before = processor_seconds(process.pid), memory(process.pid)
+        loaded = senders.load(rounded(requests, row.senders))
+        seconds = processor_seconds(process.pid) - seconds
+        points = loaded.requests * row.points
+        kept = (memory(process.pid) - before) / points
+        failed = loaded.failed
+        if is_kept:
+            kept, more = kept_over(senders, process.pid, row)
+            failed += more
+    a_second = loaded.requests / loaded.seconds
+    return Figures(seconds / points * 1e6, seconds / loaded.requests * 1e6, a_second, a_second * row.points, loaded.median,
+                   loaded.last, kept, failed)
 
 
-def calls_a_request(command, environment, row, clients):
+def kept_over(senders, pid, row):
+    """What the process grows by over more loads, by points, and how many requests failed."""
+    before, points, failed = memory(pid), 0, 0
+    for _ in range(KEPT_LOADS):
+        loaded = senders.load(rounded(min(KEPT_REQUESTS, FIRST_POINTS // row.points), row.senders))
+        points, failed = points + loaded.requests * row.points, failed + loaded.failed
+    return (memory(pid) - before) / points, failed
+
+
+def calls_a_request(program, row):
     """The system calls of each request by name, the most frequent ones first."""
-    requests = rounded(TRACED_REQUESTS, clients)
-    with Server(command, environment) as server, tempfile.NamedTemporaryFile("r") as table:
-        with_all_series(server, row, clients)
-        words = ["strace", "-f", "-c", "-o", table.name, "-p", str(server.process.pid)]
+    words = [*program.words, "--receivers", str(row.receivers)]
+    with bare(words, program.environment) as (port, process), tempfile.NamedTemporaryFile("r") as table:
+        senders = Senders(port, row.senders, Posts(row.kind, row.points, row.series, "json", "each"))
+        senders.make_series()
+        words = ["strace", "-f", "-c", "-o", table.name, "-p", str(process.pid)]
         tracer = subprocess.Popen(words, stderr=subprocess.PIPE, text=True)
         if "attached" not in tracer.stderr.readline():
             return "strace can't attach"
-        whole = server.load(row, requests, clients)[0]
+        whole = senders.load(rounded(TRACED_REQUESTS, row.senders)).requests
         tracer.send_signal(signal.SIGINT)
         tracer.communicate()
         counts = re.findall(r"^ *[\d.]+ +[\d.]+ +\d+ +(\d+) +(?:\d+ +)?(\w+)$", table.read(), re.M)
@@ -124,76 +102,92 @@ def calls_a_request(command, environment, row, clients):
     return f"{sum(count for count, _ in counts):.1f}: {names}"
 
 
-def build():
-    """Builds what posts and the plain program; false where the plain one can't be built."""
-    os.makedirs(os.path.dirname(LOAD), exist_ok=True)
-    source = f"{ROOT}/bench/load.c"
-    subprocess.run(["gcc", "-O2", "-Wall", "-pthread", "-o", LOAD, source], check=True)
-    if not shutil.which("cargo"):
-        print("no cargo: the plain program is left out")
-        return False
-    ran = subprocess.run(["cargo", "build", "--release", "--offline", "--quiet"], cwd=f"{ROOT}/bench/plain")
-    if ran.returncode:
-        print("the plain program is left out: are its Debian packages installed?")
-    return ran.returncode == 0
+def in_turn(programs, row, arguments):
+    """The figures of each program, by runs."""
+    first = rounded(max(FIRST_POINTS // row.points // 4, LEAST_POSTS * row.senders), row.senders)
+    requests = {name: int(measure(program, row, first, False).a_second * arguments.seconds) for name, program in programs.items()}
+    runs = {name: [] for name in programs}
+    for number in range(arguments.runs):
+        for name, program in programs.items():
+            is_kept = arguments.kept and number == arguments.runs - 1
+            count = min(requests[name], BEFORE_KEPT) if is_kept else requests[name]
+            runs[name].append(measure(program, row, max(count, LEAST_POSTS * row.senders), is_kept))
+    return runs
 
 
 def print_row(row, programs, arguments):
-    """Measures and prints a row for each program, and the ratio of the first to the second."""
+    """Measures and prints a line for each program, and one of ratios for each plain one."""
     points = f"{row.points:,} point{'s' if row.points > 1 else ''} a request"
-    print(f"\n{row.kind}s, {points}, {row.series:,} series, {row.receivers} receivers")
-    print(f"{'':10}us a point  us a request  requests/s  median us  99th us  bytes kept a point")
-    runs = {name: [] for name in programs}
-    for _ in range(arguments.runs):
-        for name, (command, environment) in programs.items():
-            command = [*command, "--receivers", str(row.receivers)]
-            runs[name].append(measure(command, environment, row, arguments.clients))
-    best = {name: min(of_one) for name, of_one in runs.items()}
-    for name, it in best.items():
-        print(f"  {name:8}{it.a_point:10.2f}  {it.a_request:12.1f}  {it.a_second:10,.0f}  {it.median:9.0f}"
-              f"  {it.last:7.0f}  {it.kept:18,.0f}" + (f"  {it.failed} FAILED" if it.failed else ""))
-    if len(best) == 2:
-        ours, plain = best.values()
-        ratios = [first.a_point / second.a_point for first, second in zip(*runs.values())]
-        print(f"  {'ratio':8}{ours.a_point / plain.a_point:10.2f}  {'':12}  {ours.a_second / plain.a_second:10.2f}"
-              f"  (run by run {', '.join(f'{it:.2f}' for it in ratios)})")
-    for name, (command, environment) in programs.items() if arguments.calls else ():
-        command = [*command, "--receivers", str(row.receivers)]
-        print(f"  {name:8}system calls a request {calls_a_request(command, environment, row, arguments.clients)}")
+    print(f"\n{row.kind}s, {points}, {row.series:,} series, {row.senders} senders, {row.receivers} receivers, {row.allocator}")
+    print(f"{'':16}us a point  us a request  requests/s   points/s  median us  99th us  bytes kept a point", flush=True)
+    runs = in_turn(programs, row, arguments)
+    for name, figures in runs.items():
+        it = Figures(*map(statistics.median, zip(*figures)))
+        it = it._replace(kept=figures[-1].kept if arguments.kept else it.kept)
+        failed = sum(one.failed for one in figures)
+        print(f"  {name:14}{it.a_point:10.2f}  {it.a_request:12.1f}  {it.a_second:10,.0f} {it.points_a_second:10,.0f}  {it.median:9,.0f}"
+              f"  {it.last:7,.0f}  {it.kept:18,.0f}" + (f"  {failed} FAILED" if failed else ""))
+    ours = runs["gateway"]
+    for name, theirs in runs.items():
+        if name != "gateway":
+            print(f"  to {name}'s: {ratios(ours, theirs)}")
+    for name, program in programs.items() if arguments.calls else ():
+        print(f"  {name:14} system calls a request {calls_a_request(program, row)}", flush=True)
 
 
-def numbers(text):
-    return [int(word) for word in text.split(",")]
+def ratios(ours, theirs):
+    def of(name):
+        return spread([getattr(one, name) / max(getattr(other, name), 1e-9) for one, other in zip(ours, theirs)], ".2f")
+    return f"processor time {of('a_point')}, requests/s {of('a_second')}, median {of('median')}, 99th {of('last')}"
 
 
-def main():
-    parser = argparse.ArgumentParser(description=__doc__.split("\n")[0])
-    parser.add_argument("--gateway", default=f"{ROOT}/bin/gateway")
+def words(text):
+    return [word for word in text.split(",") if word]
+
+
+def given():
+    parser = options(__doc__.split("\n", maxsplit=1)[0])
     parser.add_argument("--points", type=numbers)
-    parser.add_argument("--kinds", type=lambda text: text.split(","))
+    parser.add_argument("--kinds", type=words)
     parser.add_argument("--series", type=numbers, default=[800])
+    parser.add_argument("--senders", type=numbers, default=[8])
     parser.add_argument("--receivers", type=numbers, default=[2])
-    parser.add_argument("--runs", type=int, default=3)
-    parser.add_argument("--clients", type=int, default=8)
-    parser.add_argument("--preload")
-    parser.add_argument("--no-calls", dest="calls", action="store_false")
-    arguments = parser.parse_args()
-    preload = {"LD_PRELOAD": arguments.preload} if arguments.preload else {}
-    serve = [arguments.gateway, "serve", "--connections", "1000000"]
-    programs = {"gateway": (serve, {**os.environ, **preload})}
-    if build():
-        programs["plain"] = ([PLAIN, "serve"], None)
-    if arguments.calls and not shutil.which("strace"):
-        print("no strace: the system calls are left out")
-        arguments.calls = False
-    print(f"{arguments.gateway}, {arguments.clients} senders, {len(os.sched_getaffinity(0))} processors,"
-          f" least of {arguments.runs} runs")
+    parser.add_argument("--beside", type=words, default=["plain"])
+    add_options(parser, ["libc"])
+    parser.add_argument("--runs", type=int, default=5)
+    parser.add_argument("--seconds", type=float, default=1)
+    parser.add_argument("--kept", action="store_true")
+    parser.add_argument("--calls", action="store_true")
+    return parser.parse_args()
+
+
+def rows(arguments, allocators):
     named = arguments.points or arguments.kinds
     each = [(kind, points) for kind in arguments.kinds or ["sum"] for points in arguments.points or [20]]
     for kind, points in each if named else DEFAULT_ROWS:
         for series in arguments.series:
-            for receivers in arguments.receivers:
-                print_row(Row(kind, points, series, receivers), programs, arguments)
+            for senders in arguments.senders:
+                for receivers in arguments.receivers:
+                    for allocator in allocators:
+                        yield Row(kind, points, series, senders, receivers, allocator)
+
+
+def main():
+    arguments = given()
+    loading.build()
+    beside = {name: plain.build(name) for name in arguments.beside}
+    if arguments.calls and not shutil.which("strace"):
+        print("no strace: the system calls are left out")
+        arguments.calls = False
+    print(f"{arguments.gateway}, {len(os.sched_getaffinity(0))} processors, {arguments.runs} runs in turn")
+    allocators = {name: environment(name, arguments) for name in names_there(arguments)}
+    for name, its in allocators.items():
+        print(f"{name}: {shown(its)}")
+    for row in rows(arguments, allocators):
+        its = allocators[row.allocator]
+        programs = {"gateway": Program([arguments.gateway, "serve", "--connections", "1000000"], its)}
+        programs |= {name: Program([path, "serve"], its) for name, path in beside.items() if path}
+        print_row(row, programs, arguments)
 
 
 if __name__ == "__main__":

@@ -1,17 +1,18 @@
-/* Posts OTLP/JSON to a gateway, and prints how long it took.
+/* Posts OTLP to a gateway or to the service, and prints how long it took. Built with -pthread -lz.
  *
- *     load PORT CLIENTS REQUESTS POINTS SERIES KIND FROM
+ *     load PORT CLIENTS REQUESTS POINTS SERIES KIND ENCODING CONNECTIONS FROM
  *
- * CLIENTS threads, each a sender of its own, post so many requests together, of so many points each, on
- * a connection for each request, as fast as they are answered. The SERIES are shared out among the
- * senders; KIND is sum or histogram (11 buckets). A sender's points go round its series and on in time, so
- * a second run begins at the point FROM of each sender, where the first one ended. All requests are
- * written before the first is posted. Prints, separated by blanks: requests, those that were not answered
- * 200, seconds, and the median and the 99th percentile of a request in microseconds, from before its
- * connection is made until its answer has ended. */
+ * CLIENTS threads, each a sender of its own, post so many requests together, of so many points each, as fast as they are
+ * answered. The SERIES are shared out among the senders; KIND is sum or histogram (11 buckets); ENCODING is json,
+ * protobuf or gzip, which is packed protobuf; CONNECTIONS is each, one for each request, or kept. A sender's points go
+ * round its series and on in time, so a second run begins at the point FROM of each sender, where the first one ended.
+ * All requests are written before the first is posted. Prints, separated by blanks: requests, those that were not answered
+ * 200, seconds, the median and the 99th percentile of a request in microseconds, from before its connection is made, or
+ * before it is sent on one that is kept, until its answer has ended, and the bytes of all bodies. */
 #define _GNU_SOURCE
 #include <arpa/inet.h>
 #include <netinet/in.h>
+#include <netinet/tcp.h>
 #include <pthread.h>
 #include <stdio.h>
 #include <stdlib.h>
@@ -19,12 +20,14 @@
 #include <sys/socket.h>
 #include <time.h>
 #include <unistd.h>
+#include <zlib.h>
 
 #ifndef IP_BIND_ADDRESS_NO_PORT
 #define IP_BIND_ADDRESS_NO_PORT 24
 #endif
 
-enum { HEAD_ROOM = 1024, POINT_ROOM = 768, BODY_ROOM = 1024, MOST_CLIENTS = 64 };
+enum { HEAD_ROOM = 1024, POINT_ROOM = 768, BODY_ROOM = 2048, ANSWER_ROOM = 4096, MOST_CLIENTS = 64, BUCKETS = 11 };
+enum { WITH_GZIP_HEAD = 15 + 16 };
 #define FIRST_TIME 1700000000000000000ull
 #define SECOND 1000000000ull
 
@@ -32,13 +35,14 @@ struct text { char *bytes; size_t length; };
 
 struct client {
     pthread_t thread;
-    int number;
+    int number, socket_;
     long requests, failed;
+    size_t bytes;
     struct text *posts;
     double *took;
 };
 
-static int port, is_histogram;
+static int port, is_histogram, is_protobuf, is_packed, is_kept;
 static long clients, points, series, from;
 static pthread_barrier_t prepared;
 
@@ -59,24 +63,31 @@ static void *room(size_t length) {
     return made;
 }
 
-/* The point of this number of a sender. */
+/* What a sender's point of this number is: of which of all series, when it begins, and its value. */
+struct place { long route; unsigned long long start, value; };
+
+static struct place place_of(int sender, long number) {
+    long own = (series + clients - 1 - sender) / clients, turn = number / own, route = number % own * clients + sender;
+    unsigned long long start = FIRST_TIME + route * 1000003ull % SECOND + turn * SECOND;
+    return (struct place){ route, start, (route * 31 + turn * 7919) % 1000 };
+}
+
+/* JSON */
+
 static int put_point(char *to, int sender, long number) {
-    long own = (series + clients - 1 - sender) / clients;
-    unsigned long long start = FIRST_TIME + number / own * SECOND;
+    struct place at = place_of(sender, number);
     int length = sprintf(to,
         "{\"attributes\":[{\"key\":\"http.request.method\",\"value\":{\"stringValue\":\"GET\"}},"
         "{\"key\":\"http.response.status_code\",\"value\":{\"intValue\":\"200\"}},"
         "{\"key\":\"http.route\",\"value\":{\"stringValue\":\"/api/v1/customers/%ld/orders\"}}],"
-        "\"startTimeUnixNano\":\"%llu\",\"timeUnixNano\":\"%llu\",",
-        number % own * clients + sender, start, start + SECOND);
+        "\"startTimeUnixNano\":\"%llu\",\"timeUnixNano\":\"%llu\",", at.route, at.start, at.start + SECOND);
     return length + sprintf(to + length, is_histogram
         ? "\"count\":\"66\",\"sum\":5120,\"bucketCounts\":[\"1\",\"2\",\"3\",\"4\",\"5\",\"6\",\"7\",\"8\",\"9\",\"10\",\"11\"],"
           "\"explicitBounds\":[0,5,10,25,50,75,100,250,500,1000]}"
-        : "\"asInt\":\"7\"}");
+        : "\"asInt\":\"%llu\"}", at.value);
 }
 
-static struct text request_of(int sender, long first) {
-    char *body = room(BODY_ROOM + points * POINT_ROOM), head[HEAD_ROOM];
+static size_t put_json(char *body, int sender, long first) {
     int at = sprintf(body,
         "{\"resourceMetrics\":[{\"resource\":{\"attributes\":["
         "{\"key\":\"service.name\",\"value\":{\"stringValue\":\"orders\"}},"
@@ -91,43 +102,187 @@ static struct text request_of(int sender, long first) {
         if (point > 0) body[at++] = ',';
         at += put_point(body + at, sender, first + point);
     }
-    at += sprintf(body + at, "]}}]}]}]}");
+    return at + sprintf(body + at, "]}}]}]}]}");
+}
+
+/* Protobuf: each function writes a field at `to` and gives its length. */
+
+static size_t put_varint(char *to, unsigned long long value) {
+    size_t length = 0;
+    for (; value > 127; value >>= 7) to[length++] = (char)(value | 128);
+    to[length++] = (char)value;
+    return length;
+}
+
+static size_t put_number(char *to, int field, unsigned long long value) {
+    to[0] = (char)(field << 3);
+    return 1 + put_varint(to + 1, value);
+}
+
+static size_t put_fixed(char *to, int field, const void *eight_bytes) {
+    to[0] = (char)(field << 3 | 1);
+    memcpy(to + 1, eight_bytes, 8);
+    return 9;
+}
+
+static size_t put_bytes(char *to, int field, const char *bytes, size_t length) {
+    to[0] = (char)(field << 3 | 2);
+    size_t at = 1 + put_varint(to + 1, length);
+    memcpy(to + at, bytes, length);
+    return at + length;
+}
+
+static size_t put_text(char *to, int field, const char *text) {
+    return put_bytes(to, field, text, strlen(text));
+}
+
+/* An attribute with a text, or with a whole number where there is none. */
+static size_t put_attribute(char *to, int field, const char *key, const char *text, unsigned long long number) {
+    char value[256], pair[512];
+    size_t length = text ? put_text(value, 1, text) : put_number(value, 3, number);
+    size_t at = put_text(pair, 1, key);
+    at += put_bytes(pair + at, 2, value, length);
+    return put_bytes(to, field, pair, at);
+}
+
+static size_t put_protobuf_point(char *to, int sender, long number) {
+    struct place place = place_of(sender, number);
+    unsigned long long end = place.start + SECOND, count = 66;
+    char point[POINT_ROOM], route[64];
+    size_t at = put_fixed(point, 2, &place.start);
+    at += put_fixed(point + at, 3, &end);
+    sprintf(route, "/api/v1/customers/%ld/orders", place.route);
+    int field = is_histogram ? 9 : 7;
+    if (is_histogram) {
+        double sum = 5120, bounds[] = { 0, 5, 10, 25, 50, 75, 100, 250, 500, 1000 };
+        unsigned long long buckets[BUCKETS];
+        for (int bucket = 0; bucket < BUCKETS; bucket++) buckets[bucket] = bucket + 1;
+        at += put_fixed(point + at, 4, &count);
+        at += put_fixed(point + at, 5, &sum);
+        at += put_bytes(point + at, 6, (void *)buckets, sizeof buckets);
+        at += put_bytes(point + at, 7, (void *)bounds, sizeof bounds);
+    } else {
+        at += put_fixed(point + at, 6, &place.value);
+    }
+    at += put_attribute(point + at, field, "http.request.method", "GET", 0);
+    at += put_attribute(point + at, field, "http.response.status_code", NULL, 200);
+    at += put_attribute(point + at, field, "http.route", route, 0);
+    return put_bytes(to, 1, point, at);
+}
+
+/* Puts a message into another one: its bytes move, since its length comes before them. */
+static size_t wrapped(char *bytes, size_t length, int field) {
+    char head[16];
+    head[0] = (char)(field << 3 | 2);
+    size_t before = 1 + put_varint(head + 1, length);
+    memmove(bytes + before, bytes, length);
+    memcpy(bytes, head, before);
+    return before + length;
+}
+
+static size_t put_protobuf(char *body, int sender, long first) {
+    char resource[512], scope[128], own[64], name[128];
+    sprintf(own, "orders-%d", sender);
+    size_t of_resource = put_attribute(resource, 1, "service.name", "orders", 0);
+    of_resource += put_attribute(resource + of_resource, 1, "service.instance.id", own, 0);
+    sprintf(own, "host-%d.example.org", sender);
+    of_resource += put_attribute(resource + of_resource, 1, "host.name", own, 0);
+    size_t of_scope = put_text(scope, 1, "io.opentelemetry.http");
+    of_scope += put_text(scope + of_scope, 2, "2.9.0");
+    size_t at = 0;
+    for (long point = 0; point < points; point++) at += put_protobuf_point(body + at, sender, first + point);
+    at += put_number(body + at, 2, 1);
+    if (!is_histogram) at += put_number(body + at, 3, 1);
+    at = wrapped(body, at, is_histogram ? 9 : 7);
+    size_t of_name = put_text(name, 1, is_histogram ? "http.server.request.duration" : "http.server.request.count");
+    of_name += put_text(name + of_name, 3, is_histogram ? "ms" : "{request}");
+    memmove(body + of_name, body, at);
+    memcpy(body, name, of_name);
+    at = wrapped(body, at + of_name, 2);
+    at += put_bytes(body + at, 1, scope, of_scope);
+    at = wrapped(body, at, 2);
+    at += put_bytes(body + at, 1, resource, of_resource);
+    return wrapped(body, at, 1);
+}
+
+static size_t packed(char *to, size_t room_, char *bytes, size_t length) {
+    z_stream stream = { .next_in = (void *)bytes, .avail_in = length, .next_out = (void *)to, .avail_out = room_ };
+    if (deflateInit2(&stream, Z_DEFAULT_COMPRESSION, Z_DEFLATED, WITH_GZIP_HEAD, 8, Z_DEFAULT_STRATEGY) != Z_OK
+        || deflate(&stream, Z_FINISH) != Z_STREAM_END) stop("deflate");
+    deflateEnd(&stream);
+    return room_ - stream.avail_out;
+}
+
+/* Requests */
+
+static struct text request_of(struct client *client, long first) {
+    size_t most = BODY_ROOM + points * POINT_ROOM;
+    char *body = room(most), head[HEAD_ROOM];
+    size_t length = is_protobuf ? put_protobuf(body, client->number, first) : put_json(body, client->number, first);
+    if (is_packed) {
+        char *smaller = room(most);
+        length = packed(smaller, most, body, length);
+        free(body);
+        body = smaller;
+    }
     int start = sprintf(head,
-        "POST /v1/metrics HTTP/1.1\r\nHost: 127.0.0.1:%d\r\nContent-Type: application/json\r\nx-sender: s%d\r\n"
-        "Content-Length: %d\r\nConnection: close\r\n\r\n", port, sender, at);
-    struct text request = { room(start + at), start + at };
+        "POST /v1/metrics HTTP/1.1\r\nHost: 127.0.0.1:%d\r\nContent-Type: application/%s\r\nx-sender: s%d\r\n"
+        "%sContent-Length: %zu\r\n%s\r\n", port, is_protobuf ? "x-protobuf" : "json", client->number,
+        is_packed ? "Content-Encoding: gzip\r\n" : "", length, is_kept ? "" : "Connection: close\r\n");
+    struct text request = { room(start + length), start + length };
     memcpy(request.bytes, head, start);
-    memcpy(request.bytes + start, body, at);
+    memcpy(request.bytes + start, body, length);
+    client->bytes += length;
     free(body);
     return request;
 }
 
-/* One request on a connection of its own; whether it was answered 200. Each sender has an address of its
- * own, so that no run is short of ports. */
-static int post(struct client *client, struct text request) {
+/* A connection; each sender has an address of its own, so that no run is short of ports. */
+static int connection_of(struct client *client) {
     struct sockaddr_in own = { .sin_family = AF_INET, .sin_addr.s_addr = htonl(INADDR_LOOPBACK + 1 + client->number) };
     struct sockaddr_in to = { .sin_family = AF_INET, .sin_port = htons(port), .sin_addr.s_addr = htonl(INADDR_LOOPBACK) };
-    char answer[512];
-    size_t held = 0;
-    int one = 1, is_well = 0, socket_ = socket(AF_INET, SOCK_STREAM | SOCK_CLOEXEC, 0);
+    int one = 1, socket_ = socket(AF_INET, SOCK_STREAM | SOCK_CLOEXEC, 0);
     if (socket_ < 0) stop("socket");
     setsockopt(socket_, IPPROTO_IP, IP_BIND_ADDRESS_NO_PORT, &one, sizeof one);
+    if (is_kept) setsockopt(socket_, IPPROTO_TCP, TCP_NODELAY, &one, sizeof one);
     if (bind(socket_, (void *)&own, sizeof own) || connect(socket_, (void *)&to, sizeof to)) stop("connect");
+    return socket_;
+}
+
+/* Whether an answer of this many bytes is whole by its own length. */
+static int is_whole(char *answer, size_t held) {
+    answer[held] = 0;
+    char *end = strstr(answer, "\r\n\r\n"), *length = strcasestr(answer, "content-length:");
+    return end && length && length < end && held >= (size_t)(end + 4 - answer) + atol(length + 15);
+}
+
+/* One request; whether it was answered 200. */
+static int post(struct client *client, struct text request) {
+    char answer[ANSWER_ROOM];
+    size_t held = 0;
+    if (client->socket_ < 0) client->socket_ = connection_of(client);
     for (size_t sent = 0; sent < request.length;) {
-        ssize_t more = send(socket_, request.bytes + sent, request.length - sent, MSG_NOSIGNAL);
+        ssize_t more = send(client->socket_, request.bytes + sent, request.length - sent, MSG_NOSIGNAL);
         if (more <= 0) break;
         sent += more;
     }
-    for (ssize_t more; (more = recv(socket_, answer + held, sizeof answer - 1 - held, 0)) > 0; held += more) {}
-    is_well = held >= 12 && !memcmp(answer + 9, "200", 3);
-    close(socket_);
-    return is_well;
+    int is_ended = 0;
+    while (!is_ended && !(is_kept && is_whole(answer, held))) {
+        ssize_t more = recv(client->socket_, answer + held, sizeof answer - 1 - held, 0);
+        if (more <= 0) is_ended = 1;
+        else held += more;
+    }
+    if (is_ended) {
+        close(client->socket_);
+        client->socket_ = -1;
+    }
+    return held >= 12 && !memcmp(answer + 9, "200", 3);
 }
 
 static void *run(void *given) {
     struct client *client = given;
     for (long number = 0; number < client->requests; number++)
-        client->posts[number] = request_of(client->number, from + number * points);
+        client->posts[number] = request_of(client, from + number * points);
     pthread_barrier_wait(&prepared);
     for (long number = 0; number < client->requests; number++) {
         double begun = now();
@@ -144,31 +299,37 @@ static int order(const void *a, const void *b) {
 
 int main(int count, char **words) {
     static struct client all[MOST_CLIENTS];
-    if (count != 8) return fprintf(stderr, "usage: load PORT CLIENTS REQUESTS POINTS SERIES KIND FROM\n"), 2;
+    if (count != 10) return fprintf(stderr, "usage: load PORT CLIENTS REQUESTS POINTS SERIES KIND ENCODING CONNECTIONS FROM\n"), 2;
     port = atoi(words[1]);
     clients = atol(words[2]);
-    long requests = atol(words[3]) / clients;
+    long requests = clients > 0 ? atol(words[3]) / clients : 0;
     points = atol(words[4]);
     series = atol(words[5]);
     is_histogram = !strcmp(words[6], "histogram");
-    from = atol(words[7]);
+    is_packed = !strcmp(words[7], "gzip");
+    is_protobuf = is_packed || !strcmp(words[7], "protobuf");
+    is_kept = !strcmp(words[8], "kept");
+    from = atol(words[9]);
     if (clients < 1 || clients > MOST_CLIENTS || requests < 1 || points < 1 || series < clients) return 2;
     double *took = room(clients * requests * sizeof *took);
     pthread_barrier_init(&prepared, NULL, clients + 1);
     for (int number = 0; number < clients; number++) {
         struct text *posts = room(requests * sizeof *posts);
-        all[number] = (struct client){ .number = number, .requests = requests, .posts = posts, .took = took + number * requests };
+        all[number] = (struct client){
+            .number = number, .socket_ = -1, .requests = requests, .posts = posts, .took = took + number * requests };
         if (pthread_create(&all[number].thread, NULL, run, &all[number])) stop("pthread_create");
     }
     pthread_barrier_wait(&prepared);
     double begun = now();
     long failed = 0, whole = clients * requests;
+    size_t bytes = 0;
     for (int number = 0; number < clients; number++) {
         pthread_join(all[number].thread, NULL);
         failed += all[number].failed;
+        bytes += all[number].bytes;
     }
     double seconds = now() - begun;
     qsort(took, whole, sizeof *took, order);
-    printf("%ld %ld %.6f %.1f %.1f\n", whole, failed, seconds, took[whole / 2] * 1e6, took[whole * 99 / 100] * 1e6);
+    printf("%ld %ld %.6f %.1f %.1f %zu\n", whole, failed, seconds, took[whole / 2] * 1e6, took[whole * 99 / 100] * 1e6, bytes);
     return 0;
 }

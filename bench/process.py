@@ -1,22 +1,23 @@
 """What the scripts of this folder share: the programs that they measure, and what the system says of a process."""
 import os
 import re
+import statistics
 import subprocess
 import sys
 import tempfile
+import time
 
 ROOT = os.path.dirname(os.path.dirname(os.path.realpath(__file__)))
 # The tests have the clients, back ends and free ports that a gateway needs.
 sys.path.insert(0, f"{ROOT}/tests")
 
-TICK = 1 / os.sysconf("SC_CLK_TCK")
+# Of the kernel's clocks, that of a process as the scheduler counts it (clock_getcpuclockid has the same number).
+SCHEDULED = 2
 
 
 def processor_seconds(pid):
-    """The processor time of a process so far."""
-    with open(f"/proc/{pid}/stat", encoding="ascii") as file:
-        words = file.read().rpartition(")")[2].split()
-    return (int(words[11]) + int(words[12])) * TICK
+    """The processor time of a process so far, user's and system's: as in /proc/PID/stat, but in nanoseconds."""
+    return time.clock_gettime(~pid << 3 | SCHEDULED)
 
 
 def memory(pid, row="VmRSS"):
@@ -36,3 +37,19 @@ def run_seconds(command, text=""):
     if status != 0:
         sys.exit(f"{' '.join(command)} ended with status {status}")
     return usage.ru_utime + usage.ru_stime
+
+
+def numbers(text):
+    """Numbers with commas between."""
+    return [int(word) for word in text.split(",")]
+
+
+def file_system(path):
+    """What kind of file system a file is on."""
+    return subprocess.run(["stat", "-f", "-c", "%T", path], stdout=subprocess.PIPE, text=True, check=True).stdout.strip()
+
+
+def spread(values, form):
+    """The median, and the least and the most in brackets where there are several."""
+    middle = f"{statistics.median(values):{form}}"
+    return middle if len(values) == 1 else f"{middle} ({min(values):{form}} .. {max(values):{form}})"

@@ -1,0 +1,240 @@
+#!/usr/bin/env python3
+"""Prints how long the service takes for what happens seldom, and what it writes.
+
+    bench/service_times.py checkpoint|kill|replay|backlog|bytes [--totxegun FILE] [--gateway FILE] [--series N,..] [--posts N,..]
+                           [--points N,..] [--requests N] [--times N] [--durable WHAT] [--data DIR] [--options WORDS]
+
+  checkpoint  the pause of a checkpoint in which each series (1,000 and 10,000) has a new point, as the service counts it
+  kill        kill -9 of the gateway behind a checkpoint: until a fresh one is started and primed with so many series, as the
+              service counts it; and until a post is answered 200 again
+  replay      kill -9 of the gateway with so many posts (10,000 and 100,000) of so many points (1, 20 and 103, 800 series) in
+              no group: the same two times, and the posts that were replayed
+  backlog     a start with so many requests (1,000,000) in the outbox, which this script writes: until it is ready
+  bytes       bytes on disk for each point (10,000 posts of 20 points, 800 series, a flush behind each tenth of them): of the
+              journal, and of the outbox against the bytes that were forwarded
+
+The programs are bin/totxegun and bin/gateway where none is named, `--durable` is process. Each is done `--times` times
+(5; a replay and a backlog once): the median, and the least and the most in brackets. What is printed says what was
+measured here, and asserts nothing.
+"""
+import glob
+import json
+import os
+import re
+import signal
+import struct
+import time
+import zlib
+
+import loading
+from loading import Posts, Senders
+from process import numbers, spread
+from running import options, service, serving, start
+
+from loopback import free_port
+from service import ask
+
+# Nothing is flushed but by an order.
+BY_ORDER = ("--flush-every", "1h")
+CLIENTS = 8
+SERIES = 800
+# Of the outbox that is written.
+IN_GROUP, SEGMENT = 10, 16 << 20
+HEADER, END, SNAPSHOT, GROUP, ITEM, COMMIT = 1, 3, 16, 17, 18, 19
+
+
+def metric(one, name):
+    """A number of the service's page."""
+    page = ask(one.operate, "GET", "/metrics")[1].decode()
+    return float(re.search(rf"^totxegun_{name} (\S+)$", page, re.MULTILINE)[1])
+
+
+def order(one, path):
+    status = one.order(path, 600)
+    if status != 200:
+        raise SystemExit(f"POST {path} was answered {status}: {one.last_lines()}")
+
+
+def posted_all(senders, requests):
+    """So many posts, each of which has to be taken."""
+    loaded = senders.load(requests)
+    if loaded.failed:
+        raise SystemExit(f"{loaded.failed} of {loaded.requests} posts were not answered 200")
+    return loaded
+
+
+def of_each_series(one, series):
+    """Senders whose posts have a point of each of their series."""
+    return Senders(one.listen, CLIENTS, Posts("sum", series // CLIENTS, series, "json", "kept"))
+
+
+def checkpoint(arguments):
+    for series in arguments.series:
+        with serving(arguments, *BY_ORDER, "--durable", arguments.durable) as one:
+            senders, pauses = of_each_series(one, series), []
+            for _ in range(arguments.times + 1):
+                posted_all(senders, CLIENTS)
+                before = metric(one, "checkpoint_pause_seconds_sum")
+                order(one, "/flush")
+                pauses.append((metric(one, "checkpoint_pause_seconds_sum") - before) * 1e3)
+            print(f"{series:,} series: a checkpoint holds posts for {spread(pauses[1:], '.1f')} ms", flush=True)
+
+
+def first_answer(one, number):
+    """Posts until an answer is 200, a series of its own."""
+    point = {"asInt": "1", "startTimeUnixNano": str(10 * number + 10), "timeUnixNano": str(10 * number + 20)}
+    total = {"aggregationTemporality": 1, "isMonotonic": True, "dataPoints": [point]}
+    body = json.dumps({"resourceMetrics": [{"scopeMetrics": [{"metrics": [{"name": "again", "sum": total}]}]}]}).encode()
+    headers = {"Content-Type": "application/json", "x-sender": "again"}
+    while ask(one.listen, "POST", "/v1/metrics", body, headers, seconds=600)[0] != 200:
+        time.sleep(0.002)
+
+
+def killed(one, number):
+    """Kills the gateway: the seconds until a fresh one has all, as the service counts them, and until an answer."""
+    before, begun = metric(one, "recovery_seconds_sum"), time.monotonic()
+    one.signal_gateway(signal.SIGKILL)
+    first_answer(one, number)
+    return metric(one, "recovery_seconds_sum") - before, time.monotonic() - begun
+
+
+def kill(arguments):
+    for series in arguments.series:
+        with serving(arguments, *BY_ORDER, "--durable", arguments.durable) as one:
+            senders, found = of_each_series(one, series - CLIENTS), []
+            for number in range(arguments.times):
+                posted_all(senders, CLIENTS)
+                order(one, "/flush")
+                found.append(killed(one, number))
+            print(f"{series:,} series: a gateway is started and primed in {spread([it[0] * 1e3 for it in found], '.0f')} ms; a post is"
+                  f" answered {spread([it[1] * 1e3 for it in found], '.0f')} ms behind the kill", flush=True)
+
+
+def replay(arguments):
+    for posts in arguments.posts:
+        for points in arguments.points:
+            with serving(arguments, *BY_ORDER, "--durable", arguments.durable) as one:
+                posted_all(Senders(one.listen, CLIENTS, Posts("sum", points, SERIES, "json", "kept")), posts)
+                counted, answered = killed(one, 0)
+                replayed = re.findall(r"and (\d+) posts of the journal", one.last_lines())[-1]
+                print(f"{posts:,} posts of {points} points: {int(replayed):,} replayed in {counted:.2f} s; a post is answered"
+                      f" {answered:.2f} s behind the kill", flush=True)
+
+
+def record(kind, *parts):
+    """A record of a file, as service/README.md has it."""
+    inner = bytes([kind]) + b"".join(parts)
+    return struct.pack("<II", len(inner), zlib.crc32(inner)) + inner
+
+
+def packed(value):
+    raw = zlib.compressobj(5, zlib.DEFLATED, -15)
+    return raw.compress(value) + raw.flush()
+
+
+def segments(folder):
+    return sorted(glob.glob(f"{folder}/*.seg"))
+
+
+def forwarded_body():
+    """A request of one point, as a gateway forwards it."""
+    point = {"asInt": "1", "attributes": [{"key": "http.route", "value": {"stringValue": "/a"}}], "startTimeUnixNano": "10",
+             "timeUnixNano": "20"}
+    metric_ = {"name": "requests", "sum": {"aggregationTemporality": 1, "dataPoints": [point], "isMonotonic": True}, "unit": "1"}
+    scope = {"metrics": [metric_], "scope": {"attributes": [], "name": "io.opentelemetry.http", "version": "2.9.0"}}
+    return json.dumps({"resourceMetrics": [{"resource": {"attributes": []}, "scopeMetrics": [scope]}]}, separators=(",", ":")).encode()
+
+
+def write_outbox(folder, epoch, journal, requests):
+    """Segments that have so many requests, none of which was delivered; their bytes."""
+    for old in segments(folder):
+        os.remove(old)
+    body, none = packed(forwarded_body()), packed(b'{"known":[],"new":[]}')
+    next_one, number, size = 1, 0, 0
+    while next_one <= requests:
+        number += 1
+        state = {"epoch": epoch, "next": next_one, "acknowledged": 0, "journal": journal, "quarantined": [], "series": []}
+        out = [record(HEADER, b"totxegun", struct.pack("<HBQ", 1, 2, number)), record(SNAPSHOT, packed(json.dumps(state).encode()))]
+        length = sum(map(len, out))
+        while next_one <= requests and length < SEGMENT:
+            items = b"".join(record(ITEM, struct.pack("<Q", item), body) for item in range(next_one, next_one + IN_GROUP))
+            group = record(GROUP, struct.pack("<QQQQ", next_one, IN_GROUP, len(items), int(time.time())), epoch.encode())
+            out += [group, items, record(COMMIT, struct.pack("<QQQ", next_one, IN_GROUP, journal), none)]
+            length += sum(map(len, out[-3:]))
+            next_one += IN_GROUP
+        out.append(record(END, struct.pack("<Q", length)))
+        with open(f"{folder}/{number:012}.seg", "wb") as file:
+            size += file.write(b"".join(out))
+    return size
+
+
+def backlog(arguments):
+    sink = f"http://127.0.0.1:{free_port()}/v1/metrics"
+    with service(arguments, *BY_ORDER, "--durable", arguments.durable, sink=sink) as one:
+        start(one)
+        one.end()
+        with open(f"{one.folder}/version", encoding="ascii") as file:
+            epoch = re.search(r"epoch (\w+)", file.read())[1]
+        journal = int(os.path.basename(segments(f"{one.folder}/slot-0/journal")[-1]).split(".")[0])
+        size = write_outbox(f"{one.folder}/slot-0/outbox", epoch, journal, arguments.requests)
+        took = []
+        for _ in range(arguments.times):
+            begun = time.monotonic()
+            start(one)
+            took.append(time.monotonic() - begun)
+            waiting = one.status()["slots"][0]["waiting"]
+            one.kill()
+        print(f"{waiting:,} requests in the outbox, {size >> 20} MB: ready in {spread(took, '.2f')} s", flush=True)
+
+
+def bytes_of(path):
+    """How many bytes the bodies of a segment of the outbox have, unpacked, and how many all its records have."""
+    with open(path, "rb") as file:
+        content = file.read()
+    at = total = 0
+    while at + 8 < len(content):
+        length, = struct.unpack_from("<I", content, at)
+        if length == 0:  # What is written ahead.
+            break
+        if content[at + 8] == ITEM:
+            total += len(zlib.decompress(content[at + 17:at + 8 + length], -15))
+        at += 8 + length
+    return total, at
+
+
+def bytes_written(arguments):
+    sink = f"http://127.0.0.1:{free_port()}/v1/metrics"
+    with serving(arguments, *BY_ORDER, "--durable", arguments.durable, sink=sink) as one:
+        senders = Senders(one.listen, CLIENTS, Posts("sum", 20, SERIES, "json", "kept"))
+        points = journal = bodies = 0
+        for _ in range(10):
+            before = one.status()["slots"][0]["journal"]["bytes"]
+            loaded = posted_all(senders, arguments.posts[0] // 10)
+            points, bodies = points + 20 * loaded.requests, bodies + loaded.bytes
+            journal += one.status()["slots"][0]["journal"]["bytes"] - before
+            order(one, "/flush")
+        waiting = one.status()["slots"][0]["waiting"]
+        forwarded, outbox = map(sum, zip(*map(bytes_of, segments(f"{one.folder}/slot-0/outbox"))))
+        print(f"{points:,} points in {bodies:,} bytes of posts: the journal has {journal / points:.1f} bytes a point; {waiting} requests of"
+              f" {forwarded:,} bytes that are forwarded take {outbox:,} bytes of the outbox, 1 of {forwarded / outbox:.1f}", flush=True)
+
+
+COMMANDS = {"checkpoint": checkpoint, "kill": kill, "replay": replay, "backlog": backlog, "bytes": bytes_written}
+
+
+def main():
+    parser = options(__doc__.split("\n", maxsplit=1)[0])
+    parser.add_argument("command", choices=COMMANDS)
+    parser.add_argument("--series", type=numbers, default=[1000, 10_000])
+    parser.add_argument("--posts", type=numbers, default=[10_000, 100_000])
+    parser.add_argument("--points", type=numbers, default=[1, 20, 103])
+    parser.add_argument("--requests", type=int, default=1_000_000)
+    parser.add_argument("--times", type=int, default=5)
+    parser.add_argument("--durable", default="process")
+    arguments = parser.parse_args()
+    loading.build()
+    COMMANDS[arguments.command](arguments)
+
+
+if __name__ == "__main__":
+    main()
