@@ -91,8 +91,8 @@ def add_field(message, words):
         field.oneof_index = [oneof.name for oneof in message.oneof_decl].index(how)
 
 
-def message_classes():
-    """The class of each message."""
+def definitions():
+    """The messages as a file of definitions."""
     file = descriptor_pb2.FileDescriptorProto(name="otlp.proto", package="otlp", syntax="proto3")
     enum = file.enum_type.add(name="AggregationTemporality")
     for number, name in enumerate(TEMPORALITIES):
@@ -101,8 +101,13 @@ def message_classes():
         message = file.message_type.add(name=name)
         for words in fields:
             add_field(message, words)
+    return file
+
+
+def message_classes():
+    """The class of each message."""
     pool = descriptor_pool.DescriptorPool()
-    pool.Add(file)
+    pool.Add(definitions())
     get = getattr(message_factory, "GetMessageClass", None) or message_factory.MessageFactory(pool).GetPrototype
     return {name: get(pool.FindMessageTypeByName(f"otlp.{name}")) for name in MESSAGES}
 

@@ -1,18 +1,20 @@
 //! The parts of `totxegun`: one program on both sides of the gateway.
 //!
-//! Senders post to `intake`, which reads their request by `otlp` and gives it to a `slot`: one gateway with its
+//! Senders post to `intake`, or call `grpc`, which read their request by `otlp` and give it to a `slot`: one gateway with its
 //! journal and outbox (`files`). A `keeper` starts, flushes, replaces and restores the `gateway`. What was flushed
-//! is delivered to one of the `sinks`. `operate` is the operator's address, `command` the command line, `service` all of
-//! it as one process.
+//! is delivered to one of the `sinks`. `remarks` tells in the log what an operator may want to know of posts.
+//! `operate` is the operator's address, `command` the command line, `service` all of it as one process.
 
 pub mod command;
 pub mod files;
 pub mod gateway;
+pub mod grpc;
 pub mod intake;
 pub mod keeper;
 pub mod metrics;
 pub mod operate;
 pub mod otlp;
+pub mod remarks;
 pub mod service;
 pub mod sinks;
 pub mod slot;

@@ -152,7 +152,7 @@ fn another_sink_has_no_page() {
     let (status, text) = asked(&service.operate, "GET", "/totals", "").unwrap();
     assert_eq!(status, 404);
     assert!(
-        text.contains("only a SQLite sink") && text.contains("127.0.0.1:1"),
+        text.contains("only a SQLite or PostgreSQL sink") && text.contains("127.0.0.1:1"),
         "{text}"
     );
 }

@@ -5,12 +5,16 @@
 mod ask;
 mod check;
 mod client;
+mod explain;
 mod letters;
+mod print;
+mod reading;
 mod serve;
 mod status;
 mod table;
 mod totals;
 mod values;
+mod version;
 
 use crate::files::Fault;
 use crate::service::{init, Ended};
@@ -50,8 +54,16 @@ enum Command {
     Dead(letters::Command),
     /// Says what a start would find in a folder, and changes nothing
     Check(check::Options),
-    /// Prints the version
-    Version,
+    /// Says of each point of a request that was captured whether it is taken, and why not
+    Explain(explain::Options),
+    /// Prints the version, and whether the gateway was proved
+    Version(version::Options),
+    /// Prints what a package is made with
+    #[command(hide = true)]
+    Print {
+        #[arg(value_enum)]
+        what: print::What,
+    },
 }
 
 /// Why a command did not do what it was told.
@@ -106,10 +118,12 @@ impl Command {
             Command::Lift(of) => Ok(ask::order(&of.at, &format!("/lift/{}", of.sender))?),
             Command::Dead(command) => Ok(command.run()?),
             Command::Check(options) => options.run(),
-            Command::Version => {
-                println!("totxegun {}", env!("CARGO_PKG_VERSION"));
+            Command::Explain(options) => options.run(),
+            Command::Version(options) => {
+                options.run();
                 Ok(())
             }
+            Command::Print { what } => Ok(print::run(what)?),
         }
     }
 }
@@ -143,6 +157,8 @@ mod tests {
             ("serve --data d --durable never", "--durable"),
             ("serve --data d --memory 1X", "--memory"),
             ("serve --data d --sink nats://h", "--sink"),
+            ("serve --data d --whole s=h", "--whole"),
+            ("serve --data d --whole s=0:us", "--whole"),
             ("serve --datum d", "--datum"),
             ("quarantine", "<NAME>"),
             ("quarantine a/b", "<NAME>"),

@@ -1,19 +1,21 @@
 //! `totxegun serve`: its options, and its run.
 
+use super::reading::OfReading;
 use super::values::{size, time, time_or_never, MayBeNever};
+use super::version::Versions;
 use super::Failure;
 use crate::files::Durability;
 use crate::gateway;
-use crate::otlp::Dropped;
 use crate::service::{self, init, Settings};
 use crate::sinks::Address;
 use anyhow::{bail, Context};
 use clap::{value_parser, Args};
-use std::os::unix::fs::PermissionsExt;
 use std::path::{Path, PathBuf};
 use std::time::Duration;
 
-/// Threads for long work: reading long bodies, and calls of files that wait for a disk.
+/// Threads of all that no sender waits for: checkpoints, the delivery, operators.
+const BACKGROUND: usize = 2;
+/// Threads for calls of files that wait for a disk.
 const LONG_WORK: usize = 16;
 
 #[derive(Args)]
@@ -29,6 +31,9 @@ pub struct Options {
         default_value = "127.0.0.1:4318"
     )]
     listen: String,
+    /// Where senders call OTLP/gRPC, if they may: 127.0.0.1:4317
+    #[arg(long, env = "TOTXEGUN_LISTEN_GRPC", value_name = "ADDRESS")]
+    listen_grpc: Option<String>,
     /// Where operators ask: who reaches it can do all that this program can
     #[arg(
         long,
@@ -54,27 +59,24 @@ pub struct Options {
         value_enum
     )]
     durable: Durability,
-    /// The gateway program [default: `gateway` beside this program, or in PATH]
+    /// The gateway program [default: totxegun-gateway or gateway, beside this program or in PATH]
     #[arg(long, env = "TOTXEGUN_GATEWAY", value_name = "PATH")]
     gateway: Option<PathBuf>,
     /// A series that nobody has posted to for so long is forgotten, or never
     #[arg(long, env = "TOTXEGUN_FORGET_SERIES", value_name = "TIME", default_value = "7d", value_parser = time_or_never)]
     forget_series: MayBeNever,
-    /// A resource attribute that is left out of each request; may be given again
-    #[arg(
-        long = "drop-attribute",
-        env = "TOTXEGUN_DROP_ATTRIBUTE",
-        value_name = "NAME",
-        value_delimiter = ','
-    )]
-    drop_attributes: Vec<String>,
+    /// Writes the first N reasons why points are foreign to the log, for each sender
+    #[arg(long, env = "TOTXEGUN_LOG_FOREIGN", value_name = "N", default_value_t = 0, value_parser = value_parser!(u32).range(..=1000))]
+    log_foreign: u32,
+    #[command(flatten)]
+    of_reading: OfReading,
     /// The most memory that all posts may take until they are answered
     #[arg(long, env = "TOTXEGUN_MOST_BYTES", value_name = "BYTES", default_value = "256MiB", value_parser = size)]
     most_bytes: u64,
     /// How many connections senders may have at a time
     #[arg(long, env = "TOTXEGUN_MOST_CONNECTIONS", value_name = "N", default_value_t = 1024, value_parser = value_parser!(u32).range(1..=100_000))]
     most_connections: u32,
-    /// How many threads run the service
+    /// How many threads serve senders
     #[arg(long, env = "TOTXEGUN_THREADS", value_name = "N", default_value_t = 2, value_parser = value_parser!(u16).range(1..=64))]
     threads: u16,
     /// How many gateways there are: only 1 yet
@@ -133,7 +135,7 @@ struct OfGateway {
     /// The most address space of the gateway, as by `ulimit -v`
     #[arg(long, env = "TOTXEGUN_MEMORY", value_name = "BYTES", value_parser = size)]
     memory: Option<u64>,
-    /// An allocator's library, preloaded
+    /// An allocator's library, preloaded; `none` is the C library's own [default: tcmalloc, where it is installed]
     #[arg(long, env = "TOTXEGUN_ALLOCATOR", value_name = "LIB")]
     allocator: Option<PathBuf>,
     /// Its threads that take posts
@@ -157,10 +159,11 @@ impl Options {
             .with_target(false)
             .init();
         raise_open_files();
+        tracing::info!("{}", Versions::of(self.gateway.as_deref()));
         init::take_signals().context("signals can't be received")?; // before there are threads
         let mut building = tokio::runtime::Builder::new_multi_thread();
         building
-            .worker_threads(usize::from(self.threads))
+            .worker_threads(BACKGROUND)
             .max_blocking_threads(LONG_WORK)
             .enable_all();
         let runtime = building.build().context("no threads could be started")?;
@@ -170,14 +173,12 @@ impl Options {
     }
 
     fn settings(self) -> Result<Settings, Failure> {
-        let program = program(self.gateway.as_deref())?;
-        if let Some(library) = self
-            .of_gateway
-            .allocator
-            .as_deref()
-            .filter(|library| !library.is_file())
-        {
-            return Err(anyhow::anyhow!("--allocator {}: there is no such file", library.display()).into());
+        let program = gateway::find_program(self.gateway.as_deref()).map_err(anyhow::Error::from)?;
+        let allocator = gateway::allocator::library(self.of_gateway.allocator.as_deref());
+        let allocator = allocator.map_err(anyhow::Error::from)?;
+        match &allocator {
+            Some(library) => tracing::info!("the gateway's allocator is {}", library.display()),
+            None => tracing::info!("the gateway's allocator is the C library's"),
         }
         let data = absolute(&self.data)?;
         let sink = self
@@ -187,6 +188,7 @@ impl Options {
         Ok(Settings {
             data,
             listen: self.listen,
+            listen_grpc: self.listen_grpc,
             operate: self.operate,
             sink,
             durability: self.durable,
@@ -197,15 +199,15 @@ impl Options {
                 flushers: self.of_gateway.flushers,
                 round: self.of_gateway.round,
                 memory: self.of_gateway.memory,
-                allocator: self.of_gateway.allocator,
+                allocator,
             },
             every: self.flush_every,
             forget: self.forget_series.0,
-            dropped: Dropped {
-                attributes: self.drop_attributes,
-            },
+            reading: self.of_reading.reading()?,
+            log_foreign: self.log_foreign as usize,
             most_bytes: usize::try_from(self.most_bytes).unwrap_or(usize::MAX),
             most_connections: self.most_connections as usize,
+            threads: usize::from(self.threads),
         })
     }
 }
@@ -222,33 +224,6 @@ fn one_slot(text: &str) -> Result<u16, String> {
     }
 }
 
-/// The gateway program: as it was given, or beside this program, or in PATH.
-fn program(given: Option<&Path>) -> anyhow::Result<PathBuf> {
-    if let Some(path) = given {
-        if !is_program(path) {
-            bail!(
-                "--gateway {}: there is no program there; `make build` makes bin/gateway",
-                path.display()
-            );
-        }
-        return Ok(path.to_path_buf());
-    }
-    let beside = std::env::current_exe()
-        .ok()
-        .map(|own| own.with_file_name("gateway"));
-    let in_path = std::env::var_os("PATH").unwrap_or_default();
-    let mut places = beside
-        .into_iter()
-        .chain(std::env::split_paths(&in_path).map(|folder| folder.join("gateway")));
-    let found = places.find(|place| is_program(place));
-    found.context("there is no program `gateway` beside this one or in PATH: give it by --gateway PATH")
-}
-
-fn is_program(path: &Path) -> bool {
-    path.metadata()
-        .is_ok_and(|found| found.is_file() && found.permissions().mode() & 0o111 != 0)
-}
-
 /// As many open files as this process may have: each connection is one. Where it may not, there are fewer connections.
 fn raise_open_files() {
     use nix::sys::resource::{getrlimit, setrlimit, Resource::RLIMIT_NOFILE};
@@ -256,21 +231,5 @@ fn raise_open_files() {
         if soft < hard && setrlimit(RLIMIT_NOFILE, hard, hard).is_err() {
             tracing::warn!("the limit of open files stays at {soft}");
         }
-    }
-}
-
-#[cfg(test)]
-mod tests {
-    use super::*;
-
-    #[test]
-    fn a_missing_gateway_is_named() {
-        let error = program(Some(Path::new("/nowhere/gateway")))
-            .unwrap_err()
-            .to_string();
-        assert!(error.contains("--gateway /nowhere/gateway"), "{error}");
-        let error = program(Some(Path::new("/etc/passwd"))).unwrap_err().to_string();
-        assert!(error.contains("no program"), "{error}");
-        assert_eq!(program(Some(Path::new("/bin/sh"))).unwrap(), Path::new("/bin/sh"));
     }
 }

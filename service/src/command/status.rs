@@ -1,7 +1,7 @@
 //! `totxegun status`: how the running service is.
 
 use super::{ask::Shown, client, table::Table, values};
-use crate::operate::{SlotStatus, Status, Stock};
+use crate::operate::{RoundedStatus, SlotStatus, Status, Stock};
 use anyhow::{Context, Result};
 
 pub fn run(shown: &Shown) -> Result<()> {
@@ -36,6 +36,9 @@ fn text(status: &Status) -> String {
             &format!("{dead} requests: see `totxegun dead list`"),
         ]),
     }
+    for rounded in &status.rounded {
+        lines.row(&["rounded", &rounding(rounded)]);
+    }
     let mut slots = Table::new(&[
         "slot",
         "gateway",
@@ -51,6 +54,15 @@ fn text(status: &Status) -> String {
     }
     let troubles: String = status.slots.iter().filter_map(trouble).collect();
     format!("{lines}\n{slots}{troubles}")
+}
+
+fn rounding(of: &RoundedStatus) -> String {
+    let unit = of.rule.rsplit_once(':').map_or("", |(_, unit)| unit);
+    let (values, rule) = (of.values, &of.rule);
+    format!(
+        "{values} values by {rule}, together by at most {:.3} {unit}",
+        of.together
+    )
 }
 
 fn row(slot: &SlotStatus) -> [String; 8] {

@@ -1,13 +1,11 @@
 //! Asks the gateway: one request on a connection of its own, since the gateway closes each behind its answer.
 
 use super::message::read_answer;
-use super::{system, Answer};
-use bytes::Buf;
-use std::io::{ErrorKind, IoSlice, Result};
+use super::socket::Line;
+use super::Answer;
+use std::io::{ErrorKind, Result};
 use std::net::SocketAddr;
 use std::time::Duration;
-use tokio::io::AsyncWriteExt;
-use tokio::net::{TcpSocket, TcpStream};
 
 /// How long an answer may take. A gateway that hangs holds its senders so long, and is then replaced.
 pub(super) const PATIENCE: Duration = Duration::from_secs(20);
@@ -15,8 +13,6 @@ pub(super) const PATIENCE: Duration = Duration::from_secs(20);
 pub(super) const PATIENCE_OF_REFILL: Duration = Duration::from_secs(60);
 /// How long before a connection is tried again that this side had no port or descriptor for.
 pub(super) const PAUSE: Duration = Duration::from_millis(5);
-/// What is shorter goes in one segment of loopback, at once. What is longer must not wait for an acknowledgement.
-const ONE_SEGMENT: usize = 30_000;
 
 pub(super) struct Request<'a> {
     pub method: &'a str,
@@ -47,23 +43,7 @@ pub(super) async fn exchange(
     address: SocketAddr,
     request: &Request<'_>,
 ) -> Result<Answer> {
-    let asked = async {
-        let mut stream = connect(address).await?;
-        if request.body.len() > ONE_SEGMENT {
-            stream.set_nodelay(true)?;
-        }
-        // An answer may come before all is written: a refusal by the head. What counts is whether there is one.
-        let written = write(&mut stream, request).await;
-        match (read_answer(&mut stream).await, written) {
-            (Ok((status, body)), _) => Ok(Answer {
-                status,
-                body: body.into(),
-            }),
-            (Err(_), Err(fault)) => Err(fault),
-            (Err(fault), Ok(())) => Err(fault),
-        }
-    };
-    match tokio::time::timeout(patience, asked).await {
+    match tokio::time::timeout(patience, asked(address, request)).await {
         Ok(answer) => answer,
         Err(_) => Err(std::io::Error::new(
             ErrorKind::TimedOut,
@@ -72,21 +52,31 @@ pub(super) async fn exchange(
     }
 }
 
-/// Connects. Where this side has no port or no descriptor left, nothing was asked of the gateway: that is no doubt,
-/// and is tried again.
-async fn connect(address: SocketAddr) -> Result<TcpStream> {
+async fn asked(address: SocketAddr, request: &Request<'_>) -> Result<Answer> {
+    let head = request.head();
+    let (mut line, sent) = open(address, head.as_bytes(), request.body).await?;
+    // An answer may come before all is sent: a refusal by the head. What counts is whether there is one.
+    match (read_answer(&mut line).await, sent) {
+        (Ok((status, body)), sent) => {
+            if sent.is_ok() {
+                line.end();
+            }
+            Ok(Answer { status, body })
+        }
+        (Err(_), Err(fault)) => Err(fault),
+        (Err(fault), Ok(())) => Err(fault),
+    }
+}
+
+/// Where this side has no port or no descriptor left, nothing was asked of the gateway: that is no doubt, and is tried
+/// again.
+async fn open(address: SocketAddr, head: &[u8], body: &[u8]) -> Result<(Line, Result<()>)> {
     loop {
-        match connect_once(address).await {
+        match Line::open(address, head, body).await {
             Err(fault) if is_of_this_side(&fault) => tokio::time::sleep(PAUSE).await,
             other => return other,
         }
     }
-}
-
-async fn connect_once(address: SocketAddr) -> Result<TcpStream> {
-    let socket = TcpSocket::new_v4()?;
-    system::delay_acknowledgement(&socket);
-    socket.connect(address).await
 }
 
 fn is_of_this_side(fault: &std::io::Error) -> bool {
@@ -95,25 +85,10 @@ fn is_of_this_side(fault: &std::io::Error) -> bool {
         || fault.raw_os_error().is_some_and(|code| of_files.contains(&code))
 }
 
-/// Writes head and body by one call, as a rule.
-async fn write(stream: &mut TcpStream, request: &Request<'_>) -> Result<()> {
-    let head = request.head();
-    let mut message = head.as_bytes().chain(request.body);
-    while message.has_remaining() {
-        let mut parts = [IoSlice::new(&[]), IoSlice::new(&[])];
-        let count = message.chunks_vectored(&mut parts);
-        match stream.write_vectored(&parts[..count]).await? {
-            0 => return Err(ErrorKind::WriteZero.into()),
-            written => message.advance(written),
-        }
-    }
-    Ok(())
-}
-
 #[cfg(test)]
 mod tests {
     use super::*;
-    use tokio::io::AsyncReadExt;
+    use tokio::io::{AsyncReadExt, AsyncWriteExt};
     use tokio::net::TcpListener;
 
     const SHORT: Duration = Duration::from_millis(200);
@@ -226,5 +201,40 @@ mod tests {
             exchange(PATIENCE, nobody, &request).await.unwrap_err().kind(),
             ErrorKind::ConnectionRefused
         );
+    }
+
+    /// A listener that answers each connection with its number and something more, or not at all.
+    async fn numbering(connections: &'static [bool]) -> SocketAddr {
+        let listener = TcpListener::bind("127.0.0.1:0").await.unwrap();
+        let address = listener.local_addr().unwrap();
+        tokio::spawn(async move {
+            for (number, answers) in connections.iter().enumerate() {
+                let (mut stream, _) = listener.accept().await.unwrap();
+                let mut bytes = vec![0; post(b"{}").head().len() + 2];
+                stream.read_exact(&mut bytes).await.unwrap();
+                if *answers {
+                    let text = format!("HTTP/1.1 200 OK\r\nContent-Length: 1\r\n\r\n{number}and more");
+                    stream.write_all(text.as_bytes()).await.unwrap();
+                }
+            }
+        });
+        address
+    }
+
+    #[tokio::test]
+    async fn a_socket_is_used_again_behind_a_whole_answer_alone() {
+        let first = numbering(&[true, true, false, true]).await;
+        for number in ["0", "1"] {
+            let answer = exchange(PATIENCE, first, &post(b"{}")).await.unwrap();
+            assert_eq!((answer.body, super::super::socket::spares()), (number.into(), 1));
+        }
+        exchange(PATIENCE, first, &post(b"{}")).await.unwrap_err();
+        assert_eq!(super::super::socket::spares(), 0, "nobody knows what comes on it");
+        assert_eq!(exchange(PATIENCE, first, &post(b"{}")).await.unwrap().body, "3");
+        // Its listener is gone now, as that of a gateway that was killed; the next gateway is elsewhere.
+        tokio::task::yield_now().await;
+        exchange(PATIENCE, first, &post(b"{}")).await.unwrap_err();
+        let second = numbering(&[true]).await;
+        assert_eq!(exchange(PATIENCE, second, &post(b"{}")).await.unwrap().body, "0");
     }
 }

@@ -1,4 +1,4 @@
-//! Where the gateway program and an allocator's library are.
+//! Where the gateway program is.
 
 use std::path::{Path, PathBuf};
 
@@ -7,34 +7,23 @@ const NAMES: [&str; 2] = ["totxegun-gateway", "gateway"];
 
 #[derive(Debug, thiserror::Error)]
 pub enum NotFound {
-    #[error("{0} is no file: name another one")]
+    #[error("--gateway {0}: there is no program there; `make build` makes bin/gateway")]
     Given(PathBuf),
-    #[error("there is no program totxegun-gateway or gateway beside this program or in $PATH: name one")]
+    #[error("there is no program totxegun-gateway or gateway beside this one or in PATH: give it by --gateway PATH")]
     Program,
 }
 
-/// The gateway program: the one that is given, else one beside this program, else one in `$PATH`.
+/// The gateway program: the one that is given, else one beside this program, else one in `$PATH`. Its path
+/// holds also where the working directory changes.
 pub fn find_program(given: Option<&Path>) -> Result<PathBuf, NotFound> {
     if let Some(given) = given {
-        return there(given);
+        let there = given.canonicalize().ok().filter(|path| is_program(path));
+        return there.ok_or_else(|| NotFound::Given(given.to_owned()));
     }
     let own = std::env::current_exe().ok();
     let beside = own.as_deref().and_then(Path::parent).map(Path::to_owned);
     let paths = std::env::var_os("PATH").unwrap_or_default();
     search(beside.into_iter().chain(std::env::split_paths(&paths))).ok_or(NotFound::Program)
-}
-
-/// A library to preload, where one is given.
-pub fn find_allocator(given: Option<&Path>) -> Result<Option<PathBuf>, NotFound> {
-    given.map(there).transpose()
-}
-
-/// A path that holds also where the working directory changes, and that `exec` takes as it is.
-fn there(path: &Path) -> Result<PathBuf, NotFound> {
-    match path.canonicalize() {
-        Ok(whole) if whole.is_file() => Ok(whole),
-        _ => Err(NotFound::Given(path.to_owned())),
-    }
 }
 
 fn search(folders: impl Iterator<Item = PathBuf>) -> Option<PathBuf> {
@@ -87,6 +76,10 @@ mod tests {
             find_program(Some(folder.path())),
             Err(NotFound::Given(_))
         ));
-        assert!(find_allocator(None).unwrap().is_none());
+        assert!(matches!(
+            find_program(Some(Path::new("/etc/passwd"))),
+            Err(NotFound::Given(_))
+        ));
+        assert!(find_program(Some(Path::new("/bin/sh"))).is_ok());
     }
 }

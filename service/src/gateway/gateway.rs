@@ -59,7 +59,7 @@ impl Gateway {
         let of_program = |fault| Doubt::Start(format!("{}: {fault}", options.program.display()));
         let of_socket = |fault| Doubt::Start(format!("no socket on loopback: {fault}"));
         let back = BackSide::open().await.map_err(of_socket)?;
-        let address = listening::free_address().map_err(of_socket)?;
+        let address = starter.home.free_address().map_err(of_socket)?;
         let child = starter
             .start(options, address, back.address)
             .await

@@ -1,5 +1,6 @@
 //! HTTP/1.1 messages that are framed by their `Content-Length`: all that goes between the service and its gateway.
 
+use bytes::Bytes;
 use std::io::{Error, ErrorKind, Result};
 use tokio::io::{AsyncRead, AsyncReadExt};
 
@@ -15,8 +16,11 @@ struct Head {
     length: usize,
 }
 
+/// Most answers are shorter.
+const SHORT: usize = 256;
+
 /// Reads a whole answer: its status and body.
-pub(super) async fn read_answer(stream: &mut (impl AsyncRead + Unpin)) -> Result<(u16, Vec<u8>)> {
+pub(super) async fn read_answer(stream: &mut (impl AsyncRead + Unpin)) -> Result<(u16, Bytes)> {
     let mut status = 0;
     let body = read(stream, |bytes| {
         let mut headers = [httparse::EMPTY_HEADER; HEADERS];
@@ -25,19 +29,25 @@ pub(super) async fn read_answer(stream: &mut (impl AsyncRead + Unpin)) -> Result
         status = head.code.unwrap_or(0);
         framed(end, head.headers)
     });
-    let body = body.await?;
+    let (mut bytes, begin) = body.await?;
+    let body = match bytes.len() {
+        ..=SHORT => Bytes::copy_from_slice(&bytes[begin..]),
+        _ => Bytes::from(bytes.split_off(begin)),
+    };
     Ok((status, body))
 }
 
 /// Reads a whole request: its body.
 pub(super) async fn read_request(stream: &mut (impl AsyncRead + Unpin)) -> Result<Vec<u8>> {
-    read(stream, |bytes| {
+    let read = read(stream, |bytes| {
         let mut headers = [httparse::EMPTY_HEADER; HEADERS];
         let mut head = httparse::Request::new(&mut headers);
         let end = head.parse(bytes).map_err(unreadable)?;
         framed(end, head.headers)
-    })
-    .await
+    });
+    let (mut bytes, begin) = read.await?;
+    bytes.drain(..begin);
+    Ok(bytes)
 }
 
 fn unreadable(fault: httparse::Error) -> Error {
@@ -61,11 +71,11 @@ fn framed(end: httparse::Status<usize>, headers: &[httparse::Header]) -> Result<
     }
 }
 
-/// Reads to the end of the body, not to the end of the connection: that comes later.
+/// Reads to the end of the body, not to the end of the connection: that comes later. Where the body begins, too.
 async fn read(
     stream: &mut (impl AsyncRead + Unpin),
     mut parse: impl FnMut(&[u8]) -> Result<Option<Head>>,
-) -> Result<Vec<u8>> {
+) -> Result<(Vec<u8>, usize)> {
     let mut bytes = Vec::with_capacity(1024);
     let head = loop {
         more(stream, &mut bytes).await?;
@@ -81,8 +91,7 @@ async fn read(
         more(stream, &mut bytes).await?;
     }
     bytes.truncate(head.end + head.length);
-    bytes.drain(..head.end);
-    Ok(bytes)
+    Ok((bytes, head.end))
 }
 
 async fn more(stream: &mut (impl AsyncRead + Unpin), bytes: &mut Vec<u8>) -> Result<()> {
@@ -112,7 +121,7 @@ mod tests {
         ];
         for (text, status, body) in whole {
             let got = read_answer(&mut text.as_bytes()).await.unwrap();
-            assert_eq!(got, (*status, body.as_bytes().to_vec()), "{text}");
+            assert_eq!(got, (*status, Bytes::from(*body)), "{text}");
         }
         let faulty = [
             "",

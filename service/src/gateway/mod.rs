@@ -1,8 +1,9 @@
 //! One gateway process: started, asked over loopback, and what it forwards.
 //!
-//! `start` runs the program, `client` asks it, `back` takes what it forwards, `gateway` is the process as others
+//! `start` runs the program, `client` asks it over a `socket`, `back` takes what it forwards, `gateway` is the process as others
 //! see it. A gateway that was doubted once refuses all that is asked of it from then on: no checkpoint may use it.
 
+pub mod allocator;
 mod back;
 mod client;
 mod find;
@@ -10,10 +11,11 @@ mod find;
 mod gateway;
 mod listening;
 mod message;
+mod socket;
 mod starter;
 mod system;
 
-pub use find::{find_allocator, find_program, NotFound};
+pub use find::{find_program, NotFound};
 pub use gateway::Gateway;
 pub use starter::Starter;
 

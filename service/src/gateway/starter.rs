@@ -3,10 +3,12 @@
 //! The kernel kills a gateway when the thread that started it ends. So that thread has to live as long as any
 //! gateway: it ends when the last `Starter` is gone, and each gateway has one.
 
-use super::{system, Options};
+use super::listening::Home;
+use super::{allocator, system, Options};
 use std::net::SocketAddr;
 use std::process::{Child, Command, Stdio};
 use std::sync::mpsc::{sync_channel, Receiver, SyncSender};
+use std::sync::Arc;
 use tokio::sync::oneshot;
 
 /// More orders than gateways that one service starts and ends at a time, so that nobody waits to give one.
@@ -25,7 +27,11 @@ enum Order {
 /// Starts processes from one thread that lives as long as this process: the kernel ends a gateway when the thread
 /// that started it ends.
 #[derive(Clone)]
-pub struct Starter(SyncSender<Order>);
+pub struct Starter {
+    orders: SyncSender<Order>,
+    /// Where all gateways of this service listen.
+    pub(super) home: Arc<Home>,
+}
 
 impl Starter {
     pub fn new() -> std::io::Result<Starter> {
@@ -33,7 +39,8 @@ impl Starter {
         std::thread::Builder::new()
             .name("starter".into())
             .spawn(move || carry_out(todo))?;
-        Ok(Starter(orders))
+        let home = Arc::new(Home::draw()?);
+        Ok(Starter { orders, home })
     }
 
     /// Starts a gateway that listens at one address and forwards to another.
@@ -50,7 +57,7 @@ impl Starter {
             memory: options.memory,
             answer,
         };
-        self.0.send(order).map_err(|_| gone())?;
+        self.orders.send(order).map_err(|_| gone())?;
         started.await.map_err(|_| gone())?
     }
 
@@ -59,7 +66,7 @@ impl Starter {
         // It fails where the process has ended already, which is what is wanted.
         let _ = process.kill();
         // Where the thread is gone, so is the process.
-        let _ = self.0.send(Order::Reap(process));
+        let _ = self.orders.send(Order::Reap(process));
     }
 }
 
@@ -118,12 +125,7 @@ fn command_line(options: &Options, listen: SocketAddr, back: SocketAddr) -> Comm
         .stdout(Stdio::null())
         // An interrupt from a terminal is for the service alone, which then needs the gateway for a last flush.
         .process_group(0);
-    if let Some(library) = &options.allocator {
-        command.env("LD_PRELOAD", library);
-    } else if std::env::var_os("MALLOC_ARENA_MAX").is_none() {
-        // Each thread's arena keeps what it once had. With one the memory stays near what is used.
-        command.env("MALLOC_ARENA_MAX", "1");
-    }
+    command.envs(allocator::variable(options.allocator.as_deref(), options.memory));
     command
 }
 

@@ -1,4 +1,4 @@
-//! The two calls of the system that have no safe form in what is used here. All `unsafe` of the service is in this file.
+//! The calls of the system that have no safe form in what is used here. All `unsafe` of the service is in this file.
 
 use nix::sys::resource::{setrlimit, Resource};
 use std::io;
@@ -45,4 +45,18 @@ pub(super) fn delay_acknowledgement(socket: &impl AsRawFd) {
             size,
         )
     };
+}
+
+/// Ends the connection of a socket by a reset, and leaves the socket: it may be connected again.
+pub(super) fn disconnect(socket: &impl AsRawFd) -> io::Result<()> {
+    let nowhere = libc::sockaddr {
+        sa_family: libc::AF_UNSPEC as libc::sa_family_t,
+        sa_data: [0; 14],
+    };
+    let size = std::mem::size_of_val(&nowhere) as libc::socklen_t;
+    // SAFETY: `nowhere` is `size` bytes that live through the call, which writes to none of them.
+    match unsafe { libc::connect(socket.as_raw_fd(), &nowhere, size) } {
+        0 => Ok(()),
+        _ => Err(io::Error::last_os_error()),
+    }
 }

@@ -3,11 +3,12 @@
 use super::head::Packing;
 use super::refusal::Refusal;
 use super::weight::Hold;
+use super::wire::Wire;
 use bytes::Bytes;
 use flate2::read::MultiGzDecoder;
-use hyper::body::{Body, HttpBody};
 use std::io::Read;
 use std::time::Duration;
+use tokio::io::{AsyncRead, AsyncWrite};
 
 /// A body's most bytes, packed and unpacked: what the gateway reads.
 pub const MOST: usize = 4 << 20;
@@ -16,30 +17,45 @@ pub const MOST: usize = 4 << 20;
 const LEFT_TIME: Duration = Duration::from_secs(5);
 const LEFT_BYTES: usize = 64 << 20;
 
+/// A body that is here whole: most are, and need no timer.
+pub fn received<S: AsyncRead + AsyncWrite + Unpin>(
+    wire: &mut Wire<S>,
+    hold: &mut Hold,
+) -> Option<Result<Bytes, Refusal>> {
+    let body = wire.whole_body()?;
+    Some(hold.set(2 * body.len()).map(|()| body).map_err(Refusal::from))
+}
+
 /// Receives a body. A body that says itself that it is too long is refused before any of it is read.
-pub async fn receive(body: &mut Body, hold: &mut Hold) -> Result<Bytes, Refusal> {
-    if body.size_hint().lower() > MOST as u64 {
+pub async fn receive<S: AsyncRead + AsyncWrite + Unpin>(
+    wire: &mut Wire<S>,
+    hold: &mut Hold,
+) -> Result<Bytes, Refusal> {
+    if wire.announced() > MOST as u64 {
         return Err(Refusal::TooLong);
     }
-    let Some(first) = next(body, 0, hold).await? else {
+    let Some(first) = next(wire, 0, hold).await? else {
         return Ok(Bytes::new());
     };
-    if body.is_end_stream() {
-        return Ok(first); // most bodies came with their head: nothing is copied
+    if wire.is_whole() {
+        return Ok(first); // most bodies are one piece: nothing is copied
     }
     let mut whole = Vec::from(first);
-    while let Some(part) = next(body, whole.len(), hold).await? {
+    while let Some(part) = next(wire, whole.len(), hold).await? {
         whole.extend_from_slice(&part);
     }
     Ok(whole.into())
 }
 
 /// The next part behind `have` bytes. A vector that grows has up to twice its bytes.
-async fn next(body: &mut Body, have: usize, hold: &mut Hold) -> Result<Option<Bytes>, Refusal> {
-    let Some(part) = body.data().await else {
+async fn next<S: AsyncRead + AsyncWrite + Unpin>(
+    wire: &mut Wire<S>,
+    have: usize,
+    hold: &mut Hold,
+) -> Result<Option<Bytes>, Refusal> {
+    let Some(part) = wire.part().await? else {
         return Ok(None);
     };
-    let part = part.map_err(|_| Refusal::Malformed)?;
     if have + part.len() > MOST {
         return Err(Refusal::TooLong);
     }
@@ -49,10 +65,10 @@ async fn next(body: &mut Body, have: usize, hold: &mut Hold) -> Result<Option<By
 
 /// Reads what still comes behind a refusal and throws it away: a connection that is closed over unread bytes may
 /// take the answer with it.
-pub async fn throw_away(body: &mut Body) {
+pub async fn throw_away<S: AsyncRead + AsyncWrite + Unpin>(wire: &mut Wire<S>) {
     let reading = async {
         let mut left = LEFT_BYTES;
-        while let Some(Ok(part)) = body.data().await {
+        while let Ok(Some(part)) = wire.part().await {
             left = match left.checked_sub(part.len()) {
                 Some(left) => left,
                 None => return,
@@ -98,9 +114,11 @@ fn gunzip(packed: &[u8]) -> Result<Vec<u8>, Refusal> {
 #[cfg(test)]
 mod tests {
     use super::super::weight::Budget;
+    use super::super::wire::Body as Framing;
     use super::*;
     use flate2::{write::GzEncoder, Compression};
     use std::io::Write;
+    use tokio::io::AsyncWriteExt;
 
     fn gzip(plain: &[u8]) -> Bytes {
         let mut packer = GzEncoder::new(Vec::new(), Compression::best());
@@ -143,37 +161,87 @@ mod tests {
         assert_eq!(unpacked(gzip(b"{}"), MOST), Err(503));
     }
 
-    /// A body of parts; `cut` breaks it off behind them.
-    fn body(parts: Vec<Vec<u8>>, cut: bool) -> Body {
-        let (mut sender, body) = Body::channel();
-        tokio::spawn(async move {
+    /// What is received of a body that comes in parts, and is broken off behind them.
+    async fn received(framed: Framing, parts: &[&[u8]], most: usize) -> Result<Bytes, u16> {
+        let budget = Budget::new(most);
+        let (mut sender, stream) = tokio::io::duplex(16 << 10);
+        let mut wire = Wire::new(stream);
+        wire.body_begins(framed, false);
+        let sending = async move {
             for part in parts {
-                if sender.send_data(part.into()).await.is_err() {
+                if sender.write_all(part).await.is_err() {
                     return;
                 }
             }
-            if cut {
-                sender.abort();
-            }
-        });
-        body
+        };
+        let mut hold = budget.hold();
+        let receiving = async {
+            let received = receive(&mut wire, &mut hold).await;
+            drop(wire);
+            received
+        };
+        let (_, received) = tokio::join!(sending, receiving);
+        drop(hold);
+        assert_eq!(budget.used(), 0);
+        received.map_err(|refusal| refusal.status())
     }
 
     #[tokio::test]
     async fn a_body_is_received_whole_or_refused() {
-        let budget = Budget::new(64 << 20);
-        let got = receive(
-            &mut body(vec![b"a".to_vec(), b"b".to_vec()], false),
-            &mut budget.hold(),
-        )
-        .await;
-        assert_eq!(got.unwrap(), Bytes::from_static(b"ab"));
-        let got = receive(&mut body(vec![vec![0; MOST], vec![0]], false), &mut budget.hold()).await;
-        assert!(matches!(got, Err(Refusal::TooLong)));
-        let got = receive(&mut body(vec![vec![0]], true), &mut budget.hold()).await;
-        assert!(matches!(got, Err(Refusal::Malformed)));
-        let got = receive(&mut Body::from(vec![0; 100]), &mut Budget::new(100).hold()).await;
-        assert!(matches!(got, Err(Refusal::TooManyBytes)));
-        assert_eq!(budget.used(), 0);
+        let most = 64 << 20;
+        assert_eq!(
+            received(Framing::Length(2), &[b"a", b"b"], most).await,
+            Ok(Bytes::from_static(b"ab"))
+        );
+        assert_eq!(received(Framing::Length(0), &[], most).await, Ok(Bytes::new()));
+        assert_eq!(received(Framing::Length(2), &[b"a"], most).await, Err(400));
+        assert_eq!(
+            received(Framing::Length(MOST as u64 + 1), &[], most).await,
+            Err(413)
+        );
+        assert_eq!(received(Framing::Length(100), &[&[0; 100]], 100).await, Err(503));
+        let long = vec![7; MOST];
+        assert_eq!(
+            received(Framing::Length(MOST as u64), &[&long], most).await,
+            Ok(Bytes::from(long.clone()))
+        );
+    }
+
+    #[tokio::test]
+    async fn chunks_are_received_whole_or_refused() {
+        let most = 64 << 20;
+        let chunks = b"5;a=b\r\nhello\r\n0A\r\n, chunks..\r\n0\r\nA: b\r\n\r\n";
+        let expected = Ok(Bytes::from_static(b"hello, chunks.."));
+        assert_eq!(received(Framing::Line, &[chunks], most).await, expected);
+        let bytes: Vec<&[u8]> = chunks.chunks(1).collect();
+        assert_eq!(received(Framing::Line, &bytes, most).await, expected);
+        for cut in 0..chunks.len() {
+            assert_eq!(
+                received(Framing::Line, &[&chunks[..cut]], most).await,
+                Err(400),
+                "{cut}"
+            );
+        }
+        for wrong in [
+            &b"x\r\n"[..],
+            b"1\r\nab\r\n",
+            b"-1\r\n",
+            b"ffffffffffffffffff\r\n",
+        ] {
+            assert_eq!(
+                received(Framing::Line, &[wrong], most).await,
+                Err(400),
+                "{wrong:?}"
+            );
+        }
+        assert_eq!(
+            received(Framing::Line, &[b"1;", &[b'a'; 8 << 10]], most).await,
+            Err(400)
+        );
+        let (long, end) = (vec![0; MOST], &b"\r\n1\r\na\r\n0\r\n\r\n"[..]);
+        assert_eq!(
+            received(Framing::Line, &[b"400000\r\n", &long, end], most).await,
+            Err(413)
+        );
     }
 }

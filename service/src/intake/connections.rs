@@ -1,4 +1,5 @@
-//! The connections of an address: their number is bounded, each serves many requests, slow and idle ones are closed.
+//! The connections of the operators' address: their number is bounded, each serves many requests, slow and idle ones are
+//! closed. The senders' are in `front`.
 
 use super::pace::{Overdue, Pace, Watched};
 use hyper::server::conn::Http;
@@ -20,7 +21,7 @@ const READ_AHEAD: usize = 64 << 10;
 const NO_CONNECTION: Duration = Duration::from_millis(100);
 
 /// The answer to a head that did not come whole. How it would be answered is not known yet, so it is JSON.
-const LATE: &[u8] =
+pub(super) const LATE: &[u8] =
     b"HTTP/1.1 408 Request Timeout\r\ncontent-type: application/json\r\ncontent-length: 44\r\n\
 connection: close\r\n\r\n{\"message\":\"the request did not come whole\"}";
 
@@ -64,7 +65,7 @@ pub async fn serve<H: Handler>(
     while open.join_next().await.is_some() {}
 }
 
-async fn accepted(
+pub(crate) async fn accepted(
     listener: &TcpListener,
     room: &Arc<Semaphore>,
 ) -> (TcpStream, Option<OwnedSemaphorePermit>) {

@@ -1,11 +1,10 @@
-//! What the head of a post says: the sender, how the body is written, and how it is packed.
+//! What the head of a request says: how its body is framed and written, who sends it, and what becomes of the connection.
 
 use super::refusal::Refusal;
+use super::wire::{Body, HEADERS, READ_AHEAD};
 use crate::otlp::Encoding;
 use crate::slot::is_sender;
-use hyper::header::{HeaderMap, CONTENT_ENCODING, CONTENT_TYPE};
-use hyper::http::request::Parts;
-use hyper::Method;
+use httparse::{Header, Request, Status};
 
 /// How a body is packed.
 #[derive(Clone, Copy, Debug, PartialEq, Eq)]
@@ -22,18 +21,64 @@ pub struct Head {
     pub packing: Packing,
 }
 
+/// A request, as far as its head says.
+#[derive(Debug)]
+pub struct Asked {
+    pub head: Result<Head, Refusal>,
+    /// In which it is answered.
+    pub encoding: Encoding,
+    pub body: Body,
+    /// The sender waits until it is told to go on.
+    pub waits: bool,
+    pub connection: Connection,
+}
+
+/// What a request says of its connection.
+#[derive(Clone, Copy, Debug, PartialEq, Eq)]
+pub enum Connection {
+    Kept,
+    /// An older sender wants to be told that it is kept.
+    KeptIfSaid,
+    Closed,
+}
+
+/// Reads a head at the beginning of what came: where it ends, and what it says. None where it is not whole yet.
+pub fn read(input: &[u8]) -> Result<Option<(usize, Asked)>, Refusal> {
+    let mut headers = [httparse::EMPTY_HEADER; HEADERS];
+    let mut request = Request::new(&mut headers);
+    let end = match request.parse(input) {
+        Ok(Status::Complete(end)) if end <= READ_AHEAD => end,
+        Ok(Status::Partial) if input.len() < READ_AHEAD => return Ok(None),
+        Ok(_) | Err(httparse::Error::TooManyHeaders) => return Err(Refusal::HeadTooLong),
+        Err(_) => return Err(Refusal::Malformed),
+    };
+    let is_old = request.version == Some(0);
+    let head = Head::read(&request);
+    let asked = Asked {
+        encoding: match &head {
+            Ok(head) => head.encoding,
+            Err(_) => encoding(request.headers).unwrap_or(Encoding::Json),
+        },
+        head,
+        body: framing(request.headers, is_old)?,
+        waits: !is_old && expects(request.headers),
+        connection: connection(request.headers, is_old),
+    };
+    Ok(Some((end, asked)))
+}
+
 impl Head {
     /// Looks at a head in the gateway's order: the path, the method, the sender, the content.
-    pub fn read(parts: &Parts) -> Result<Head, Refusal> {
-        if parts.uri.path() != "/v1/metrics" {
+    fn read(request: &Request) -> Result<Head, Refusal> {
+        if !request.path.is_some_and(is_of_metrics) {
             return Err(Refusal::NoSuchPath);
         }
-        if parts.method != Method::POST {
+        if request.method != Some("POST") {
             return Err(Refusal::WrongMethod);
         }
-        let sender = sender(&parts.headers)?;
-        let encoding = encoding(&parts.headers).ok_or(Refusal::ContentType)?;
-        let packing = packing(&parts.headers)?;
+        let sender = sender(request.headers)?;
+        let encoding = encoding(request.headers).ok_or(Refusal::ContentType)?;
+        let packing = packing(request.headers)?;
         Ok(Head {
             sender,
             encoding,
@@ -42,9 +87,78 @@ impl Head {
     }
 }
 
+/// Whether a target has the path of metrics, whatever its query and, in its absolute form, its host.
+fn is_of_metrics(target: &str) -> bool {
+    const PATH: &str = "/v1/metrics";
+    match target.strip_prefix(PATH) {
+        Some(rest) => rest.is_empty() || rest.starts_with(['?', '#']),
+        None if target.starts_with('/') => false,
+        None => target.parse::<hyper::Uri>().is_ok_and(|uri| uri.path() == PATH),
+    }
+}
+
+fn named<'a>(headers: &'a [Header<'a>], name: &'a str) -> impl Iterator<Item = &'a [u8]> + 'a {
+    let found = headers
+        .iter()
+        .filter(move |header| header.name.eq_ignore_ascii_case(name));
+    found.map(|header| header.value)
+}
+
+/// The words of a list that may stand in several headers. What is no text is a word that nothing is.
+fn words<'a>(headers: &'a [Header<'a>], name: &'a str) -> impl Iterator<Item = &'a str> + 'a {
+    named(headers, name).flat_map(|value| {
+        std::str::from_utf8(value)
+            .unwrap_or("?")
+            .split(',')
+            .map(str::trim)
+    })
+}
+
+/// How a body is framed. What could be read in two ways is refused: a proxy may have read it in the other.
+fn framing(headers: &[Header], is_old: bool) -> Result<Body, Refusal> {
+    let mut coding = named(headers, "transfer-encoding");
+    let mut lengths = named(headers, "content-length");
+    match (coding.next(), lengths.next()) {
+        (None, None) => Ok(Body::Length(0)),
+        (None, Some(first)) if lengths.all(|other| other == first) => Ok(Body::Length(length(first)?)),
+        (Some(only), None) if !is_old && coding.next().is_none() && only.eq_ignore_ascii_case(b"chunked") => {
+            Ok(Body::Line)
+        }
+        _ => Err(Refusal::Malformed),
+    }
+}
+
+fn length(value: &[u8]) -> Result<u64, Refusal> {
+    let text = std::str::from_utf8(value).ok();
+    let digits = text.filter(|text| text.bytes().all(|byte| byte.is_ascii_digit()));
+    digits
+        .and_then(|text| text.parse().ok())
+        .ok_or(Refusal::Malformed)
+}
+
+fn expects(headers: &[Header]) -> bool {
+    named(headers, "expect").any(|value| value.eq_ignore_ascii_case(b"100-continue"))
+}
+
+fn connection(headers: &[Header], is_old: bool) -> Connection {
+    let mut connection = match is_old {
+        true => Connection::Closed,
+        false => Connection::Kept,
+    };
+    for word in words(headers, "connection") {
+        if word.eq_ignore_ascii_case("close") {
+            return Connection::Closed;
+        }
+        if is_old && word.eq_ignore_ascii_case("keep-alive") {
+            connection = Connection::KeptIfSaid;
+        }
+    }
+    connection
+}
+
 /// How a request says that its body is written: the first content type up to its first `;`.
-pub fn encoding(headers: &HeaderMap) -> Option<Encoding> {
-    let whole = headers.get(CONTENT_TYPE)?.to_str().ok()?;
+fn encoding(headers: &[Header]) -> Option<Encoding> {
+    let whole = std::str::from_utf8(named(headers, "content-type").next()?).ok()?;
     let kind = whole.split(';').next()?.trim_matches([' ', '\t']);
     if kind.eq_ignore_ascii_case("application/json") {
         Some(Encoding::Json)
@@ -55,12 +169,12 @@ pub fn encoding(headers: &HeaderMap) -> Option<Encoding> {
     }
 }
 
-fn sender(headers: &HeaderMap) -> Result<String, Refusal> {
-    let mut values = headers.get_all("x-sender").iter();
+fn sender(headers: &[Header]) -> Result<String, Refusal> {
+    let mut values = named(headers, "x-sender");
     let Some(value) = values.next() else {
         return Ok("-".to_string());
     };
-    let name = value.to_str().ok().filter(|name| is_sender(name));
+    let name = std::str::from_utf8(value).ok().filter(|name| is_sender(name));
     match (name, values.next()) {
         (Some(name), None) => Ok(name.to_string()),
         _ => Err(Refusal::BadSender),
@@ -68,113 +182,18 @@ fn sender(headers: &HeaderMap) -> Result<String, Refusal> {
 }
 
 /// One gzip at most. `x-gzip` is gzip (RFC 9110, 8.4.1.3); `identity` says nothing.
-fn packing(headers: &HeaderMap) -> Result<Packing, Refusal> {
+fn packing(headers: &[Header]) -> Result<Packing, Refusal> {
     let mut found = Packing::Plain;
-    for value in headers.get_all(CONTENT_ENCODING) {
-        let text = value.to_str().map_err(|_| Refusal::ContentEncoding)?;
-        for coding in text.split(',').map(str::trim) {
-            let is_gzip = coding.eq_ignore_ascii_case("gzip") || coding.eq_ignore_ascii_case("x-gzip");
-            match found {
-                _ if coding.eq_ignore_ascii_case("identity") => {}
-                Packing::Plain if is_gzip => found = Packing::Gzip,
-                _ => return Err(Refusal::ContentEncoding),
-            }
+    for coding in words(headers, "content-encoding") {
+        let is_gzip = coding.eq_ignore_ascii_case("gzip") || coding.eq_ignore_ascii_case("x-gzip");
+        match found {
+            _ if coding.eq_ignore_ascii_case("identity") => {}
+            Packing::Plain if is_gzip => found = Packing::Gzip,
+            _ => return Err(Refusal::ContentEncoding),
         }
     }
     Ok(found)
 }
 
 #[cfg(test)]
-mod tests {
-    use super::*;
-    use hyper::Request;
-
-    fn read(method: &str, path: &str, headers: &[(&str, &str)]) -> Result<Head, u16> {
-        let mut request = Request::builder().method(method).uri(path);
-        for (name, value) in headers {
-            request = request.header(*name, *value);
-        }
-        let parts = request.body(()).unwrap().into_parts().0;
-        Head::read(&parts).map_err(|refusal| refusal.status())
-    }
-
-    /// A method, a path, headers, and the status of the refusal.
-    type Case<'a> = (&'a str, &'a str, &'a [(&'a str, &'a str)], u16);
-
-    const JSON: (&str, &str) = ("content-type", "application/json");
-
-    #[test]
-    fn a_head_is_read() {
-        let head = read(
-            "POST",
-            "/v1/metrics?a=b",
-            &[
-                ("content-type", "Application/X-Protobuf; a=b"),
-                ("content-encoding", "GZIP"),
-            ],
-        );
-        assert_eq!(
-            head,
-            Ok(Head {
-                sender: "-".into(),
-                encoding: Encoding::Protobuf,
-                packing: Packing::Gzip
-            })
-        );
-        let head = read(
-            "POST",
-            "http://any/v1/metrics",
-            &[JSON, ("x-sender", "A.b_c-9"), ("content-encoding", "identity")],
-        );
-        assert_eq!(
-            head,
-            Ok(Head {
-                sender: "A.b_c-9".into(),
-                encoding: Encoding::Json,
-                packing: Packing::Plain
-            })
-        );
-    }
-
-    #[test]
-    fn the_first_thing_that_is_wrong_is_answered() {
-        let long = "a".repeat(65);
-        let table: &[Case] = &[
-            ("GET", "/flush", &[], 404),
-            ("POST", "/v1/metrics/", &[JSON], 404),
-            ("POST", "/quarantine/A", &[JSON], 404),
-            ("GET", "/v1/metrics", &[("x-sender", "!")], 405),
-            ("POST", "/v1/metrics", &[("x-sender", "!")], 400),
-            ("POST", "/v1/metrics", &[JSON, ("x-sender", "")], 400),
-            ("POST", "/v1/metrics", &[JSON, ("x-sender", &long)], 400),
-            (
-                "POST",
-                "/v1/metrics",
-                &[JSON, ("x-sender", "A"), ("x-sender", "A")],
-                400,
-            ),
-            ("POST", "/v1/metrics", &[], 415),
-            ("POST", "/v1/metrics", &[("content-type", "text/plain")], 415),
-            ("POST", "/v1/metrics", &[JSON, ("content-encoding", "br")], 415),
-            (
-                "POST",
-                "/v1/metrics",
-                &[JSON, ("content-encoding", "gzip, gzip")],
-                415,
-            ),
-            (
-                "POST",
-                "/v1/metrics",
-                &[JSON, ("content-encoding", "gzip"), ("content-encoding", "gzip")],
-                415,
-            ),
-        ];
-        for (method, path, headers, status) in table {
-            assert_eq!(
-                read(method, path, headers),
-                Err(*status),
-                "{method} {path} {headers:?}"
-            );
-        }
-    }
-}
+mod tests;

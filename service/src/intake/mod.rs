@@ -1,32 +1,39 @@
 //! Where senders post: OTLP/HTTP in protobuf or JSON, packed or not, on kept connections, and nothing else.
 //!
-//! A request is refused here before any gateway is asked, or read whole, put into the gateway's form by `otlp`, and
+//! `front` serves the connections on `threads` of their own, `wire` reads them, `head` and `body` say what came, `answer`
+//! is what goes back. A request is refused here before any gateway is asked, or read whole, put into the gateway's form by `otlp`, and
 //! given to a slot. Whoever can post can't operate: every path but `/v1/metrics` is 404.
 
+mod answer;
 mod body;
 pub mod connections;
-pub mod head;
+pub mod front;
+pub(crate) mod head;
 mod pace;
-mod refusal;
+pub(crate) mod refusal;
+mod threads;
 mod weight;
+mod wire;
 
+pub(crate) use body::MOST;
 pub use connections::Limits;
+pub(crate) use threads::Place;
+pub use threads::Threads;
 pub use weight::Budget;
+pub(crate) use weight::Hold;
 
 use crate::metrics::Metrics;
-use crate::otlp::{self, Dropped, Encoding, Outcome};
-use crate::slot::{Slot, Whole};
+use crate::otlp::{self, Encoding, Outcome, Reading, Rounded};
+use crate::slot::Slot;
 use bytes::Bytes;
-use connections::Handler;
 use head::{Head, Packing};
-use hyper::header::{HeaderValue, ALLOW, CONTENT_TYPE, EXPECT, RETRY_AFTER};
-use hyper::{Body, Request, Response, StatusCode};
 use refusal::Refusal;
 use std::future::Future;
 use std::sync::Arc;
 use std::time::Duration;
+use tokio::io::{AsyncRead, AsyncWrite};
 use tokio::sync::Semaphore;
-use weight::Hold;
+use wire::Wire;
 
 /// How long a body may take behind its head.
 const PATIENCE: Duration = Duration::from_secs(60);
@@ -54,10 +61,10 @@ impl Taker for Slot {
     }
 }
 
-/// The handler of the senders' address.
+/// What reads requests and gives posts to a slot.
 pub struct Intake<T> {
     taker: Arc<T>,
-    dropped: Arc<Dropped>,
+    reading: Arc<Reading>,
     budget: Arc<Budget>,
     metrics: Arc<Metrics>,
     readers: Semaphore,
@@ -68,16 +75,17 @@ pub struct Intake<T> {
 struct Post {
     sender: String,
     bodies: Vec<Bytes>,
+    rounded: Rounded,
     /// Of memory, until the post is answered.
     hold: Hold,
 }
 
 impl<T: Taker> Intake<T> {
-    pub fn new(taker: Arc<T>, dropped: Dropped, budget: Arc<Budget>, metrics: Arc<Metrics>) -> Intake<T> {
-        let (dropped, readers) = (Arc::new(dropped), Semaphore::new(READERS));
+    pub fn new(taker: Arc<T>, reading: Reading, budget: Arc<Budget>, metrics: Arc<Metrics>) -> Intake<T> {
+        let (reading, readers) = (Arc::new(reading), Semaphore::new(READERS));
         Intake {
             taker,
-            dropped,
+            reading,
             budget,
             metrics,
             readers,
@@ -91,35 +99,56 @@ impl<T: Taker> Intake<T> {
         self
     }
 
-    async fn outcome(&self, request: Request<Body>) -> Outcome {
-        let (parts, mut body) = request.into_parts();
-        let head = Head::read(&parts);
-        let begun = head.is_ok() || !parts.headers.contains_key(EXPECT); // else the body was not called for
+    /// Reads a request whose head is read, and says what becomes of it.
+    async fn outcome<S: AsyncRead + AsyncWrite + Unpin>(
+        &self,
+        head: Result<Head, Refusal>,
+        wire: &mut Wire<S>,
+    ) -> Outcome {
         let read = match head {
-            Ok(head) => self.read(head, &mut body).await,
+            Ok(head) => self.read(head, wire).await,
             Err(refusal) => Err(refusal),
         };
-        match read {
+        let outcome = match read {
             Ok(post) => self.take(post).await,
             Err(refusal) => {
-                if begun && refusal.leaves_a_body() {
-                    body::throw_away(&mut body).await;
+                if refusal.leaves_a_body() && !wire.is_not_called_for() {
+                    body::throw_away(wire).await;
                 }
                 Outcome::from(&refusal)
             }
-        }
+        };
+        self.metrics.post_ended(outcome.status());
+        outcome
     }
 
-    async fn read(&self, head: Head, body: &mut Body) -> Result<Post, Refusal> {
+    /// Counts a request whose head could not be read.
+    fn count(&self, refusal: &Refusal) {
+        self.metrics.post_ended(refusal.status());
+    }
+
+    async fn read<S: AsyncRead + AsyncWrite + Unpin>(
+        &self,
+        head: Head,
+        wire: &mut Wire<S>,
+    ) -> Result<Post, Refusal> {
         let mut hold = self.budget.hold();
-        let received = tokio::time::timeout(self.patience, body::receive(body, &mut hold)).await;
-        let packed = received.map_err(|_| Refusal::Late)??;
+        let packed = match body::received(wire, &mut hold) {
+            Some(received) => received?,
+            None => tokio::time::timeout(self.patience, body::receive(wire, &mut hold))
+                .await
+                .map_err(|_| Refusal::Late)??,
+        };
+        self.prepared(head, packed, hold).await
+    }
+
+    async fn prepared(&self, head: Head, packed: Bytes, hold: Hold) -> Result<Post, Refusal> {
         let weight = match head.packing {
             Packing::Plain => packed.len(),
             Packing::Gzip => 8 * packed.len(),
         };
-        let (dropped, metrics) = (self.dropped.clone(), self.metrics.clone());
-        let prepare = move || prepare(head, packed, hold, &dropped, &metrics);
+        let (reading, metrics) = (self.reading.clone(), self.metrics.clone());
+        let prepare = move || prepare(head, packed, hold, &reading, &metrics);
         if weight <= SHORT {
             return prepare();
         }
@@ -129,15 +158,32 @@ impl<T: Taker> Intake<T> {
         })
     }
 
-    /// The memory is held until the post is answered, even where its sender goes away.
+    /// A part of the memory that all posts may take.
+    pub(crate) fn hold(&self) -> Hold {
+        self.budget.hold()
+    }
+
+    /// Takes a body that came another way.
+    pub(crate) async fn put(&self, head: Head, packed: Bytes, hold: Hold) -> Outcome {
+        match self.prepared(head, packed, hold).await {
+            Ok(post) => self.take(post).await,
+            Err(refusal) => Outcome::from(&refusal),
+        }
+    }
+
+    /// Counts an answer.
+    pub(crate) fn ended(&self, status: u16) {
+        self.metrics.post_ended(status);
+    }
+
+    /// The memory is held until the post is answered: a connection looks for its sender only then.
     async fn take(&self, post: Post) -> Outcome {
-        let taker = self.taker.clone();
-        let taking = async move {
-            let outcome = taker.post(post.sender, post.bodies).await;
-            drop(post.hold);
-            outcome
-        };
-        Whole::new(taking).await
+        let outcome = self.taker.post(post.sender, post.bodies).await;
+        drop(post.hold);
+        if let Outcome::Taken { .. } = outcome {
+            self.metrics.rounded(&post.rounded);
+        }
+        outcome.with(&post.rounded)
     }
 }
 
@@ -146,7 +192,7 @@ fn prepare(
     head: Head,
     packed: Bytes,
     mut hold: Hold,
-    dropped: &Dropped,
+    reading: &Reading,
     metrics: &Metrics,
 ) -> Result<Post, Refusal> {
     let plain = body::unpack(packed, head.packing, &mut hold)?;
@@ -155,41 +201,15 @@ fn prepare(
         Encoding::Json => WHILE_READ_JSON,
         Encoding::Protobuf => WHILE_READ_PROTOBUF,
     };
-    hold.set(grows * plain.len())?;
-    let bodies = otlp::prepare(head.encoding, plain, dropped)?;
-    hold.set(bodies.iter().map(Bytes::len).sum())?;
+    let times = if reading.whole.is_empty() { 1 } else { 2 }; // it is written once more
+    hold.set(times * grows * plain.len())?;
+    let sender = otlp::sender(head.sender, head.encoding, &plain, reading)?;
+    let prepared = otlp::prepare(head.encoding, plain, reading)?;
+    hold.set(prepared.bodies.iter().map(Bytes::len).sum())?;
     Ok(Post {
-        sender: head.sender,
-        bodies,
+        sender,
+        bodies: prepared.bodies,
+        rounded: prepared.rounded,
         hold,
     })
-}
-
-impl<T: Taker> Handler for Intake<T> {
-    async fn answer(self: Arc<Self>, request: Request<Body>) -> Response<Body> {
-        let encoding = head::encoding(request.headers()).unwrap_or(Encoding::Json);
-        let outcome = self.outcome(request).await;
-        self.metrics.post_ended(outcome.status());
-        response(&outcome, encoding)
-    }
-}
-
-/// An answer in the kind of its request.
-fn response(outcome: &Outcome, encoding: Encoding) -> Response<Body> {
-    let mut response = Response::new(Body::from(outcome.body(encoding)));
-    let status = outcome.status();
-    *response.status_mut() = StatusCode::from_u16(status).unwrap_or(StatusCode::INTERNAL_SERVER_ERROR);
-    let kind = match encoding {
-        Encoding::Json => "application/json",
-        Encoding::Protobuf => "application/x-protobuf",
-    };
-    let headers = response.headers_mut();
-    headers.insert(CONTENT_TYPE, HeaderValue::from_static(kind));
-    if status == 503 {
-        headers.insert(RETRY_AFTER, HeaderValue::from_static("1"));
-    }
-    if status == 405 {
-        headers.insert(ALLOW, HeaderValue::from_static("POST"));
-    }
-    response
 }

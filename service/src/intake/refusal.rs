@@ -21,6 +21,9 @@ pub enum Refusal {
     /// Its framing is wrong, or its connection ended within it.
     #[error("malformed request")]
     Malformed,
+    /// Its end is too far away, or it says too much.
+    #[error("head too long")]
+    HeadTooLong,
     #[error("bad gzip")]
     BadGzip,
     #[error("body too long")]
@@ -41,13 +44,14 @@ impl Refusal {
             Refusal::Late => 408,
             Refusal::BadSender | Refusal::Malformed | Refusal::BadGzip | Refusal::Unreadable(_) => 400,
             Refusal::TooLong => 413,
+            Refusal::HeadTooLong => 431,
             Refusal::TooManyBytes => 503,
         }
     }
 
     /// Whether more of the body may come: it is read and thrown away, so that the sender can read its answer.
     pub fn leaves_a_body(&self) -> bool {
-        !matches!(self, Refusal::Late | Refusal::Malformed)
+        !matches!(self, Refusal::Late | Refusal::Malformed | Refusal::HeadTooLong)
     }
 }
 

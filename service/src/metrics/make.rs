@@ -2,10 +2,14 @@
 
 use super::{Levels, Metrics};
 use prometheus::{
-    Histogram, HistogramOpts, IntCounter, IntCounterVec, IntGauge, IntGaugeVec, Opts, Registry, Result,
+    CounterVec, Histogram, HistogramOpts, IntCounter, IntCounterVec, IntGauge, IntGaugeVec, Opts, Registry,
+    Result,
 };
 use std::collections::HashSet;
 use std::sync::Mutex;
+
+/// Kinds of what must never be.
+const FAULTS: [&str; 4] = ["reading", "owner", "replay", "points_rejected_by_sink"];
 
 const SECONDS: [f64; 10] = [0.001, 0.003, 0.01, 0.03, 0.1, 0.3, 1.0, 3.0, 10.0, 30.0];
 
@@ -28,6 +32,13 @@ pub fn metrics() -> Result<Metrics> {
             "sender",
             &[],
         )?,
+        rounded_values: maker.counters(
+            "rounded_values_total",
+            "Values of posts that were taken that `--whole` has rounded, by its rule",
+            "whole",
+            &[],
+        )?,
+        rounding: maker.rounding()?,
         checkpoints: maker.counters(
             "checkpoints_total",
             "Checkpoints by how they ended",
@@ -53,7 +64,7 @@ pub fn metrics() -> Result<Metrics> {
             "forgotten_series_total",
             "Series left out of a fresh gateway for their age",
         )?,
-        faults: maker.counters("faults_total", "What must never be", "kind", &[])?,
+        faults: maker.counters("faults_total", "What must never be", "kind", &FAULTS)?,
         checkpoint_pause_seconds: maker
             .seconds("checkpoint_pause_seconds", "How long a checkpoint held the posts")?,
         recovery_seconds: maker.seconds(
@@ -115,6 +126,13 @@ impl Maker {
         for value in known {
             made.with_label_values(&[value]);
         }
+        self.0.register(Box::new(made.clone()))?;
+        Ok(made)
+    }
+
+    fn rounding(&self) -> Result<CounterVec> {
+        let help = "What these values were rounded by together, in the finer unit: no total is further from the truth";
+        let made = CounterVec::new(Opts::new("totxegun_rounding_units_total", help), &["whole"])?;
         self.0.register(Box::new(made.clone()))?;
         Ok(made)
     }

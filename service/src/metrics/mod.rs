@@ -2,7 +2,9 @@
 
 mod make;
 
-use prometheus::{Encoder, IntCounter, IntCounterVec, IntGauge, Registry, TextEncoder};
+use crate::otlp::{Rounded, Rounding};
+use prometheus::core::Collector;
+use prometheus::{CounterVec, Encoder, IntCounter, IntCounterVec, IntGauge, Registry, TextEncoder};
 use std::collections::HashSet;
 use std::sync::{Mutex, PoisonError};
 
@@ -17,6 +19,9 @@ pub struct Metrics {
     pub post_bytes: IntCounter,
     /// Points outside the profile, by `sender`. Counted by `foreign`, which bounds the senders.
     pub foreign_points: IntCounterVec,
+    /// By `whole`, the rule: values that were not whole, and what they were rounded by together.
+    pub rounded_values: IntCounterVec,
+    pub rounding: CounterVec,
     /// By `outcome`: `done`, `failed`.
     pub checkpoints: IntCounterVec,
     pub renewals: IntCounter,
@@ -75,6 +80,32 @@ impl Metrics {
         self.foreign_points.with_label_values(&[label]).inc_by(points);
     }
 
+    /// Counts what was rounded of a post that was taken.
+    pub fn rounded(&self, rounded: &Rounded) {
+        for (rule, rounding) in &rounded.by_rule {
+            self.rounded_values
+                .with_label_values(&[rule])
+                .inc_by(rounding.values);
+            self.rounding.with_label_values(&[rule]).inc_by(rounding.together);
+        }
+    }
+
+    /// What was rounded since the start, by rule.
+    pub fn all_rounded(&self) -> Vec<(String, Rounding)> {
+        let families = self.rounded_values.collect();
+        let rows = families.iter().flat_map(|family| family.get_metric());
+        rows.flat_map(|row| row.get_label())
+            .map(|label| {
+                let rule = label.get_value().to_string();
+                let rounding = Rounding {
+                    values: self.rounded_values.with_label_values(&[&rule]).get(),
+                    together: self.rounding.with_label_values(&[&rule]).get(),
+                };
+                (rule, rounding)
+            })
+            .collect()
+    }
+
     fn has_label(&self, sender: &str) -> bool {
         let mut senders = self.senders.lock().unwrap_or_else(PoisonError::into_inner); // a set is sound at any time
         if senders.contains(sender) {
@@ -117,6 +148,35 @@ mod tests {
         assert_eq!(lines.len(), SENDERS + 1);
         assert!(lines.contains(&"totxegun_foreign_points_total{sender=\"sender0\"} 3"));
         assert!(lines.contains(&"totxegun_foreign_points_total{sender=\"other\"} 1872"));
+    }
+
+    #[test]
+    fn what_is_rounded_is_counted_by_rule() {
+        let metrics = Metrics::new().unwrap();
+        assert_eq!(metrics.all_rounded(), []);
+        let (rule, once) = (
+            "s=1000:ms".to_string(),
+            Rounding {
+                values: 2,
+                together: 0.75,
+            },
+        );
+        let rounded = Rounded {
+            by_rule: [(rule.clone(), once)].into(),
+            unfit: None,
+        };
+        metrics.rounded(&rounded);
+        metrics.rounded(&rounded);
+        let twice = Rounding {
+            values: 4,
+            together: 1.5,
+        };
+        assert_eq!(metrics.all_rounded(), [(rule, twice)]);
+        let page = page(&metrics);
+        assert!(
+            page.contains("totxegun_rounding_units_total{whole=\"s=1000:ms\"} 1.5"),
+            "{page}"
+        );
     }
 
     #[test]

@@ -5,7 +5,7 @@
 
 use super::{message, reply, Desk, JSON};
 use crate::files::Fault;
-use crate::sinks::{Fate, Forwarded};
+use crate::sinks::{of_part, Fate, Forwarded};
 use hyper::{Body, Response};
 use serde::{Deserialize, Serialize};
 
@@ -51,14 +51,15 @@ impl Desk {
             Err(fault) => return faulty(&fault),
         };
         let Some(request) = forwarded(key, body) else {
-            return message(
-                400,
-                "the sink has taken a part of this one: sent again, that part would count twice",
-            );
+            return self.of_part(key);
         };
         let reason = match self.sink.deliver(&request).await {
             Fate::Taken => None,
-            Fate::TakenPartly { rejected, reason } => return self.keep_part(&request, rejected, reason),
+            Fate::TakenPartly {
+                rejected,
+                reason,
+                left,
+            } => return self.keep_part(&request, rejected, &reason, left.as_deref()),
             Fate::Again { reason, .. } | Fate::Refused { reason } => Some(reason),
         };
         if reason.is_none() {
@@ -75,11 +76,32 @@ impl Desk {
         reply(200, JSON, serde_json::json!(resent).to_string())
     }
 
+    /// What stands under no key of a request is of one that the sink has taken, and says why.
+    fn of_part(&self, key: &str) -> Response<Body> {
+        let letters = match self.dead.list() {
+            Ok(letters) => letters,
+            Err(fault) => return faulty(&fault),
+        };
+        let reason = letters.into_iter().find(|letter| letter.key == key);
+        let reason = reason.map_or(String::new(), |letter| format!(": {}", letter.reason));
+        message(
+            400,
+            &format!("the sink has the other points of this one, and never takes these{reason}; look at it, and drop it"),
+        )
+    }
+
     /// What the sink has a part of is kept under another key: it must not be sent again.
-    fn keep_part(&self, request: &Forwarded, rejected: u64, reason: String) -> Response<Body> {
+    fn keep_part(
+        &self,
+        request: &Forwarded,
+        rejected: u64,
+        reason: &str,
+        left: Option<&[u8]>,
+    ) -> Response<Body> {
         let key = request.key();
-        let reason = format!("taken, but {rejected} points rejected (do not send it again): {reason}");
-        let kept = self.dead.keep(&format!("{key}-partial"), &reason, &request.body);
+        let reason = of_part(rejected, reason, left.is_some());
+        let body = left.unwrap_or(&request.body);
+        let kept = self.dead.keep(&format!("{key}-partial"), &reason, body);
         if let Err(fault) = kept.and_then(|()| self.dead.drop_letter(&key)) {
             return faulty(&fault);
         }

@@ -7,7 +7,7 @@ mod status;
 mod totals;
 
 pub use letters::Resent;
-pub use status::{SlotStatus, Status, Stock};
+pub use status::{RoundedStatus, SlotStatus, Status, Stock};
 pub use totals::Totals;
 
 use crate::files::{Dead, Outbox};
@@ -34,7 +34,7 @@ pub struct Desk {
     pub outbox: Arc<Outbox>,
     pub dead: Arc<Dead>,
     pub sink: Arc<dyn Sink>,
-    /// Where the sink is a file that has them.
+    /// Where the sink can be asked for them.
     pub totals: Option<Totals>,
     pub delivery: Arc<Mutex<Delivery>>,
     pub metrics: Arc<Metrics>,

@@ -19,6 +19,17 @@ pub struct Status {
     /// Requests that the sink refused for good.
     pub dead: u64,
     pub slots: Vec<SlotStatus>,
+    /// What `--whole` has rounded since the start.
+    #[serde(default)]
+    pub rounded: Vec<RoundedStatus>,
+}
+
+/// Values that were not whole, and what they were rounded by together, in the finer unit of the rule.
+#[derive(Debug, Serialize, Deserialize)]
+pub struct RoundedStatus {
+    pub rule: String,
+    pub values: u64,
+    pub together: f64,
 }
 
 #[derive(Debug, Serialize, Deserialize)]
@@ -72,7 +83,18 @@ impl Desk {
             sink: self.sink.name(),
             dead: self.dead.count(),
             slots: vec![self.slot_status()],
+            rounded: self.rounded_status(),
         }
+    }
+
+    fn rounded_status(&self) -> Vec<RoundedStatus> {
+        let all = self.metrics.all_rounded().into_iter();
+        all.map(|(rule, rounding)| RoundedStatus {
+            rule,
+            values: rounding.values,
+            together: rounding.together,
+        })
+        .collect()
     }
 
     fn slot_status(&self) -> SlotStatus {

@@ -7,7 +7,7 @@ use super::{Encoding, Outcome};
 use prost::Message;
 
 /// The gateway's own words for points that it did not take.
-const OUTSIDE: &str = "points outside the profile";
+pub(super) const OUTSIDE: &str = "points outside the profile";
 
 /// How many points an answer of the gateway says were not taken, where it says so.
 pub fn rejected(answer: &[u8]) -> Option<u64> {

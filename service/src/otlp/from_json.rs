@@ -6,9 +6,9 @@
 
 use super::json::{Document, Value};
 use super::number::{gateway_whole, is_plain, mapped_double, mapped_whole, whole_double, MAX_WHOLE_DOUBLE};
-use super::output::Output;
+use super::output::{Output, Written};
 use super::schema::{Kind, Message, KEY_VALUE, REQUEST};
-use super::{Dropped, Refused};
+use super::{Reading, Refused};
 
 /// Why a walk ended before the end.
 enum Stop {
@@ -18,21 +18,26 @@ enum Stop {
 }
 
 /// Whether the gateway reads the body as it is meant.
-pub fn is_read_as_it_is(document: &Document<'_>) -> Result<bool, Refused> {
-    if document.is_near_range() {
+pub fn is_read_as_it_is(document: &Document<'_>, reading: &Reading) -> Result<bool, Refused> {
+    if document.is_near_range() || reading.whole.has_no_unit() {
         return Ok(false);
     }
-    match (Walk { out: None }).body(document) {
+    match (Walk { out: None, reading }).body(document) {
         Ok(()) => Ok(true),
         Err(Stop::Changed) => Ok(false),
         Err(Stop::Refused(refused)) => Err(refused),
     }
 }
 
-pub fn written(document: &Document<'_>, dropped: &Dropped) -> Result<String, Refused> {
-    let mut out = Output::new(document.root().raw().len(), dropped);
-    match (Walk { out: Some(&mut out) }).body(document) {
-        Ok(()) => Ok(out.text),
+pub fn written(document: &Document<'_>, reading: &Reading) -> Result<Written, Refused> {
+    let mut out = Output::new(document.root().raw().len(), reading);
+    let walked = Walk {
+        out: Some(&mut out),
+        reading,
+    }
+    .body(document);
+    match walked {
+        Ok(()) => Ok(out.written()),
         Err(Stop::Refused(refused)) => Err(refused),
         // A walk that writes goes on past changes.
         Err(Stop::Changed) => Err(Refused::Unreadable("not JSON of OTLP".to_string())),
@@ -40,8 +45,9 @@ pub fn written(document: &Document<'_>, dropped: &Dropped) -> Result<String, Ref
 }
 
 /// A walk that only looks has nothing to write to and ends at the first change.
-struct Walk<'o, 'd> {
-    out: Option<&'o mut Output<'d>>,
+struct Walk<'o, 'r> {
+    out: Option<&'o mut Output<'r>>,
+    reading: &'r Reading,
 }
 
 fn refused(of: &Message, what: impl std::fmt::Display) -> Stop {
@@ -176,6 +182,7 @@ impl Walk<'_, '_> {
                     }
                 }
             }
+            Kind::Unit => self.unit(value)?,
             // A number is as wrong a truth as any.
             Kind::Bool => self.push(
                 value
@@ -209,6 +216,21 @@ impl Walk<'_, '_> {
             each(self, element)?;
         }
         self.push("]");
+        Ok(())
+    }
+
+    /// A metric whose unit is one of `--whole` is written anew.
+    fn unit(&mut self, value: Value<'_>) -> Result<(), Stop> {
+        let Some(unit) = value.text() else {
+            self.push("false");
+            return Ok(());
+        };
+        if self.reading.whole.rule(&unit).is_some() {
+            self.changed()?;
+        }
+        if let Some(out) = &mut self.out {
+            out.unit(&unit);
+        }
         Ok(())
     }
 

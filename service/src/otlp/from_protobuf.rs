@@ -4,17 +4,18 @@
 //! JSON, however many small messages the bytes are.
 
 use super::output::Output;
+use super::output::Written;
 use super::schema::{Field, Kind, Message, Wire, EXEMPLAR, KEY_VALUE, KEY_VALUE_LIST, REQUEST};
 use super::wire::{Fields, Payload};
-use super::{Dropped, Refused};
+use super::{Reading, Refused};
 
 /// Messages may be nested as deep as protobuf's own readers allow.
 const MAX_DEPTH: usize = 100;
 
-pub fn written(body: &[u8], dropped: &Dropped) -> Result<String, Refused> {
-    let mut out = Output::new(body.len() * 3 + 64, dropped);
+pub fn written(body: &[u8], reading: &Reading) -> Result<Written, Refused> {
+    let mut out = Output::new(body.len() * 3 + 64, reading);
     message(&mut out, &REQUEST, body, 0)?;
-    Ok(out.text)
+    Ok(out.written())
 }
 
 fn refused(message: &Message, what: impl std::fmt::Display) -> Refused {
@@ -141,7 +142,8 @@ fn value(out: &mut Output<'_>, payloads: Payloads<'_>, depth: usize) -> Result<(
         Kind::Messages(of) | Kind::Parts(of) => messages(out, &payloads, of, depth)?,
         Kind::Exemplars => messages(out, &payloads, &EXEMPLAR, depth)?,
         Kind::ResourceAttributes => messages(out, &payloads, &KEY_VALUE, depth)?,
-        Kind::Text => text(out, &payloads)?,
+        Kind::Text => out.quoted(text(&payloads)?),
+        Kind::Unit => out.unit(text(&payloads)?),
         Kind::Bool => out
             .text
             .push_str(if payloads.bits() != 0 { "true" } else { "false" }),
@@ -200,12 +202,10 @@ fn messages(
     Ok(())
 }
 
-fn text(out: &mut Output<'_>, payloads: &Payloads<'_>) -> Result<(), Refused> {
+fn text<'a>(payloads: &Payloads<'a>) -> Result<&'a str, Refused> {
     let bytes = payloads.messages().last().unwrap_or_default();
-    let text = std::str::from_utf8(bytes)
-        .map_err(|_| refused(payloads.of, format_args!("{} is not UTF-8", payloads.field.name)))?;
-    out.quoted(text);
-    Ok(())
+    std::str::from_utf8(bytes)
+        .map_err(|_| refused(payloads.of, format_args!("{} is not UTF-8", payloads.field.name)))
 }
 
 fn list<T>(out: &mut Output<'_>, all: impl Iterator<Item = T>, mut each: impl FnMut(&mut Output<'_>, T)) {

@@ -93,6 +93,12 @@ impl<'d> Value<'d> {
         &self.text[entry.at as usize..entry.end as usize]
     }
 
+    /// Where it is in the text.
+    pub fn range(self) -> std::ops::Range<usize> {
+        let entry = self.entry();
+        entry.at as usize..entry.end as usize
+    }
+
     pub fn kind(self) -> Kind {
         match self.text.as_bytes()[self.entry().at as usize] {
             b'n' => Kind::Null,

@@ -1,10 +1,12 @@
 //! Requests and answers of OTLP, in protobuf and in JSON, and the series that a body has.
 //!
 //! `prepare` writes a request of either encoding as the gateway reads it: `from_protobuf` and `from_json` go
-//! by the tables of `schema`, over the readers `wire` and `json`; `split` cuts what is too long. `series`
-//! reads bodies as the gateway does, and what it forwards. `answers` is what senders are answered.
+//! by the tables of `schema`, over the readers `wire` and `json`; `whole` takes fractions as whole numbers of a finer
+//! unit, `split` cuts what is too long. `series` reads bodies as the gateway does, and what it forwards.
+//! `answers` is what senders are answered.
 
 mod answers;
+mod explain;
 mod from_json;
 mod from_protobuf;
 mod json;
@@ -12,11 +14,16 @@ mod messages;
 mod number;
 mod output;
 mod schema;
+mod sender;
 pub mod series;
 mod split;
+mod whole;
 mod wire;
 
 pub use answers::rejected;
+pub use explain::{explained, foreign_points, series_of_point, Explained};
+pub use sender::{sender, NO_NAME};
+pub use whole::{Rounded, Rounding, Rule, Whole};
 
 use bytes::Bytes;
 
@@ -25,6 +32,18 @@ use bytes::Bytes;
 pub enum Encoding {
     Json,
     Protobuf,
+}
+
+impl Encoding {
+    /// How a body was written of which nothing is known.
+    pub fn of(body: &[u8]) -> Encoding {
+        let first = body.iter().find(|byte| !byte.is_ascii_whitespace());
+        let may_be_protobuf = first != Some(&b'{') || body[0] == b'\n';
+        match may_be_protobuf && json::Document::parse(body).is_err() {
+            true => Encoding::Protobuf,
+            false => Encoding::Json,
+        }
+    }
 }
 
 /// Why a request is not given to the gateway. Its text is the answer's message.
@@ -36,29 +55,53 @@ pub enum Refused {
     TooLong,
 }
 
-/// What is left out of each request before it is read.
-#[derive(Clone, Debug, Default)]
-pub struct Dropped {
-    /// Names of resource attributes.
-    pub attributes: Vec<String>,
+impl From<json::NotJson> for Refused {
+    fn from(error: json::NotJson) -> Refused {
+        Refused::Unreadable(error.to_string())
+    }
 }
 
-/// The bodies, one or more, that the gateway reads for a request: JSON of at most 4 MiB each, taken in this
-/// order. Nothing of a request is lost in silence: it is read whole or refused whole.
-pub fn prepare(encoding: Encoding, body: Bytes, dropped: &Dropped) -> Result<Vec<Bytes>, Refused> {
-    let text = match encoding {
-        Encoding::Protobuf => from_protobuf::written(&body, dropped)?,
+/// How requests are read, beside what they say themselves.
+#[derive(Clone, Debug, Default)]
+pub struct Reading {
+    /// Names of resource attributes that are left out.
+    pub dropped: Vec<String>,
+    /// What is measured in one unit is taken in a finer one.
+    pub whole: Whole,
+    /// The resource attribute that names a sender who does not name itself.
+    pub sender_from: Option<String>,
+}
+
+/// A request in the gateway's form.
+#[derive(Debug, Default, PartialEq)]
+pub struct Prepared {
+    /// JSON of at most 4 MiB each, one or more, to be taken in this order.
+    pub bodies: Vec<Bytes>,
+    pub rounded: Rounded,
+}
+
+/// Puts a request into the gateway's form. Nothing of a request is lost in silence: it is read whole or refused whole.
+pub fn prepare(encoding: Encoding, body: Bytes, reading: &Reading) -> Result<Prepared, Refused> {
+    let written = match encoding {
+        Encoding::Protobuf => from_protobuf::written(&body, reading)?,
         Encoding::Json => {
-            let document =
-                json::Document::parse(&body).map_err(|error| Refused::Unreadable(error.to_string()))?;
-            let may_go_on = dropped.attributes.is_empty() && body.len() <= split::LIMIT;
-            if may_go_on && from_json::is_read_as_it_is(&document)? {
-                return Ok(vec![body.clone()]);
+            let document = json::Document::parse(&body)?;
+            let may_go_on = reading.dropped.is_empty() && body.len() <= split::LIMIT;
+            if may_go_on && from_json::is_read_as_it_is(&document, reading)? {
+                return Ok(Prepared {
+                    bodies: vec![body.clone()],
+                    rounded: Rounded::default(),
+                });
             }
-            from_json::written(&document, dropped)?
+            from_json::written(&document, reading)?
         }
     };
-    split::bodies(text, split::LIMIT)
+    let (text, rounded) = match written.is_measured {
+        true => whole::rewritten(&written.text, &reading.whole)?,
+        false => (written.text, Rounded::default()),
+    };
+    let bodies = split::bodies(text, split::LIMIT)?;
+    Ok(Prepared { bodies, rounded })
 }
 
 /// What a sender is answered.
@@ -79,6 +122,23 @@ impl Outcome {
         }
     }
 
+    /// The same, and why points are outside the profile that were to be taken in a finer unit.
+    pub fn with(self, rounded: &Rounded) -> Outcome {
+        match (self, &rounded.unfit) {
+            (
+                Outcome::Taken {
+                    rejected,
+                    message: None,
+                },
+                Some(unfit),
+            ) if rejected > 0 => {
+                let message = Some(format!("{}: {unfit}", answers::OUTSIDE));
+                Outcome::Taken { rejected, message }
+            }
+            (other, _) => other,
+        }
+    }
+
     pub fn status(&self) -> u16 {
         match self {
             Outcome::Taken { .. } => 200,
@@ -95,6 +155,12 @@ impl Outcome {
 /// A forwarded request (JSON, as the gateway writes it) in protobuf.
 pub fn protobuf_of_forwarded(body: &[u8]) -> Result<Vec<u8>, series::NotForwarded> {
     series::protobuf_of_forwarded(body)
+}
+
+/// A request of one point, in protobuf.
+#[cfg(test)]
+pub(crate) fn a_request_of_test() -> Vec<u8> {
+    tests::a_request()
 }
 
 #[cfg(test)]

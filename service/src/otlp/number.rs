@@ -60,6 +60,14 @@ pub fn whole_double(double: f64) -> Option<i64> {
     is_whole.then_some(double as i64)
 }
 
+/// A double as people write it: `0.005`, `1e300`, `NaN`.
+pub fn double_shown(double: f64) -> String {
+    match double.abs() {
+        size if size == 0.0 || (1e-7..1e16).contains(&size) || !size.is_finite() => double.to_string(),
+        _ => format!("{double:e}"),
+    }
+}
+
 /// Whether a text is a JSON number and no more.
 fn is_number(text: &str) -> bool {
     text.starts_with(|first: char| first == '-' || first.is_ascii_digit())

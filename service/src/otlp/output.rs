@@ -2,20 +2,36 @@
 
 use super::json::{write_text, Document};
 use super::number::whole_double;
-use super::Dropped;
+use super::Reading;
 use std::borrow::Cow;
 use std::fmt::Write;
 
-pub struct Output<'d> {
+pub struct Output<'r> {
     pub text: String,
-    dropped: &'d Dropped,
+    reading: &'r Reading,
+    is_measured: bool,
 }
 
-impl<'d> Output<'d> {
-    pub fn new(capacity: usize, dropped: &'d Dropped) -> Output<'d> {
+/// A whole request.
+pub struct Written {
+    pub text: String,
+    /// Whether a metric has a unit of `--whole`.
+    pub is_measured: bool,
+}
+
+impl<'r> Output<'r> {
+    pub fn new(capacity: usize, reading: &'r Reading) -> Output<'r> {
         Output {
             text: String::with_capacity(capacity),
-            dropped,
+            reading,
+            is_measured: reading.whole.has_no_unit(),
+        }
+    }
+
+    pub fn written(self) -> Written {
+        Written {
+            text: self.text,
+            is_measured: self.is_measured,
         }
     }
 
@@ -64,9 +80,14 @@ impl<'d> Output<'d> {
         write_text(&mut self.text, text);
     }
 
+    pub fn unit(&mut self, unit: &str) {
+        self.is_measured |= self.reading.whole.rule(unit).is_some();
+        self.quoted(unit);
+    }
+
     /// Takes back a resource attribute that begins at `from`, if it is one to drop.
     pub fn drop_attribute(&mut self, from: usize) {
-        if self.dropped.attributes.is_empty() {
+        if self.reading.dropped.is_empty() {
             return;
         }
         let element = self.text[from..].trim_start_matches(',');
@@ -86,6 +107,6 @@ impl<'d> Output<'d> {
             None => Some(Cow::Borrowed("")),
             Some(key) => key.text(),
         };
-        key.is_some_and(|key| self.dropped.attributes.iter().any(|dropped| *dropped == key))
+        key.is_some_and(|key| self.reading.dropped.iter().any(|dropped| *dropped == key))
     }
 }

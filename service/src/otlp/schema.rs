@@ -39,6 +39,8 @@ pub enum Kind {
     /// The list from which attributes are dropped.
     ResourceAttributes,
     Text,
+    /// A metric's unit, by which `--whole` tells what it is about.
+    Unit,
     Bool,
     Temporality,
     Whole(Wire),
@@ -167,7 +169,7 @@ static METRIC: Message = Message {
     name: "Metric",
     fields: &[
         field("name", "name", 1, Kind::Text),
-        field("unit", "unit", 3, Kind::Text),
+        field("unit", "unit", 3, Kind::Unit),
         field("gauge", "gauge", 5, Kind::Message(&OTHER_DATA)),
         field("sum", "sum", 7, Kind::Message(&SUM)),
         field("histogram", "histogram", 9, Kind::Message(&HISTOGRAM)),

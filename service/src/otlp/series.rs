@@ -2,12 +2,15 @@
 
 mod forwarded;
 mod identity;
+mod point;
 mod posted;
+mod why;
 mod zeros;
 
 pub use forwarded::forwarded;
 pub(super) use forwarded::protobuf_of_forwarded;
 pub use posted::posted;
+pub(super) use posted::{visit, Seen};
 pub use zeros::zeros;
 
 use super::json::{Document, Value as Json};

@@ -16,8 +16,7 @@ pub fn bodies(text: String, limit: usize) -> Result<Vec<Bytes>, Refused> {
     if text.len() <= limit {
         return Ok(vec![Bytes::from(text)]);
     }
-    let document =
-        Document::parse(text.as_bytes()).map_err(|error| Refused::Unreadable(error.to_string()))?;
+    let document = Document::parse(text.as_bytes())?;
     let mut bodies = Bodies {
         limit,
         done: Vec::new(),

@@ -3,13 +3,16 @@ use super::series::posted;
 use super::*;
 use prost::Message;
 
+mod explain;
 mod mapping;
 mod random;
 mod refused;
 mod speed;
 
 fn prepared(encoding: Encoding, body: impl Into<Bytes>) -> Result<Vec<Bytes>, String> {
-    prepare(encoding, body.into(), &Dropped::default()).map_err(|refused| refused.to_string())
+    prepare(encoding, body.into(), &Reading::default())
+        .map(|prepared| prepared.bodies)
+        .map_err(|refused| refused.to_string())
 }
 
 fn json(body: &str) -> serde_json::Value {
@@ -220,21 +223,22 @@ fn protobuf_is_written_as_the_gateway_reads_it() {
 
 #[test]
 fn resource_attributes_are_dropped() {
-    let dropped = Dropped {
-        attributes: vec!["service.instance.id".to_string(), "é".to_string()],
+    let reading = Reading {
+        dropped: vec!["service.instance.id".to_string(), "é".to_string()],
+        ..Reading::default()
     };
     let body = r#"{"resourceMetrics":[{"resource":{"attributes":[{"key":"service.instance.id","value":{"stringValue":"1"}},{"key":"a"},{"value":{},"key":"\u00e9"},{"key":"b"}]},"scopeMetrics":[{"scope":{"attributes":[{"key":"é"}]}}]}]}"#;
     let expected = r#"{"resourceMetrics":[{"resource":{"attributes":[{"key":"a"},{"key":"b"}]},"scopeMetrics":[{"scope":{"attributes":[{"key":"é"}]}}]}]}"#;
     assert_eq!(
-        prepare(Encoding::Json, body.into(), &dropped).unwrap(),
+        prepare(Encoding::Json, body.into(), &reading).unwrap().bodies,
         [expected]
     );
     let pairs = ["é", "a", "service.instance.id"]
         .map(|key| bytes(1, &bytes(1, key.as_bytes())))
         .concat();
-    let bodies = prepare(Encoding::Protobuf, bytes(1, &bytes(1, &pairs)).into(), &dropped).unwrap();
+    let bodies = prepare(Encoding::Protobuf, bytes(1, &bytes(1, &pairs)).into(), &reading).unwrap();
     assert_eq!(
-        bodies,
+        bodies.bodies,
         [r#"{"resourceMetrics":[{"resource":{"attributes":[{"key":"a"}]}}]}"#]
     );
 }
@@ -309,4 +313,29 @@ fn answers_are_of_the_request_s_kind() {
         ),
         (Some(7), None, None, None)
     );
+}
+
+/// A request in JSON, as most encoders write it.
+pub(super) fn in_json(request: &messages::ExportMetricsServiceRequest) -> String {
+    let spelling = mapping::Spelling {
+        proto_names: false,
+        numbers: false,
+        enum_names: false,
+    };
+    spelling.request(request)
+}
+
+/// A request of one point.
+pub(super) fn a_request() -> Vec<u8> {
+    let point = [
+        &[0x11][..],
+        &1u64.to_le_bytes(),
+        &[0x19],
+        &2u64.to_le_bytes(),
+        &[0x31],
+        &5i64.to_le_bytes(),
+    ]
+    .concat();
+    let sum = [bytes(1, &point), vec![0x10, 1, 0x18, 1]].concat();
+    within_request(&[bytes(1, b"m"), bytes(7, &sum)].concat())
 }

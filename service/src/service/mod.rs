@@ -7,12 +7,14 @@ mod supervisor;
 
 use crate::files::{Dead, Durability, Fault, Folder, FolderFault, Outbox};
 use crate::gateway::{Options, Starter};
+use crate::grpc;
 use crate::intake::connections::{serve, Limits};
-use crate::intake::{Budget, Intake};
+use crate::intake::{front, Budget, Intake, Taker, Threads};
 use crate::keeper::{Keeper, Orders, Settings as Keeping};
 use crate::metrics::Metrics;
 use crate::operate::{Desk, Totals};
-use crate::otlp::Dropped;
+use crate::otlp::Reading;
+use crate::remarks::Remarks;
 use crate::sinks::{self, Address, Delivery, Sink};
 use crate::slot::Slot;
 use anyhow::{anyhow, Context};
@@ -41,15 +43,21 @@ const LAST_CHECKPOINT: Duration = Duration::from_secs(6);
 pub struct Settings {
     pub data: PathBuf,
     pub listen: String,
+    /// Where senders call gRPC, if they may.
+    pub listen_grpc: Option<String>,
     pub operate: String,
     pub sink: Address,
     pub durability: Durability,
     pub gateway: Options,
     pub every: Duration,
     pub forget: Option<Duration>,
-    pub dropped: Dropped,
+    pub reading: Reading,
+    /// How many reasons of foreign points are logged for each sender.
+    pub log_foreign: usize,
     pub most_bytes: usize,
     pub most_connections: usize,
+    /// How many serve senders.
+    pub threads: usize,
 }
 
 /// Why the service did not start, or ended without being asked to.
@@ -81,6 +89,7 @@ struct Parts {
     sink: Arc<dyn Sink>,
     metrics: Arc<Metrics>,
     budget: Arc<Budget>,
+    threads: Arc<Threads>,
 }
 
 /// The parts at work. The intake ends first, then the keeper; the others have nothing to end.
@@ -99,6 +108,10 @@ pub async fn run(settings: Settings) -> Result<(), Ended> {
     let mut signals = Signals::new()?;
     let supervisor = Supervisor::from_environment();
     let senders = bind("--listen", &settings.listen).await?;
+    let callers = match &settings.listen_grpc {
+        Some(address) => Some(bind("--listen-grpc", address).await?),
+        None => None,
+    };
     let operators = bind("--operate", &settings.operate).await?;
     let parts = Parts::open(&settings)?;
     tracing::info!(
@@ -107,9 +120,10 @@ pub async fn run(settings: Settings) -> Result<(), Ended> {
         parts.sink.name(),
         settings.gateway.program.display()
     );
+    let senders = Senders { senders, callers };
     tracing::info!(
         "senders post to {}, operators ask {}",
-        local(&senders),
+        senders.shown(),
         local(&operators)
     );
     let mut running = parts.start(&settings, senders, operators);
@@ -147,6 +161,7 @@ impl Parts {
         };
         let (keeper, orders) = Keeper::new(slot.clone(), starter, keeping);
         let budget = Budget::new(settings.most_bytes);
+        let threads = Threads::new(settings.threads).context("no threads could be started")?;
         Ok(Parts {
             slot,
             keeper,
@@ -156,10 +171,11 @@ impl Parts {
             sink,
             metrics,
             budget,
+            threads: Arc::new(threads),
         })
     }
 
-    fn start(self, settings: &Settings, senders: TcpListener, operators: TcpListener) -> Running {
+    fn start(self, settings: &Settings, senders: Senders, operators: TcpListener) -> Running {
         let (stop_intake, intake_stopped) = watch::channel(false);
         let (stop_keeper, keeper_stopped) = watch::channel(false);
         let delivery = Arc::new(Mutex::new(Delivery::default()));
@@ -180,9 +196,10 @@ impl Parts {
             connections: OPERATORS,
             ..limits.clone()
         };
+        let remarks = Remarks::new(self.slot.clone(), self.outbox.clone(), settings.log_foreign);
         let intake = Intake::new(
-            self.slot.clone(),
-            settings.dropped.clone(),
+            remarks,
+            settings.reading.clone(),
             self.budget.clone(),
             self.metrics.clone(),
         );
@@ -197,13 +214,13 @@ impl Parts {
             delivery,
             metrics: self.metrics,
             budget: self.budget,
-            listen: local(&senders),
+            listen: senders.shown(),
             data: settings.data.display().to_string(),
             begun: Instant::now(),
             resending: tokio::sync::Mutex::new(()),
         };
         Running {
-            intake: tokio::spawn(serve(senders, limits, Arc::new(intake), intake_stopped)),
+            intake: tokio::spawn(senders.serve(limits, intake, self.threads, intake_stopped)),
             keeper: tokio::spawn(self.keeper.run(keeper_stopped.clone())),
             delivery: tokio::spawn(delivering),
             operate: tokio::spawn(serve(operators, of_operators, Arc::new(desk), keeper_stopped)),
@@ -282,6 +299,53 @@ fn local(listener: &TcpListener) -> String {
     listener
         .local_addr()
         .map_or_else(|error| error.to_string(), |address| address.to_string())
+}
+
+/// Where senders come to.
+struct Senders {
+    senders: TcpListener,
+    callers: Option<TcpListener>,
+}
+
+impl Senders {
+    fn shown(&self) -> String {
+        let callers = self
+            .callers
+            .iter()
+            .map(|callers| format!(", gRPC to {}", local(callers)));
+        local(&self.senders) + &callers.collect::<String>()
+    }
+
+    /// Until both have ended.
+    async fn serve<T: Taker>(
+        self,
+        limits: Limits,
+        intake: Intake<T>,
+        threads: Arc<Threads>,
+        stop: watch::Receiver<bool>,
+    ) {
+        let intake = Arc::new(intake);
+        let callers = async {
+            if let Some(callers) = self.callers {
+                grpc::serve(
+                    callers,
+                    limits.clone(),
+                    intake.clone(),
+                    threads.clone(),
+                    stop.clone(),
+                )
+                .await;
+            }
+        };
+        let senders = front::serve(
+            self.senders,
+            limits.clone(),
+            intake.clone(),
+            threads.clone(),
+            stop.clone(),
+        );
+        tokio::join!(senders, callers);
+    }
 }
 
 /// The signals that end the service.

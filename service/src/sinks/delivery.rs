@@ -131,23 +131,31 @@ impl<S: Store> Run<S> {
                     self.ended("refused");
                     return Ok(());
                 }
-                Fate::TakenPartly { rejected, reason } => {
-                    return self.keep_part(request, rejected, reason).await
-                }
+                Fate::TakenPartly {
+                    rejected,
+                    reason,
+                    left,
+                } => return self.keep_part(request, rejected, reason, left).await,
             }
         }
     }
 
     /// The key of what is kept says that the request was taken: sent again under its own key, the points that the
     /// sink took could count twice.
-    async fn keep_part(&self, request: Forwarded, rejected: u64, reason: String) -> Result<(), Fault> {
+    async fn keep_part(
+        &self,
+        request: Forwarded,
+        rejected: u64,
+        reason: String,
+        left: Option<Vec<u8>>,
+    ) -> Result<(), Fault> {
         let (sink, key) = (self.sink.name(), request.key());
         tracing::warn!(
             "{sink} took request {key} but rejected {rejected} of its points: {reason}; it is kept in dead/"
         );
-        let reason = format!("taken, but {rejected} points rejected (do not send it again): {reason}");
+        let reason = of_part(rejected, &reason, left.is_some());
         self.files
-            .keep(format!("{key}-partial"), reason, request.body)
+            .keep(format!("{key}-partial"), reason, left.unwrap_or(request.body))
             .await?;
         self.metrics
             .faults
@@ -183,6 +191,14 @@ impl<S: Store> Run<S> {
             );
         }
         *state = Delivery::default();
+    }
+}
+
+/// Why a part of a request is kept: of all its points, or of those alone that the sink did not take.
+pub fn of_part(rejected: u64, reason: &str, is_known: bool) -> String {
+    match is_known {
+        true => format!("taken, but for these {rejected} points (do not send them again): {reason}"),
+        false => format!("taken, but {rejected} points rejected (do not send it again): {reason}"),
     }
 }
 

@@ -7,11 +7,13 @@ mod attributes;
 mod backoff;
 mod delivery;
 mod otlp;
-mod postgres;
+mod part;
+pub mod postgres;
+mod roots;
 pub mod sqlite;
 
 pub use address::{Address, BadAddress};
-pub use delivery::{deliver, Delivery};
+pub use delivery::{deliver, of_part, Delivery};
 
 use std::future::Future;
 use std::pin::Pin;
@@ -22,11 +24,13 @@ use std::time::Duration;
 #[derive(Clone, Debug, PartialEq, Eq)]
 pub enum Fate {
     Taken,
-    /// The request was taken, but the sink rejected some of its points. It does not say which, so the request must
-    /// not be sent again: the points that it took would count twice.
+    /// The request was taken, but for some of its points, which the sink will never take. It must not be sent again:
+    /// the points that were taken would count twice.
     TakenPartly {
         rejected: u64,
         reason: String,
+        /// A request of the points that were not taken, where the sink says which.
+        left: Option<Vec<u8>>,
     },
     /// It is sent again, not before so long.
     Again {

@@ -105,7 +105,13 @@ async fn an_intake_that_is_stopped_answers_what_is_under_way() {
     served.stop.send_replace(true);
     assert!(idle.ends().await);
     busy.write(&request[request.len() - 1..]).await;
-    assert_eq!(busy.answer().await.status, 200);
+    let answer = busy.answer().await;
+    assert!(
+        answer.status == 200 && answer.has("connection: close"),
+        "{}",
+        answer.head
+    );
+    assert!(busy.ends().await);
     served.task.await.unwrap();
     assert!(TcpStream::connect(served.address).await.is_err());
 }

@@ -9,10 +9,10 @@ use std::time::Duration;
 use tokio::io::{AsyncReadExt, AsyncWriteExt};
 use tokio::net::{TcpListener, TcpStream};
 use tokio::sync::watch;
-use totxegun::intake::connections::{serve, Limits};
-use totxegun::intake::{Budget, Intake, Taker};
+use totxegun::intake::front::serve;
+use totxegun::intake::{Budget, Intake, Limits, Taker, Threads};
 use totxegun::metrics::Metrics;
-use totxegun::otlp::{Dropped, Outcome};
+use totxegun::otlp::{Outcome, Reading};
 
 pub const BODY: &str = r#"{"resourceMetrics":[]}"#;
 pub const LATE: Duration = Duration::from_millis(400);
@@ -52,7 +52,7 @@ impl Served {
         });
         let metrics = Arc::new(Metrics::new().unwrap());
         let budget = Budget::new(most_bytes);
-        let intake = Intake::new(kept.clone(), Dropped::default(), budget.clone(), metrics.clone())
+        let intake = Intake::new(kept.clone(), Reading::default(), budget.clone(), metrics.clone())
             .with_patience(LATE);
         let listener = TcpListener::bind("127.0.0.1:0").await.unwrap();
         let address = listener.local_addr().unwrap();
@@ -62,7 +62,8 @@ impl Served {
             idle: 3 * LATE,
         };
         let (stop, stopped) = watch::channel(false);
-        let task = tokio::spawn(serve(listener, limits, Arc::new(intake), stopped));
+        let threads = Arc::new(Threads::new(2).unwrap());
+        let task = tokio::spawn(serve(listener, limits, Arc::new(intake), threads, stopped));
         Served {
             address,
             kept,

@@ -100,6 +100,70 @@ async fn what_is_taken() {
     );
 }
 
+/// What stands beside it in the request is taken, once; a repeat says the same, so the rest is not lost by a kill.
+#[tokio::test(flavor = "multi_thread")]
+async fn of_a_request_the_spans_that_overlap_alone_are_left() {
+    let Some(server) = Server::start() else { return };
+    let sink = open(&server.by_socket("postgres"));
+    taken(&*sink, 1, sum("a", 100, 200, 1)).await;
+    let all = server::sums(&[("a", 150, 160, 9), ("a", 200, 210, 4), ("b", 1, 2, 8)]);
+    let left = server::sums(&[("a", 150, 160, 9)]);
+    for sink in [&sink, &open(&server.by_socket("postgres"))] {
+        match sink.deliver(&request(2, all.clone())).await {
+            Fate::TakenPartly {
+                rejected: 1,
+                reason,
+                left: Some(found),
+            } => {
+                assert!(reason.contains("(150, 160]"), "{reason}");
+                let of = |body: &[u8]| serde_json::from_slice::<serde_json::Value>(body).expect("JSON");
+                assert_eq!(of(&found), of(left.as_bytes()));
+            }
+            other => panic!("{other:?}"),
+        }
+        assert_eq!(
+            server.ask("select name, points, total from totxegun.totals order by 1"),
+            "a|2|5\nb|1|8"
+        );
+    }
+    assert_eq!(
+        server.ask("select points from totxegun.request where number = 2"),
+        "2"
+    );
+    refused(&*sink, 3, left, "overlaps").await;
+    // A database of the first version is brought up, and goes on.
+    server.ask("alter table totxegun.span add constraint span_request_fkey foreign key (request) references totxegun.request, add constraint span_series_fkey foreign key (series) references totxegun.series; update totxegun.version set version = 1");
+    taken(&*open(&server.by_socket("postgres")), 4, sum("a", 210, 220, 1)).await;
+    assert_eq!(server.ask("select version from totxegun.version"), "2");
+}
+
+/// The server's certificate is looked at, by the roots of the machine.
+#[tokio::test(flavor = "multi_thread")]
+async fn by_tls() {
+    let Some(mut server) = Server::start() else { return };
+    server.ask("create role shop login superuser password 'p'");
+    server.with_tls();
+    let address = |host: &str| {
+        format!(
+            "postgres://shop:p@{host}:{}/postgres?sslmode=require",
+            server.port
+        )
+    };
+    std::env::set_var("SSL_CERT_FILE", server.folder.path().join("root.pem"));
+    let sink = open(&address("localhost"));
+    taken(&*sink, 1, sum("a", 1, 2, 1)).await;
+    assert_eq!(
+        server.ask("select ssl from pg_stat_ssl join pg_stat_activity using (pid) where usename = 'shop'"),
+        "t"
+    );
+    // A name that the certificate does not have, and a root that did not sign it.
+    again(&*open(&address("127.0.0.1")), 2, sum("a", 2, 3, 1), "TLS").await;
+    std::env::set_var("SSL_CERT_FILE", server.folder.path().join("other.pem"));
+    again(&*open(&address("localhost")), 2, sum("a", 2, 3, 1), "TLS").await;
+    std::env::remove_var("SSL_CERT_FILE");
+    assert_eq!(server.ask("select points from totxegun.totals"), "1");
+}
+
 #[tokio::test(flavor = "multi_thread")]
 async fn what_is_told() {
     let Some(server) = Server::start() else { return };
@@ -131,8 +195,8 @@ async fn what_is_told() {
         let error = sinks::open(&address).err().expect("it is refused").to_string();
         assert!(error.contains(part) && error.contains(database), "{error}");
     };
-    server.ask_of("d1", "update totxegun.version set version = 2");
-    refuses("d1", "schema 2; this one knows 1");
+    server.ask_of("d1", "update totxegun.version set version = 3");
+    refuses("d1", "schema 3; this one knows 2");
     again(&*lame, 2, body(), "version").await;
     again(&*lame, 2, body(), "later version").await;
     server.ask_of(
@@ -177,7 +241,8 @@ async fn what_is_lost_on_the_way() {
     assert_eq!(server.ask("select points, total from totxegun.totals"), "3|7");
 }
 
-/// 100 requests of 1,000 series, 10,000 series in all.
+/// 100 requests of 1,000 series, 10,000 series in all: by the clock, and by the processor time of this process and the
+/// server's, which is what a machine that does other work too can compare.
 #[tokio::test(flavor = "multi_thread")]
 #[ignore = "it measures: tools/cargo test --release --test postgres -- --ignored --nocapture"]
 async fn series_a_second() {
@@ -195,12 +260,20 @@ async fn series_a_second() {
             })
             .collect();
         let began = std::time::Instant::now();
+        let (worked, worked_there) = (server::own_processor_time(), server.processor_time());
         for (number, body) in bodies {
             taken(&*sink, number, body).await;
         }
+        let took = began.elapsed().as_secs_f64();
+        let (worked, there) = (
+            server::own_processor_time() - worked,
+            server.processor_time() - worked_there,
+        );
         println!(
-            "{part}: {count} series, {:.0} a second",
-            count / began.elapsed().as_secs_f64()
+            "{part}: {count} series, {:.0} a second; {:.0} a second of processor time, {:.0} of the server's alone",
+            count / took,
+            count / (worked + there),
+            count / there
         );
     }
 }

@@ -11,11 +11,14 @@ use tokio::io::{AsyncReadExt, AsyncWriteExt};
 use tokio::net::{TcpListener, TcpStream};
 
 pub struct Server {
-    folder: tempfile::TempDir,
+    pub folder: tempfile::TempDir,
     programs: PathBuf,
     pub port: u16,
     child: Option<Child>,
 }
+
+/// Of Linux on x86-64, in a second of processor time.
+const TICKS: f64 = 100.0;
 
 /// PostgreSQL does not run as root.
 const USER: u32 = 65534;
@@ -68,7 +71,10 @@ impl Server {
     }
 
     fn command(&self, program: &str) -> Command {
-        let mut command = Command::new(self.programs.join(program));
+        self.as_user(Command::new(self.programs.join(program)))
+    }
+
+    fn as_user(&self, mut command: Command) -> Command {
         command.current_dir(self.folder.path()).stdin(Stdio::null());
         if is_root() {
             command.uid(USER).gid(USER);
@@ -108,6 +114,61 @@ impl Server {
             std::thread::sleep(std::time::Duration::from_millis(50));
         }
         panic!("the server has not started");
+    }
+
+    /// Starts anew with a certificate for `localhost`, by a root of its own. `other.pem` is another root.
+    pub fn with_tls(&mut self) {
+        self.stop();
+        let key = "-newkey ec -pkeyopt ec_paramgen_curve:prime256v1 -nodes";
+        for root in ["root", "other"] {
+            self.openssl(&format!(
+                "req -x509 {key} -keyout {root}.key -out {root}.pem -subj /CN={root} -days 2"
+            ));
+        }
+        std::fs::write(self.folder.path().join("names"), "subjectAltName=DNS:localhost\n").unwrap();
+        self.openssl(&format!(
+            "req {key} -keyout server.key -out request.pem -subj /CN=localhost"
+        ));
+        self.openssl("x509 -req -in request.pem -CA root.pem -CAkey root.key -CAcreateserial -days 2 -extfile names -out server.pem");
+        let (conf, folder) = (self.data().join("postgresql.conf"), self.folder.path().display());
+        let settings = format!(
+            "ssl = on\nssl_cert_file = '{folder}/server.pem'\nssl_key_file = '{folder}/server.key'\n"
+        );
+        let mut conf = std::fs::OpenOptions::new().append(true).open(conf).unwrap();
+        conf.write_all(settings.as_bytes()).unwrap();
+        self.run();
+    }
+
+    fn openssl(&self, words: &str) {
+        let mut openssl = self.as_user(Command::new("openssl"));
+        let done = openssl.args(words.split_whitespace()).output().unwrap();
+        assert!(
+            done.status.success(),
+            "{words}: {}",
+            String::from_utf8_lossy(&done.stderr)
+        );
+    }
+
+    /// What the server has worked, with its processes.
+    pub fn processor_time(&self) -> f64 {
+        let parent = self.child.as_ref().map_or(0, Child::id).to_string();
+        let of = |entry: std::fs::DirEntry| {
+            let stat = std::fs::read_to_string(entry.path().join("stat")).ok()?;
+            let words: Vec<&str> = stat.rsplit_once(')')?.1.split_whitespace().collect();
+            let is_ours = words[1] == parent || entry.file_name().to_str() == Some(&parent);
+            is_ours.then(|| {
+                words[11..13]
+                    .iter()
+                    .filter_map(|word| word.parse::<f64>().ok())
+                    .sum::<f64>()
+            })
+        };
+        std::fs::read_dir("/proc")
+            .unwrap()
+            .flatten()
+            .filter_map(of)
+            .sum::<f64>()
+            / TICKS
     }
 
     /// At once, as a crash does.
@@ -167,6 +228,14 @@ impl Server {
     pub fn by_tcp(&self, user: &str, database: &str) -> String {
         format!("postgres://{user}@127.0.0.1:{}/{database}", self.port)
     }
+}
+
+/// Of this process, in seconds.
+pub fn own_processor_time() -> f64 {
+    use nix::sys::resource::{getrusage, UsageWho};
+    use nix::sys::time::TimeValLike;
+    let usage = getrusage(UsageWho::RUSAGE_SELF).unwrap();
+    (usage.user_time() + usage.system_time()).num_microseconds() as f64 / 1e6
 }
 
 impl Drop for Server {
@@ -240,9 +309,13 @@ fn metrics(metrics: &str) -> String {
 }
 
 fn sum_of(name: &str, points: &str) -> String {
-    metrics(&format!(
+    metrics(&sum_metric(name, points))
+}
+
+fn sum_metric(name: &str, points: &str) -> String {
+    format!(
         r#"{{"name":"{name}","sum":{{"aggregationTemporality":1,"dataPoints":[{points}],"isMonotonic":false}},"unit":"1"}}"#
-    ))
+    )
 }
 
 fn point(value: &str, start: u64, end: u64, counted: i64) -> String {
@@ -258,6 +331,14 @@ pub fn sum(name: &str, start: u64, end: u64, counted: i64) -> String {
 /// A sum whose attribute `k` has this value; both texts as they stand in JSON.
 pub fn sum_named(name: &str, value: &str, start: u64, end: u64, counted: i64) -> String {
     sum_of(name, &point(value, start, end, counted))
+}
+
+/// A sum each.
+pub fn sums(all: &[(&str, u64, u64, i64)]) -> String {
+    let of = |(name, start, end, counted): &(&str, u64, u64, i64)| {
+        sum_metric(name, &point("v", *start, *end, *counted))
+    };
+    metrics(&all.iter().map(of).collect::<Vec<String>>().join(","))
 }
 
 pub fn many(first: u64, count: u64, start: u64) -> String {

@@ -4,6 +4,7 @@ use super::{lock, Journal, Shared};
 use crate::files::Fault;
 use std::sync::atomic::Ordering::SeqCst;
 use std::sync::{Arc, PoisonError};
+use std::thread::ThreadId;
 use std::time::Duration;
 use tokio::sync::oneshot;
 
@@ -12,8 +13,28 @@ const IDLE: Duration = Duration::from_secs(1);
 
 #[derive(Default)]
 pub struct Waiters {
-    list: Vec<(u64, oneshot::Sender<()>)>,
+    list: Vec<Waiter>,
+    /// The syncer has nothing to do.
+    idle: bool,
     pub(super) ending: bool,
+}
+
+struct Waiter {
+    ticket: u64,
+    thread: ThreadId,
+    tell: oneshot::Sender<Told>,
+}
+
+/// Says that what was waited for is durable: to who gets it and, once it is dropped, to others of the same thread. So a
+/// thread is woken once by a sync, and nobody is forgotten where a waiter goes away.
+struct Told(Vec<oneshot::Sender<Told>>);
+
+impl Drop for Told {
+    fn drop(&mut self) {
+        for other in self.0.drain(..) {
+            let _ = other.send(Told(Vec::new())); // who has gone away is not told
+        }
+    }
 }
 
 impl Shared {
@@ -28,8 +49,11 @@ impl Shared {
                 return;
             }
             let (tell, done) = oneshot::channel();
-            waiters.list.push((ticket, tell));
-            self.work.notify_one();
+            let thread = std::thread::current().id();
+            waiters.list.push(Waiter { ticket, thread, tell });
+            if std::mem::take(&mut waiters.idle) {
+                self.work.notify_one();
+            }
             done
         };
         if done.await.is_err() {
@@ -75,20 +99,27 @@ impl Shared {
     }
 
     fn tell(&self, ticket: u64) {
-        let mut told = Vec::new();
-        let mut waiters = lock(&self.waiters);
-        let list = std::mem::take(&mut waiters.list);
-        for one in list {
-            if one.0 <= ticket {
-                told.push(one.1)
-            } else {
-                waiters.list.push(one)
+        let due: Vec<Waiter> = {
+            let list = &mut lock(&self.waiters).list;
+            let (due, later) = std::mem::take(list)
+                .into_iter()
+                .partition(|one| one.ticket <= ticket);
+            *list = later;
+            due
+        };
+        let mut threads: Vec<(ThreadId, Vec<oneshot::Sender<Told>>)> = Vec::new();
+        for one in due {
+            match threads.iter_mut().find(|(thread, _)| *thread == one.thread) {
+                Some((_, others)) => others.push(one.tell),
+                None => threads.push((one.thread, vec![one.tell])),
             }
         }
-        drop(waiters);
-        // Who has gone away is not told.
-        for one in told {
-            let _ = one.send(());
+        for (_, mut others) in threads {
+            let first = others.pop();
+            let told = Told(others);
+            if let Some(first) = first {
+                let _ = first.send(told); // where the first has gone away, this tells the others
+            }
         }
     }
 
@@ -102,11 +133,13 @@ impl Shared {
             if !waiters.list.is_empty() {
                 return true;
             }
+            waiters.idle = true;
             let waited = self
                 .work
                 .wait_timeout(waiters, IDLE)
                 .unwrap_or_else(PoisonError::into_inner);
             waiters = waited.0;
+            waiters.idle = false;
             if waited.1.timed_out() && self.is_behind() {
                 return !waiters.ending;
             }

@@ -1,5 +1,5 @@
-//! What a SQLite sink has, as a page that Prometheus scrapes: counters since the file was made, exact, and the same
-//! behind a restart or a renewal, since the file is what is read.
+//! What a SQLite file or a PostgreSQL database has, as a page that Prometheus scrapes: counters since it was made,
+//! exact, and the same behind a restart or a renewal, since the sink is what is read.
 
 mod labels;
 mod names;
@@ -9,41 +9,51 @@ mod page;
 mod tests;
 
 use super::{message, reply, Desk, PROMETHEUS};
-use crate::sinks::sqlite::totals::{read, Filter};
-use crate::sinks::Address;
+use crate::sinks::postgres::{self, Server};
+use crate::sinks::sqlite::totals::{Filter, SeriesTotal};
+use crate::sinks::{sqlite, Address};
 use hyper::{Body, Response};
-use std::path::{Path, PathBuf};
+use std::path::PathBuf;
 use std::sync::Arc;
 use tokio::sync::Semaphore;
 
 /// A page is this long at most: 10,000 series with all their buckets are some 40 MiB.
 const MOST: usize = 256 << 20;
 
-/// The file that is read.
+/// The sink that is read.
 pub struct Totals {
-    path: PathBuf,
+    source: Source,
     /// One page is made at a time.
     turn: Arc<Semaphore>,
 }
 
+#[derive(Clone)]
+enum Source {
+    Sqlite(PathBuf),
+    Postgres(Server),
+}
+
 impl Totals {
-    /// None where the sink is no file.
+    /// None where the sink can't be read.
     pub fn of(sink: &Address) -> Option<Totals> {
-        match sink {
-            Address::Sqlite(path) => Some(Totals {
-                path: path.clone(),
-                turn: Arc::new(Semaphore::new(1)),
-            }),
-            Address::Postgres(_) | Address::Otlp { .. } => None,
-        }
+        let source = match sink {
+            Address::Sqlite(path) => Source::Sqlite(path.clone()),
+            Address::Postgres(server) => Source::Postgres(server.clone()),
+            Address::Otlp { .. } => return None,
+        };
+        Some(Totals {
+            source,
+            turn: Arc::new(Semaphore::new(1)),
+        })
     }
 
-    /// Reads beside the runtime. The turn is given back by who reads, also where who asked has gone.
+    /// The turn is given back by who reads, also where who asked has gone.
     async fn page(&self) -> Result<String, String> {
         let turn = self.turn.clone().acquire_owned().await;
-        let path = self.path.clone();
-        let reading = tokio::task::spawn_blocking(move || {
-            let made = made(&path);
+        let source = self.source.clone();
+        let reading = tokio::spawn(async move {
+            let totals = source.read().await;
+            let made = beside(move || made(&totals?)).await;
             drop(turn);
             made
         });
@@ -51,14 +61,35 @@ impl Totals {
     }
 }
 
-fn made(path: &Path) -> Result<String, String> {
-    let totals = read(path, &Filter::default()).map_err(|fault| fault.to_string())?;
-    let page = page::page(&totals);
+impl Source {
+    async fn read(self) -> Result<Vec<SeriesTotal>, String> {
+        match self {
+            Source::Sqlite(path) => {
+                let read = move || sqlite::totals::read(&path, &Filter::default());
+                beside(move || read().map_err(|fault| fault.to_string())).await
+            }
+            Source::Postgres(server) => {
+                let read = postgres::totals::read(&server).await;
+                read.map_err(|fault| fault.to_string())
+            }
+        }
+    }
+}
+
+/// Beside the runtime: it waits for a disk, or works for long.
+async fn beside<T: Send + 'static>(
+    call: impl FnOnce() -> Result<T, String> + Send + 'static,
+) -> Result<T, String> {
+    let done = tokio::task::spawn_blocking(call).await;
+    done.unwrap_or_else(|error| Err(error.to_string()))
+}
+
+fn made(totals: &[SeriesTotal]) -> Result<String, String> {
+    let page = page::page(totals);
     match page.len() {
         0..=MOST => Ok(page),
         length => Err(format!(
-            "the page is {length} bytes long, over {MOST}: ask {} by SQL",
-            path.display()
+            "the page is {length} bytes long, over {MOST}: ask the sink by SQL"
         )),
     }
 }
@@ -69,7 +100,7 @@ impl Desk {
             let name = self.sink.name();
             return message(
                 404,
-                &format!("only a SQLite sink has totals here: this service delivers to {name}, ask it"),
+                &format!("only a SQLite or PostgreSQL sink has totals here: this service delivers to {name}, ask it"),
             );
         };
         match totals.page().await {

@@ -1,30 +1,59 @@
-//! A body read as the gateway reads it: which series it has points of, and how many points are foreign.
+//! A body read as the gateway reads it: which series it has points of, and which points are foreign.
 
 use super::identity::{text, write_attributes};
+use super::point::{histogram_point, sum_kind, sum_point};
+use super::why::{What, Why};
 use super::{Posted, SeriesKey};
 use crate::otlp::json::{write_text, Document, Elements, Value};
-use crate::otlp::number::{gateway_whole, MAX_WHOLE_DOUBLE};
 use std::collections::HashMap;
-use std::fmt::Write;
 use std::sync::Arc;
 
-const MAX_BOUNDS: usize = 255;
+/// A point where it is in its body.
+pub struct Seen<'s, 'd> {
+    pub metric: Value<'d>,
+    /// The field of the metric's data.
+    pub kind: &'static str,
+    pub point: Value<'d>,
+    /// The series' key, where the point is of the profile.
+    pub key: &'s str,
+    /// Where it ends.
+    pub found: Result<u64, Why<'d>>,
+}
 
 /// The series of a body that the gateway took; none where the gateway refuses the body whole.
 pub fn posted(body: &[u8]) -> Option<Posted> {
     let document = Document::parse(body).ok()?;
-    let mut reading = Reading {
-        posted: Posted {
-            series: HashMap::new(),
-            foreign: 0,
-        },
+    let mut posted = Posted {
+        series: HashMap::new(),
+        foreign: 0,
+    };
+    visit(&document, |seen| match seen.found {
+        Err(_) => posted.foreign += 1,
+        Ok(end) => posted.add(seen.key, end),
+    })?;
+    Some(posted)
+}
+
+impl Posted {
+    fn add(&mut self, key: &str, end: u64) {
+        match self.series.get_mut(key) {
+            Some(last) => *last = end.max(*last),
+            None => drop(self.series.insert(SeriesKey(Arc::from(key)), end)),
+        }
+    }
+}
+
+/// Shows each point of a body, in order; `None` where the gateway refuses the body whole.
+pub fn visit<'d>(document: &'d Document<'_>, each: impl FnMut(Seen<'_, 'd>)) -> Option<()> {
+    let mut walk = Walk {
+        each,
         key: String::new(),
     };
     let [resources] = document.root().named(["resourceMetrics"])?;
     for resource in objects(resources)? {
-        reading.resource(resource)?;
+        walk.resource(resource)?;
     }
-    Some(reading.posted)
+    Some(())
 }
 
 /// The elements of an array of objects; `None` where the whole request is refused for them.
@@ -47,28 +76,27 @@ fn members<'d, const N: usize>(found: Option<Value<'d>>, names: [&str; N]) -> Op
 
 /// A metric's data field and its points.
 struct Part<'d> {
+    kind: &'static str,
     whole: Value<'d>,
     points: Option<Value<'d>>,
 }
 
-struct Reading {
-    posted: Posted,
+/// What is known of the points below: nothing that makes them foreign, or the first that does.
+type Known<'d> = Result<(), Why<'d>>;
+
+struct Walk<F> {
+    each: F,
     /// Where keys are put together: what is above a point stays while its siblings are read.
     key: String,
 }
 
-impl Reading {
-    /// What follows is in a point's key behind the parts so far; false if no series may have it.
-    fn identify(&mut self, write: impl FnOnce(&mut String) -> Option<()>) -> bool {
-        write(&mut self.key).is_some()
-    }
-
-    fn resource(&mut self, value: Value<'_>) -> Option<()> {
+impl<'d, F: FnMut(Seen<'_, 'd>)> Walk<F> {
+    fn resource(&mut self, value: Value<'d>) -> Option<()> {
         let [resource, scopes] = value.named(["resource", "scopeMetrics"])?;
         let [attributes] = members(resource, ["attributes"])?;
         self.key.clear();
         self.key.push('[');
-        let known = self.identify(|key| write_attributes(key, attributes));
+        let known = write_attributes(&mut self.key, "resource attribute", attributes);
         let above = self.key.len();
         for scope in objects(scopes)? {
             self.key.truncate(above);
@@ -77,16 +105,15 @@ impl Reading {
         Some(())
     }
 
-    fn scope(&mut self, value: Value<'_>, known: bool) -> Option<()> {
+    fn scope(&mut self, value: Value<'d>, known: Known<'d>) -> Option<()> {
         let [scope, metrics] = value.named(["scope", "metrics"])?;
         let [name, version, attributes] = members(scope, ["name", "version", "attributes"])?;
-        let known = known
-            && self.identify(|key| {
-                write_part(key, &text(name)?);
-                write_part(key, &text(version)?);
-                key.push(',');
-                write_attributes(key, attributes)
-            });
+        let known = known.and_then(|()| {
+            write_part(&mut self.key, &text("scope name", name)?);
+            write_part(&mut self.key, &text("scope version", version)?);
+            self.key.push(',');
+            write_attributes(&mut self.key, "scope attribute", attributes)
+        });
         let above = self.key.len();
         for metric in objects(metrics)? {
             self.key.truncate(above);
@@ -95,7 +122,7 @@ impl Reading {
         Some(())
     }
 
-    fn metric(&mut self, value: Value<'_>, known: bool) -> Option<()> {
+    fn metric(&mut self, value: Value<'d>, known: Known<'d>) -> Option<()> {
         let [name, unit, gauge, sum, histogram, exponential, summary] = value.named([
             "name",
             "unit",
@@ -105,24 +132,35 @@ impl Reading {
             "exponentialHistogram",
             "summary",
         ])?;
-        let others = [part(gauge)?, part(exponential)?, part(summary)?];
-        let (sum, histogram) = (part(sum)?, part(histogram)?);
+        let others = [
+            part("gauge", gauge)?,
+            part("exponentialHistogram", exponential)?,
+            part("summary", summary)?,
+        ];
+        let (sum, histogram) = (part("sum", sum)?, part("histogram", histogram)?);
         let there = others.iter().chain([&sum, &histogram]).flatten().count();
-        let known = known
-            && there == 1
-            && self.identify(|key| {
-                write_part(key, &text(name)?);
-                write_part(key, &text(unit)?);
-                Some(())
-            });
+        let known = match there {
+            0 | 1 => known,
+            _ => known.and(Err(Why::new(What::SeveralKinds, "data", None))),
+        };
         for other in others.into_iter().flatten() {
-            self.posted.foreign += objects(other.points)?.count() as u64;
+            let why = known
+                .err()
+                .unwrap_or(Why::new(What::OtherKind, in_words(other.kind), None));
+            for point in objects(other.points)? {
+                self.show(value, other.kind, point, Err(why));
+            }
         }
+        let known = known.and_then(|()| {
+            write_part(&mut self.key, &text("metric name", name)?);
+            write_part(&mut self.key, &text("unit", unit)?);
+            Ok(())
+        });
         if let Some(sum) = sum {
-            self.points(sum, known, sum_kind, sum_point)?;
+            self.points(value, sum, known, sum_kind, sum_point)?;
         }
         if let Some(histogram) = histogram {
-            self.points(histogram, known, |_, _| Some(()), histogram_point)?;
+            self.points(value, histogram, known, |_, _| Ok(()), histogram_point)?;
         }
         Some(())
     }
@@ -130,35 +168,36 @@ impl Reading {
     /// The points of a sum or a histogram; `kind` writes what all of them share, `point` what each has.
     fn points(
         &mut self,
-        part: Part<'_>,
-        known: bool,
-        kind: fn(&mut String, Value<'_>) -> Option<()>,
-        point: fn(&mut String, Value<'_>) -> Option<u64>,
+        metric: Value<'d>,
+        part: Part<'d>,
+        known: Known<'d>,
+        kind: fn(&mut String, Value<'d>) -> Known<'d>,
+        point: fn(&mut String, Value<'d>) -> Result<u64, Why<'d>>,
     ) -> Option<()> {
-        let delta = part.whole.named(["aggregationTemporality"])?[0].and_then(Value::number);
-        let is_delta = delta == Some("1");
-        let known = known && is_delta && self.identify(|key| kind(key, part.whole));
+        let known = known
+            .and_then(|()| is_delta(part.whole))
+            .and_then(|()| kind(&mut self.key, part.whole));
         let above = self.key.len();
         for value in objects(part.points)? {
             self.key.truncate(above);
-            match point(&mut self.key, value).filter(|_| known) {
-                None => self.posted.foreign += 1,
-                Some(end) => self.add(end),
-            }
+            let found = match known {
+                Ok(()) => point(&mut self.key, value),
+                Err(why) => Err(why),
+            };
+            self.show(metric, part.kind, value, found);
         }
         Some(())
     }
 
-    /// A point of the series that the key says.
-    fn add(&mut self, end: u64) {
-        match self.posted.series.get_mut(self.key.as_str()) {
-            Some(last) => *last = end.max(*last),
-            None => drop(
-                self.posted
-                    .series
-                    .insert(SeriesKey(Arc::from(self.key.as_str())), end),
-            ),
-        }
+    fn show(&mut self, metric: Value<'d>, kind: &'static str, point: Value<'d>, found: Result<u64, Why<'d>>) {
+        let key = &self.key;
+        (self.each)(Seen {
+            metric,
+            kind,
+            point,
+            key,
+            found,
+        });
     }
 }
 
@@ -167,122 +206,26 @@ fn write_part(key: &mut String, text: &str) {
     write_text(key, text);
 }
 
-fn part(found: Option<Value<'_>>) -> Option<Option<Part<'_>>> {
+fn part<'d>(kind: &'static str, found: Option<Value<'d>>) -> Option<Option<Part<'d>>> {
     let Some(whole) = found else { return Some(None) };
     let [points] = whole.named(["dataPoints"])?;
     drop(objects(points)?);
-    Some(Some(Part { whole, points }))
+    Some(Some(Part { kind, whole, points }))
 }
 
-fn sum_kind(key: &mut String, data: Value<'_>) -> Option<()> {
-    let monotonic = match data.named(["isMonotonic"])? {
-        [None] => false,
-        [Some(value)] => value.truth()?,
-    };
-    key.push_str(if monotonic { MONOTONIC } else { SUM });
-    Some(())
-}
-
-const MONOTONIC: &str = ",\"monotonic\"";
-const SUM: &str = ",\"sum\"";
-
-/// The end of a sum's point, its attributes behind the key; `None` if it is foreign.
-fn sum_point(key: &mut String, point: Value<'_>) -> Option<u64> {
-    let [start, end, number, double, flags, attributes] = point.named([
-        "startTimeUnixNano",
-        "timeUnixNano",
-        "asInt",
-        "asDouble",
-        "flags",
-        "attributes",
-    ])?;
-    let end = span(start, end, flags)?;
-    let number = gateway_whole(number?)?;
-    let least = if key.ends_with(MONOTONIC) {
-        0
-    } else {
-        -i128::from(i64::MAX)
-    };
-    if double.is_some() || !(least..=i128::from(i64::MAX)).contains(&number) {
-        return None;
-    }
-    key.push(',');
-    write_attributes(key, attributes)?;
-    key.push(']');
-    Some(end)
-}
-
-/// The end of a histogram's point, its bounds and attributes behind the key; `None` if it is foreign.
-fn histogram_point(key: &mut String, point: Value<'_>) -> Option<u64> {
-    let [start, end, count, sum, flags, buckets, bounds, attributes] = point.named([
-        "startTimeUnixNano",
-        "timeUnixNano",
-        "count",
-        "sum",
-        "flags",
-        "bucketCounts",
-        "explicitBounds",
-        "attributes",
-    ])?;
-    let end = span(start, end, flags)?;
-    let count = natural(count, 0)?;
-    if sum.is_some() && natural(sum, 0)? > MAX_WHOLE_DOUBLE {
-        return None;
-    }
-    let bounds = write_bounds(key, bounds)?;
-    if !are_buckets(buckets, bounds, count)? {
-        return None;
-    }
-    key.push(',');
-    write_attributes(key, attributes)?;
-    key.push(']');
-    Some(end)
-}
-
-/// The end of a span, if the point has one and a recorded value.
-fn span(start: Option<Value<'_>>, end: Option<Value<'_>>, flags: Option<Value<'_>>) -> Option<u64> {
-    let (start, end) = (natural(start, 0)?, natural(end, 0)?);
-    let flags = u32::try_from(natural(flags, 0)?).ok()?;
-    (start >= 1 && end > start && flags % 2 == 0).then_some(end)
-}
-
-fn natural(found: Option<Value<'_>>, absent: u64) -> Option<u64> {
-    match found {
-        None => Some(absent),
-        Some(value) => u64::try_from(gateway_whole(value)?).ok(),
+fn in_words(kind: &'static str) -> &'static str {
+    match kind {
+        "gauge" => "gauges",
+        "summary" => "summaries",
+        _ => "exponential histograms",
     }
 }
 
-/// Writes the bounds, strictly ascending; how many there are.
-fn write_bounds(key: &mut String, found: Option<Value<'_>>) -> Option<usize> {
-    let mut bounds = 0;
-    let mut last = i128::MIN;
-    key.push_str(",[");
-    if let Some(list) = found {
-        for value in list.elements()? {
-            let bound = gateway_whole(value)?;
-            if bounds == MAX_BOUNDS || bound <= last || bound.unsigned_abs() > u128::from(MAX_WHOLE_DOUBLE) {
-                return None;
-            }
-            let _ = write!(key, "{}{bound}", if bounds > 0 { "," } else { "" });
-            (bounds, last) = (bounds + 1, bound);
-        }
+fn is_delta(data: Value<'_>) -> Known<'_> {
+    let [found] = data.named(["aggregationTemporality"]).unwrap_or_default();
+    match found.and_then(Value::number) {
+        Some("1") => Ok(()),
+        Some("2") => Err(Why::new(What::Cumulative, "aggregationTemporality", found)),
+        _ => Err(Why::new(What::NotDelta, "aggregationTemporality", found)),
     }
-    key.push(']');
-    Some(bounds)
-}
-
-/// Whether buckets fit the bounds and add up to the count.
-fn are_buckets(found: Option<Value<'_>>, bounds: usize, count: u64) -> Option<bool> {
-    let (mut buckets, mut total) = (0, 0);
-    if let Some(list) = found {
-        for value in list.elements()? {
-            total += u128::from(u64::try_from(gateway_whole(value)?).ok()?);
-            buckets += 1;
-        }
-    }
-    if buckets == 0 {
-        return Some(bounds == 0);
-    }
-    Some(buckets == bounds + 1 && total == u128::from(count))
 }

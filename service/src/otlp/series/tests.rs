@@ -363,7 +363,7 @@ fn a_forwarded_request_in_protobuf() {
     let again =
         crate::otlp::prepare(crate::otlp::Encoding::Protobuf, bytes.into(), &Default::default()).unwrap();
     assert_eq!(
-        posted(&again[0]).unwrap().series,
+        posted(&again.bodies[0]).unwrap().series,
         posted(FORWARDED.as_bytes()).unwrap().series
     );
 }

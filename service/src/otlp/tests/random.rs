@@ -3,6 +3,7 @@
 use super::mapping::Spelling;
 use super::*;
 use crate::otlp::messages::*;
+use std::collections::BTreeMap;
 
 /// xorshift64: the same draws in each run.
 struct Random(u64);
@@ -39,6 +40,9 @@ impl Random {
     }
 
     fn double(&mut self) -> f64 {
+        if self.below(3) == 0 {
+            return self.below(100_000) as f64 / 10f64.powi(self.below(9) as i32);
+        }
         let edges = [
             0.0,
             -0.0,
@@ -100,7 +104,7 @@ impl Random {
 
     fn histogram_point(&mut self) -> HistogramDataPoint {
         let explicit_bounds: Vec<f64> = (0..self.below(4))
-            .map(|bound| bound as f64 * if self.0.is_multiple_of(5) { 0.5 } else { 2.0 })
+            .map(|bound| bound as f64 * [0.005, 2.0, 2.0, 2.5e-7][(self.0 % 4) as usize])
             .collect();
         let bucket_counts: Vec<u64> = (0..=explicit_bounds.len()).map(|_| self.below(9)).collect();
         HistogramDataPoint {
@@ -131,7 +135,7 @@ impl Random {
         };
         Metric {
             name: self.text(),
-            unit: self.text(),
+            unit: ["", "s", "By", "a\"b"][self.below(4) as usize].to_string(),
             data,
         }
     }
@@ -156,12 +160,34 @@ impl Random {
 
 #[test]
 fn both_encodings_of_a_request_mean_the_same() {
+    both_mean_the_same(&Reading::default());
+}
+
+#[test]
+fn both_encodings_mean_the_same_in_finer_units() {
+    let rules = ["s=us", "By", "a\"b=3:c"].map(|rule| rule.parse().unwrap());
+    let whole = Whole::new(rules).unwrap();
+    let rounded = both_mean_the_same(&Reading {
+        whole,
+        ..Reading::default()
+    });
+    assert!(
+        rounded.len() == 3 && rounded.values().all(|one| one.values > 10),
+        "{rounded:?}"
+    );
+}
+
+fn both_mean_the_same(reading: &Reading) -> BTreeMap<String, Rounding> {
+    let prepared = |encoding, body: Vec<u8>| prepare(encoding, body.into(), reading).unwrap();
     let mut random = Random(0x9e37_79b9_7f4a_7c15);
-    let (mut series, mut foreign) = (0, 0);
+    let (mut series, mut foreign, mut rounded) = (0, 0, BTreeMap::new());
     for _ in 0..600 {
         let request = random.request();
-        let binary = prepared(Encoding::Protobuf, request.encode_to_vec()).unwrap();
-        let expected = posted(&binary[0]).unwrap();
+        let binary = prepared(Encoding::Protobuf, request.encode_to_vec());
+        let expected = posted(&binary.bodies[0]).unwrap();
+        let explained = explained(&binary.bodies[0]).unwrap();
+        let told = explained.iter().filter(|point| point.foreign.is_some()).count();
+        assert_eq!(told as u64, expected.foreign);
         let points = |metric: &Metric| match &metric.data {
             None => 0,
             Some(Data::Sum(sum)) => sum.data_points.len(),
@@ -174,7 +200,7 @@ fn both_encodings_of_a_request_mean_the_same() {
             .flat_map(|one| &one.metrics)
             .map(points)
             .sum::<usize>();
-        assert!(expected.series.len() as u64 + expected.foreign <= all as u64);
+        assert_eq!(explained.len(), all);
         for draw in 0..8 {
             let spelling = Spelling {
                 proto_names: draw & 1 != 0,
@@ -182,8 +208,9 @@ fn both_encodings_of_a_request_mean_the_same() {
                 enum_names: draw & 4 != 0,
             };
             let text = spelling.request(&request);
-            let bodies = prepared(Encoding::Json, text.clone()).unwrap();
-            let found = posted(&bodies[0]).unwrap();
+            let written = prepared(Encoding::Json, text.clone().into_bytes());
+            assert_eq!(written.rounded, binary.rounded, "{text}");
+            let found = posted(&written.bodies[0]).unwrap();
             assert_eq!(
                 (found.series, found.foreign),
                 (expected.series.clone(), expected.foreign),
@@ -192,8 +219,13 @@ fn both_encodings_of_a_request_mean_the_same() {
         }
         series += expected.series.len();
         foreign += expected.foreign;
+        for (rule, more) in binary.rounded.by_rule {
+            let sum: &mut Rounding = rounded.entry(rule).or_default();
+            sum.values += more.values;
+        }
     }
     assert!(series > 500 && foreign > 500, "{series} {foreign}");
+    rounded
 }
 
 #[test]

@@ -241,6 +241,7 @@ async fn what_is_taken_in_part_is_kept_and_not_sent_again() {
         vec![Fate::TakenPartly {
             rejected: 3,
             reason: "too old".into(),
+            left: None,
         }],
     )
     .await;
@@ -264,6 +265,29 @@ async fn what_is_taken_in_part_is_kept_and_not_sent_again() {
     assert_eq!(tried.outcome("partial"), 1);
 }
 
+#[tokio::test]
+async fn of_what_is_taken_in_part_the_rest_alone_is_kept_where_it_is_known() {
+    let memory = waiting([1]);
+    let part = Fate::TakenPartly {
+        rejected: 2,
+        reason: "overlaps".into(),
+        left: Some(b"the rest".to_vec()),
+    };
+    let tried = run(&memory, vec![part]).await;
+    let dead = memory.dead.lock().expect("dead");
+    assert_eq!(
+        (dead[0].0.as_str(), dead[0].2.as_slice()),
+        ("2-e-1-partial", &b"the rest"[..])
+    );
+    assert!(
+        dead[0].1.contains("these 2 points") && dead[0].1.contains("overlaps"),
+        "{}",
+        dead[0].1
+    );
+    assert_eq!(*memory.acknowledged.lock().expect("acknowledged"), [1]);
+    assert_eq!(tried.outcome("partial"), 1);
+}
+
 /// What is in no file must not leave the outbox.
 #[tokio::test]
 async fn a_letter_that_can_not_be_kept_ends_the_delivery() {
@@ -272,6 +296,7 @@ async fn a_letter_that_can_not_be_kept_ends_the_delivery() {
         Fate::TakenPartly {
             rejected: 1,
             reason: String::new(),
+            left: None,
         },
     ] {
         let memory = Memory {

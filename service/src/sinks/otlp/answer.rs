@@ -123,6 +123,7 @@ fn taken(body: Read, encoding: Encoding) -> Fate {
         Some(partial) if partial.rejected_data_points > 0 => Fate::TakenPartly {
             rejected: partial.rejected_data_points.unsigned_abs(),
             reason: shown(&partial.error_message),
+            left: None,
         },
         Some(partial) if !partial.error_message.is_empty() => {
             tracing::debug!(

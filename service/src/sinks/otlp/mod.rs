@@ -46,7 +46,7 @@ pub enum BadOtlp {
     #[error("header `{0}` is written by the service itself: leave it out")]
     OwnHeader(String),
     #[error(transparent)]
-    Roots(#[from] connect::NoRoots),
+    Roots(#[from] crate::sinks::roots::NoRoots),
 }
 
 pub struct OtlpSink {

@@ -46,6 +46,7 @@ async fn rejected_points_are_told() {
     let rejected = Fate::TakenPartly {
         rejected: 3,
         reason: "too old".into(),
+        left: None,
     };
     for body in [
         r#"{"partialSuccess":{"rejectedDataPoints":"3","errorMessage":"too old"}}"#,
@@ -68,6 +69,7 @@ async fn rejected_points_are_told_in_protobuf() {
     let rejected = Fate::TakenPartly {
         rejected: 3,
         reason: "too old".into(),
+        left: None,
     };
     assert_eq!(fate_of("200 OK", headers, body).await, rejected);
 }

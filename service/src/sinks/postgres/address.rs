@@ -9,6 +9,10 @@ use tokio_postgres::Config;
 const CONNECT: Duration = Duration::from_secs(5);
 const PORT: u16 = 5432;
 
+/// What is written for TLS whose certificate is looked at. Here it always is, so it is one with `require`.
+const VERIFY: &str = "sslmode=verify-full";
+const REQUIRE: &str = "sslmode=require";
+
 /// Its `Debug` shows no password.
 #[derive(Clone, Debug, PartialEq, Eq)]
 pub struct Server(Config);
@@ -19,10 +23,8 @@ impl Server {
         if !rest.starts_with("//") {
             return Err("`//` is missing".into());
         }
-        if rest.contains("sslmode=verify") || rest.contains("sslmode=require") {
-            return Err(NO_TLS.into());
-        }
-        let mut config = Config::from_str(&format!("postgres:{rest}")).map_err(|error| error.to_string())?;
+        let written = format!("postgres:{}", rest.replace(VERIFY, REQUIRE));
+        let mut config = Config::from_str(&written).map_err(|error| error.to_string())?;
         if config.get_user().is_none() {
             return Err("there is no user".into());
         }
@@ -31,19 +33,26 @@ impl Server {
         }
         match config.get_hosts() {
             [] => return Err("there is no host".into()),
+            [Host::Unix(_)] if config.get_ssl_mode() == SslMode::Require => {
+                return Err("a Unix socket has no TLS: leave `sslmode` out".into())
+            }
             [_] => {}
             _ => return Err("there is more than one host, and two servers would count apart".into()),
         }
-        if config.get_ssl_mode() == SslMode::Require {
-            return Err(NO_TLS.into());
+        // Only what was asked for: TLS that is left out where a server has none is no protection.
+        if config.get_ssl_mode() != SslMode::Require {
+            config.ssl_mode(SslMode::Disable);
         }
-        config.ssl_mode(SslMode::Disable);
         config.application_name("totxegun");
         config.keepalives_idle(Duration::from_secs(30));
         if config.get_connect_timeout().is_none() {
             config.connect_timeout(CONNECT);
         }
         Ok(Server(config))
+    }
+
+    pub(super) fn wants_tls(&self) -> bool {
+        self.0.get_ssl_mode() == SslMode::Require
     }
 
     /// With the password of the environment, where the address has none.
@@ -57,8 +66,6 @@ impl Server {
         config
     }
 }
-
-const NO_TLS: &str = "this program speaks no TLS to PostgreSQL: leave `sslmode` out, and come by a Unix socket, a private network or a tunnel";
 
 impl std::fmt::Display for Server {
     fn fmt(&self, formatter: &mut std::fmt::Formatter<'_>) -> std::fmt::Result {
@@ -88,6 +95,8 @@ mod tests {
             ("//u@/d?host=/run/pg", "u@/run/pg:5432/d"),
             ("//u@/d?host=/run/pg&port=5433&sslmode=prefer", "u@/run/pg:5433/d"),
             ("//u@%2Frun%2Fpg/d?sslmode=disable", "u@/run/pg:5432/d"),
+            ("//u:secret@h/d?sslmode=require", "u@h:5432/d"),
+            ("//u:secret@h/d?sslmode=verify-full", "u@h:5432/d"),
         ] {
             let server = Server::read(rest).expect(rest);
             assert_eq!(server.to_string(), shown);
@@ -103,8 +112,8 @@ mod tests {
             ("//u:secret@h", "no database"),
             ("//u:secret@/d", "no host"),
             ("//u:secret@h1,h2/d", "more than one"),
-            ("//u:secret@h/d?sslmode=require", "no TLS"),
-            ("//u:secret@h/d?sslmode=verify-full", "no TLS"),
+            ("//u:secret@h/d?sslmode=verify-ca", "sslmode"),
+            ("//u@/d?host=/run/pg&sslmode=require", "no TLS"),
             ("//u:secret@h:x/d", "port"),
         ] {
             let error = Server::read(rest).expect_err(rest);

@@ -5,16 +5,20 @@
 
 mod address;
 mod fault;
+mod repeat;
 mod rows;
 mod schema;
 mod series_rows;
 mod session;
 mod statements;
 mod store;
+mod tls;
+pub mod totals;
 
 pub use address::Server;
 pub use fault::PostgresFault;
 
+use super::part::Left;
 use super::{Fate, Forwarded, Sink};
 use fault::NotTaken;
 use session::Session;
@@ -53,7 +57,7 @@ impl PostgresSink {
         })
     }
 
-    async fn take(&self, request: &Forwarded) -> Result<(), NotTaken> {
+    async fn take(&self, request: &Forwarded) -> Result<Option<Left>, NotTaken> {
         let body = request.body.clone();
         // Milliseconds of work, too much for the runtime.
         let read = tokio::task::spawn_blocking(move || rows::read(&body)).await;
@@ -63,7 +67,7 @@ impl PostgresSink {
             Some(session) if !session.client.is_closed() => session,
             _ => Session::open(&self.server).await?,
         };
-        let taken = store::take(&mut session, &self.name, request, &all).await;
+        let taken = store::take(&mut session, &self.name, request, all).await;
         if !matches!(taken, Err(NotTaken::Fault(_))) {
             *place = Some(session);
         }
@@ -72,7 +76,8 @@ impl PostgresSink {
 
     async fn send(&self, request: &Forwarded) -> Fate {
         match timeout(PATIENCE, self.take(request)).await {
-            Ok(Ok(())) => Fate::Taken,
+            Ok(Ok(None)) => Fate::Taken,
+            Ok(Ok(Some(left))) => left.fate(&request.body),
             Ok(Err(NotTaken::Refused(reason))) => Fate::refused(reason),
             Ok(Err(NotTaken::Fault(fault))) => Fate::again(fault.to_string()),
             Err(_) => Fate::again(format!(

@@ -46,7 +46,7 @@ impl OfSeries {
             return Err(NotTaken::Refused(format!("the span {} is empty", shown(empty))));
         }
         match self.points.windows(2).find(|two| two[1].start < two[0].end) {
-            Some(two) => Err(overlaps(&two[1], two[0].start, two[0].end)),
+            Some(two) => Err(NotTaken::Refused(overlaps(&two[1], two[0].start, two[0].end))),
             None => Ok(()),
         }
     }
@@ -91,12 +91,10 @@ impl OfSeries {
     }
 }
 
-pub(super) fn overlaps(point: &ForwardedPoint, start: impl ToString, end: impl ToString) -> NotTaken {
+pub(super) fn overlaps(point: &ForwardedPoint, start: impl ToString, end: impl ToString) -> String {
     let (start, end) = (start.to_string(), end.to_string());
     let shown = shown(point);
-    NotTaken::Refused(format!(
-        "the span {shown} overlaps ({start}, {end}], which is there already"
-    ))
+    format!("the span {shown} overlaps ({start}, {end}], which is there already")
 }
 
 /// Numbers as an array of PostgreSQL.
@@ -106,7 +104,7 @@ pub(super) fn array(numbers: &[impl std::fmt::Display]) -> String {
 }
 
 /// A point for an error: its span, and its series as far as that is short.
-fn shown(point: &ForwardedPoint) -> String {
+pub(super) fn shown(point: &ForwardedPoint) -> String {
     let series: String = point.series.0.chars().take(300).collect();
     format!("({}, {}] of {series}", point.start, point.end)
 }

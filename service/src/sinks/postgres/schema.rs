@@ -4,7 +4,7 @@ use super::fault::PostgresFault;
 use tokio_postgres::{Client, GenericClient};
 
 /// Step N leads from version N to version N+1. A step that was released is never changed.
-const STEPS: &[&str] = &[include_str!("version1.sql")];
+const STEPS: &[&str] = &[include_str!("version1.sql"), include_str!("version2.sql")];
 
 /// The version that this program writes.
 pub(super) const KNOWN: i32 = STEPS.len() as i32;
@@ -55,6 +55,10 @@ pub(super) async fn migrate(client: &mut Client, server: &str) -> Result<(), Pos
 }
 
 /// The version of a schema that is ours; 0 where there is none, or an empty one.
+pub(super) async fn version(client: &impl GenericClient, server: &str) -> Result<i32, PostgresFault> {
+    Ok(check(client, server).await?.version)
+}
+
 async fn check(client: &impl GenericClient, server: &str) -> Result<Found, PostgresFault> {
     let fault = |error| PostgresFault::of(server, &error);
     let query = "select exists (select from pg_namespace where nspname = 'totxegun'),

@@ -2,9 +2,12 @@
 
 use super::address::Server;
 use super::fault::PostgresFault;
+use super::tls::Tls;
 use super::{schema, statements};
+use crate::sinks::roots;
+use tokio::io::{AsyncRead, AsyncWrite};
 use tokio::task::JoinHandle;
-use tokio_postgres::{Client, NoTls, Statement};
+use tokio_postgres::{Client, Connection, NoTls, Statement};
 
 /// Each statement is bounded, and a transaction whose client is gone does not keep its locks. Texts and times mean the
 /// same whatever the role's own settings are. A commit that is told must be on the server's disk.
@@ -23,6 +26,8 @@ pub(super) struct Session {
 pub(super) struct Statements {
     pub(super) key: Statement,
     pub(super) is_taken: Statement,
+    pub(super) set_points: Statement,
+    pub(super) left: Statement,
     pub(super) find: Statement,
     pub(super) make: Statement,
     pub(super) overlap: Statement,
@@ -33,15 +38,10 @@ pub(super) struct Statements {
 impl Session {
     pub(super) async fn open(server: &Server) -> Result<Session, PostgresFault> {
         let name = server.to_string();
-        let fault = |error| PostgresFault::of(&name, &error);
-        let (mut client, connection) = server.config().connect(NoTls).await.map_err(fault)?;
-        let connection = Driver(tokio::spawn(async move {
-            // Whoever waits for an answer is told of its fault.
-            let _ = connection.await;
-        }));
-        client.batch_execute(SETTINGS).await.map_err(fault)?;
+        let (mut client, connection) = connect(server).await?;
         schema::migrate(&mut client, &name).await?;
-        let statements = Statements::prepare(&client).await.map_err(fault)?;
+        let statements = Statements::prepare(&client).await;
+        let statements = statements.map_err(|error| PostgresFault::of(&name, &error))?;
         Ok(Session {
             client,
             statements,
@@ -50,8 +50,38 @@ impl Session {
     }
 }
 
+/// A connection with our settings, whatever schema is there.
+pub(super) async fn connect(server: &Server) -> Result<(Client, Driver), PostgresFault> {
+    let name = server.to_string();
+    let fault = |error| PostgresFault::of(&name, &error);
+    let (client, connection) = if server.wants_tls() {
+        let roots = roots::of_machine().map_err(|error| PostgresFault::told(&name, error.to_string()))?;
+        let tls = Tls::new(roots::client_config(roots));
+        let (client, connection) = server.config().connect(tls).await.map_err(fault)?;
+        (client, Driver::of(connection))
+    } else {
+        let (client, connection) = server.config().connect(NoTls).await.map_err(fault)?;
+        (client, Driver::of(connection))
+    };
+    client.batch_execute(SETTINGS).await.map_err(fault)?;
+    Ok((client, connection))
+}
+
 /// The task that moves a connection's bytes: it ends with this, so no statement goes on unseen.
-struct Driver(JoinHandle<()>);
+pub(super) struct Driver(JoinHandle<()>);
+
+impl Driver {
+    fn of<S, T>(connection: Connection<S, T>) -> Driver
+    where
+        S: AsyncRead + AsyncWrite + Unpin + Send + 'static,
+        T: AsyncRead + AsyncWrite + Unpin + Send + 'static,
+    {
+        Driver(tokio::spawn(async move {
+            // Whoever waits for an answer is told of its fault.
+            let _ = connection.await;
+        }))
+    }
+}
 
 impl Drop for Driver {
     fn drop(&mut self) {
@@ -64,6 +94,8 @@ impl Statements {
         Ok(Statements {
             key: client.prepare(statements::KEY).await?,
             is_taken: client.prepare(statements::IS_TAKEN).await?,
+            set_points: client.prepare(statements::SET_POINTS).await?,
+            left: client.prepare(statements::LEFT).await?,
             find: client.prepare(statements::FIND).await?,
             make: client.prepare(statements::MAKE).await?,
             overlap: client.prepare(statements::OVERLAP).await?,

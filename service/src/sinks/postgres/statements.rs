@@ -6,8 +6,18 @@ pub(super) const KEY: &str = "insert into totxegun.request (slot, epoch, number,
     select $1::int4, $2::text, $3::text::numeric, $4::int8 from totxegun.version where version = $5::int4
     on conflict (slot, epoch, number) do nothing returning id";
 
-pub(super) const IS_TAKEN: &str = "select exists (select from totxegun.request
-    where slot = $1::int4 and epoch = $2::text and number = $3::text::numeric)";
+pub(super) const IS_TAKEN: &str = "select id, points from totxegun.request
+    where slot = $1::int4 and epoch = $2::text and number = $3::text::numeric";
+
+pub(super) const SET_POINTS: &str = "update totxegun.request set points = $2::int8 where id = $1::int8";
+
+/// The places of those points that have no span of this request.
+pub(super) const LEFT: &str = "select wanted.place from unnest($2::bytea[], $3::text[]) with ordinality
+        as wanted(digest, start_ns, place)
+    left join totxegun.series on series.digest = wanted.digest
+    left join totxegun.span on span.series = series.id and span.start_ns = wanted.start_ns::numeric
+        and span.request = $1::int8
+    where span.series is null order by wanted.place";
 
 /// Locks the totals of the series that are known, so nobody else adds to them until the transaction ends.
 pub(super) const FIND: &str = "select wanted.place, series.id, t.last_end_ns::text, cardinality(t.buckets)
@@ -40,7 +50,7 @@ pub(super) const OVERLAP: &str = "select new.place, old.start_ns::text, old.end_
         select s.start_ns, s.end_ns from totxegun.span as s
         where s.series = new.series and s.start_ns < new.end_ns::numeric order by s.start_ns desc limit 1
     ) as old
-    where old.end_ns > new.start_ns::numeric limit 1";
+    where old.end_ns > new.start_ns::numeric order by new.place";
 
 pub(super) const SPANS: &str =
     "insert into totxegun.span (series, start_ns, end_ns, request, value, count, sum, buckets)

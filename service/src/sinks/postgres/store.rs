@@ -1,31 +1,39 @@
 //! One transaction a request, whole or not at all.
 
 use super::fault::{NotTaken, PostgresFault};
+use super::repeat::{self, Refused};
 use super::rows::{array, overlaps, OfSeries};
 use super::schema::KNOWN;
 use super::series_rows::SeriesRows;
 use super::session::{Session, Statements};
 use crate::otlp::series::{ForwardedPoint, Value};
+use crate::sinks::part::Left;
 use crate::sinks::Forwarded;
 use tokio_postgres::types::ToSql;
 use tokio_postgres::{Row, Statement, Transaction};
 
 /// What the server has of a series.
 #[derive(Clone)]
-struct Known {
+pub(super) struct Known {
     id: i64,
     last_end: Option<u64>,
     buckets: Option<usize>,
 }
 
-/// Takes a request that is not taken yet. On any error nothing of it is there, unless the answer to the commit was
-/// lost; then the key says so the next time.
+/// A request's key: new, or that of a request that was taken.
+enum Key {
+    New(i64),
+    Taken { row: i64, points: i64 },
+}
+
+/// Takes a request that is not taken yet, but for spans that overlap: these are left. On any error nothing of it is
+/// there, unless the answer to the commit was lost; then the key says so the next time.
 pub(super) async fn take(
     session: &mut Session,
     server: &str,
     request: &Forwarded,
-    all: &[OfSeries],
-) -> Result<(), NotTaken> {
+    all: Vec<OfSeries>,
+) -> Result<Option<Left>, NotTaken> {
     let transaction = session.client.transaction().await;
     let transaction = transaction.map_err(|error| NotTaken::of(server, &error))?;
     let writing = Writing {
@@ -33,28 +41,44 @@ pub(super) async fn take(
         statements: &session.statements,
         server,
     };
-    let Some(row) = writing.key(request, all).await? else {
-        return Ok(());
+    let row = match writing.key(request, &all).await? {
+        Key::New(row) => row,
+        Key::Taken { row, points } => return writing.left_of(row, points, request, &all).await,
     };
-    let known = writing.series(all).await?;
-    writing.refuse_overlaps(all, &known).await?;
-    writing.spans(row, all, &known).await?;
-    writing.totals(all, &known).await?;
+    let known = writing.series(&all).await?;
+    let refused = writing.overlapping(&all, &known).await?;
+    let (all, known) = repeat::without(all, known, &refused);
+    if all.is_empty() && !refused.is_empty() {
+        return Err(NotTaken::Refused(refused.reason));
+    }
+    writing.spans(row, &all, &known).await?;
+    writing.totals(&all, &known).await?;
+    if !refused.is_empty() {
+        let added = repeat::points(&all);
+        writing
+            .write(&writing.statements.set_points, &[&row, &added], 1)
+            .await?;
+    }
     // No content can be at fault any more.
     let committed = writing.transaction.commit().await;
-    committed.map_err(|error| PostgresFault::of(server, &error).into())
+    committed.map_err(|error| PostgresFault::of(server, &error))?;
+    refused.left(request)
 }
 
-struct Writing<'a> {
+pub(super) struct Writing<'a> {
     transaction: Transaction<'a>,
-    statements: &'a Statements,
+    pub(super) statements: &'a Statements,
     server: &'a str,
 }
 
 type Columns<'c> = [&'c (dyn ToSql + Sync)];
 
 impl Writing<'_> {
-    async fn rows(&self, statement: &Statement, columns: &Columns<'_>) -> Result<Vec<Row>, NotTaken> {
+    pub(super) async fn rows(
+        &self,
+        statement: &Statement,
+        columns: &Columns<'_>,
+    ) -> Result<Vec<Row>, NotTaken> {
         let rows = self.transaction.query(statement, columns).await;
         rows.map_err(|error| NotTaken::of(self.server, &error))
     }
@@ -76,10 +100,10 @@ impl Writing<'_> {
         Err(PostgresFault::told(self.server, what).into())
     }
 
-    /// The number of the request's row; none where the key is taken.
-    async fn key(&self, request: &Forwarded, all: &[OfSeries]) -> Result<Option<i64>, NotTaken> {
+    /// The number of the request's row, made where there is none.
+    async fn key(&self, request: &Forwarded, all: &[OfSeries]) -> Result<Key, NotTaken> {
         let (slot, number) = (i32::from(request.slot), request.number.to_string());
-        let points: i64 = all.iter().map(|series| series.points.len() as i64).sum();
+        let points = repeat::points(all);
         let rows = self
             .rows(
                 &self.statements.key,
@@ -87,13 +111,16 @@ impl Writing<'_> {
             )
             .await?;
         if let Some(row) = rows.first() {
-            return Ok(Some(row.get(0)));
+            return Ok(Key::New(row.get(0)));
         }
         let rows = self
             .rows(&self.statements.is_taken, &[&slot, &request.epoch, &number])
             .await?;
-        if rows.first().is_some_and(|row| row.get(0)) {
-            return Ok(None);
+        if let Some(row) = rows.first() {
+            return Ok(Key::Taken {
+                row: row.get(0),
+                points: row.get(1),
+            });
         }
         Err(PostgresFault::told(self.server, "the schema's version has changed: it is read again").into())
     }
@@ -140,13 +167,14 @@ impl Writing<'_> {
 
     /// A span that overlaps one that is there was counted before, at least in part. Behind all of a series' spans it
     /// overlaps none.
-    async fn refuse_overlaps(&self, all: &[OfSeries], known: &[Known]) -> Result<(), NotTaken> {
+    async fn overlapping(&self, all: &[OfSeries], known: &[Known]) -> Result<Refused, NotTaken> {
         let before = |(point, known): &(&ForwardedPoint, &Known)| {
             known.last_end.is_some_and(|last_end| point.start < last_end)
         };
         let before: Vec<_> = each(all, known).filter(before).collect();
+        let mut refused = Refused::default();
         if before.is_empty() {
-            return Ok(());
+            return Ok(refused);
         }
         let series: Vec<i64> = before.iter().map(|(_, known)| known.id).collect();
         let starts: Vec<String> = before.iter().map(|(point, _)| point.start.to_string()).collect();
@@ -154,13 +182,12 @@ impl Writing<'_> {
         let rows = self
             .rows(&self.statements.overlap, &[&series, &starts, &ends])
             .await?;
-        match rows.first() {
-            None => Ok(()),
-            Some(row) => {
-                let (place, start, end): (i64, &str, &str) = (row.get(0), row.get(1), row.get(2));
-                Err(overlaps(before[place as usize - 1].0, start, end))
-            }
+        for row in rows {
+            let (place, start, end): (i64, &str, &str) = (row.get(0), row.get(1), row.get(2));
+            let point = before[place as usize - 1].0;
+            refused.add(point, || overlaps(point, start, end));
         }
+        Ok(refused)
     }
 
     async fn spans(&self, request: i64, all: &[OfSeries], known: &[Known]) -> Result<(), NotTaken> {

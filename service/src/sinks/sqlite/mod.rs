@@ -136,7 +136,8 @@ impl Writer {
             .map_err(NotTaken::from)
             .and_then(|store| store.take(request))
         {
-            Ok(()) => Fate::Taken,
+            Ok(None) => Fate::Taken,
+            Ok(Some(left)) => left.fate(&request.body),
             Err(NotTaken::Refused(reason)) => Fate::refused(reason),
             Err(NotTaken::Fault(fault)) => {
                 if !fault.leaves_the_file_whole() {

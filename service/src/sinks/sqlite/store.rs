@@ -4,6 +4,7 @@ use super::fault::{NotTaken, SqliteFault};
 use super::schema::{self, STEPS};
 use super::whole::Whole;
 use crate::otlp::series::{self, ForwardedPoint, SeriesKey};
+use crate::sinks::part::Left;
 use crate::sinks::Forwarded;
 use rusqlite::{params, Connection, OpenFlags, OptionalExtension, Transaction, TransactionBehavior};
 use std::collections::HashMap;
@@ -11,6 +12,7 @@ use std::os::unix::fs::MetadataExt;
 use std::path::{Path, PathBuf};
 use std::time::Duration;
 
+mod repeat;
 mod series_row;
 mod total;
 
@@ -72,8 +74,8 @@ impl Store {
         place(&self.path) == Some(self.place)
     }
 
-    /// Takes a request that is not taken yet.
-    pub(super) fn take(&mut self, request: &Forwarded) -> Result<(), NotTaken> {
+    /// Takes a request that is not taken yet, but for spans that overlap: these are left.
+    pub(super) fn take(&mut self, request: &Forwarded) -> Result<Option<Left>, NotTaken> {
         let points = series::forwarded(&request.body)?;
         let fault = |error: rusqlite::Error| -> NotTaken { not_taken(&self.path, error) };
         let transaction = self
@@ -88,19 +90,20 @@ impl Store {
             self.series.clear();
             self.data_version = version;
         }
-        if is_taken(&transaction, request).map_err(fault)? {
-            return Ok(());
-        }
+        let taken = repeat::find(&transaction, request).map_err(fault)?;
         let mut writing = Writing {
             transaction,
             path: &self.path,
             known: &self.series,
             new: HashMap::new(),
         };
-        writing.request(request, &points)?;
+        if let Some(taken) = taken {
+            return writing.left_of(&taken, &points);
+        }
+        let left = writing.request(request, &points)?;
         let new = writing.commit().map_err(fault)?;
         self.series.extend(new);
-        Ok(())
+        Ok(left)
     }
 }
 
@@ -134,12 +137,6 @@ fn not_taken(path: &Path, error: rusqlite::Error) -> NotTaken {
     }
 }
 
-fn is_taken(transaction: &Transaction, request: &Forwarded) -> rusqlite::Result<bool> {
-    transaction
-        .prepare_cached("select 1 from request where slot = ?1 and epoch = ?2 and number = ?3")?
-        .exists(params![request.slot, request.epoch, Whole(request.number)])
-}
-
 /// A transaction while a request is written.
 struct Writing<'a> {
     transaction: Transaction<'a>,
@@ -154,7 +151,8 @@ impl Writing<'_> {
         self.transaction.commit().map(|()| self.new)
     }
 
-    fn request(&mut self, request: &Forwarded, points: &[ForwardedPoint]) -> Result<(), NotTaken> {
+    /// What is left, where it is not all: a request of which nothing can be added is refused as it is.
+    fn request(&mut self, request: &Forwarded, points: &[ForwardedPoint]) -> Result<Option<Left>, NotTaken> {
         let first = points.iter().map(|point| point.start).min().unwrap_or(0);
         let last = points.iter().map(|point| point.end).max().unwrap_or(0);
         let row = self.of(|transaction| {
@@ -172,18 +170,37 @@ impl Writing<'_> {
                     Whole(last)
                 ])
         })?;
-        points.iter().try_for_each(|point| self.point(row, point))
+        let mut left = Left::default();
+        for (place, point) in points.iter().enumerate() {
+            if let Some(reason) = self.point(row, point)? {
+                left.add(place, reason);
+            }
+        }
+        if left.places.is_empty() {
+            return Ok(None);
+        }
+        if left.places.len() == points.len() {
+            return Err(NotTaken::Refused(left.reason));
+        }
+        self.of(|transaction| repeat::set_points(transaction, row, points.len() - left.places.len()))?;
+        Ok(Some(left))
     }
 
-    fn point(&mut self, request: i64, point: &ForwardedPoint) -> Result<(), NotTaken> {
+    /// Adds a point, or says why it overlaps.
+    fn point(&mut self, request: i64, point: &ForwardedPoint) -> Result<Option<String>, NotTaken> {
         if point.start >= point.end {
             return Err(NotTaken::Refused(format!("the span {} is empty", shown(point))));
         }
-        let series = self.series(&point.series)?;
-        let total = self.of(|transaction| Total::read(transaction, series))?;
+        let (series, is_new) = self.series(&point.series)?;
+        let total = match is_new {
+            true => None,
+            false => self.of(|transaction| Total::read(transaction, series))?,
+        };
         // Behind all of its spans it overlaps none.
         if total.as_ref().is_some_and(|total| point.start < total.last_end.0) {
-            self.refuse_overlap(series, point)?;
+            if let Some(reason) = self.overlap(request, series, point)? {
+                return Ok(Some(reason));
+            }
         }
         self.of(|transaction| total::insert_span(transaction, request, series, point))?;
         let total = match total {
@@ -191,43 +208,49 @@ impl Writing<'_> {
             Some(total) => total.and(point),
         };
         let total = total.map_err(|why| NotTaken::Refused(format!("{why}: {}", shown(point))))?;
-        self.of(|transaction| total.write(transaction, series))
+        self.of(|transaction| total.write(transaction, series))?;
+        Ok(None)
     }
 
-    fn series(&mut self, key: &SeriesKey) -> Result<i64, NotTaken> {
+    /// The number of a series' row, and whether it was made by this call.
+    fn series(&mut self, key: &SeriesKey) -> Result<(i64, bool), NotTaken> {
         if let Some(known) = self.known.get(key).or_else(|| self.new.get(key)) {
-            return Ok(*known);
+            return Ok((*known, false));
         }
         let parts = key.parts()?;
         let row = series_row::SeriesRow::of(&parts)?;
-        let id = self.of(|transaction| row.id(transaction))?;
+        let (id, is_new) = self.of(|transaction| row.id(transaction))?;
         self.new.insert(key.clone(), id);
-        Ok(id)
+        Ok((id, is_new))
     }
 
     /// A span that overlaps one that is there was counted before, at least in part. Only requests whose own time
-    /// overlaps are looked through, by the primary key.
-    fn refuse_overlap(&self, series: i64, point: &ForwardedPoint) -> Result<(), NotTaken> {
-        let found: Option<(Whole, Whole)> = self.of(|transaction| {
+    /// overlaps are looked through, by the primary key. Two of one request are no request of a gateway.
+    fn overlap(&self, row: i64, series: i64, point: &ForwardedPoint) -> Result<Option<String>, NotTaken> {
+        let found: Option<(Whole, Whole, i64)> = self.of(|transaction| {
             transaction
                 .prepare_cached(
-                    "select span.start_ns, span.end_ns from request cross join span on span.request = request.id
+                    "select span.start_ns, span.end_ns, span.request from request cross join span on span.request = request.id
                      where request.last_end_ns > ?2 and request.first_start_ns < ?3
                      and span.series = ?1 and span.start_ns < ?3 and span.end_ns > ?2 limit 1",
                 )?
                 .query_row(params![series, Whole(point.start), Whole(point.end)], |row| {
-                    Ok((row.get(0)?, row.get(1)?))
+                    Ok((row.get(0)?, row.get(1)?, row.get(2)?))
                 })
                 .optional()
         })?;
-        match found {
-            None => Ok(()),
-            Some((start, end)) => Err(NotTaken::Refused(format!(
-                "the span {} overlaps ({}, {}], which the file has already",
-                shown(point),
-                start.0,
-                end.0
-            ))),
+        let Some((start, end, request)) = found else {
+            return Ok(None);
+        };
+        let reason = format!(
+            "the span {} overlaps ({}, {}], which the file has already",
+            shown(point),
+            start.0,
+            end.0
+        );
+        match request == row {
+            true => Err(NotTaken::Refused(reason)),
+            false => Ok(Some(reason)),
         }
     }
 

@@ -1,5 +1,6 @@
 //! What the file has behind each request; what goes wrong around it is in `trouble`.
 
+mod part;
 mod speed;
 mod trouble;
 
@@ -163,7 +164,7 @@ fn gaps_between_keys_stay_open() {
 }
 
 #[test]
-fn a_span_that_overlaps_is_refused_whole() {
+fn a_span_that_overlaps_is_refused() {
     let mut trial = Trial::new();
     trial.taken(1, sum("a", 100, 200, 1));
     trial.taken(2, sum("a", 300, 400, 1));
@@ -177,13 +178,6 @@ fn a_span_that_overlaps_is_refused_whole() {
         (399, 500),
     ]) {
         trial.refused(number, sum("a", start, end, 9), "overlaps");
-        // What stands beside it in the request is not taken either.
-        let both = format!(
-            "{},{}",
-            sum_of("a", &[sum_point(200, start, end, 9)]),
-            sum_of("b", &[sum_point(200, 1, 2, 9)])
-        );
-        trial.refused(number, metrics(&both), "overlaps");
     }
     assert_eq!(trial.totals(), only("a", 2, 2));
     trial.taken(3, sum("a", 200, 300, 1));

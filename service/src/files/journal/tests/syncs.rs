@@ -35,6 +35,44 @@ async fn one_sync_is_for_all_that_wait_and_nobody_is_told_before() {
     journal.durable(journal.now()).await;
 }
 
+#[tokio::test]
+async fn who_goes_away_leaves_nobody_waiting() {
+    for pause in [0, 20] {
+        let folder = tempfile::tempdir().unwrap();
+        let open_gate = Arc::new(AtomicBool::new(true));
+        let gate = open_gate.clone();
+        let disk = Disk::failing(move |call, _| {
+            while call == Call::Sync && !gate.load(SeqCst) {
+                std::thread::sleep(Duration::from_millis(1));
+            }
+            Ok(())
+        });
+        let journal = Arc::new(open_on(&disk, folder.path(), Durability::Disk).unwrap());
+        open_gate.store(false, SeqCst);
+        let wait = |ticket| {
+            let journal = journal.clone();
+            tokio::spawn(async move { journal.durable(ticket).await })
+        };
+        let waiting: Vec<_> = (0..30).map(|_| wait(journal.append(&post("one")))).collect();
+        tokio::time::sleep(Duration::from_millis(50)).await;
+        // Those that go away before they are told, or while they are.
+        let go = |waiting: &[tokio::task::JoinHandle<()>]| {
+            waiting.iter().skip(2).step_by(3).for_each(|one| one.abort())
+        };
+        if pause > 0 {
+            go(&waiting);
+            tokio::time::sleep(Duration::from_millis(pause)).await;
+        }
+        open_gate.store(true, SeqCst);
+        std::thread::sleep(Duration::from_millis(50));
+        go(&waiting);
+        for (number, one) in waiting.into_iter().enumerate() {
+            let ended = tokio::time::timeout(Duration::from_secs(5), one).await;
+            assert!(ended.is_ok(), "{number} was forgotten");
+        }
+    }
+}
+
 #[test]
 fn a_process_only_journal_waits_for_nothing() {
     let folder = tempfile::tempdir().unwrap();

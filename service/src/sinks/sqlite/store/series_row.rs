@@ -3,7 +3,7 @@
 use super::super::fault::NotTaken;
 use crate::otlp::series::{Kind, SeriesParts};
 use crate::sinks::attributes::object;
-use rusqlite::{params, OptionalExtension, Transaction};
+use rusqlite::{params, Transaction};
 use serde_json::Value;
 
 /// A series as its columns. Two series have the same columns only where they are the same.
@@ -33,8 +33,8 @@ impl<'a> SeriesRow<'a> {
         })
     }
 
-    /// The number of its row, which is made where there is none.
-    pub(super) fn id(&self, transaction: &Transaction) -> rusqlite::Result<i64> {
+    /// The number of its row, which is made where there is none, and whether it was.
+    pub(super) fn id(&self, transaction: &Transaction) -> rusqlite::Result<(i64, bool)> {
         let columns = params![
             self.parts.name,
             self.attributes,
@@ -46,22 +46,23 @@ impl<'a> SeriesRow<'a> {
             self.parts.scope_version,
             self.scope_attributes
         ];
+        // Most series that are looked for here are new: those of earlier requests are known.
+        let made = transaction
+            .prepare_cached(
+                "insert into series (name, attributes, resource, kind, unit, bounds, scope_name, scope_version,
+                 scope_attributes) values (?1, ?2, ?3, ?4, ?5, ?6, ?7, ?8, ?9) on conflict do nothing",
+            )?
+            .execute(columns)?;
+        if made == 1 {
+            return Ok((transaction.last_insert_rowid(), true));
+        }
         let found = transaction
             .prepare_cached(
                 "select id from series where name = ?1 and attributes = ?2 and resource = ?3 and kind = ?4 and unit = ?5
                  and bounds = ?6 and scope_name = ?7 and scope_version = ?8 and scope_attributes = ?9",
             )?
-            .query_row(columns, |row| row.get(0))
-            .optional()?;
-        if let Some(id) = found {
-            return Ok(id);
-        }
-        transaction
-            .prepare_cached(
-                "insert into series (name, attributes, resource, kind, unit, bounds, scope_name, scope_version,
-                 scope_attributes) values (?1, ?2, ?3, ?4, ?5, ?6, ?7, ?8, ?9)",
-            )?
-            .insert(columns)
+            .query_row(columns, |row| row.get(0))?;
+        Ok((found, false))
     }
 }
 

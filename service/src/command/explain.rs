@@ -1,0 +1,242 @@
+//! `totxegun explain`: what becomes of each point of a request that was captured, and why.
+
+use super::reading::OfReading;
+use super::table::Table;
+use super::{Failure, Form};
+use crate::otlp::{self, Encoding, Explained, Reading, Refused, Rounding};
+use anyhow::{anyhow, Context};
+use clap::Args;
+use serde::Serialize;
+use std::collections::BTreeMap;
+use std::io::Read;
+use std::path::{Path, PathBuf};
+
+/// What the service takes of a body, unpacked.
+const MOST: u64 = 4 << 20;
+
+#[derive(Args)]
+pub struct Options {
+    /// A request's body in JSON or protobuf, packed by gzip or not, or a message of gRPC; `-` is standard input
+    #[arg(value_name = "FILE")]
+    file: PathBuf,
+    #[command(flatten)]
+    reading: OfReading,
+    #[command(flatten)]
+    form: Form,
+}
+
+/// What was found.
+#[derive(Debug, Serialize)]
+struct Found {
+    encoding: &'static str,
+    packed: bool,
+    /// Who posts it, where no header says so.
+    sender: String,
+    /// Unpacked.
+    bytes: usize,
+    taken: usize,
+    foreign: usize,
+    rounded: BTreeMap<String, Rounded>,
+    points: Vec<Explained>,
+}
+
+#[derive(Debug, Serialize)]
+struct Rounded {
+    values: u64,
+    together: f64,
+}
+
+impl Options {
+    pub fn run(self) -> Result<(), Failure> {
+        let reading = self.reading.reading()?;
+        let body = read(&self.file).with_context(|| format!("{} can't be read", self.file.display()))?;
+        let found = found(body, &reading)?;
+        if self.form.json {
+            println!(
+                "{}",
+                serde_json::to_string(&found).context("the answer can't be written")?
+            );
+        } else {
+            print!("{}", text(&found));
+        }
+        Ok(())
+    }
+}
+
+fn read(file: &Path) -> std::io::Result<Vec<u8>> {
+    let mut body = Vec::new();
+    match file.to_str() {
+        Some("-") => std::io::stdin().lock().read_to_end(&mut body)?,
+        _ => std::fs::File::open(file)?.read_to_end(&mut body)?,
+    };
+    Ok(body)
+}
+
+fn found(body: Vec<u8>, reading: &Reading) -> anyhow::Result<Found> {
+    let (framed, body) = unframed(body);
+    let (packed, body) = unpacked(body)?;
+    if body.len() as u64 > MOST {
+        return Err(anyhow!("refused with 413: body too long"));
+    }
+    let bytes = body.len();
+    let encoding = if framed {
+        Encoding::Protobuf
+    } else {
+        Encoding::of(&body)
+    };
+    let sender = otlp::sender(otlp::NO_NAME.into(), encoding, &body, reading).map_err(refused)?;
+    let prepared = otlp::prepare(encoding, body.into(), reading).map_err(refused)?;
+    let mut points = Vec::new();
+    for body in &prepared.bodies {
+        points.extend(otlp::explained(body).context("refused with 400: wrong shape")?);
+    }
+    let foreign = points.iter().filter(|point| point.foreign.is_some()).count();
+    let rounded = prepared.rounded.by_rule.into_iter();
+    Ok(Found {
+        encoding: match encoding {
+            Encoding::Json => "JSON",
+            Encoding::Protobuf => "protobuf",
+        },
+        packed,
+        sender,
+        bytes,
+        taken: points.len() - foreign,
+        foreign,
+        rounded: rounded
+            .map(|(rule, Rounding { values, together })| (rule, Rounded { values, together }))
+            .collect(),
+        points,
+    })
+}
+
+fn refused(refused: Refused) -> anyhow::Error {
+    let status = match refused {
+        Refused::Unreadable(_) => 400,
+        Refused::TooLong => 413,
+    };
+    anyhow!("refused with {status}: {refused}")
+}
+
+/// A message of gRPC begins with whether it is packed, and its length; neither JSON nor protobuf begins so.
+fn unframed(body: Vec<u8>) -> (bool, Vec<u8>) {
+    let length = |bytes: &[u8]| {
+        bytes
+            .try_into()
+            .map(u32::from_be_bytes)
+            .map(|length| length as usize)
+    };
+    match body.get(1..5).map(length) {
+        Some(Ok(length)) if body[0] < 2 && body.len() == 5 + length => (true, body[5..].to_vec()),
+        _ => (false, body),
+    }
+}
+
+fn unpacked(body: Vec<u8>) -> anyhow::Result<(bool, Vec<u8>)> {
+    if !body.starts_with(&[0x1f, 0x8b]) {
+        return Ok((false, body));
+    }
+    let mut plain = Vec::new();
+    flate2::read::MultiGzDecoder::new(&body[..])
+        .take(MOST + 1)
+        .read_to_end(&mut plain)
+        .context("refused with 400: bad gzip")?;
+    Ok((true, plain))
+}
+
+fn text(found: &Found) -> String {
+    let packing = if found.packed { ", gzip" } else { "" };
+    let mut text = format!(
+        "{}{packing}, {} bytes: {} points taken, {} foreign\n",
+        found.encoding, found.bytes, found.taken, found.foreign
+    );
+    if found.sender != otlp::NO_NAME {
+        text.push_str(&format!(
+            "of the sender {}, where no header names another\n",
+            found.sender
+        ));
+    }
+    for (rule, rounded) in &found.rounded {
+        text.push_str(&format!(
+            "values rounded by {rule}: {}, by {:.3} together\n",
+            rounded.values, rounded.together
+        ));
+    }
+    if found.points.is_empty() {
+        return text;
+    }
+    let mut table = Table::new(&["", "kind", "metric", "attributes", "why"]);
+    for point in &found.points {
+        let said = if point.foreign.is_some() {
+            "foreign"
+        } else {
+            "taken"
+        };
+        let why = point.foreign.as_deref().unwrap_or("");
+        table.row(&[said, point.kind, &point.metric, &point.attributes, why]);
+    }
+    format!("{text}{table}")
+}
+
+#[cfg(test)]
+mod tests {
+    use super::*;
+    use std::io::Write;
+
+    const BODY: &str = r#"{"resourceMetrics":[{"scopeMetrics":[{"metrics":[{"name":"a","sum":{"aggregationTemporality":1,"dataPoints":[{"startTimeUnixNano":"1","timeUnixNano":"2","asInt":"5","attributes":[{"key":"route","value":{"stringValue":"/"}}]}]}},{"name":"b","gauge":{"dataPoints":[{"asDouble":0.5}]}}]}]}]}"#;
+
+    #[test]
+    fn each_point_is_told_of() {
+        let found = found(BODY.into(), &Reading::default()).unwrap();
+        let text = text(&found);
+        assert!(
+            text.starts_with("JSON, ") && text.contains("1 points taken, 1 foreign"),
+            "{text}"
+        );
+        let lines: Vec<&str> = text.lines().collect();
+        assert!(lines[2].starts_with("taken    sum    a       route=/"), "{text}");
+        assert!(lines[3].contains("gauges are not added up"), "{text}");
+    }
+
+    #[test]
+    fn a_sender_is_found() {
+        let reading = Reading {
+            sender_from: Some("id".to_string()),
+            ..Reading::default()
+        };
+        let body =
+            r#"{"resourceMetrics":[{"resource":{"attributes":[{"key":"id","value":{"stringValue":"a"}}]}}]}"#;
+        let named = text(&found(body.into(), &reading).unwrap());
+        assert!(named.contains("of the sender a,"), "{named}");
+        let error = found(body.replace(r#""a""#, r#""""#).into(), &reading)
+            .unwrap_err()
+            .to_string();
+        assert!(error.contains("refused with 400: no sender"), "{error}");
+    }
+
+    #[test]
+    fn forms_are_recognised() {
+        let mut packer = flate2::write::GzEncoder::new(Vec::new(), flate2::Compression::default());
+        packer.write_all(BODY.as_bytes()).unwrap();
+        let packed = found(packer.finish().unwrap(), &Reading::default()).unwrap();
+        assert!(packed.packed && packed.encoding == "JSON" && packed.taken == 1);
+        // A protobuf that begins as JSON may: a line feed and a brace are its field and its length.
+        let scope = [&b"\x12\x77\x12\x75\x0a\x73"[..], &[b'n'; 115]].concat();
+        let body = [&b"\x0a{\x12\x79"[..], &scope].concat();
+        let plain = found(body.clone(), &Reading::default()).unwrap();
+        assert_eq!((plain.encoding, plain.taken), ("protobuf", 0));
+        let message = [&[0, 0, 0, 0, body.len() as u8][..], &body].concat();
+        assert_eq!(found(message, &Reading::default()).unwrap().bytes, body.len());
+        assert_eq!(
+            found(Vec::new(), &Reading::default()).unwrap().encoding,
+            "protobuf"
+        );
+        for (body, why) in [
+            ("{", "refused with 400: not JSON"),
+            ("\x1f\u{8b}", "400"),
+            ("x", "400: not protobuf"),
+        ] {
+            let error = format!("{:#}", found(body.into(), &Reading::default()).unwrap_err());
+            assert!(error.contains(why), "{error}");
+        }
+    }
+}

@@ -1,0 +1,121 @@
+//! `totxegun print`: what is made from the command line's own definition. A package has it as the completion of bash,
+//! and in its pages and settings.
+
+use super::Line;
+use anyhow::{Context, Result};
+use clap::{Arg, Command, CommandFactory, ValueEnum};
+use serde::Serialize;
+use std::io::Write;
+
+#[derive(Clone, Copy, ValueEnum)]
+pub enum What {
+    /// What bash completes the command line by
+    Completion,
+    /// Each command with its options, as JSON
+    Options,
+}
+
+pub fn run(what: What) -> Result<()> {
+    let mut line = visible(&Line::command());
+    let mut text = Vec::new();
+    match what {
+        What::Completion => {
+            clap_complete::generate(clap_complete::Shell::Bash, &mut line, "totxegun", &mut text);
+        }
+        What::Options => {
+            line.build();
+            serde_json::to_writer_pretty(&mut text, &Described::of(&line))?;
+            text.push(b'\n');
+        }
+    }
+    std::io::stdout().write_all(&text).context("it can't be written")
+}
+
+/// The same command without what is hidden below it.
+fn visible(command: &Command) -> Command {
+    let shown = command.get_subcommands().filter(|it| !it.is_hide_set());
+    let mut copy = Command::new(command.get_name().to_string())
+        .about(command.get_about().cloned().unwrap_or_default())
+        .visible_aliases(
+            command
+                .get_visible_aliases()
+                .map(str::to_string)
+                .collect::<Vec<_>>(),
+        )
+        .args(command.get_arguments().filter(|it| !it.is_hide_set()).cloned());
+    for below in shown {
+        copy = copy.subcommand(visible(below));
+    }
+    copy
+}
+
+/// A command as its page tells it.
+#[derive(Serialize)]
+struct Described {
+    name: String,
+    about: String,
+    aliases: Vec<String>,
+    options: Vec<Word>,
+    commands: Vec<Described>,
+}
+
+/// An option, or a word without a name.
+#[derive(Serialize)]
+struct Word {
+    /// Without its dashes; none where the word stands alone.
+    long: Option<String>,
+    /// What its value is called; none where it has none.
+    value: Option<String>,
+    /// What it may be, where it is one of a few.
+    one_of: Vec<String>,
+    default: Option<String>,
+    variable: Option<String>,
+    heading: Option<String>,
+    required: bool,
+    help: String,
+}
+
+impl Described {
+    fn of(command: &Command) -> Described {
+        let is_own = |it: &&Arg| !["help", "version"].contains(&it.get_id().as_str());
+        let below = command.get_subcommands().filter(|it| it.get_name() != "help");
+        Described {
+            name: command.get_name().to_string(),
+            about: command.get_about().map(ToString::to_string).unwrap_or_default(),
+            aliases: command.get_visible_aliases().map(str::to_string).collect(),
+            options: command.get_arguments().filter(is_own).map(Word::of).collect(),
+            commands: below.map(Described::of).collect(),
+        }
+    }
+}
+
+impl Word {
+    fn of(arg: &Arg) -> Word {
+        let has_value = arg.get_action().takes_values();
+        let values = arg.get_possible_values();
+        let defaults = arg.get_default_values().iter();
+        let default = defaults
+            .map(|it| it.to_string_lossy().into_owned())
+            .collect::<Vec<_>>();
+        Word {
+            long: arg.get_long().map(str::to_string),
+            value: has_value
+                .then(|| {
+                    arg.get_value_names()
+                        .and_then(|names| names.first())
+                        .map(ToString::to_string)
+                })
+                .flatten(),
+            one_of: values
+                .iter()
+                .filter(|_| has_value)
+                .map(|it| it.get_name().to_string())
+                .collect(),
+            default: (!default.is_empty() && has_value).then(|| default.join(",")),
+            variable: arg.get_env().map(|it| it.to_string_lossy().into_owned()),
+            heading: arg.get_help_heading().map(str::to_string),
+            required: arg.is_required_set(),
+            help: arg.get_help().map(ToString::to_string).unwrap_or_default(),
+        }
+    }
+}

@@ -1,0 +1,34 @@
+//! Options that say how requests are read, for what takes posts and for what explains them.
+
+use crate::otlp::{Reading, Rule, Whole};
+use anyhow::anyhow;
+use clap::Args;
+
+#[derive(Args)]
+#[command(next_help_heading = "Options of reading")]
+pub(super) struct OfReading {
+    /// A resource attribute that is left out of each request; may be given again
+    #[arg(
+        long = "drop-attribute",
+        env = "TOTXEGUN_DROP_ATTRIBUTE",
+        value_name = "NAME",
+        value_delimiter = ','
+    )]
+    drop_attributes: Vec<String>,
+    /// Takes what is measured in one unit as whole numbers of a finer one, rounded: s=us, By, FROM=FACTOR:TO; may be given again
+    #[arg(long, env = "TOTXEGUN_WHOLE", value_name = "FROM=TO", value_delimiter = ',')]
+    whole: Vec<Rule>,
+    /// The resource attribute that names a sender without the header x-sender: service.instance.id
+    #[arg(long, env = "TOTXEGUN_SENDER_FROM", value_name = "ATTRIBUTE", value_parser = clap::builder::NonEmptyStringValueParser::new())]
+    sender_from: Option<String>,
+}
+
+impl OfReading {
+    pub fn reading(self) -> anyhow::Result<Reading> {
+        Ok(Reading {
+            dropped: self.drop_attributes,
+            whole: Whole::new(self.whole).map_err(|why| anyhow!(why))?,
+            sender_from: self.sender_from,
+        })
+    }
+}

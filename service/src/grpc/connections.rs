@@ -1,0 +1,146 @@
+//! The connections of gRPC: their number is bounded and that of their calls, silent and idle ones are closed.
+
+use super::answer;
+use super::guard::Guarded;
+use crate::intake::connections::{accepted, Limits, Switch};
+use crate::intake::{Intake, Place, Taker, Threads};
+use hyper::server::conn::Http;
+use hyper::service::service_fn;
+use std::convert::Infallible;
+use std::sync::{Arc, Mutex, PoisonError};
+use std::time::{Duration, Instant};
+use tokio::net::{TcpListener, TcpStream};
+use tokio::sync::{watch, OwnedSemaphorePermit, Semaphore};
+use tokio::task::JoinSet;
+
+/// Calls of a connection at a time.
+const CALLS: u32 = 100;
+/// What a client may send ahead, for a call and for its connection: this is in no budget yet.
+const AHEAD: u32 = 128 << 10;
+const AHEAD_ALL: u32 = 256 << 10;
+/// The longest headers of a call.
+const HEADERS: u32 = 16 << 10;
+/// A client that is silent for so long is asked whether it is there, and has so long to say so.
+const SILENT: Duration = Duration::from_secs(30);
+const TO_ANSWER: Duration = Duration::from_secs(20);
+/// How long a client that was told that the connection ends has to end it.
+const TO_END: Duration = Duration::from_secs(5);
+
+/// How many calls are under way, and when the last one ended.
+struct Calls(Mutex<(usize, Instant)>);
+
+impl Calls {
+    fn new() -> Arc<Calls> {
+        Arc::new(Calls(Mutex::new((0, Instant::now()))))
+    }
+
+    fn with<T>(&self, change: impl FnOnce(&mut (usize, Instant)) -> T) -> T {
+        change(&mut self.0.lock().unwrap_or_else(PoisonError::into_inner)) // any value of it is sound
+    }
+
+    fn idle(&self) -> Duration {
+        self.with(|(calls, last)| {
+            if *calls == 0 {
+                last.elapsed()
+            } else {
+                Duration::ZERO
+            }
+        })
+    }
+}
+
+/// One call, also one that is given up.
+struct Call(Arc<Calls>);
+
+impl Call {
+    fn begin(calls: &Arc<Calls>) -> Call {
+        calls.with(|(calls, _)| *calls += 1);
+        Call(calls.clone())
+    }
+}
+
+impl Drop for Call {
+    fn drop(&mut self) {
+        self.0.with(|all| *all = (all.0 - 1, Instant::now()));
+    }
+}
+
+/// Serves until `stop` is true or its sender is gone: then nothing more is accepted, calls that are under way are
+/// answered, and it returns behind the last of them.
+pub async fn serve<T: Taker>(
+    listener: TcpListener,
+    limits: Limits,
+    intake: Arc<Intake<T>>,
+    threads: Arc<Threads>,
+    mut stop: watch::Receiver<bool>,
+) {
+    let room = Arc::new(Semaphore::new(limits.connections));
+    let mut open = JoinSet::new();
+    let stopped = stop.clone();
+    loop {
+        tokio::select! {
+            _ = stop.wait_true() => break,
+            Some(_) = open.join_next(), if !open.is_empty() => {}
+            (stream, permit) = accepted(&listener, &room) => {
+                // Its thread's runtime takes it over from this one.
+                let Ok(stream) = stream.into_std() else { continue };
+                let (thread, place) = threads.place();
+                let task = connection(stream, (permit, place), limits.clone(), intake.clone(), stopped.clone());
+                open.spawn_on(task, &thread);
+            }
+        }
+    }
+    drop(listener);
+    while open.join_next().await.is_some() {}
+}
+
+async fn connection<T: Taker>(
+    stream: std::net::TcpStream,
+    _held: (Option<OwnedSemaphorePermit>, Place),
+    limits: Limits,
+    intake: Arc<Intake<T>>,
+    mut stop: watch::Receiver<bool>,
+) {
+    let Ok(stream) = TcpStream::from_std(stream) else {
+        return;
+    };
+    let _ = stream.set_nodelay(true); // an answer is one write already
+    let calls = Calls::new();
+    let of_calls = calls.clone();
+    let service = service_fn(move |request| {
+        let (intake, call) = (intake.clone(), Call::begin(&of_calls));
+        async move {
+            let response = answer(intake, request).await;
+            drop(call);
+            Ok::<_, Infallible>(response)
+        }
+    });
+    let mut http = Http::new();
+    http.http2_only(true)
+        .http2_max_concurrent_streams(CALLS)
+        .http2_initial_stream_window_size(AHEAD)
+        .http2_initial_connection_window_size(AHEAD_ALL)
+        .http2_max_header_list_size(HEADERS)
+        .http2_keep_alive_interval(SILENT)
+        .http2_keep_alive_timeout(TO_ANSWER);
+    let mut served = http.serve_connection(Guarded::new(stream), service);
+    let mut ending: Option<Instant> = None;
+    loop {
+        tokio::select! {
+            biased;
+            _ = &mut served => return,
+            _ = stop.wait_true(), if ending.is_none() => {
+                ending = Some(Instant::now());
+                std::pin::Pin::new(&mut served).graceful_shutdown();
+            }
+            _ = tokio::time::sleep(limits.head / 4) => match ending {
+                Some(since) if since.elapsed() >= TO_END && calls.idle() >= TO_END => return,
+                None if calls.idle() >= limits.idle => {
+                    ending = Some(Instant::now());
+                    std::pin::Pin::new(&mut served).graceful_shutdown();
+                }
+                _ => {}
+            },
+        }
+    }
+}

@@ -1,0 +1,122 @@
+//! OTLP over gRPC: one unary method over HTTP/2, for senders that speak nothing else.
+//!
+//! A message goes the way of a body that came over HTTP: the same reader, slot, journal and bound of memory, so the
+//! same answers. `message` takes it out of its frame, `reply` says what became of it as gRPC does, `connections` serves,
+//! and `guard` ends a connection that floods.
+
+mod connections;
+mod guard;
+mod message;
+mod reply;
+mod timeout;
+
+pub use connections::serve;
+
+use crate::intake::head::{Head, Packing};
+use crate::intake::{Intake, Taker};
+use crate::otlp::{Encoding, Outcome, NO_NAME};
+use crate::slot::{is_sender, Whole};
+use hyper::body::HttpBody;
+use hyper::header::{HeaderMap, HeaderName, CONTENT_TYPE};
+use hyper::http::request::Parts;
+use hyper::{Body, Method, Request, Response, StatusCode};
+use reply::Reply;
+use std::sync::Arc;
+
+const METHOD: &str = "/opentelemetry.proto.collector.metrics.v1.MetricsService/Export";
+static ENCODING: HeaderName = HeaderName::from_static("grpc-encoding");
+
+/// As the status of a gateway that waited too long.
+const LATE: u16 = 504;
+
+/// Answers one call.
+async fn answer<T: Taker>(intake: Arc<Intake<T>>, request: Request<Body>) -> Response<Reply> {
+    let (parts, mut body) = request.into_parts();
+    if !is_grpc(&parts.headers) {
+        message::throw_away(&mut body).await;
+        let mut response = Response::new(Reply::nothing());
+        *response.status_mut() = StatusCode::UNSUPPORTED_MEDIA_TYPE;
+        return response;
+    }
+    let outcome = match call(&parts) {
+        Err(refused) => refused,
+        Ok(head) => {
+            let limit = timeout::of(&parts.headers);
+            let taking = take(&intake, head, &mut body);
+            match tokio::time::timeout(limit, taking).await {
+                Ok(outcome) => outcome,
+                // What was given to a slot goes on; the sender's repeat is refused where it was taken.
+                Err(_) => refused(LATE, "the deadline has passed"),
+            }
+        }
+    };
+    // An answer before the end of a body is followed by a reset, and some clients see that alone.
+    if outcome.status() != LATE && !body.is_end_stream() {
+        message::throw_away(&mut body).await;
+    }
+    intake.ended(outcome.status());
+    reply::response(&outcome)
+}
+
+fn refused(status: u16, message: &str) -> Outcome {
+    Outcome::Refused {
+        status,
+        message: message.into(),
+    }
+}
+
+/// `application/grpc`, with or without `+proto`.
+fn is_grpc(headers: &HeaderMap) -> bool {
+    let kind = headers.get(CONTENT_TYPE).and_then(|kind| kind.to_str().ok());
+    let kind = kind.and_then(|kind| kind.split(';').next()).unwrap_or_default();
+    ["application/grpc", "application/grpc+proto"].contains(&kind.trim())
+}
+
+/// The head of a call that may have a message. Whether this is packed is said by its frame.
+fn call(parts: &Parts) -> Result<Head, Outcome> {
+    if parts.uri.path() != METHOD || parts.method != Method::POST {
+        return Err(refused(404, "no such method"));
+    }
+    let sender = sender(&parts.headers).ok_or_else(|| refused(400, "bad sender"))?;
+    let packing = match parts.headers.get(&ENCODING).map(|value| value.as_bytes()) {
+        None | Some(b"identity") => Packing::Plain,
+        Some(b"gzip") => Packing::Gzip,
+        Some(_) => return Err(refused(415, "only gzip or identity")),
+    };
+    Ok(Head {
+        sender,
+        encoding: Encoding::Protobuf,
+        packing,
+    })
+}
+
+/// Who calls, by its metadata.
+fn sender(headers: &HeaderMap) -> Option<String> {
+    let mut values = headers.get_all("x-sender").iter();
+    let Some(value) = values.next() else {
+        return Some(NO_NAME.into());
+    };
+    let name = value.to_str().ok().filter(|name| is_sender(name))?;
+    values.next().is_none().then(|| name.into())
+}
+
+async fn take<T: Taker>(intake: &Arc<Intake<T>>, mut head: Head, body: &mut Body) -> Outcome {
+    let mut hold = intake.hold();
+    match message::receive(body, &mut hold).await {
+        Err(refusal) => Outcome::from(&refusal),
+        Ok(message) if message.is_packed && head.packing == Packing::Plain => {
+            refused(400, "the message is packed, and grpc-encoding does not say how")
+        }
+        Ok(message) => {
+            if !message.is_packed {
+                head.packing = Packing::Plain;
+            }
+            // A call may be given up at any time; a post is whole, and its memory held until it is.
+            let intake = intake.clone();
+            Whole::new(async move { intake.put(head, message.bytes, hold).await }).await
+        }
+    }
+}
+
+#[cfg(test)]
+mod tests;

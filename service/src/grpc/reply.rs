@@ -1,0 +1,167 @@
+//! What a call is answered: a message and a status behind it, or a status alone.
+
+use crate::otlp::{Encoding, Outcome};
+use bytes::Bytes;
+use hyper::body::HttpBody;
+use hyper::header::{HeaderMap, HeaderName, HeaderValue, CONTENT_TYPE};
+use hyper::Response;
+use percent_encoding::{utf8_percent_encode, AsciiSet, CONTROLS};
+use prost::Message;
+use std::convert::Infallible;
+use std::pin::Pin;
+use std::task::{Context, Poll};
+
+/// What is not written as it is in a status' message.
+const ESCAPED: &AsciiSet = &CONTROLS.add(b'%');
+
+/// How long a sender that may try again is asked to wait.
+const PAUSE_SECONDS: i64 = 1;
+
+/// A body of at most one frame, and what is behind it.
+pub struct Reply {
+    data: Option<Bytes>,
+    trailers: Option<HeaderMap>,
+}
+
+impl Reply {
+    pub fn nothing() -> Reply {
+        Reply {
+            data: None,
+            trailers: None,
+        }
+    }
+}
+
+impl HttpBody for Reply {
+    type Data = Bytes;
+    type Error = Infallible;
+
+    fn poll_data(mut self: Pin<&mut Self>, _: &mut Context<'_>) -> Poll<Option<Result<Bytes, Infallible>>> {
+        Poll::Ready(self.data.take().map(Ok))
+    }
+
+    fn poll_trailers(
+        mut self: Pin<&mut Self>,
+        _: &mut Context<'_>,
+    ) -> Poll<Result<Option<HeaderMap>, Infallible>> {
+        Poll::Ready(Ok(self.trailers.take()))
+    }
+
+    fn is_end_stream(&self) -> bool {
+        self.data.is_none() && self.trailers.is_none()
+    }
+}
+
+/// `google.rpc.Status` with its details.
+#[derive(Clone, PartialEq, Message)]
+pub(super) struct Status {
+    #[prost(int32, tag = "1")]
+    pub code: i32,
+    #[prost(string, tag = "2")]
+    pub message: String,
+    #[prost(message, repeated, tag = "3")]
+    pub details: Vec<Any>,
+}
+
+/// `google.protobuf.Any`.
+#[derive(Clone, PartialEq, Message)]
+pub(super) struct Any {
+    #[prost(string, tag = "1")]
+    pub type_url: String,
+    #[prost(bytes = "vec", tag = "2")]
+    pub value: Vec<u8>,
+}
+
+/// `google.rpc.RetryInfo`.
+#[derive(Clone, PartialEq, Message)]
+pub(super) struct RetryInfo {
+    #[prost(message, optional, tag = "1")]
+    pub retry_delay: Option<Duration>,
+}
+
+/// `google.protobuf.Duration`.
+#[derive(Clone, PartialEq, Message)]
+pub(super) struct Duration {
+    #[prost(int64, tag = "1")]
+    pub seconds: i64,
+}
+
+/// The status of gRPC by that of HTTP, so that a sender does the same by either.
+pub(super) fn code(status: u16) -> i32 {
+    match status {
+        200 => 0,
+        400 => 3,              // INVALID_ARGUMENT
+        403 => 7,              // PERMISSION_DENIED
+        404 | 405 | 415 => 12, // UNIMPLEMENTED: another method, another encoding
+        408 | 504 => 4,        // DEADLINE_EXCEEDED
+        413 => 8,              // RESOURCE_EXHAUSTED; without RetryInfo it is not tried again
+        503 => 14,             // UNAVAILABLE
+        _ => 2,                // UNKNOWN
+    }
+}
+
+pub fn response(outcome: &Outcome) -> Response<Reply> {
+    let mut headers = HeaderMap::new();
+    headers.insert(CONTENT_TYPE, HeaderValue::from_static("application/grpc"));
+    let reply = match outcome {
+        Outcome::Taken { .. } => {
+            let mut trailers = HeaderMap::new();
+            put(&mut trailers, "grpc-status", "0");
+            Reply {
+                data: Some(framed(&outcome.body(Encoding::Protobuf))),
+                trailers: Some(trailers),
+            }
+        }
+        Outcome::Refused { status, message } => {
+            put_refusal(&mut headers, *status, message);
+            Reply::nothing()
+        }
+    };
+    let mut response = Response::new(reply);
+    *response.headers_mut() = headers;
+    response
+}
+
+fn framed(message: &[u8]) -> Bytes {
+    let mut frame = vec![0];
+    frame.extend((message.len() as u32).to_be_bytes());
+    frame.extend(message);
+    frame.into()
+}
+
+fn put(headers: &mut HeaderMap, name: &'static str, value: &str) {
+    if let Ok(value) = HeaderValue::from_str(value) {
+        headers.insert(HeaderName::from_static(name), value);
+    }
+}
+
+fn put_refusal(headers: &mut HeaderMap, status: u16, message: &str) {
+    let code = code(status);
+    put(headers, "grpc-status", &code.to_string());
+    put(
+        headers,
+        "grpc-message",
+        &utf8_percent_encode(message, ESCAPED).to_string(),
+    );
+    if status == 415 {
+        put(headers, "grpc-accept-encoding", "identity,gzip");
+    }
+    if status == 503 {
+        let retry_delay = Some(Duration {
+            seconds: PAUSE_SECONDS,
+        });
+        let details = vec![Any {
+            type_url: "type.googleapis.com/google.rpc.RetryInfo".into(),
+            value: RetryInfo { retry_delay }.encode_to_vec(),
+        }];
+        let message = message.to_string();
+        let whole = Status {
+            code,
+            message,
+            details,
+        }
+        .encode_to_vec();
+        let text = base64::encode_config(whole, base64::STANDARD_NO_PAD);
+        put(headers, "grpc-status-details-bin", &text);
+    }
+}

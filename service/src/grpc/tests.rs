@@ -1,0 +1,361 @@
+use super::reply::{code, RetryInfo, Status};
+use super::*;
+use crate::intake::connections::Limits;
+use crate::intake::{Budget, Threads};
+use crate::metrics::Metrics;
+use crate::otlp::{a_request_of_test, Reading};
+use bytes::Bytes;
+use flate2::{write::GzEncoder, Compression};
+use hyper::body::HttpBody;
+use prost::Message;
+use std::future::Future;
+use std::io::Write;
+use std::sync::Mutex;
+use std::time::Duration;
+use tokio::io::{AsyncReadExt, AsyncWriteExt};
+use tokio::net::{TcpListener, TcpStream};
+use tokio::sync::watch;
+
+/// Keeps what it is given, and answers as it was told, or never.
+struct Kept {
+    posts: Mutex<Vec<(String, Vec<Bytes>)>>,
+    outcome: Option<Outcome>,
+}
+
+impl Taker for Kept {
+    fn post(self: &Arc<Self>, sender: String, bodies: Vec<Bytes>) -> impl Future<Output = Outcome> + Send {
+        self.posts.lock().unwrap().push((sender, bodies));
+        let outcome = self.outcome.clone();
+        async move {
+            match outcome {
+                Some(outcome) => outcome,
+                None => std::future::pending().await,
+            }
+        }
+    }
+}
+
+struct Served {
+    address: std::net::SocketAddr,
+    kept: Arc<Kept>,
+    budget: Arc<Budget>,
+    stop: watch::Sender<bool>,
+    task: tokio::task::JoinHandle<()>,
+}
+
+impl Served {
+    async fn with(outcome: Option<Outcome>, most_bytes: usize) -> Served {
+        let kept = Arc::new(Kept {
+            posts: Mutex::new(Vec::new()),
+            outcome,
+        });
+        let budget = Budget::new(most_bytes);
+        let metrics = Arc::new(Metrics::new().unwrap());
+        let intake = Intake::new(kept.clone(), Reading::default(), budget.clone(), metrics);
+        let listener = TcpListener::bind("127.0.0.1:0").await.unwrap();
+        let address = listener.local_addr().unwrap();
+        let limits = Limits {
+            connections: 4,
+            head: Duration::from_millis(200),
+            idle: Duration::from_millis(800),
+        };
+        let (stop, stopped) = watch::channel(false);
+        let threads = Arc::new(Threads::new(2).unwrap());
+        let task = tokio::spawn(serve(listener, limits, Arc::new(intake), threads, stopped));
+        Served {
+            address,
+            kept,
+            budget,
+            stop,
+            task,
+        }
+    }
+
+    async fn start() -> Served {
+        Served::with(Some(Outcome::taken(0)), 64 << 20).await
+    }
+
+    /// One call on a connection of its own.
+    async fn call(&self, path: &str, headers: &[(&str, &str)], body: Vec<u8>) -> Answer {
+        let stream = TcpStream::connect(self.address).await.unwrap();
+        let (mut calls, connection) = hyper::client::conn::Builder::new()
+            .http2_only(true)
+            .handshake(stream)
+            .await
+            .unwrap();
+        tokio::spawn(connection);
+        let mut request = Request::post(format!("http://h{path}")).header("te", "trailers");
+        for (name, value) in headers {
+            request = request.header(*name, *value);
+        }
+        let response = calls
+            .send_request(request.body(Body::from(body)).unwrap())
+            .await
+            .unwrap();
+        let (parts, mut body) = response.into_parts();
+        let mut data = Vec::new();
+        while let Some(part) = body.data().await {
+            data.extend_from_slice(&part.unwrap());
+        }
+        let trailers = body.trailers().await.unwrap().unwrap_or(parts.headers);
+        Answer {
+            status: parts.status.as_u16(),
+            trailers,
+            data,
+        }
+    }
+
+    async fn export(&self, more: &[(&str, &str)], body: Vec<u8>) -> Answer {
+        let headers = [&[("content-type", "application/grpc")], more].concat();
+        self.call(METHOD, &headers, body).await
+    }
+
+    /// Waits until all that was under way has been given up.
+    async fn nothing_is_held(&self) {
+        for _ in 0..500 {
+            if self.budget.used() == 0 {
+                return;
+            }
+            tokio::time::sleep(Duration::from_millis(10)).await;
+        }
+        panic!("{} bytes are held", self.budget.used());
+    }
+}
+
+struct Answer {
+    status: u16,
+    trailers: HeaderMap,
+    data: Vec<u8>,
+}
+
+impl Answer {
+    fn text(&self, name: &str) -> &str {
+        self.trailers
+            .get(name)
+            .map_or("", |value| value.to_str().unwrap())
+    }
+
+    fn code(&self) -> i32 {
+        self.text("grpc-status").parse().unwrap_or(-1)
+    }
+}
+
+fn frame(flag: u8, message: &[u8]) -> Vec<u8> {
+    [&[flag][..], &(message.len() as u32).to_be_bytes(), message].concat()
+}
+
+fn gzip(plain: &[u8]) -> Vec<u8> {
+    let mut packer = GzEncoder::new(Vec::new(), Compression::best());
+    packer.write_all(plain).unwrap();
+    packer.finish().unwrap()
+}
+
+#[tokio::test]
+async fn a_call_goes_the_way_of_a_post() {
+    let served = Served::start().await;
+    let request = a_request_of_test();
+    for (more, body) in [
+        (&[("x-sender", "shop-1")][..], frame(0, &request)),
+        (&[("grpc-encoding", "identity")], frame(0, &request)),
+        (&[("grpc-encoding", "gzip")], frame(1, &gzip(&request))),
+        (&[("grpc-encoding", "gzip")], frame(0, &request)),
+    ] {
+        let answer = served.export(more, body).await;
+        assert_eq!(
+            (answer.status, answer.code(), answer.data),
+            (200, 0, frame(0, b""))
+        );
+    }
+    let posts = served.kept.posts.lock().unwrap().clone();
+    let wanted = crate::otlp::prepare(Encoding::Protobuf, request.into(), &Reading::default());
+    let wanted = wanted.unwrap().bodies;
+    assert!(posts.len() == 4 && posts.iter().all(|post| post.1 == wanted));
+    assert_eq!((posts[0].0.as_str(), posts[1].0.as_str()), ("shop-1", "-"));
+    served.nothing_is_held().await;
+}
+
+#[tokio::test]
+async fn what_a_slot_says_is_said_as_grpc_does() {
+    let partial = Served::with(Some(Outcome::taken(7)), 1 << 20).await;
+    let answer = partial.export(&[], frame(0, b"")).await;
+    assert_eq!(answer.data, frame(0, &Outcome::taken(7).body(Encoding::Protobuf)));
+    for (status, wanted) in [(400, 3), (403, 7), (503, 14)] {
+        let served = Served::with(Some(refused(status, "50% \u{fc}ber")), 1 << 20).await;
+        let answer = served.export(&[], frame(0, b"")).await;
+        assert_eq!(
+            (answer.status, answer.code(), answer.data.len()),
+            (200, wanted, 0)
+        );
+        assert_eq!(answer.text("grpc-message"), "50%25 %C3%BCber");
+        let details = answer.text("grpc-status-details-bin");
+        assert_eq!(details.is_empty(), status != 503);
+        if status == 503 {
+            let bytes = base64::decode_config(details, base64::STANDARD_NO_PAD).unwrap();
+            let status = Status::decode(&bytes[..]).unwrap();
+            assert_eq!((status.code, status.message.as_str()), (14, "50% \u{fc}ber"));
+            assert_eq!(
+                status.details[0].type_url,
+                "type.googleapis.com/google.rpc.RetryInfo"
+            );
+            let retry = RetryInfo::decode(&status.details[0].value[..]).unwrap();
+            assert_eq!(retry.retry_delay.unwrap().seconds, 1);
+        }
+    }
+    assert_eq!([408, 413, 504, 500].map(code), [4, 8, 4, 2]);
+}
+
+#[tokio::test]
+async fn what_is_no_call_of_the_method_is_refused() {
+    let served = Served::start().await;
+    let kind = ("content-type", "application/grpc+proto");
+    let answer = served.call("/a.B/Export", &[kind], frame(0, b"")).await;
+    assert_eq!(
+        (answer.code(), answer.text("grpc-message")),
+        (12, "no such method")
+    );
+    for kind in [
+        "application/json",
+        "application/grpc+json",
+        "application/grpc-web",
+    ] {
+        let answer = served
+            .call(METHOD, &[("content-type", kind)], frame(0, b""))
+            .await;
+        assert_eq!((answer.status, answer.code()), (415, -1), "{kind}");
+    }
+    let answer = served.export(&[("grpc-encoding", "zstd")], frame(1, b"x")).await;
+    assert_eq!(
+        (answer.code(), answer.text("grpc-accept-encoding")),
+        (12, "identity,gzip")
+    );
+    for (more, body, wanted) in [
+        (&[][..], frame(1, &gzip(b"")), 3),
+        (&[("grpc-encoding", "gzip")], frame(1, b"no gzip"), 3),
+        (
+            &[("grpc-encoding", "gzip")],
+            frame(1, &gzip(&vec![0; 100 << 20])),
+            8,
+        ),
+        (&[("x-sender", "a b")], frame(0, b""), 3),
+        (&[], vec![], 3),
+        (&[], frame(0, b"\xff"), 3),
+        (&[], [frame(0, b""), frame(0, b"")].concat(), 3),
+        (&[], frame(0, &vec![0; (4 << 20) + 1]), 8),
+    ] {
+        let answer = served.export(more, body).await;
+        assert_eq!((answer.status, answer.code()), (200, wanted), "{more:?}");
+        assert!(!answer.text("grpc-message").is_empty());
+    }
+    assert!(served.kept.posts.lock().unwrap().is_empty());
+    served.nothing_is_held().await;
+    let narrow = Served::with(Some(Outcome::taken(0)), 1000).await;
+    assert_eq!(narrow.export(&[], frame(0, &[0; 900])).await.code(), 14);
+}
+
+#[tokio::test]
+async fn a_deadline_ends_the_call_and_not_the_post() {
+    let served = Served::with(None, 1 << 20).await;
+    let answer = served.export(&[("grpc-timeout", "50m")], frame(0, b"")).await;
+    assert_eq!(
+        (answer.code(), answer.text("grpc-message")),
+        (4, "the deadline has passed")
+    );
+    assert_eq!(served.kept.posts.lock().unwrap().len(), 1);
+}
+
+const PREFACE: &[u8] = b"PRI * HTTP/2.0\r\n\r\nSM\r\n\r\n";
+
+/// A frame of HTTP/2 on stream 1, but for settings.
+fn h2_frame(kind: u8, flags: u8, payload: &[u8]) -> Vec<u8> {
+    let stream = u8::from(kind != 4);
+    [
+        &(payload.len() as u32).to_be_bytes()[1..],
+        &[kind, flags, 0, 0, 0, stream],
+        payload,
+    ]
+    .concat()
+}
+
+/// The headers of a call, none of them compressed.
+fn call_headers() -> Vec<u8> {
+    let pairs = [
+        (":method", "POST"),
+        (":scheme", "http"),
+        (":path", METHOD),
+        (":authority", "h"),
+        ("content-type", "application/grpc"),
+    ];
+    let one = |pair: (&str, &str)| {
+        [
+            &[0, pair.0.len() as u8][..],
+            pair.0.as_bytes(),
+            &[pair.1.len() as u8],
+            pair.1.as_bytes(),
+        ]
+        .concat()
+    };
+    pairs.map(one).concat()
+}
+
+#[tokio::test]
+async fn a_call_that_is_broken_off_is_no_post() {
+    let served = Served::start().await;
+    let opened = [PREFACE, &h2_frame(4, 0, b""), &h2_frame(1, 4, &call_headers())].concat();
+    let half = h2_frame(0, 0, &[&[0, 0, 1, 0, 0][..], &[0; 1000]].concat());
+    let reset = h2_frame(3, 0, &[0, 0, 0, 8]);
+    let beginnings = [
+        b"GET / HTTP/1.1\r\n\r\n".to_vec(),
+        [PREFACE, &[0xff; 200]].concat(),
+        [&opened[..], &half, &reset].concat(),
+        [&opened[..], &half].concat(),
+        opened[..opened.len() - 20].to_vec(),
+        [&opened[..], &half, &h2_frame(0, 9, &[200; 10])].concat(), // more padding than there is
+    ];
+    for beginning in beginnings {
+        let mut stream = TcpStream::connect(served.address).await.unwrap();
+        stream.write_all(&beginning).await.unwrap();
+        stream.shutdown().await.unwrap();
+        let mut answer = Vec::new();
+        let _ = tokio::time::timeout(Duration::from_secs(5), stream.read_to_end(&mut answer)).await;
+        drop(stream);
+        served.nothing_is_held().await;
+    }
+    // A flood of resets ends its connection.
+    let mut stream = TcpStream::connect(served.address).await.unwrap();
+    let flood = [opened, reset.repeat(2000)].concat();
+    let _ = stream.write_all(&flood).await;
+    let mut answer = Vec::new();
+    let read = tokio::time::timeout(Duration::from_secs(5), stream.read_to_end(&mut answer)).await;
+    assert!(read.is_ok(), "the connection goes on");
+    assert!(served.kept.posts.lock().unwrap().is_empty());
+    assert_eq!(served.export(&[], frame(0, b"")).await.code(), 0);
+}
+
+#[tokio::test]
+async fn silent_and_stopped_connections_end() {
+    let served = Served::with(None, 1 << 20).await;
+    let mut silent = TcpStream::connect(served.address).await.unwrap();
+    let mut nothing = Vec::new();
+    let read = tokio::time::timeout(Duration::from_secs(8), silent.read_to_end(&mut nothing)).await;
+    assert!(read.is_ok(), "a connection without a preface goes on");
+    let address = served.address;
+    let under_way = async {
+        served
+            .export(&[("grpc-timeout", "500m")], frame(0, b""))
+            .await
+            .code()
+    };
+    let stopping = async {
+        while served.kept.posts.lock().unwrap().is_empty() {
+            tokio::time::sleep(Duration::from_millis(5)).await;
+        }
+        served.stop.send_replace(true);
+    };
+    let (code, ()) = tokio::join!(under_way, stopping);
+    assert_eq!(code, 4, "a call that is under way is answered");
+    tokio::time::timeout(Duration::from_secs(10), served.task)
+        .await
+        .unwrap()
+        .unwrap();
+    assert!(TcpStream::connect(address).await.is_err());
+}

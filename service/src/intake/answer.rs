@@ -1,0 +1,116 @@
+//! An answer to a sender, as it goes over its connection.
+
+use super::head::Connection;
+use crate::otlp::{Encoding, Outcome};
+use hyper::StatusCode;
+use std::cell::RefCell;
+use std::io::Write;
+use std::time::{Duration, SystemTime, UNIX_EPOCH};
+
+/// What most posts are answered; its date follows, and its body.
+const TAKEN: &str = "HTTP/1.1 200 OK\r\ncontent-type: application/json\r\ncontent-length: 2\r\ndate: ";
+
+/// Writes an answer in the kind of its request.
+pub fn write(out: &mut Vec<u8>, outcome: &Outcome, encoding: Encoding, connection: Connection) {
+    let is_usual =
+        encoding == Encoding::Json && connection == Connection::Kept && *outcome == Outcome::taken(0);
+    with_date(|date| match is_usual {
+        true => [TAKEN, date, "\r\n\r\n{}"]
+            .iter()
+            .for_each(|part| out.extend_from_slice(part.as_bytes())),
+        false => write_any(out, outcome, encoding, connection, date),
+    });
+}
+
+fn write_any(out: &mut Vec<u8>, outcome: &Outcome, encoding: Encoding, connection: Connection, date: &str) {
+    let body = outcome.body(encoding);
+    let status = outcome.status();
+    let kind = match encoding {
+        Encoding::Json => "application/json",
+        Encoding::Protobuf => "application/x-protobuf",
+    };
+    let told = match status {
+        503 => "retry-after: 1\r\n",
+        405 => "allow: POST\r\n",
+        _ => "",
+    };
+    let kept = match connection {
+        Connection::Kept => "",
+        Connection::KeptIfSaid => "connection: keep-alive\r\n",
+        Connection::Closed => "connection: close\r\n",
+    };
+    let reason = StatusCode::from_u16(status)
+        .ok()
+        .and_then(|status| status.canonical_reason());
+    // Writing into a vector never fails.
+    let _ = write!(
+        out,
+        "HTTP/1.1 {status} {}\r\ncontent-type: {kind}\r\ncontent-length: {}\r\n{told}{kept}date: {date}\r\n\r\n",
+        reason.unwrap_or(""),
+        body.len()
+    );
+    out.extend_from_slice(&body);
+}
+
+thread_local! {
+    /// The second it is, and its text.
+    static DATE: RefCell<(u64, String)> = const { RefCell::new((0, String::new())) };
+}
+
+fn with_date(write: impl FnOnce(&str)) {
+    let now = SystemTime::now()
+        .duration_since(UNIX_EPOCH)
+        .map_or(0, |since| since.as_secs());
+    DATE.with_borrow_mut(|(second, text)| {
+        if *second != now || text.is_empty() {
+            *second = now;
+            *text = httpdate::fmt_http_date(UNIX_EPOCH + Duration::from_secs(now));
+        }
+        write(text)
+    })
+}
+
+#[cfg(test)]
+mod tests {
+    use super::*;
+
+    fn written(outcome: &Outcome, encoding: Encoding, connection: Connection) -> String {
+        let mut out = Vec::new();
+        write(&mut out, outcome, encoding, connection);
+        String::from_utf8(out).unwrap()
+    }
+
+    #[test]
+    fn an_answer_has_what_its_status_wants() {
+        let taken = written(&Outcome::taken(0), Encoding::Json, Connection::Kept);
+        assert!(taken
+            .starts_with("HTTP/1.1 200 OK\r\ncontent-type: application/json\r\ncontent-length: 2\r\ndate: "));
+        assert!(taken.ends_with(" GMT\r\n\r\n{}"), "{taken}");
+        let any = Outcome::taken(0);
+        let mut out = Vec::new();
+        with_date(|date| write_any(&mut out, &any, Encoding::Json, Connection::Kept, date));
+        assert_eq!(out.len(), taken.len(), "the usual answer is as any other");
+        let refused = |status| Outcome::Refused {
+            status,
+            message: "why".into(),
+        };
+        let busy = written(&refused(503), Encoding::Json, Connection::KeptIfSaid);
+        assert!(
+            busy.starts_with("HTTP/1.1 503 Service Unavailable\r\n")
+                && busy.contains("\r\nretry-after: 1\r\n")
+        );
+        assert!(
+            busy.contains("\r\nconnection: keep-alive\r\n") && busy.contains("\"message\":\"why\""),
+            "{busy}"
+        );
+        let wrong = written(&refused(405), Encoding::Protobuf, Connection::Closed);
+        assert!(
+            wrong.contains("\r\nallow: POST\r\n") && wrong.contains("\r\nconnection: close\r\n"),
+            "{wrong}"
+        );
+        assert!(
+            wrong.contains("\r\ncontent-type: application/x-protobuf\r\n"),
+            "{wrong}"
+        );
+    }
+}

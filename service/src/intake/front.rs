@@ -1,0 +1,244 @@
+//! The senders' address: its connections are bounded and spread over threads, each serves many requests one after
+//! another, slow and idle ones are closed.
+
+use super::connections::{accepted, Limits, Switch, LATE};
+use super::head::{self, Connection};
+use super::refusal::Refusal;
+use super::threads::{Place, Threads};
+use super::wire::Wire;
+use super::{answer, Intake, Taker};
+use crate::otlp::{Encoding, Outcome};
+use bytes::Buf;
+use std::future::{poll_fn, Future};
+use std::pin::{pin, Pin};
+use std::sync::Arc;
+use std::task::Poll;
+use std::time::Duration;
+use tokio::net::{TcpListener, TcpStream};
+use tokio::sync::{watch, OwnedSemaphorePermit, Semaphore};
+use tokio::task::JoinSet;
+use tokio::time::{Instant, Sleep};
+
+/// How often within the time of a head it is looked whether it has come.
+const LOOKS: u32 = 4;
+
+/// Serves until `stop` is true or its sender is gone: then nothing more is accepted, requests that are under way are
+/// answered, and it returns behind the last of them.
+pub async fn serve<T: Taker>(
+    listener: TcpListener,
+    limits: Limits,
+    intake: Arc<Intake<T>>,
+    threads: Arc<Threads>,
+    mut stop: watch::Receiver<bool>,
+) {
+    let room = Arc::new(Semaphore::new(limits.connections));
+    let mut open = JoinSet::new();
+    let stopped = stop.clone();
+    loop {
+        tokio::select! {
+            _ = stop.wait_true() => break,
+            Some(_) = open.join_next(), if !open.is_empty() => {}
+            (stream, permit) = accepted(&listener, &room) => {
+                // Its thread's runtime takes it over from this one.
+                let Ok(stream) = stream.into_std() else { continue };
+                let (thread, place) = threads.place();
+                let task = connection(stream, (permit, place), limits.clone(), intake.clone(), stopped.clone());
+                open.spawn_on(task, &thread);
+            }
+        }
+    }
+    drop(listener);
+    while open.join_next().await.is_some() {}
+}
+
+async fn connection<T: Taker>(
+    stream: std::net::TcpStream,
+    _held: (Option<OwnedSemaphorePermit>, Place),
+    limits: Limits,
+    intake: Arc<Intake<T>>,
+    stop: watch::Receiver<bool>,
+) {
+    let Ok(stream) = TcpStream::from_std(stream) else {
+        return;
+    };
+    let _ = stream.set_nodelay(true); // an answer is one write already
+    let mut wire = Wire::new(stream);
+    let mut waiting = Waiting::new(&limits, stop);
+    while let Some(asked) = next(&mut wire, &mut waiting).await {
+        let goes_on = match asked {
+            Ok(asked) => served(&mut wire, &intake, asked, &mut waiting).await,
+            Err(refusal) => {
+                intake.count(&refusal);
+                let outcome = Outcome::from(&refusal);
+                let _ = wire
+                    .answer(|out| answer::write(out, &outcome, Encoding::Json, Connection::Closed))
+                    .await;
+                false
+            }
+        };
+        if !goes_on {
+            break;
+        }
+        waiting.begins();
+    }
+    wire.end().await;
+}
+
+/// Serves a request. Whether a next one may follow.
+async fn served<T: Taker>(
+    wire: &mut Wire<TcpStream>,
+    intake: &Intake<T>,
+    asked: head::Asked,
+    waiting: &mut Waiting,
+) -> bool {
+    wire.body_begins(asked.body, asked.waits);
+    let outcome = intake.outcome(asked.head, wire).await;
+    let connection = match wire.is_whole() && !waiting.is_stopped() {
+        true => asked.connection,
+        false => Connection::Closed,
+    };
+    let sent = wire.answer(|out| answer::write(out, &outcome, asked.encoding, connection));
+    matches!(within(waiting.idle, sent).await, Some(Ok(()))) && connection != Connection::Closed
+}
+
+/// What comes of a future, if it comes in time. As a rule it comes at once, and then there is no timer.
+async fn within<T>(time: Duration, future: impl Future<Output = T>) -> Option<T> {
+    let mut future = pin!(future);
+    match poll_fn(|context| Poll::Ready(future.as_mut().poll(context))).await {
+        Poll::Ready(done) => Some(done),
+        Poll::Pending => tokio::time::timeout(time, future).await.ok(),
+    }
+}
+
+/// The next head. None where none comes any more.
+async fn next(wire: &mut Wire<TcpStream>, waiting: &mut Waiting) -> Option<Result<head::Asked, Refusal>> {
+    let mut seen = 0;
+    loop {
+        if may_be_whole(&wire.input, seen) {
+            match head::read(&wire.input) {
+                Ok(Some((end, asked))) => {
+                    wire.input.advance(end);
+                    return Some(Ok(asked));
+                }
+                Ok(None) => seen = wire.input.len(),
+                Err(refusal) => return Some(Err(refusal)),
+            }
+        } else {
+            seen = wire.input.len();
+        }
+        match waiting.for_bytes(wire).await {
+            Came::Bytes => {}
+            Came::Nothing => return None,
+            Came::TooLate => {
+                let _ = wire.send(LATE).await; // who does not read it has gone
+                return None;
+            }
+        }
+    }
+}
+
+/// Whether a head may be whole, of which there was no end in so many bytes: so it is read once or twice, not for each
+/// byte that comes.
+fn may_be_whole(input: &[u8], seen: usize) -> bool {
+    let new = &input[seen.saturating_sub(3).min(input.len())..];
+    !input.is_empty()
+        && (seen == 0
+            || input.len() >= super::wire::READ_AHEAD
+            || new.windows(2).any(|two| two == b"\n\n")
+            || new.windows(3).any(|three| three == b"\n\r\n"))
+}
+
+/// What came of waiting for more of a head.
+enum Came {
+    Bytes,
+    /// The sender has gone or sent nothing for long, or the service ends and owes nothing.
+    Nothing,
+    /// A head began, and did not come whole within its time.
+    TooLate,
+}
+
+/// How long a connection waits. One timer serves all its requests: it looks now and then how often it has looked.
+struct Waiting {
+    period: Duration,
+    idle: Duration,
+    looks: u32,
+    most_idle: u32,
+    look: Pin<Box<Sleep>>,
+    stop: Pin<Box<dyn Future<Output = ()> + Send>>,
+    stopped: watch::Receiver<bool>,
+    ending: bool,
+}
+
+impl Waiting {
+    fn new(limits: &Limits, stop: watch::Receiver<bool>) -> Waiting {
+        let period = (limits.head / LOOKS).max(Duration::from_millis(1));
+        let mut switch = stop.clone();
+        Waiting {
+            period,
+            idle: limits.idle,
+            looks: 0,
+            most_idle: (limits.idle.as_millis() / period.as_millis()) as u32,
+            look: Box::pin(tokio::time::sleep(period)),
+            stop: Box::pin(async move { switch.wait_true().await }),
+            stopped: stop,
+            ending: false,
+        }
+    }
+
+    /// A next request may come.
+    fn begins(&mut self) {
+        self.looks = 0;
+    }
+
+    fn is_stopped(&self) -> bool {
+        *self.stopped.borrow() || self.stopped.has_changed().is_err()
+    }
+
+    async fn for_bytes(&mut self, wire: &mut Wire<TcpStream>) -> Came {
+        let was_empty = wire.input.is_empty();
+        let mut filling = pin!(wire.fill());
+        let came = poll_fn(|context| {
+            if let Poll::Ready(read) = filling.as_mut().poll(context) {
+                return Poll::Ready(match read {
+                    Ok(1..) => Came::Bytes,
+                    _ => Came::Nothing,
+                });
+            }
+            if !self.ending && self.stop.as_mut().poll(context).is_ready() {
+                self.ending = true;
+            }
+            if self.ending && was_empty {
+                return Poll::Ready(Came::Nothing);
+            }
+            while self.look.as_mut().poll(context).is_ready() {
+                self.look.as_mut().reset(Instant::now() + self.period);
+                self.looks += 1; // the first of them may have come at once
+                match was_empty {
+                    true if self.looks > self.most_idle => return Poll::Ready(Came::Nothing),
+                    false if self.looks > LOOKS => return Poll::Ready(Came::TooLate),
+                    _ => {}
+                }
+            }
+            Poll::Pending
+        })
+        .await;
+        if was_empty {
+            self.looks = 0; // now the head's time begins
+        }
+        came
+    }
+}
+
+#[cfg(test)]
+mod tests {
+    use super::*;
+
+    #[test]
+    fn a_head_is_read_again_only_where_it_may_be_whole() {
+        let head = b"POST / HTTP/1.1\r\na: b\r\n\r\n";
+        let reads = (1..=head.len()).filter(|end| may_be_whole(&head[..*end], end - 1));
+        assert_eq!(reads.collect::<Vec<_>>(), [1, head.len()]);
+        assert!(may_be_whole(b"GET / HTTP/1.1\n\n", 15));
+        assert!(!may_be_whole(b"", 0));
+    }
+}

@@ -1,0 +1,89 @@
+//! What becomes of each point of a request in the gateway's form, in words.
+
+use super::json::{Document, Value};
+use super::series::{visit, Seen, SeriesKey};
+use serde::Serialize;
+use std::sync::Arc;
+
+/// How much of an attribute's value is shown.
+const SHOWN: usize = 60;
+
+/// One point.
+#[derive(Clone, Debug, PartialEq, Eq, Serialize)]
+pub struct Explained {
+    pub metric: String,
+    /// The field of the metric's data: `sum`, `gauge`.
+    pub kind: &'static str,
+    /// The point's attributes, for people.
+    pub attributes: String,
+    /// Why it is not taken; nothing where it is.
+    pub foreign: Option<String>,
+}
+
+/// The points of a body, in order; `None` where the gateway refuses it whole.
+pub fn explained(body: &[u8]) -> Option<Vec<Explained>> {
+    let document = Document::parse(body).ok()?;
+    let mut all = Vec::new();
+    visit(&document, |seen| all.push(of(&seen)))?;
+    Some(all)
+}
+
+/// The first of its points that are foreign, until `is_enough` says so.
+pub fn foreign_points(body: &[u8], mut is_enough: impl FnMut(Explained) -> bool) {
+    let Ok(document) = Document::parse(body) else {
+        return;
+    };
+    let mut goes_on = true;
+    let _ = visit(&document, |seen| {
+        if goes_on && seen.found.is_err() {
+            goes_on = !is_enough(of(&seen));
+        }
+    });
+}
+
+/// The series of a point that the gateway would take, counted from 0 among these alone.
+pub fn series_of_point(body: &[u8], place: u64) -> Option<SeriesKey> {
+    let document = Document::parse(body).ok()?;
+    let (mut taken, mut series) = (0, None);
+    visit(&document, |seen| {
+        if seen.found.is_ok() {
+            if taken == place {
+                series = Some(SeriesKey(Arc::from(seen.key)));
+            }
+            taken += 1;
+        }
+    })?;
+    series
+}
+
+fn of(seen: &Seen<'_, '_>) -> Explained {
+    let name = seen.metric.named(["name"]).and_then(|[name]| name?.text());
+    Explained {
+        metric: name.unwrap_or_default().into_owned(),
+        kind: seen.kind,
+        attributes: attributes(seen.point),
+        foreign: seen.found.err().map(|why| why.to_string()),
+    }
+}
+
+/// `key=value, ..`, also of what can't be read whole.
+fn attributes(point: Value<'_>) -> String {
+    let list = point.named(["attributes"]).and_then(|[list]| list?.elements());
+    let pairs = list.into_iter().flatten().filter_map(|pair| {
+        let [key, value] = pair.named(["key", "value"])?;
+        let key = key.and_then(Value::text).unwrap_or_default();
+        Some(format!("{key}={}", value.map(shown).unwrap_or_default()))
+    });
+    pairs.collect::<Vec<String>>().join(", ")
+}
+
+fn shown(value: Value<'_>) -> String {
+    let inner = value.members().and_then(|mut members| members.next());
+    let text = match inner.map(|member| member.1) {
+        None => String::new(),
+        Some(inner) => inner
+            .text()
+            .map_or_else(|| inner.raw().to_string(), |text| text.into_owned()),
+    };
+    text.chars().take(SHOWN).collect()
+}

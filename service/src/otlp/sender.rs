@@ -1,0 +1,253 @@
+//! `--sender-from`: the name of a sender out of its resource, where it does not name itself.
+
+use super::json::{Document, Value};
+use super::wire::{Fields, Payload};
+use super::{Encoding, Reading, Refused};
+use crate::slot::is_sender;
+use sha2::{Digest, Sha256};
+use std::borrow::Cow;
+
+/// The name of who has none.
+pub const NO_NAME: &str = "-";
+
+/// Of a value that is no name: how much of it is kept, and how many digits of its digest stand behind.
+const KEPT: usize = 23;
+const DIGITS: usize = 40;
+
+/// What a resource has of the attribute.
+#[derive(Debug, PartialEq, Eq)]
+enum Found<'d> {
+    Name(Cow<'d, str>),
+    Nothing,
+    /// It is no text, or an empty one.
+    NoText,
+}
+
+/// The sender of a request: as its header names it, else as its resources do, else nobody. One request has one
+/// sender, since one answer can't say which of several is to repeat.
+pub fn sender(header: String, encoding: Encoding, body: &[u8], reading: &Reading) -> Result<String, Refused> {
+    let Some(attribute) = reading.sender_from.as_deref().filter(|_| header == NO_NAME) else {
+        return Ok(header);
+    };
+    let name = match encoding {
+        Encoding::Json => one_name(in_json(Document::parse(body)?.root(), attribute), attribute)?,
+        Encoding::Protobuf => one_name(in_protobuf(body, attribute), attribute)?,
+    };
+    Ok(name.unwrap_or(header))
+}
+
+fn one_name<'d>(all: impl Iterator<Item = Found<'d>>, attribute: &str) -> Result<Option<String>, Refused> {
+    let refused = |why: String| Err(Refused::Unreadable(format!("no sender: {why}")));
+    let mut first: Option<Found<'d>> = None;
+    for found in all {
+        match &first {
+            _ if found == Found::NoText => return refused(format!("the resource's {attribute} is no text")),
+            Some(other) if *other != found => {
+                return refused(format!(
+                    "the request has resources of more than one {attribute}: name the sender by the header x-sender"
+                ))
+            }
+            Some(_) => {}
+            None => first = Some(found),
+        }
+    }
+    Ok(match first {
+        Some(Found::Name(name)) => Some(legal(&name)),
+        _ => None,
+    })
+}
+
+/// The value itself where it is a sender's name, else a name of its own: the value's beginning and its digest. A value
+/// that looks like such a name is given another, so no two values have one name.
+fn legal(value: &str) -> String {
+    if is_sender(value) && !is_made(value) && value != NO_NAME {
+        return value.to_string();
+    }
+    let kept = value.bytes().take(KEPT).map(|byte| match byte {
+        byte if byte.is_ascii_alphanumeric() || b"._-".contains(&byte) => char::from(byte),
+        _ => '-',
+    });
+    let digest = Sha256::digest(value.as_bytes());
+    let digits: String = digest.iter().map(|byte| format!("{byte:02x}")).collect();
+    format!("{}.{}", kept.collect::<String>(), &digits[..DIGITS])
+}
+
+fn is_made(name: &str) -> bool {
+    let is_digit = |byte: u8| byte.is_ascii_digit() || (b'a'..=b'f').contains(&byte);
+    let digits = name.rsplit_once('.').map_or("", |parts| parts.1);
+    digits.len() == DIGITS && digits.bytes().all(is_digit)
+}
+
+/// A member by its name or that of the `.proto` file.
+fn member<'d>(object: Value<'d>, names: [&str; 2]) -> Option<Value<'d>> {
+    let [one, other] = object.named(names)?;
+    one.or(other)
+}
+
+fn in_json<'d>(root: Value<'d>, attribute: &'d str) -> impl Iterator<Item = Found<'d>> {
+    let resources = member(root, ["resourceMetrics", "resource_metrics"]).and_then(Value::elements);
+    resources.into_iter().flatten().map(move |resource| {
+        let attributes = resource
+            .named(["resource"])
+            .and_then(|[resource]| resource?.named(["attributes"]))
+            .and_then(|[attributes]| attributes?.elements());
+        let mut pairs = attributes.into_iter().flatten();
+        let value = pairs.find_map(|pair| {
+            let [key, value] = pair.named(["key", "value"])?;
+            (key?.text()? == attribute).then_some(value)
+        });
+        match value {
+            None => Found::Nothing,
+            Some(value) => value
+                .and_then(|value| member(value, ["stringValue", "string_value"]))
+                .and_then(Value::text)
+                .map_or(Found::NoText, name),
+        }
+    })
+}
+
+fn name(text: Cow<'_, str>) -> Found<'_> {
+    if text.is_empty() {
+        Found::NoText
+    } else {
+        Found::Name(text)
+    }
+}
+
+/// The bytes of a field, each time it is there. What is malformed is found where the request is read.
+fn bytes_of(message: &[u8], number: u32) -> impl Iterator<Item = &[u8]> {
+    Fields::of(message).filter_map(move |field| match field {
+        Ok((found, Payload::Bytes(bytes))) if found == number => Some(bytes),
+        _ => None,
+    })
+}
+
+fn in_protobuf<'d>(body: &'d [u8], attribute: &'d str) -> impl Iterator<Item = Found<'d>> {
+    bytes_of(body, 1).map(move |resource| {
+        let mut pairs = bytes_of(resource, 1).flat_map(|resource| bytes_of(resource, 1));
+        let pair = pairs.find(|pair| bytes_of(pair, 1).last() == Some(attribute.as_bytes()));
+        match pair {
+            None => Found::Nothing,
+            Some(pair) => bytes_of(pair, 2)
+                .last()
+                .and_then(|value| bytes_of(value, 1).last())
+                .and_then(|text| std::str::from_utf8(text).ok())
+                .map_or(Found::NoText, |text| name(Cow::Borrowed(text))),
+        }
+    })
+}
+
+#[cfg(test)]
+mod tests {
+    use super::super::messages::*;
+    use super::*;
+    use prost::Message;
+
+    /// A request of resources, each with these attributes.
+    fn request(resources: &[&[(&str, Any)]]) -> [(Encoding, Vec<u8>); 2] {
+        let pair = |pair: &(&str, Any)| KeyValue {
+            key: pair.0.to_string(),
+            value: Some(AnyValue {
+                value: Some(pair.1.clone()),
+            }),
+        };
+        let request = ExportMetricsServiceRequest {
+            resource_metrics: resources
+                .iter()
+                .map(|pairs| ResourceMetrics {
+                    resource: Some(Resource {
+                        attributes: pairs.iter().map(pair).collect(),
+                    }),
+                    scope_metrics: Vec::new(),
+                })
+                .collect(),
+        };
+        let json = crate::otlp::tests::in_json(&request);
+        [
+            (Encoding::Protobuf, request.encode_to_vec()),
+            (Encoding::Json, json.into_bytes()),
+        ]
+    }
+
+    fn text(text: &str) -> Any {
+        Any::Text(text.to_string())
+    }
+
+    fn named(resources: &[&[(&str, Any)]]) -> Result<String, String> {
+        let reading = Reading {
+            sender_from: Some("id".to_string()),
+            ..Reading::default()
+        };
+        let read = |(encoding, body): (Encoding, Vec<u8>)| {
+            sender(NO_NAME.to_string(), encoding, &body, &reading).map_err(|refused| refused.to_string())
+        };
+        let [binary, json] = request(resources).map(read);
+        assert_eq!(binary, json);
+        binary
+    }
+
+    #[test]
+    fn a_resource_names_its_sender() {
+        assert_eq!(
+            named(&[&[("a", text("b")), ("id", text("shop-1"))]]).unwrap(),
+            "shop-1"
+        );
+        let same = [("id", text("shop-1"))];
+        assert_eq!(named(&[&same, &same]).unwrap(), "shop-1");
+        for nobody in [&[][..], &[&[][..]][..], &[&[("ide", text("x"))][..]][..]] {
+            assert_eq!(named(nobody).unwrap(), NO_NAME);
+        }
+    }
+
+    #[test]
+    fn what_names_no_one_sender_is_refused() {
+        let (one, other) = ([("id", text("a"))], [("id", text("b"))]);
+        for several in [[&one[..], &other[..]], [&one[..], &[]], [&[], &one[..]]] {
+            let why = named(&several).unwrap_err();
+            assert!(
+                why.contains("more than one id: name the sender by the header"),
+                "{why}"
+            );
+        }
+        for value in [Any::Int(5), text(""), Any::Double(0.5)] {
+            let why = named(&[&[("id", value)]]).unwrap_err();
+            assert_eq!(why, "no sender: the resource's id is no text");
+        }
+    }
+
+    #[test]
+    fn a_header_goes_before() {
+        let reading = Reading {
+            sender_from: Some("id".to_string()),
+            ..Reading::default()
+        };
+        for (encoding, body) in request(&[&[("id", text("a"))], &[("id", text("b"))]]) {
+            assert_eq!(sender("x".to_string(), encoding, &body, &reading).unwrap(), "x");
+            assert_eq!(
+                sender(NO_NAME.to_string(), encoding, &body, &Reading::default()).unwrap(),
+                NO_NAME
+            );
+        }
+    }
+
+    #[test]
+    fn each_value_has_a_name_of_its_own() {
+        let long = "x".repeat(65);
+        let mut names = std::collections::HashSet::new();
+        let mut values: Vec<String> = ["-", "a b", "a-b", "a/b", "é", "host:1", &long, &"x".repeat(64)]
+            .map(String::from)
+            .into();
+        // Names that were made are values too.
+        for _ in 0..3 {
+            values.extend(values.clone().iter().map(|value| legal(value)));
+            values.sort();
+            values.dedup();
+        }
+        for value in &values {
+            let name = legal(value);
+            assert!(is_sender(&name) && names.insert(name.clone()), "{value}: {name}");
+        }
+        assert_eq!(legal("a-b"), "a-b");
+        assert!(legal("host:1/x").starts_with("host-1-x."));
+    }
+}

@@ -1,0 +1,132 @@
+//! Why a point is foreign, and that in words (docs/FORMATS.md, "Reading OTLP/JSON").
+
+use crate::otlp::json::{Kind, Value};
+use crate::otlp::number::double_shown;
+use std::fmt;
+
+/// How much of a value stands in words.
+const SHOWN: usize = 80;
+
+/// What is wrong, where, and with which value.
+#[derive(Clone, Copy)]
+pub struct Why<'d> {
+    pub what: What,
+    /// The field, or the place of an attribute.
+    pub field: &'static str,
+    pub value: Option<Value<'d>>,
+    /// Of an attribute.
+    pub key: Option<Value<'d>>,
+}
+
+#[derive(Clone, Copy, Debug, PartialEq, Eq)]
+pub enum What {
+    OtherKind,
+    SeveralKinds,
+    Cumulative,
+    NotDelta,
+    NoTruth,
+    NoText,
+    LongText,
+    NoAttributes,
+    ManyAttributes,
+    SameKeys,
+    DoubleValue,
+    BytesValue,
+    MapValue,
+    ListInList,
+    LongList,
+    SeveralValues,
+    WrongValue,
+    NoStart,
+    EmptySpan,
+    NotRecorded,
+    NoNumber,
+    Double,
+    NotWhole,
+    Negative,
+    TooLarge,
+    NoList,
+    ManyBounds,
+    NotAscending,
+    NotFitting,
+    NotAdding,
+}
+
+impl<'d> Why<'d> {
+    pub fn new(what: What, field: &'static str, value: Option<Value<'d>>) -> Why<'d> {
+        Why {
+            what,
+            field,
+            value,
+            key: None,
+        }
+    }
+}
+
+impl fmt::Display for Why<'_> {
+    fn fmt(&self, out: &mut fmt::Formatter<'_>) -> fmt::Result {
+        let Why { what, field, .. } = *self;
+        if let Some(key) = self.key.and_then(Value::text) {
+            write!(out, "{field} `{}`: ", short(&key))?;
+        }
+        let value = self.value.map_or_else(|| "nothing".to_string(), shown);
+        match what {
+            What::OtherKind => write!(out, "{field} are not added up: only sums and histograms are"),
+            What::SeveralKinds => out.write_str("its metric has more than one kind of data"),
+            What::Cumulative => out.write_str("it is cumulative: set the sender's temporality preference to delta"),
+            What::NotDelta => write!(out, "aggregationTemporality is {value}: only 1, delta, is taken"),
+            What::NoTruth => write!(out, "{field} is {value}, neither true nor false"),
+            What::NoText => write!(out, "{field} is {value}, no text"),
+            What::LongText => write!(out, "{field} has more than 4096 bytes"),
+            What::NoAttributes => write!(out, "{field} is {value}, no list of attributes"),
+            What::ManyAttributes => write!(out, "{field} has more than 128 attributes"),
+            What::SameKeys => out.write_str("its key is there twice"),
+            What::DoubleValue => write!(out, "its value is a double, {value}: texts, whole numbers, truths and lists of them are taken"),
+            What::BytesValue => out.write_str("its value is bytes: texts, whole numbers, truths and lists of them are taken"),
+            What::MapValue => out.write_str("its value is a map: texts, whole numbers, truths and lists of them are taken"),
+            What::ListInList => out.write_str("its value is a list in a list"),
+            What::LongList => out.write_str("its value is a list of more than 128"),
+            What::SeveralValues => out.write_str("it has more than one value"),
+            What::WrongValue => write!(out, "its value can't be read: {value}"),
+            What::NoStart => write!(out, "startTimeUnixNano is {value}: each point has to say where it starts, over 0"),
+            What::EmptySpan => write!(out, "timeUnixNano is {value}, not over its start"),
+            What::NotRecorded => out.write_str("its flags say that no value was recorded"),
+            What::NoNumber => out.write_str("it has no asInt"),
+            What::Double => write!(out, "it is a double, {value}: use an instrument of whole numbers, or serve with --whole UNIT=FINER"),
+            What::NotWhole => write!(out, "{field} is {value}, no whole number{}", whole_help(field)),
+            What::Negative => write!(out, "{field} is {value}, below zero"),
+            What::TooLarge => write!(out, "{field} is {value}, over the limit"),
+            What::NoList => write!(out, "{field} is {value}, no list"),
+            What::ManyBounds => write!(out, "{field} are more than 255"),
+            What::NotAscending => write!(out, "{field} do not ascend at {value}"),
+            What::NotFitting => out.write_str("bucketCounts are not one more than explicitBounds"),
+            What::NotAdding => out.write_str("bucketCounts do not add up to the count"),
+        }
+    }
+}
+
+fn whole_help(field: &str) -> &'static str {
+    match field {
+        "a bound" | "sum" => ": measure in a finer unit, or serve with --whole UNIT=FINER",
+        _ => "",
+    }
+}
+
+/// A value as people write it.
+fn shown(value: Value<'_>) -> String {
+    let text = match value.kind() {
+        Kind::Text => value.text().unwrap_or_default().into_owned(),
+        _ => value.raw().to_string(),
+    };
+    match text.parse::<f64>() {
+        Ok(double) if text.contains(['e', 'E']) => double_shown(double),
+        _ => short(&text),
+    }
+}
+
+fn short(text: &str) -> String {
+    match text.char_indices().nth(SHOWN) {
+        Some((at, _)) => format!("{}..", &text[..at]),
+        None => text.to_string(),
+    }
+}

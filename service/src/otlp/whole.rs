@@ -1,0 +1,159 @@
+//! `--whole`: what is measured in one unit is taken as whole numbers of a finer one.
+//!
+//! `rewrite` does it to a request in the gateway's form, so it is the same for both encodings. `decimal` has the
+//! numbers: a double counts as its shortest decimal, which is what a program wrote or meant, and is multiplied
+//! exactly.
+
+mod decimal;
+mod rewrite;
+
+pub(super) use rewrite::rewritten;
+
+use std::collections::BTreeMap;
+use std::fmt;
+use std::str::FromStr;
+
+/// The largest factor: with it the product of any double's digits fits 128 bits.
+const MAX_FACTOR: u64 = 1_000_000_000_000_000_000;
+
+/// How long a unit's name may be, as OpenTelemetry has it.
+const MAX_UNIT: usize = 63;
+
+/// Units of times and of bytes, with how many of the finest one of their kind they are.
+const TIMES: [(&str, u64); 7] = [
+    ("d", 86_400_000_000_000),
+    ("h", 3_600_000_000_000),
+    ("min", 60_000_000_000),
+    ("s", 1_000_000_000),
+    ("ms", 1_000_000),
+    ("us", 1_000),
+    ("ns", 1),
+];
+const BYTES: [(&str, u64); 9] = [
+    ("TiBy", 1 << 40),
+    ("TBy", 1_000_000_000_000),
+    ("GiBy", 1 << 30),
+    ("GBy", 1_000_000_000),
+    ("MiBy", 1 << 20),
+    ("MBy", 1_000_000),
+    ("KiBy", 1 << 10),
+    ("kBy", 1_000),
+    ("By", 1),
+];
+
+/// One rule: a unit, the finer one, and how many of it one is.
+#[derive(Clone, Debug, PartialEq, Eq)]
+pub struct Rule {
+    pub from: String,
+    pub factor: u64,
+    pub to: String,
+}
+
+impl FromStr for Rule {
+    type Err = String;
+
+    /// `s=us`, `By`, `{step}=1000:{millistep}`; `=` is of metrics without a unit.
+    fn from_str(text: &str) -> Result<Rule, String> {
+        if text == "=" {
+            let (from, to) = (String::new(), String::new());
+            return Ok(Rule { from, factor: 1, to });
+        }
+        let (from, right) = text.split_once('=').unwrap_or((text, text));
+        let (factor, to) = match right.split_once(':') {
+            Some((factor, to)) => (factor_of(factor)?, to),
+            None => (known_factor(from, right)?, right),
+        };
+        for unit in [from, to] {
+            if unit.is_empty() || unit.len() > MAX_UNIT || unit.contains(char::is_whitespace) {
+                return Err(format!(
+                    "a unit is 1 to {MAX_UNIT} bytes without blanks, and this is none: `{unit}`"
+                ));
+            }
+        }
+        let (from, to) = (from.to_string(), to.to_string());
+        Ok(Rule { from, factor, to })
+    }
+}
+
+fn factor_of(text: &str) -> Result<u64, String> {
+    let factor = text
+        .parse()
+        .ok()
+        .filter(|factor| (1..=MAX_FACTOR).contains(factor));
+    factor.ok_or_else(|| {
+        format!("a factor is a whole number from 1 to {MAX_FACTOR}, and this is none: `{text}`")
+    })
+}
+
+/// How many of the one unit are in the other, where both are known.
+fn known_factor(from: &str, to: &str) -> Result<u64, String> {
+    if from == to {
+        return Ok(1);
+    }
+    let size = |units: &[(&str, u64)], unit| units.iter().find(|known| known.0 == unit).map(|known| known.1);
+    let pair = |units| Some((size(units, from)?, size(units, to)?));
+    match pair(&TIMES).or_else(|| pair(&BYTES)) {
+        Some((from, to)) if from % to == 0 => Ok(from / to),
+        Some(_) => Err(format!(
+            "`{to}` is not finer than `{from}`, or no whole part of it"
+        )),
+        None => Err(format!(
+            "how many `{to}` is one `{from}`? Write {from}=FACTOR:{to}"
+        )),
+    }
+}
+
+impl fmt::Display for Rule {
+    fn fmt(&self, out: &mut fmt::Formatter<'_>) -> fmt::Result {
+        write!(out, "{}={}:{}", self.from, self.factor, self.to)
+    }
+}
+
+/// All rules, one for a unit.
+#[derive(Clone, Debug, Default, PartialEq, Eq)]
+pub struct Whole(BTreeMap<String, Rule>);
+
+impl Whole {
+    /// The error names the unit that has two rules.
+    pub fn new(rules: impl IntoIterator<Item = Rule>) -> Result<Whole, String> {
+        let mut all = BTreeMap::new();
+        for rule in rules {
+            if let Some(other) = all.insert(rule.from.clone(), rule) {
+                return Err(format!("--whole has two rules for the unit `{}`", other.from));
+            }
+        }
+        Ok(Whole(all))
+    }
+
+    pub fn is_empty(&self) -> bool {
+        self.0.is_empty()
+    }
+
+    /// Whether metrics without a unit have a rule, also where their field is not there.
+    pub fn has_no_unit(&self) -> bool {
+        self.0.contains_key("")
+    }
+
+    pub fn rule(&self, unit: &str) -> Option<&Rule> {
+        self.0.get(unit)
+    }
+}
+
+/// What was done to the values of a request.
+#[derive(Clone, Debug, Default, PartialEq)]
+pub struct Rounded {
+    /// By the rule, as it is written with its factor.
+    pub by_rule: BTreeMap<String, Rounding>,
+    /// The first point that stays foreign though its unit has a rule, in words.
+    pub unfit: Option<String>,
+}
+
+/// Values that were not whole, and what they were rounded by together, in the finer unit.
+#[derive(Clone, Copy, Debug, Default, PartialEq)]
+pub struct Rounding {
+    pub values: u64,
+    pub together: f64,
+}
+
+#[cfg(test)]
+mod tests;

@@ -1,0 +1,93 @@
+//! Exact decimals: a double's shortest one, times a whole factor.
+
+use std::cmp::Ordering;
+
+/// A number with a sign, and its size as a fraction whose denominator is a power of ten.
+#[derive(Clone, Copy, Debug, PartialEq, Eq)]
+pub struct Decimal {
+    is_negative: bool,
+    numerator: u128,
+    denominator: u128,
+}
+
+/// A whole number, and how far it is from what it was made of: 0 to 1/2.
+#[derive(Clone, Copy, Debug, PartialEq)]
+pub struct Nearest {
+    pub whole: i128,
+    pub by: f64,
+}
+
+impl Decimal {
+    /// Reads `-1.5e-3` and the like, of at most 20 digits, and multiplies it. `None` where it is no such number, or is
+    /// over 2^127 in size then.
+    pub fn times(text: &str, factor: u64) -> Option<Decimal> {
+        let (is_negative, size) = match text.strip_prefix('-') {
+            Some(size) => (true, size),
+            None => (false, text),
+        };
+        let (digits, exponent) = size.split_once('e').unwrap_or((size, "0"));
+        let (before, after) = digits.split_once('.').unwrap_or((digits, ""));
+        let exponent = exponent.parse::<i64>().ok()? - i64::try_from(after.len()).ok()?;
+        let mut numerator = 0u128;
+        for digit in before.bytes().chain(after.bytes()) {
+            if !digit.is_ascii_digit() {
+                return None;
+            }
+            numerator = numerator.checked_mul(10)?.checked_add(u128::from(digit - b'0'))?;
+        }
+        numerator = numerator.checked_mul(u128::from(factor))?;
+        let power = |exponent: i64| 10u128.checked_pow(u32::try_from(exponent).ok()?);
+        let (numerator, denominator) = match exponent {
+            _ if numerator == 0 => (0, 1),
+            0.. => (numerator.checked_mul(power(exponent)?)?, 1),
+            // So small that only its being over zero counts.
+            ..-38 => (1, 10u128.pow(38)),
+            _ => (numerator, power(-exponent)?),
+        };
+        (numerator <= i128::MAX as u128).then_some(Decimal {
+            is_negative,
+            numerator,
+            denominator,
+        })
+    }
+
+    pub fn is_below_zero(&self) -> bool {
+        self.is_negative && self.numerator > 0
+    }
+
+    /// The number, if it is whole.
+    pub fn whole(&self) -> Option<i128> {
+        self.numerator
+            .is_multiple_of(self.denominator)
+            .then(|| self.signed(self.numerator / self.denominator))
+    }
+
+    /// The nearest whole number; of two the even one.
+    pub fn nearest(&self) -> Nearest {
+        let (below, rest) = (
+            self.numerator / self.denominator,
+            self.numerator % self.denominator,
+        );
+        let over = self.denominator - rest;
+        let is_up = match rest.cmp(&over) {
+            Ordering::Less => false,
+            Ordering::Equal => below % 2 == 1,
+            Ordering::Greater => true,
+        };
+        let (size, by) = if is_up { (below + 1, over) } else { (below, rest) };
+        Nearest {
+            whole: self.signed(size),
+            by: by as f64 / self.denominator as f64,
+        }
+    }
+
+    fn signed(&self, size: u128) -> i128 {
+        // No size is over 2^127 - 1: see `times`.
+        let size = i128::try_from(size).unwrap_or(i128::MAX);
+        if self.is_negative {
+            -size
+        } else {
+            size
+        }
+    }
+}

@@ -1,0 +1,232 @@
+//! A request in the gateway's form, with the metrics of the given units in finer ones.
+//!
+//! A point that can't be had so stays foreign: what does not fit becomes a text with its unit, which no reader takes
+//! for a number. Nothing is changed in a metric that is foreign as a whole, but its unit.
+
+use super::decimal::{Decimal, Nearest};
+use super::{Rounded, Rule, Whole};
+use crate::otlp::json::{write_text, Document, NotJson, Value};
+use crate::otlp::number::{double_shown, MAX_WHOLE_DOUBLE};
+use std::borrow::Cow;
+use std::ops::Range;
+
+const DATA: [&str; 5] = ["sum", "histogram", "gauge", "exponentialHistogram", "summary"];
+/// How a request in the gateway's form has the name before its value.
+const AS_DOUBLE: &str = "\"asDouble\":";
+/// How much of a metric's name stands in an answer.
+const NAME_SHOWN: usize = 100;
+
+/// The text is one that `otlp` has written.
+pub fn rewritten(text: &str, whole: &Whole) -> Result<(String, Rounded), NotJson> {
+    let document = Document::parse(text.as_bytes())?;
+    let mut rewriting = Rewriting {
+        text,
+        copied: 0,
+        out: String::with_capacity(text.len() + text.len() / 8),
+        rounded: Rounded::default(),
+    };
+    for resource in elements(document.root(), "resourceMetrics") {
+        for scope in elements(resource, "scopeMetrics") {
+            for metric in elements(scope, "metrics") {
+                rewriting.metric(metric, whole);
+            }
+        }
+    }
+    rewriting.out.push_str(&text[rewriting.copied..]);
+    Ok((rewriting.out, rewriting.rounded))
+}
+
+fn member<'d>(object: Value<'d>, name: &str) -> Option<Value<'d>> {
+    object.named([name])?[0]
+}
+
+fn elements<'d>(object: Value<'d>, name: &str) -> impl Iterator<Item = Value<'d>> {
+    member(object, name)
+        .and_then(Value::elements)
+        .into_iter()
+        .flatten()
+}
+
+struct Rewriting<'d> {
+    text: &'d str,
+    /// How much of the text is done.
+    copied: usize,
+    out: String,
+    rounded: Rounded,
+}
+
+/// A metric with a rule.
+struct Metric<'r, 'd> {
+    rule: &'r Rule,
+    name: Option<Value<'d>>,
+}
+
+/// A part of the text, and what it becomes.
+type Edit = (Range<usize>, String);
+
+impl Rewriting<'_> {
+    fn put(&mut self, (range, new): Edit) {
+        self.out.push_str(&self.text[self.copied..range.start]);
+        self.out.push_str(&new);
+        self.copied = range.end;
+    }
+
+    fn metric(&mut self, value: Value<'_>, whole: &Whole) {
+        let unit = match member(value, "unit") {
+            None => Some(Cow::Borrowed("")),
+            Some(unit) => unit.text(),
+        };
+        let Some(rule) = unit.and_then(|unit| whole.rule(&unit)) else {
+            return;
+        };
+        let metric = Metric {
+            rule,
+            name: member(value, "name"),
+        };
+        let there = value.named(DATA).into_iter().flatten().flatten().count();
+        for (name, part) in value.members().into_iter().flatten() {
+            let is_delta = member(part, "aggregationTemporality").and_then(Value::number) == Some("1");
+            match &*name {
+                "unit" => {
+                    let mut unit = String::new();
+                    write_text(&mut unit, &rule.to);
+                    self.put((part.range(), unit));
+                }
+                "sum" if is_delta && there == 1 => self.sum(&metric, part),
+                "histogram" if is_delta && there == 1 => {
+                    for point in elements(part, "dataPoints") {
+                        self.histogram_point(&metric, point);
+                    }
+                }
+                _ => {}
+            }
+        }
+    }
+
+    fn sum(&mut self, metric: &Metric<'_, '_>, data: Value<'_>) {
+        let is_monotonic = member(data, "isMonotonic").and_then(Value::truth) == Some(true);
+        for point in elements(data, "dataPoints") {
+            match point.named(["asInt", "asDouble"]) {
+                Some([Some(whole), None]) => self.whole(metric, whole),
+                Some([None, Some(double)]) => self.double(metric, double, is_monotonic),
+                _ => {}
+            }
+        }
+    }
+
+    fn whole(&mut self, metric: &Metric<'_, '_>, value: Value<'_>) {
+        let Some(text) = value.text() else { return };
+        let product = Decimal::times(&text, metric.rule.factor).and_then(|product| product.whole());
+        match product.filter(is_word) {
+            Some(product) => self.put((value.range(), format!("\"{product}\""))),
+            None => self.unfit(metric, value, "the value"),
+        }
+    }
+
+    fn double(&mut self, metric: &Metric<'_, '_>, value: Value<'_>, is_monotonic: bool) {
+        let product = exact(value, metric.rule).filter(|product| !(is_monotonic && product.is_below_zero()));
+        match product
+            .map(|product| product.nearest())
+            .filter(|near| is_word(&near.whole))
+        {
+            Some(near) => {
+                let range = value.range().start - AS_DOUBLE.len()..value.range().end;
+                self.put((range, format!("\"asInt\":\"{}\"", near.whole)));
+                self.count(metric.rule, near);
+            }
+            None => self.note(metric, value, "the value"),
+        }
+    }
+
+    fn histogram_point(&mut self, metric: &Metric<'_, '_>, point: Value<'_>) {
+        let Some([sum, bounds]) = point.named(["sum", "explicitBounds"]) else {
+            return;
+        };
+        let mut edits = Vec::new();
+        for bound in bounds.and_then(Value::elements).into_iter().flatten() {
+            let product = exact(bound, metric.rule).and_then(|product| product.whole());
+            match product.filter(is_whole_double) {
+                Some(product) => edits.push((bound.range(), product.to_string())),
+                None => return self.unfit(metric, bound, "the bound"),
+            }
+        }
+        if let Some(sum) = sum {
+            let product = exact(sum, metric.rule).filter(|product| !product.is_below_zero());
+            match product
+                .map(|product| product.nearest())
+                .filter(|near| is_whole_double(&near.whole))
+            {
+                Some(near) => {
+                    edits.push((sum.range(), near.whole.to_string()));
+                    self.count(metric.rule, near);
+                }
+                None => return self.unfit(metric, sum, "the sum"),
+            }
+        }
+        edits.sort_by_key(|edit| edit.0.start);
+        edits.into_iter().for_each(|edit| self.put(edit));
+    }
+
+    fn count(&mut self, rule: &Rule, near: Nearest) {
+        if near.by > 0.0 {
+            let rounding = self.rounded.by_rule.entry(rule.to_string()).or_default();
+            rounding.values += 1;
+            rounding.together += near.by;
+        }
+    }
+
+    /// A value that keeps its point foreign.
+    fn unfit(&mut self, metric: &Metric<'_, '_>, value: Value<'_>, what: &str) {
+        self.note(metric, value, what);
+        if let Some(shown) = shown(value) {
+            let mut text = String::new();
+            write_text(&mut text, &format!("{shown} {}", metric.rule.from));
+            self.put((value.range(), text));
+        }
+    }
+
+    fn note(&mut self, metric: &Metric<'_, '_>, value: Value<'_>, what: &str) {
+        let (None, Some(shown)) = (&self.rounded.unfit, shown(value)) else {
+            return;
+        };
+        let name = metric.name.and_then(Value::text).unwrap_or_default();
+        let name: String = name.chars().take(NAME_SHOWN).collect();
+        let Rule { from, to, .. } = metric.rule;
+        self.rounded.unfit = Some(format!(
+            "{what} {shown} {from} of `{name}` can't be had in whole {to}"
+        ));
+    }
+}
+
+/// A double of at most 2^53 in size, times the factor. Over that a shortest decimal is not the double's own value.
+fn exact(value: Value<'_>, rule: &Rule) -> Option<Decimal> {
+    let text = value
+        .number()
+        .map(String::from)
+        .or_else(|| value.text().map(String::from))?;
+    let double: f64 = text.parse().ok()?;
+    let is_exact = double.abs() <= MAX_WHOLE_DOUBLE as f64;
+    is_exact.then(|| Decimal::times(&text, rule.factor)).flatten()
+}
+
+/// A value as people write it; `None` where it was no number.
+fn shown(value: Value<'_>) -> Option<String> {
+    let text = value
+        .number()
+        .map(String::from)
+        .or_else(|| value.text().map(String::from))?;
+    match text.parse::<i128>() {
+        Ok(_) => Some(text),
+        Err(_) => Some(double_shown(text.parse().ok()?)),
+    }
+}
+
+/// Whether a sum's point may have it.
+fn is_word(whole: &i128) -> bool {
+    whole.unsigned_abs() <= i64::MAX as u128
+}
+
+/// Whether a histogram may have it as a bound or a sum.
+fn is_whole_double(whole: &i128) -> bool {
+    whole.unsigned_abs() <= u128::from(MAX_WHOLE_DOUBLE)
+}

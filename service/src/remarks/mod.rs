@@ -1,0 +1,168 @@
+//! What is told in the log of posts, beside their answers: why points are foreign, and who posts to whose series.
+//!
+//! It stands before what takes posts, and changes nothing of them. It reads a post that is worth a remark once more,
+//! one at a time and beside the runtime's threads; one that comes meanwhile is passed over, since its sender comes
+//! again.
+
+use crate::files::Outbox;
+use crate::intake::Taker;
+use crate::otlp::series::SeriesKey;
+use crate::otlp::{foreign_points, series_of_point, Outcome};
+use bytes::Bytes;
+use std::collections::{HashMap, HashSet};
+use std::future::Future;
+use std::sync::atomic::{AtomicBool, Ordering::Relaxed};
+use std::sync::{Arc, Mutex, PoisonError};
+
+/// How many senders and series are remembered as told.
+const REMEMBERED: usize = 1000;
+
+/// How many posts of a sender are read for reasons that are new.
+const MOST_READ: usize = 100;
+
+pub struct Remarks<T> {
+    taker: Arc<T>,
+    owners: Box<dyn Owners>,
+    log_foreign: usize,
+    is_reading: AtomicBool,
+    told: Mutex<Told>,
+}
+
+/// Who knows the owner of a series.
+pub trait Owners: Send + Sync + 'static {
+    fn owner(&self, series: &SeriesKey) -> Option<String>;
+}
+
+impl Owners for Arc<Outbox> {
+    /// Known once the series was forwarded.
+    fn owner(&self, series: &SeriesKey) -> Option<String> {
+        self.series().get(series)?.owner.clone()
+    }
+}
+
+/// What is in the log already.
+#[derive(Default)]
+struct Told {
+    foreign: HashMap<String, OfSender>,
+    series: HashSet<SeriesKey>,
+}
+
+#[derive(Default)]
+struct OfSender {
+    read: usize,
+    reasons: HashSet<String>,
+}
+
+/// A post that is worth a remark.
+enum Remark {
+    Foreign,
+    /// The place of the point among those of the profile.
+    OtherWriter(u64),
+}
+
+impl<T: Taker> Remarks<T> {
+    /// `log_foreign` reasons are told of each sender.
+    pub fn new(taker: Arc<T>, owners: impl Owners, log_foreign: usize) -> Arc<Remarks<T>> {
+        Arc::new(Remarks {
+            taker,
+            owners: Box::new(owners),
+            log_foreign,
+            is_reading: AtomicBool::new(false),
+            told: Mutex::new(Told::default()),
+        })
+    }
+
+    fn remark(&self, sender: &str, outcome: &Outcome) -> Option<Remark> {
+        match outcome {
+            Outcome::Taken { rejected: 0, .. } => None,
+            Outcome::Taken { .. } => self.may_tell_more(sender).then_some(Remark::Foreign),
+            Outcome::Refused { message, .. } => {
+                let place = message.strip_prefix("other writer: point ")?;
+                Some(Remark::OtherWriter(place.parse().ok()?))
+            }
+        }
+    }
+
+    fn told(&self) -> std::sync::MutexGuard<'_, Told> {
+        self.told.lock().unwrap_or_else(PoisonError::into_inner) // sets are sound at any time
+    }
+
+    fn may_tell_more(&self, sender: &str) -> bool {
+        if self.log_foreign == 0 {
+            return false;
+        }
+        let told = self.told();
+        match told.foreign.get(sender) {
+            None => told.foreign.len() < REMEMBERED,
+            Some(of) => of.reasons.len() < self.log_foreign && of.read < MOST_READ,
+        }
+    }
+
+    fn tell(&self, remark: Remark, sender: &str, bodies: &[Bytes]) {
+        match remark {
+            Remark::Foreign => self.tell_reasons(sender, bodies),
+            Remark::OtherWriter(place) => {
+                // Where a request was split, the message is of the first body that was refused.
+                let body = bodies.first().filter(|_| bodies.len() == 1);
+                if let Some(series) = body.and_then(|body| series_of_point(body, place)) {
+                    self.tell_owner(sender, series);
+                }
+            }
+        }
+    }
+
+    fn tell_reasons(&self, sender: &str, bodies: &[Bytes]) {
+        let mut told = self.told();
+        let of = told.foreign.entry(sender.to_string()).or_default();
+        of.read += 1;
+        for body in bodies {
+            foreign_points(body, |point| {
+                let why = point.foreign.unwrap_or_default();
+                let reason = format!("{} `{}`: {why}", point.kind, point.metric);
+                if of.reasons.insert(reason.clone()) {
+                    tracing::warn!("points of {sender} are not taken: {reason}");
+                }
+                of.reasons.len() >= self.log_foreign
+            });
+        }
+    }
+
+    fn tell_owner(&self, sender: &str, series: SeriesKey) {
+        {
+            let told = self.told();
+            if told.series.contains(&series) || told.series.len() >= REMEMBERED {
+                return;
+            }
+        }
+        let Some(owner) = self.owners.owner(&series) else {
+            return;
+        };
+        tracing::warn!(
+            "posts of {sender} are refused, since the series is {owner}'s: give each process a name and a \
+             service.instance.id of its own. The series is {}",
+            series.0
+        );
+        self.told().series.insert(series);
+    }
+}
+
+impl<T: Taker> Taker for Remarks<T> {
+    fn post(self: &Arc<Self>, sender: String, bodies: Vec<Bytes>) -> impl Future<Output = Outcome> + Send {
+        let remarks = self.clone();
+        async move {
+            let outcome = remarks.taker.post(sender.clone(), bodies.clone()).await;
+            if let Some(remark) = remarks.remark(&sender, &outcome) {
+                if !remarks.is_reading.swap(true, Relaxed) {
+                    tokio::task::spawn_blocking(move || {
+                        remarks.tell(remark, &sender, &bodies);
+                        remarks.is_reading.store(false, Relaxed);
+                    });
+                }
+            }
+            outcome
+        }
+    }
+}
+
+#[cfg(test)]
+mod tests;

@@ -1,0 +1,93 @@
+use super::*;
+use std::time::Duration;
+
+/// Answers as it was told.
+struct Answering(Outcome);
+
+impl Taker for Answering {
+    fn post(self: &Arc<Self>, _: String, _: Vec<Bytes>) -> impl Future<Output = Outcome> + Send {
+        std::future::ready(self.0.clone())
+    }
+}
+
+/// Each series has this owner.
+struct Owned(Option<&'static str>);
+
+impl Owners for Owned {
+    fn owner(&self, _: &SeriesKey) -> Option<String> {
+        self.0.map(String::from)
+    }
+}
+
+fn body(metrics: &str) -> Vec<Bytes> {
+    vec![format!(r#"{{"resourceMetrics":[{{"scopeMetrics":[{{"metrics":[{metrics}]}}]}}]}}"#).into()]
+}
+
+/// What is told behind these posts of `a`, and how many posts of it were read.
+async fn told(
+    outcome: Outcome,
+    owner: Option<&'static str>,
+    log_foreign: usize,
+    posts: &[Vec<Bytes>],
+) -> (Vec<String>, usize, usize) {
+    let remarks = Remarks::new(Arc::new(Answering(outcome.clone())), Owned(owner), log_foreign);
+    for bodies in posts {
+        assert_eq!(remarks.post("a".into(), bodies.clone()).await, outcome);
+        while remarks.is_reading.load(Relaxed) {
+            tokio::time::sleep(Duration::from_millis(1)).await;
+        }
+    }
+    let told = remarks.told();
+    let of = told.foreign.get("a");
+    let mut reasons: Vec<String> = of.into_iter().flat_map(|of| of.reasons.clone()).collect();
+    reasons.sort();
+    (reasons, of.map_or(0, |of| of.read), told.series.len())
+}
+
+const GAUGES: &str =
+    r#"{"name":"g","gauge":{"dataPoints":[{},{}]}},{"name":"h","gauge":{"dataPoints":[{}]}}"#;
+
+#[tokio::test]
+async fn the_first_reasons_of_a_sender_are_told() {
+    let foreign = Outcome::taken(3);
+    let posts = [body(GAUGES), body(GAUGES)];
+    let (reasons, read, _) = told(foreign.clone(), None, 9, &posts).await;
+    assert_eq!(read, 2);
+    assert!(
+        reasons[0].starts_with("gauge `g`: gauges are not") && reasons.len() == 2,
+        "{reasons:?}"
+    );
+    let (reasons, read, _) = told(foreign.clone(), None, 1, &posts).await;
+    assert_eq!(
+        (reasons.len(), read),
+        (1, 1),
+        "no post is read behind the last reason"
+    );
+    assert_eq!(told(foreign.clone(), None, 0, &posts).await, (vec![], 0, 0));
+    assert_eq!(told(Outcome::taken(0), None, 9, &posts).await, (vec![], 0, 0));
+    let many = vec![body(GAUGES); MOST_READ + 5];
+    assert_eq!(told(foreign, None, 9, &many).await.1, MOST_READ);
+}
+
+#[tokio::test]
+async fn a_series_of_another_is_told_once_it_is_known() {
+    let point = r#"{"startTimeUnixNano":"1","timeUnixNano":"2","asInt":"1"}"#;
+    let metric = |name| {
+        body(&format!(
+            r#"{{"name":"{name}","sum":{{"aggregationTemporality":1,"dataPoints":[{point}]}}}}"#
+        ))
+    };
+    let posts = [metric("m"), metric("m"), metric("n")];
+    let refused = |message: &str| Outcome::Refused {
+        status: 400,
+        message: message.into(),
+    };
+    let series = async |outcome, owner| told(outcome, owner, 9, &posts).await.2;
+    assert_eq!(series(refused("other writer: point 0"), Some("b")).await, 2);
+    assert_eq!(series(refused("other writer: point 0"), None).await, 0);
+    assert_eq!(series(refused("other writer: point 1"), Some("b")).await, 0);
+    assert_eq!(
+        series(refused("out of order: point 0, frontier 5"), Some("b")).await,
+        0
+    );
+}

@@ -1,0 +1,114 @@
+//! A part of a request: the points that a sink could not add, as a request of their own.
+
+use super::Fate;
+use serde_json::Value;
+use std::collections::BTreeSet;
+
+/// What of a request was not added although the rest was.
+#[derive(Debug, Default, PartialEq, Eq)]
+pub(super) struct Left {
+    /// Places of points, in the order in which the request has them.
+    pub(super) places: BTreeSet<usize>,
+    /// Of the first of them.
+    pub(super) reason: String,
+}
+
+impl Left {
+    pub(super) fn add(&mut self, place: usize, reason: String) {
+        if self.places.is_empty() {
+            self.reason = reason;
+        }
+        self.places.insert(place);
+    }
+
+    pub(super) fn fate(self, body: &[u8]) -> Fate {
+        let Some(left) = part(body, &self.places) else {
+            return Fate::again("a request that was read before can't be read again");
+        };
+        Fate::TakenPartly {
+            rejected: self.places.len() as u64,
+            reason: self.reason,
+            left: Some(left),
+        }
+    }
+}
+
+/// The request with these points alone. None where it is no request that the gateway forwards.
+fn part(body: &[u8], places: &BTreeSet<usize>) -> Option<Vec<u8>> {
+    let mut request: Value = serde_json::from_slice(body).ok()?;
+    let mut place = 0;
+    keep(request.get_mut("resourceMetrics")?, |resource| {
+        keep(resource.get_mut("scopeMetrics")?, |scope| {
+            keep(scope.get_mut("metrics")?, |metric| {
+                let data = match metric.get("sum").is_some() {
+                    true => metric.get_mut("sum")?,
+                    false => metric.get_mut("histogram")?,
+                };
+                keep(data.get_mut("dataPoints")?, |_| {
+                    place += 1;
+                    Some(places.contains(&(place - 1)))
+                })
+            })
+        })
+    })?;
+    Some(request.to_string().into_bytes())
+}
+
+/// Keeps those elements of a list of which `one` says so. Whether one is left.
+fn keep(list: &mut Value, mut one: impl FnMut(&mut Value) -> Option<bool>) -> Option<bool> {
+    let list = list.as_array_mut()?;
+    let mut kept = Vec::new();
+    for mut element in list.drain(..) {
+        if one(&mut element)? {
+            kept.push(element);
+        }
+    }
+    *list = kept;
+    Some(!list.is_empty())
+}
+
+#[cfg(test)]
+mod tests {
+    use super::*;
+
+    fn metric(name: &str, points: &str) -> String {
+        format!(
+            r#"{{"name":"{name}","sum":{{"aggregationTemporality":1,"dataPoints":[{points}],"isMonotonic":true}},"unit":""}}"#
+        )
+    }
+
+    fn request(metrics: &[String]) -> String {
+        let metrics = metrics.join(",");
+        format!(
+            r#"{{"resourceMetrics":[{{"resource":{{"attributes":[]}},"scopeMetrics":[{{"metrics":[{metrics}],"scope":{{"name":"s"}}}}]}}]}}"#
+        )
+    }
+
+    #[test]
+    fn a_part_has_its_points_alone() {
+        let body = request(&[metric("a", "1,2"), metric("b", "3"), metric("c", "4,5")]);
+        for (places, metrics) in [
+            (
+                vec![0, 1, 2, 3, 4],
+                vec![metric("a", "1,2"), metric("b", "3"), metric("c", "4,5")],
+            ),
+            (vec![1], vec![metric("a", "2")]),
+            (vec![2, 4], vec![metric("b", "3"), metric("c", "5")]),
+        ] {
+            let left = part(body.as_bytes(), &places.into_iter().collect()).expect("a part");
+            assert_eq!(String::from_utf8(left).expect("text"), request(&metrics));
+        }
+    }
+
+    #[test]
+    fn what_is_no_request_has_no_part() {
+        for body in [
+            "",
+            "{}",
+            r#"{"resourceMetrics":1}"#,
+            r#"{"resourceMetrics":[{}]}"#,
+        ] {
+            assert_eq!(part(body.as_bytes(), &BTreeSet::from([0])), None, "{body}");
+        }
+    }
+}

@@ -1,0 +1,98 @@
+//! What of a request is not added, at first and when it comes again.
+
+use super::fault::NotTaken;
+use super::rows::{shown, OfSeries};
+use super::store::{Known, Writing};
+use crate::otlp::series::{self, ForwardedPoint, SeriesKey};
+use crate::sinks::part::Left;
+use crate::sinks::Forwarded;
+use std::collections::HashSet;
+
+/// Points that overlap what is there, each by its series and start, which no other point of the request has.
+#[derive(Default)]
+pub(super) struct Refused {
+    points: HashSet<(SeriesKey, u64)>,
+    /// Of the first of them.
+    pub(super) reason: String,
+}
+
+impl Refused {
+    pub(super) fn is_empty(&self) -> bool {
+        self.points.is_empty()
+    }
+
+    pub(super) fn add(&mut self, point: &ForwardedPoint, reason: impl FnOnce() -> String) {
+        if self.points.is_empty() {
+            self.reason = reason();
+        }
+        self.points.insert((point.series.clone(), point.start));
+    }
+
+    fn has(&self, point: &ForwardedPoint) -> bool {
+        !self.is_empty() && self.points.contains(&(point.series.clone(), point.start))
+    }
+
+    /// Where they stand in the request.
+    pub(super) fn left(self, request: &Forwarded) -> Result<Option<Left>, NotTaken> {
+        if self.is_empty() {
+            return Ok(None);
+        }
+        let points = series::forwarded(&request.body)?;
+        let places = points.iter().enumerate().filter(|(_, point)| self.has(point));
+        Ok(Some(Left {
+            places: places.map(|(place, _)| place).collect(),
+            reason: self.reason,
+        }))
+    }
+}
+
+pub(super) fn points(all: &[OfSeries]) -> i64 {
+    all.iter().map(|series| series.points.len() as i64).sum()
+}
+
+/// The series that have points beside these.
+pub(super) fn without(
+    all: Vec<OfSeries>,
+    known: Vec<Known>,
+    refused: &Refused,
+) -> (Vec<OfSeries>, Vec<Known>) {
+    if refused.is_empty() {
+        return (all, known);
+    }
+    let mut both: Vec<(OfSeries, Known)> = all.into_iter().zip(known).collect();
+    both.iter_mut()
+        .for_each(|(series, _)| series.points.retain(|point| !refused.has(point)));
+    both.retain(|(series, _)| !series.points.is_empty());
+    both.into_iter().unzip()
+}
+
+impl Writing<'_> {
+    /// Of a request that was taken: the points that have no span of it.
+    pub(super) async fn left_of(
+        &self,
+        row: i64,
+        added: i64,
+        request: &Forwarded,
+        all: &[OfSeries],
+    ) -> Result<Option<Left>, NotTaken> {
+        if added == points(all) {
+            return Ok(None);
+        }
+        let each = || {
+            all.iter()
+                .flat_map(|series| series.points.iter().map(move |point| (&series.digest[..], point)))
+        };
+        let digests: Vec<&[u8]> = each().map(|(digest, _)| digest).collect();
+        let starts: Vec<String> = each().map(|(_, point)| point.start.to_string()).collect();
+        let rows = self
+            .rows(&self.statements.left, &[&row, &digests, &starts])
+            .await?;
+        let points: Vec<&ForwardedPoint> = each().map(|(_, point)| point).collect();
+        let mut refused = Refused::default();
+        for row in rows {
+            let point = points[row.get::<_, i64>(0) as usize - 1];
+            refused.add(point, || format!("it was there already: {}", shown(point)));
+        }
+        refused.left(request)
+    }
+}

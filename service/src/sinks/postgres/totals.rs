@@ -1,0 +1,114 @@
+//! Reads a database's totals, also while services write it.
+
+use super::address::Server;
+use super::fault::PostgresFault;
+use super::{schema, session};
+use crate::otlp::series::{Kind as Identified, NotForwarded, SeriesKey};
+use crate::sinks::attributes::object;
+use crate::sinks::sqlite::totals::{Histogram, Kind, SeriesTotal};
+use crate::sinks::sqlite::Exact;
+use std::time::Duration;
+use tokio::time::timeout;
+use tokio_postgres::Row;
+
+/// How long the server may take for all of it.
+const PATIENCE: Duration = Duration::from_secs(20);
+
+/// One statement, so all is as of one moment. The identity is exact where the other columns are not.
+const READ: &str =
+    "select identity, points, first_start_ns::text, last_end_ns::text, total::text, count::text,
+        without_sum, to_json(buckets)::text
+    from totxegun.series_total join totxegun.series on series.id = series_total.series where points > 0
+    order by name, attributes::text, resource::text, series.id";
+
+/// The totals of a database, by name and attributes, as of one moment; none where no service has written it yet.
+pub async fn read(server: &Server) -> Result<Vec<SeriesTotal>, PostgresFault> {
+    let name = server.to_string();
+    match timeout(PATIENCE, rows(server, &name)).await {
+        Ok(rows) => made(&name, rows?).await,
+        Err(_) => Err(PostgresFault::told(
+            &name,
+            format!("no totals within {} s", PATIENCE.as_secs()),
+        )),
+    }
+}
+
+/// By a connection of its own: a delivery that waits holds nothing up here.
+async fn rows(server: &Server, name: &str) -> Result<Vec<Row>, PostgresFault> {
+    let fault = |error| PostgresFault::of(name, &error);
+    let (client, _connection) = session::connect(server).await?;
+    client
+        .batch_execute("set default_transaction_read_only = on")
+        .await
+        .map_err(fault)?;
+    if schema::version(&client, name).await? == 0 {
+        return Ok(Vec::new());
+    }
+    client.query(READ, &[]).await.map_err(fault)
+}
+
+/// Thousands of identities are too much work for the runtime.
+async fn made(name: &str, rows: Vec<Row>) -> Result<Vec<SeriesTotal>, PostgresFault> {
+    let reading = tokio::task::spawn_blocking(move || rows.iter().map(total).collect());
+    let read: Result<Result<Vec<_>, Odd>, _> = reading.await;
+    match read {
+        Ok(Ok(totals)) => Ok(totals),
+        Ok(Err(odd)) => Err(PostgresFault::told(name, odd.to_string())),
+        Err(error) => Err(PostgresFault::told(name, error.to_string())),
+    }
+}
+
+/// A row that no service has written so.
+#[derive(Debug, thiserror::Error)]
+enum Odd {
+    #[error("a row of totxegun.series is not as it was written: {0}")]
+    Series(#[from] NotForwarded),
+    #[error("a row of totxegun.series_total is not as it was written: {0}")]
+    Row(#[from] tokio_postgres::Error),
+    #[error("the column {0} of totxegun.series_total has no whole number: {1}")]
+    Number(&'static str, String),
+}
+
+fn total(row: &Row) -> Result<SeriesTotal, Odd> {
+    let identity: &str = row.try_get(0)?;
+    let parts = SeriesKey(identity.into()).parts()?;
+    let (kind, histogram) = match parts.kind {
+        Identified::Sum => (Kind::Sum, None),
+        Identified::Monotonic => (Kind::Monotonic, None),
+        Identified::Histogram { bounds } => (Kind::Histogram, Some(histogram(row, bounds)?)),
+    };
+    Ok(SeriesTotal {
+        name: parts.name,
+        unit: parts.unit,
+        kind,
+        attributes: object(&parts.attributes)?,
+        resource: object(&parts.resource)?,
+        scope_name: parts.scope_name,
+        scope_version: parts.scope_version,
+        scope_attributes: object(&parts.scope_attributes)?,
+        points: row.try_get::<_, i64>(1)?.unsigned_abs(),
+        start_ns: number(row, 2, "first_start_ns")?,
+        end_ns: number(row, 3, "last_end_ns")?,
+        total: Exact(number(row, 4, "total")?),
+        histogram,
+    })
+}
+
+fn histogram(row: &Row, bounds: Vec<i64>) -> Result<Histogram, Odd> {
+    let buckets: Option<&str> = row.try_get(7)?;
+    let buckets = buckets.unwrap_or_default();
+    let read: Vec<i128> =
+        serde_json::from_str(buckets).map_err(|_| Odd::Number("buckets", buckets.into()))?;
+    Ok(Histogram {
+        count: Exact(number(row, 5, "count")?),
+        points_without_sum: row.try_get::<_, i64>(6)?.unsigned_abs(),
+        bounds,
+        buckets: read.into_iter().map(Exact).collect(),
+    })
+}
+
+fn number<T: std::str::FromStr>(row: &Row, place: usize, column: &'static str) -> Result<T, Odd> {
+    let text: Option<&str> = row.try_get(place)?;
+    let text = text.unwrap_or_default();
+    text.parse().map_err(|_| Odd::Number(column, text.into()))
+}

@@ -1,0 +1,238 @@
+#!/usr/bin/env python3
+"""OTLP over gRPC, by gRPC's own client for Python.
+
+    tests/grpc_calls.py TOTXEGUN GATEWAY
+
+What a call brings is in the sink, packed or not; a repeat, another's series and a quarantined sender are refused as over
+HTTP, and the log names both senders of a series. What is too long, packed too far, of another method or packed otherwise is
+refused. A deadline that passes, a call that is cancelled, a client that goes away, bytes that are no HTTP/2, and kills of
+the service leave each point counted once. Then SIGTERM ends the service while connections are open.
+
+It needs python3-grpcio; where that is missing a line says so, and the status is 77. Each other line is one check; the last
+one counts those that passed and failed, and the status is 1 where one failed.
+"""
+import importlib.util
+import os
+import signal
+import socket
+import sys
+import tempfile
+import threading
+import time
+
+# Debian's package is for Debian's Python.
+if importlib.util.find_spec("grpc") is None and os.path.realpath(sys.executable) != os.path.realpath("/usr/bin/python3"):
+    os.execv("/usr/bin/python3", ["/usr/bin/python3", *sys.argv])
+
+from checks import Checks
+from loopback import free_port
+from service import PROTOBUF, Service, SqliteSink, add_points, ask, in_protobuf, overlaps, wait_until
+
+try:
+    import grpc
+except ImportError:
+    grpc = None
+
+METHOD = "/opentelemetry.proto.collector.metrics.v1.MetricsService/Export"
+MOST = 4 << 20
+RETRY_INFO = b"type.googleapis.com/google.rpc.RetryInfo"
+CALLS = 300
+
+
+class Client:
+    """A channel of its own, and what each call was answered: the name of its status, and its text."""
+
+    def __init__(self, port):
+        options = [("grpc.max_send_message_length", -1), ("grpc.use_local_subchannel_pool", 1),
+                   ("grpc.initial_reconnect_backoff_ms", 50), ("grpc.max_reconnect_backoff_ms", 200)]
+        self.channel = grpc.insecure_channel(f"127.0.0.1:{port}", options=options)
+
+    def begin(self, body, sender="A", method=METHOD, seconds=20, packing=None):
+        call = self.channel.unary_unary(method, request_serializer=bytes, response_deserializer=bytes)
+        return call.future(body, timeout=seconds, metadata=[("x-sender", sender)] if sender else None, compression=packing)
+
+    def call(self, body, **how):
+        return said(self.begin(body, **how))
+
+    def close(self):
+        self.channel.close()
+
+
+def said(call):
+    try:
+        return "OK", call.result()
+    except grpc.RpcError as error:
+        return error.code().name, error.details()
+
+
+def refusals(checks, client):
+    """What is no call of the method, or no message that is taken."""
+    for what, wanted, how in (
+            ("another method", "UNIMPLEMENTED", {"body": b"", "method": METHOD.replace("metrics", "trace")}),
+            ("deflate", "UNIMPLEMENTED", {"body": b"a" * 2000, "packing": grpc.Compression.Deflate}),
+            ("a message that is no protobuf", "INVALID_ARGUMENT", {"body": b"\xff"}),
+            ("a name that is none", "INVALID_ARGUMENT", {"body": b"", "sender": "a b"}),
+            ("a message that is too long", "RESOURCE_EXHAUSTED", {"body": bytes(MOST + 1)}),
+            ("a message of 40 MiB", "RESOURCE_EXHAUSTED", {"body": bytes(10 * MOST)}),
+            ("a bomb", "RESOURCE_EXHAUSTED", {"body": bytes(25 * MOST), "packing": grpc.Compression.Gzip}),
+            ("the longest message", "INVALID_ARGUMENT", {"body": bytes(MOST)})):
+        found = client.call(**how)
+        checks.true(f"{what} is {wanted}", found[0] == wanted and found[1], found)
+
+
+def one_point(place, value=1, name="calls"):
+    return [(name, place * 10 + 1, place * 10 + 11, value)]
+
+
+def as_over_http(checks, service, client):
+    """Calls and posts of the same series: what the one took the other refuses."""
+    first = in_protobuf(one_point(0, 5))
+    checks.same("a call is taken", ("OK", b""), client.call(first))
+    found = client.call(first)
+    checks.true("its repeat is refused", found[0] == "INVALID_ARGUMENT" and "out of order" in found[1], found)
+    headers = {"Content-Type": PROTOBUF, "x-sender": "A"}
+    status, text = ask(service.listen, "POST", "/v1/metrics", first, headers)
+    checks.true("over HTTP too", status == 400 and b"out of order" in text, (status, text))
+    checks.same("a packed call is taken", ("OK", b""),
+                client.call(in_protobuf(one_point(1, 7)), packing=grpc.Compression.Gzip))
+    service.order("/flush")
+    found = client.call(in_protobuf(one_point(2)), sender="B")
+    checks.true("another's series is refused", found[0] == "INVALID_ARGUMENT" and "other writer" in found[1], found)
+
+    def is_told():
+        with open(service.log, encoding="utf-8", errors="replace") as file:
+            return "posts of B are refused, since the series is A's" in file.read()
+    checks.true("the log names both senders", wait_until(is_told, 10), service.last_lines())
+    service.order("/quarantine/A")
+    checks.same("a quarantined sender is refused", ("PERMISSION_DENIED", "quarantined"), client.call(in_protobuf(one_point(2))))
+    service.order("/lift/A")
+
+
+def broken_off(checks, service, client, grpc_port):
+    """Calls that end before they are answered: each is repeated until it is."""
+    bodies = {sender: in_protobuf(one_point(2, 1, name)) for sender, name in
+              (("A", "calls"), ("C", "cancelled"), ("D", "gone"))}
+    service.signal_gateway(signal.SIGSTOP)
+    late = client.call(bodies["A"], seconds=0.5)
+    cancelled = client.begin(bodies["C"], sender="C")
+    gone = Client(grpc_port)
+    gone.begin(bodies["D"], sender="D")
+    time.sleep(0.3)
+    cancelled.cancel()
+    gone.close()
+    service.signal_gateway(signal.SIGCONT)
+    checks.same("a deadline that passes", "DEADLINE_EXCEEDED", late[0])
+    for sender, body in bodies.items():
+        found = client.call(body, sender=sender)
+        checks.true(f"the repeat of {sender} is taken, or was", found[0] == "OK" or "out of order" in found[1], found)
+    for junk in (b"GET / HTTP/1.1\r\n\r\n", b"PRI * HTTP/2.0\r\n\r\nSM\r\n\r\n" + b"\xff" * 300, os.urandom(5000)):
+        with socket.create_connection(("127.0.0.1", grpc_port), 5) as raw:
+            raw.sendall(junk)
+            raw.shutdown(socket.SHUT_WR)
+            raw.settimeout(5)
+            try:
+                while raw.recv(4096):
+                    pass
+            except OSError:
+                pass
+    checks.same("what is no HTTP/2 ends its connection alone", "OK", client.call(in_protobuf(one_point(3)))[0])
+
+
+def over_kills(checks, service, client):
+    """Calls one after another, each until it is answered, while the service is killed."""
+    answers, has_retry_info = {}, []
+
+    def go_on():
+        for place in range(10, 10 + CALLS):
+            for attempt in range(10_000):
+                call = client.begin(in_protobuf(one_point(place, 1, "killed")), sender="K", seconds=3)
+                name, text = said(call)
+                answers[name] = answers.get(name, 0) + 1
+                if name == "UNAVAILABLE" and text in ("recovering", "stopping"):
+                    details = dict(call.trailing_metadata()).get("grpc-status-details-bin", b"")
+                    has_retry_info.append(RETRY_INFO in details)
+                if name == "OK" or (name == "INVALID_ARGUMENT" and attempt and "out of order" in text):
+                    break
+                time.sleep(0.01)
+
+    calling = threading.Thread(target=go_on, daemon=True)
+    calling.start()
+    kills = 0
+    while calling.is_alive() and kills < 4:
+        time.sleep(0.5)
+        service.signal_gateway(signal.SIGKILL)
+        if kills % 2:
+            service.kill()
+            service.start()
+        service.wait_ready()
+        kills += 1
+    calling.join(120)
+    checks.true("all calls are answered", not calling.is_alive(), service.last_lines())
+    checks.true("who may try again is told when", all(has_retry_info), has_retry_info)
+    expected = {"OK", "UNAVAILABLE", "INVALID_ARGUMENT", "DEADLINE_EXCEEDED", "CANCELLED"}
+    checks.true(f"no other status over {kills} kills", set(answers) <= expected, answers)
+    print(f"note: {answers}, {len(has_retry_info)} with RetryInfo", flush=True)
+
+
+def timed(service, client, count=200):
+    """A note of how long a call takes beside a post over HTTP, one after another. It is no check."""
+    import http.client
+    bodies = [[in_protobuf(one_point(place, 1, name)) for place in range(count)] for name in ("timed.grpc", "timed.http")]
+    begun = time.monotonic()
+    for body in bodies[0]:
+        client.call(body, sender="T")
+    middle = time.monotonic()
+    connection = http.client.HTTPConnection("127.0.0.1", service.listen, timeout=20)
+    for body in bodies[1]:
+        connection.request("POST", "/v1/metrics", body, {"Content-Type": PROTOBUF, "x-sender": "T"})
+        connection.getresponse().read()
+    connection.close()
+    by_grpc, by_http = middle - begun, time.monotonic() - middle
+    print(f"note: {1000 * by_grpc / count:.2f} ms a call, {1000 * by_http / count:.2f} ms a post, of Python's clients", flush=True)
+
+
+def in_the_sink(checks, service, sink):
+    service.order("/flush")
+    checks.true("all is delivered", wait_until(service.is_drained), service.last_lines())
+    points, found = sink.points(), {}
+    add_points(found, points)
+    checks.same("no spans overlap", [], overlaps(points))
+    # 5 and 7, the late one, the one behind the junk.
+    checks.same("each point is counted once", {"calls": 14, "cancelled": 1, "gone": 1, "killed": CALLS},
+                {name: total for name, total in found.items() if not name.startswith("timed")})
+
+
+def run(checks, totxegun, gateway, folder):
+    sink, port = SqliteSink(f"{folder}/sink.db"), free_port()
+    service = Service(totxegun, gateway, f"{folder}/data", sink.address, "--listen-grpc", f"127.0.0.1:{port}")
+    try:
+        service.start()
+        checks.true("the service is ready", service.wait_ready(), service.last_lines())
+        client = Client(port)
+        refusals(checks, client)
+        as_over_http(checks, service, client)
+        broken_off(checks, service, client, port)
+        over_kills(checks, service, client)
+        timed(service, client)
+        in_the_sink(checks, service, sink)
+        checks.same("the service found nothing that must not be", [], service.faults())
+        with socket.create_connection(("127.0.0.1", port), 5):
+            status, seconds = service.end()
+        checks.true("SIGTERM ends it while connections are open", status == 0 and seconds < 10, (status, seconds))
+        client.close()
+    finally:
+        service.kill()
+
+
+def main(totxegun, gateway):
+    checks = Checks()
+    if checks.has("calls of gRPC", *(() if grpc else ("python3-grpcio",))):
+        with tempfile.TemporaryDirectory(prefix="grpc-") as folder:
+            run(checks, totxegun, gateway, folder)
+    return checks.end()
+
+
+if __name__ == "__main__":
+    if len(sys.argv) != 3:
+        sys.exit(f"usage: {sys.argv[0]} TOTXEGUN GATEWAY")
+    sys.exit(main(*map(os.path.abspath, sys.argv[1:3])))

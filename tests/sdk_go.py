@@ -1,0 +1,172 @@
+#!/usr/bin/env python3
+"""OpenTelemetry's SDK for Go, as Debian has it, over kills of the service: what its programs counted beside it is in the sink.
+
+    tests/sdk_go.py TOTXEGUN GATEWAY [SECONDS]
+
+Six programs count at once, each with the SDK's own instruments, aggregation and clock: two send JSON, two protobuf, two
+call gRPC by its own client for Go. One of each has whole numbers and the default bounds of histograms, the other durations
+in seconds, as the conventions have them, which the service takes by `--whole s=us`; these name no sender, and the service
+finds it in their resource. A batch is sent again as the specification says. Meanwhile service and gateway are killed for
+so many seconds (8). At the end the sink has, by program, series and bucket, what the programs counted.
+
+The exporter is in tests/sdk_go: Debian's package of the SDK has none. It needs golang-go, golang-opentelemetry-otel-dev,
+golang-google-grpc-dev and python3-protobuf; where one is missing a line says so, and the status is 77. Each other line is
+one check; the last one counts those that passed and failed, and the status is 1 where one failed.
+"""
+import glob
+import json
+import os
+import shutil
+import signal
+import sqlite3
+import subprocess
+import sys
+import tempfile
+import time
+
+from protobuf_bodies import definitions, descriptor_pb2
+from checks import Checks
+from loopback import free_port
+from service import Service, wait_until
+
+HERE = os.path.dirname(os.path.abspath(__file__))
+CACHE = os.path.join(os.path.dirname(HERE), "out", "go")
+GOPATH = "/usr/share/gocode"
+PACKAGES = {"golang-opentelemetry-otel-dev": "go.opentelemetry.io/otel/sdk/metric",
+            "golang-google-grpc-dev": "google.golang.org/grpc", "golang-google-protobuf-dev": "google.golang.org/protobuf"}
+SECONDS = 8
+# How each program sends: the encoding, whether packed, and whether it measures seconds.
+PROGRAMS = [(encoding, packed, in_seconds)
+            for encoding, packed in (("json", False), ("protobuf", True), ("grpc", False)) for in_seconds in (False, True)]
+# What a sender may be answered while service and gateway are killed.
+EXPECTED = ("200", "503", "no answer", "no whole answer", "OK", "Unavailable", "Unavailable with RetryInfo", "Canceled",
+            "DeadlineExceeded")
+
+
+def missing():
+    found = [] if shutil.which("go") else ["golang-go"]
+    found += [package for package, path in PACKAGES.items() if not os.path.isdir(f"{GOPATH}/src/{path}")]
+    return found + ([] if descriptor_pb2 else ["python3-protobuf"])
+
+
+def build(folder):
+    """The program, and OTLP's messages beside it; or what the compiler said."""
+    program = f"{folder}/sender"
+    with open(f"{folder}/descriptors", "wb") as file:
+        file.write(descriptor_pb2.FileDescriptorSet(file=[definitions()]).SerializeToString())
+    environment = dict(os.environ, GO111MODULE="off", GOPATH=GOPATH, GOCACHE=CACHE, GOFLAGS="-p=2")
+    built = subprocess.run(["go", "build", "-o", program, *glob.glob(f"{HERE}/sdk_go/*.go")], env=environment,
+                           capture_output=True, text=True, check=False)
+    return program, built.stderr if built.returncode else ""
+
+
+def start(program, folder, service, grpc, number, seconds):
+    encoding, packed, in_seconds = PROGRAMS[number]
+    words = [program, "-encoding", encoding, "-url", f"http://127.0.0.1:{service.listen}/v1/metrics",
+             "-grpc", f"127.0.0.1:{grpc}", "-instance", f"i-{number}", "-seconds", str(seconds),
+             "-descriptors", f"{folder}/descriptors", "-out", f"{folder}/{number}.json"]
+    words += ["-gzip"] if packed else []
+    words += ["-in-seconds"] if in_seconds else ["-sender", f"shop-{number}"]
+    with open(f"{folder}/{number}.log", "wb") as log:
+        return subprocess.Popen(words, stdin=subprocess.DEVNULL, stdout=log, stderr=log)
+
+
+def trouble(service, seconds):
+    """Kills of the gateway, of the service, and of both, in turn."""
+    until, kills = time.monotonic() + seconds, 0
+    while time.monotonic() < until:
+        time.sleep(0.7)
+        if kills % 3 != 1:
+            service.signal_gateway(signal.SIGKILL)
+        if kills % 3 != 0:
+            service.kill()
+            time.sleep(0.2)
+            service.start()
+        kills += 1
+        service.wait_ready()
+    return kills
+
+
+def found_of(sink, number):
+    """What the sink has of a program: totals and buckets, by name and route."""
+    database = sqlite3.connect(f"file:{sink}?mode=ro", uri=True)
+    rows = database.execute("select name, unit, attributes, total, buckets from totals where resource like ?",
+                            (f'%"i-{number}"%',)).fetchall()
+    database.close()
+    totals, buckets, units = {}, {}, set()
+    for name, unit, attributes, total, counts in rows:
+        key = f"{name} {json.loads(attributes)['http.route']}"
+        totals[key] = int(total)
+        units.add((name, unit))
+        if counts is not None:
+            buckets[key] = [int(count) for count in json.loads(counts)]
+    return totals, buckets, units
+
+
+def compare(checks, what, sink, number, told):
+    totals, buckets, units = found_of(sink, number)
+    checks.true(f"{what}: there are totals", len(told["totals"]) > 10, told)
+    wrong = [f"{key}: counted {told['totals'].get(key)}, in the sink {totals.get(key)}"
+             for key in sorted(told["totals"].keys() | totals.keys()) if told["totals"].get(key) != totals.get(key)]
+    checks.same(f"{what}: the sink has its totals", [], wrong[:3])
+    checks.same(f"{what}: the sink has its buckets", told["buckets"], buckets)
+    in_seconds = PROGRAMS[number][2]
+    if in_seconds:
+        checks.same(f"{what}: its units are the finer one", {"us"}, {unit for _, unit in units})
+        checks.same(f"{what}: nothing was foreign", 0, told["rejected"])
+    else:
+        checks.true(f"{what}: its foreign points are counted", told["rejected"] > 0, told["rejected"])
+    surprises = [answer for answer in told["answers"] if answer not in EXPECTED and "out of order" not in answer]
+    checks.same(f"{what}: no answer surprises", ([], 0), (surprises, told["gave_up"]))
+    print(f"note: {what}: {told['answers']}", flush=True)
+
+
+def run(checks, totxegun, gateway, seconds, folder):
+    program, fault = build(folder)
+    checks.same("the program is built", "", fault)
+    if fault:
+        return
+    sink, grpc = f"{folder}/sink.db", free_port()
+    service = Service(totxegun, gateway, f"{folder}/data", f"sqlite:{sink}", "--flush-every", "1s", "--listen-grpc",
+                      f"127.0.0.1:{grpc}", "--whole", "s=us", "--sender-from", "service.instance.id", "--log-foreign", "2")
+    try:
+        service.start()
+        checks.true("the service is ready", service.wait_ready(), service.last_lines())
+        programs = [start(program, folder, service, grpc, number, seconds) for number in range(len(PROGRAMS))]
+        kills = trouble(service, seconds)
+        statuses = [one.wait(120) for one in programs]
+        checks.same("the programs end", [0] * len(PROGRAMS), statuses)
+        service.order("/flush")
+        checks.true(f"all is delivered behind {kills} kills", wait_until(service.is_drained), service.last_lines())
+        for number, (encoding, packed, in_seconds) in enumerate(PROGRAMS):
+            with open(f"{folder}/{number}.json", encoding="utf-8") as file:
+                told = json.load(file)
+            what = f"{encoding}{', gzip' if packed else ''}, {'seconds' if in_seconds else 'whole numbers'}"
+            compare(checks, what, sink, number, told)
+        # They are counted since the last start.
+        rounded = service.status()["rounded"]
+        checks.true("sums of doubles were rounded by next to nothing",
+                    all(one["rule"] == "s=1000000:us" and one["together"] < 0.01 for one in rounded), rounded)
+        checks.same("the service found nothing that must not be", [], service.faults())
+        with open(service.log, encoding="utf-8", errors="replace") as file:
+            log = file.read()
+        checks.true("the log says why points are foreign", "points of shop-0 are not taken: gauge `queue.length`: gauges are not"
+                    in log, service.last_lines())
+        ended = service.end()
+        checks.true("SIGTERM ends the service", ended[0] == 0 and ended[1] < 10, ended)
+    finally:
+        service.kill()
+
+
+def main(totxegun, gateway, seconds=SECONDS):
+    checks = Checks()
+    if checks.has("the SDK for Go", *missing()):
+        with tempfile.TemporaryDirectory(prefix="sdk-") as folder:
+            run(checks, totxegun, gateway, float(seconds), folder)
+    return checks.end()
+
+
+if __name__ == "__main__":
+    if len(sys.argv) < 3:
+        sys.exit(f"usage: {sys.argv[0]} TOTXEGUN GATEWAY [SECONDS]")
+    sys.exit(main(*map(os.path.abspath, sys.argv[1:3]), *sys.argv[3:4]))
