@@ -1,0 +1,156 @@
+"""One run: programs that post, what is killed meanwhile, and what each of them has at the end."""
+import json
+import os
+import random
+import shutil
+import signal
+import threading
+import time
+
+import scraped
+from parts import SECONDS, Database, Prometheus, Shop
+from service import Service, wait_until
+
+SHOPS = (("shop-1", "protobuf"), ("shop-2", "json"))
+# What is killed first, each of it once; then any of it.
+VICTIMS = ("gateway", "service", "both", "database")
+# Between two kills, and how long what was killed is down, in seconds.
+BETWEEN = (2.5, 5.5)
+DOWN = (0.2, 1.5)
+# A database takes longer, so that requests wait for it.
+DATABASE_DOWN = (2, 5)
+# Nothing is killed in the last seconds.
+LAST = 3
+SAMPLE = 0.2
+ORDERED = "select coalesce(sum(total), 0) from totxegun.totals where name = 'shop.orders'"
+
+
+class Play:
+    """The stage and all that is on it."""
+
+    def __init__(self, totxegun, gateway, sender, folder, seconds, seed):
+        shutil.rmtree(folder, ignore_errors=True)
+        os.makedirs(folder)
+        self.folder, self.seconds, self.seed = folder, seconds, seed
+        self.chance = random.Random(f"demo {seed}")
+        self.kills = []
+        self.samples = []
+        self.shops = []
+        self.prometheus = None
+        self.sender = sender
+        self.database = Database()
+        self.service = Service(totxegun, gateway, f"{folder}/data", self.database.address, "--flush-every", "1s")
+
+    def begin(self):
+        self.database.start()
+        self.database.wait_ready()
+        self.service.start()
+        if not self.service.wait_ready():
+            raise RuntimeError(f"totxegun has not started: {self.service.last_lines()}")
+        self.prometheus = Prometheus(f"{self.folder}/prometheus", self.service.operate)
+        self.begun = time.monotonic()
+        self.shops = [Shop(self.sender, self.folder, self.service.listen, name, encoding, self.seconds, self.seed * 10 + place)
+                      for place, (name, encoding) in enumerate(SHOPS)]
+
+    def go(self):
+        """Posts and kills. Returns once the programs have ended and the database has what was forwarded."""
+        is_over = threading.Event()
+        watching = [threading.Thread(target=self.watch, args=(is_over,), daemon=True),
+                    threading.Thread(target=self.watch_database, args=(is_over,), daemon=True)]
+        self.ordered = 0
+        for thread in watching:
+            thread.start()
+        self.trouble()
+        for shop in self.shops:
+            shop.process.wait(SECONDS)
+        if not wait_until(lambda: self.service.order("/flush") == 200) or not wait_until(self.service.is_drained):
+            raise RuntimeError(f"the outbox is not empty: {self.service.status()}")
+        self.took = time.monotonic() - self.begun
+        time.sleep(3 * SAMPLE)
+        is_over.set()
+        for thread in watching:
+            thread.join()
+
+    def trouble(self):
+        until = self.begun + self.seconds - LAST
+        first = self.chance.sample(VICTIMS, len(VICTIMS))
+        while True:
+            time.sleep(self.chance.uniform(*BETWEEN))
+            if time.monotonic() > until:
+                return
+            victim = first.pop() if first else self.chance.choice(VICTIMS)
+            self.kills.append((round(self.at(), 2), victim))
+            self.kill(victim)
+
+    def kill(self, victim):
+        """As by `kill -9`. Who is killed is started again, the gateway by the service."""
+        if victim in ("gateway", "both"):
+            self.service.signal_gateway(signal.SIGKILL)
+        if victim in ("service", "both"):
+            self.service.kill()
+            time.sleep(self.chance.uniform(*DOWN))
+            self.service.start()
+        if victim == "database":
+            self.database.crash()
+            time.sleep(self.chance.uniform(*DATABASE_DOWN))
+            self.database.start()
+
+    def at(self):
+        return time.monotonic() - self.begun
+
+    def watch(self, is_over):
+        """A sample each moment: posts that were answered, what was ordered, and how the service is."""
+        while not is_over.wait(SAMPLE):
+            status = self.service.status()
+            self.samples.append({
+                "at": round(self.at(), 2), "ready": bool(status and status["ready"]),
+                "waiting": status["slots"][0]["waiting"] if status else None,
+                "posts": [shop.said[0] for shop in self.shops], "ordered": sum(shop.said[3] for shop in self.shops),
+                "database": self.ordered})
+
+    def watch_database(self, is_over):
+        """What the database has of the orders. It stands while the database is down."""
+        while not is_over.wait(SAMPLE):
+            answer = self.database.ask(ORDERED)
+            if answer:
+                self.ordered = int(answer)
+
+    def rows(self):
+        """Each series: program, name, what the program, the database and Prometheus have, and how far these differ."""
+        counted = {key(one): values(one) for shop in self.shops for one in shop.totals()}
+        found = {key(one): values(one) for one in self.database.totals()}
+        wait_until(lambda: scraped.last(self.prometheus, found) == found, 20)
+        shown = scraped.last(self.prometheus, found)
+        all_keys = sorted(counted.keys() | found.keys())
+        return [(*one, counted.get(one), found.get(one), shown.get(one),
+                 differ(counted.get(one), found.get(one)) + differ(found.get(one), shown.get(one))) for one in all_keys]
+
+    def write_samples(self, path):
+        told = {"seed": self.seed, "seconds": self.seconds, "programs": [f"{name}, {encoding}" for name, encoding in SHOPS],
+                "kills": self.kills, "samples": self.samples}
+        with open(path, "w", encoding="utf-8") as file:
+            json.dump(told, file)
+
+    def close(self):
+        for shop in self.shops:
+            shop.close()
+        if self.prometheus:
+            self.prometheus.close()
+        self.service.end()
+        self.database.close()
+
+
+def key(one):
+    return one["program"], one["name"], tuple(sorted(one["attributes"].items()))
+
+
+def values(one):
+    return int(one["total"]), int(one["count"]), tuple(int(count) for count in one["buckets"] or ())
+
+
+def differ(one, other):
+    """How far two totals are apart, bucket by bucket; what only one has is apart by all of it."""
+    (total, count, buckets), (total2, count2, buckets2) = one or (0, 0, ()), other or (0, 0, ())
+    longest = max(len(buckets), len(buckets2))
+    of = lambda counts: [*counts, *[0] * (longest - len(counts))]
+    return abs(total - total2) + abs(count - count2) + sum(abs(a - b) for a, b in zip(of(buckets), of(buckets2)))

@@ -1,0 +1,105 @@
+#!/usr/bin/env python3
+"""From an SDK to a database while all between them is killed: `make demo`, or `make demo SEED=7 SECONDS=20`.
+
+    demo/run.py [SEED] [SECONDS]
+
+It needs what `tools/needs demo` installs, builds what is missing, and then runs for SECONDS (60): two programs that are
+measured by OpenTelemetry's SDK, one posting in protobuf and one in JSON; totxegun; PostgreSQL in a folder of its own;
+Prometheus. It kills the gateway, the service, both, and PostgreSQL, by the chances of SEED (1). At the end it prints what
+the programs have counted by themselves beside what PostgreSQL and Prometheus have, by series, and draws a picture of the
+run. The status is 0 where nothing differs. All files are in out/demo.
+"""
+import os
+import signal
+import subprocess
+import sys
+import time
+
+HERE = os.path.dirname(os.path.abspath(__file__))
+ROOT = os.path.dirname(HERE)
+sys.path[1:1] = [f"{ROOT}/tools", f"{ROOT}/tests"]
+
+from picture import draw  # noqa: E402
+from play import Play  # noqa: E402
+from scraped import torn  # noqa: E402
+from serve import gateway, totxegun  # noqa: E402
+from steps import interrupt  # noqa: E402
+
+OUT = f"{ROOT}/out/demo"
+LIBRARIES = "/usr/share/gocode"
+SHOWN = {"gateway": "the gateway", "service": "the service", "both": "both at once", "database": "PostgreSQL"}
+
+
+def build_sender():
+    """The path of the program that posts, built from Debian's Go packages; nothing where that fails."""
+    os.makedirs(OUT, exist_ok=True)
+    environment = {**os.environ, "GO111MODULE": "off", "GOPATH": LIBRARIES, "GOCACHE": f"{OUT}/go", "GOFLAGS": ""}
+    done = subprocess.run(["go", "build", "-o", f"{OUT}/sender", "."], cwd=f"{HERE}/sender", env=environment, check=False)
+    if done.returncode:
+        print("the programs that post could not be built")
+        return None
+    return f"{OUT}/sender"
+
+
+def shown(values):
+    """A total, and of a histogram how many values it has."""
+    if values is None:
+        return "-"
+    return f"{values[0]:,} in {values[1]:,}" if values[2] else f"{values[0]:,}"
+
+
+def report(play, rows):
+    """Prints the table and what it is of; returns by how much it differs."""
+    heads = ("program", "series", "counted", "in PostgreSQL", "in Prometheus", "difference")
+    lines = [heads] + [(program, f"{name} {' '.join(value for _, value in attributes)}", *map(shown, values), f"{apart:,}")
+                       for program, name, attributes, *values, apart in rows]
+    widths = [max(len(line[place]) for line in lines) for place in range(len(heads))]
+    for line in lines:
+        cells = [cell.ljust(width) if place < 2 else cell.rjust(width) for place, (cell, width) in enumerate(zip(line, widths))]
+        print("  ".join(cells).rstrip())
+    difference = sum(row[-1] for row in rows)
+    posts, repeats, known = (sum(shop.said[place] for shop in play.shops) for place in range(3))
+    print(f"\n{posts:,} posts in {play.took:.0f} s; {repeats:,} attempts were made again, {known:,} posts had been taken although "
+          "their answer was lost")
+    count, wrong = torn(play.prometheus, play.database)
+    print(f"{count} scrapes of /totals, of which {len(wrong)} are no state of the database")
+    killed = [victim for _, victim in play.kills]
+    print("kills: " + ", ".join(f"{killed.count(victim)} of {what}" for victim, what in SHOWN.items()))
+    print(f"difference: {difference:,}, of {len(rows)} series; seed {play.seed}")
+    return difference + len(wrong)
+
+
+def run(seed, seconds):
+    if subprocess.run([f"{ROOT}/tools/needs", "demo"], check=False).returncode:
+        return 1
+    program = totxegun()
+    gateway_program = program and gateway()
+    sender = gateway_program and build_sender()
+    if not sender:
+        return 1
+    begun = time.monotonic()
+    play = Play(program, gateway_program, sender, f"{OUT}/run", seconds, seed)
+    try:
+        print(f"running for {seconds} s, seed {seed}", flush=True)
+        play.begin()
+        play.go()
+        difference = report(play, play.rows())
+        play.write_samples(f"{OUT}/samples.json")
+        draw(f"{OUT}/samples.json", f"{OUT}/picture.svg")
+        print(f"picture: {os.path.relpath(f'{OUT}/picture.svg')}; {time.monotonic() - begun:.0f} s behind the build")
+        return 1 if difference else 0
+    finally:
+        play.close()
+
+
+def main(words):
+    for it in (signal.SIGTERM, signal.SIGHUP):
+        signal.signal(it, interrupt)
+    try:
+        return run(*[int(word) for word in words] + [1, 60][len(words):])
+    except KeyboardInterrupt:
+        return 130
+
+
+if __name__ == "__main__":
+    sys.exit(main(sys.argv[1:]))

@@ -1,0 +1,289 @@
+#!/usr/bin/env python3
+"""The alerts and the dashboard of operate/, with a real Prometheus.
+
+    tests/alerts.py TOTXEGUN GATEWAY
+
+Prometheus scrapes three services, whose rules are those of operate/alerts.yml with minutes made seconds. What each alert is
+for is done to a service; the alert has to fire, and to clear once the cause is gone. Each query of operate/dashboard.json is
+asked too, and names metrics that are on the page. `promtool` looks at the rules, by tests/alerts_by_time.yml at the times at
+which they fire, and at the page. Without Prometheus all is left out, with status 77.
+
+Each line is one check; the last line counts those that passed and failed, and the status is 0 where none failed.
+"""
+import contextlib
+import json
+import os
+import re
+import shutil
+import signal
+import subprocess
+import sys
+import tempfile
+import threading
+import time
+import urllib.parse
+
+from checks import Checks
+from loopback import free_port
+from service import JSON, OtlpSink, Service, ask, in_json, wait_until
+
+HERE = os.path.dirname(os.path.abspath(__file__))
+OPERATE = os.path.join(os.path.dirname(HERE), "operate")
+SECONDS = 120
+# Of memory: nobody else writes there meanwhile.
+FOLDERS = "/dev/shm" if os.access("/dev/shm", os.W_OK) else None
+# What a file of the test takes of the disk, and what is left when the alert fires.
+FILL, NEARLY_FULL = 96 << 20, 48 << 20
+SERIES = 20
+# A busy machine takes seconds to replace a gateway.
+SHORT = ((r"for: \d+[mh]", "for: 1s"), (r"\[30m\]\)\) > 3", "[20s])) > 1"), (r"\[\d+[mh]\]", "[6s]"),
+         (r"offset 1h", "offset 6s"), (r"> 300", "> 3"), (r"> 9000", f"> {SERIES}"))
+SCRAPES = """\
+global: {{scrape_interval: 500ms, scrape_timeout: 500ms, evaluation_interval: 500ms}}
+rule_files: [alerts.yml]
+scrape_configs:
+- job_name: totxegun
+  static_configs: [{{targets: [{targets}]}}]
+"""
+METRIC = re.compile(r"\btotxegun_\w+")
+
+
+class Sink(OtlpSink):
+    """One that can also take a request and reject a point of it."""
+
+    def serve(self, request):
+        if self.moods != ["part"]:
+            super().serve(request)
+            return
+        request.rfile.read(int(request.headers["Content-Length"]))
+        answer = b'{"partialSuccess":{"rejectedDataPoints":"1","errorMessage":"too old"}}'
+        request.send_response(200)
+        request.send_header("Content-Length", str(len(answer)))
+        request.end_headers()
+        request.wfile.write(answer)
+
+
+class Prometheus:
+    """On the targets, with the rules made short."""
+
+    def __init__(self, folder, services, free):
+        self.port = free_port()
+        with open(f"{OPERATE}/alerts.yml", encoding="utf-8") as file:
+            rules = file.read()
+        for long, short in (*SHORT, (r"< 1e9", f"< {free - NEARLY_FULL}")):
+            rules, count = re.subn(long, short, rules)
+            assert count, f"no rule has {long}"
+        write(f"{folder}/alerts.yml", rules)
+        targets = ", ".join(f'"127.0.0.1:{service.operate}"' for service in services)
+        write(f"{folder}/prometheus.yml", SCRAPES.format(targets=targets))
+        words = [f"--config.file={folder}/prometheus.yml", f"--storage.tsdb.path={folder}/tsdb",
+                 f"--web.listen-address=127.0.0.1:{self.port}"]
+        with open(f"{folder}/prometheus.log", "wb") as log:
+            self.process = subprocess.Popen(["prometheus", *words], stdin=subprocess.DEVNULL, stdout=log, stderr=log)
+
+    def ask(self, path, **words):
+        """What it answers, or None."""
+        status, body = ask(self.port, "GET", f"/api/v1/{path}?{urllib.parse.urlencode(words)}")
+        return json.loads(body) if status in (200, 400, 422) else None
+
+    def is_up(self, count):
+        """Whether it has scraped all of the targets."""
+        answer = self.ask("query", query='sum(up{job="totxegun"})')
+        return bool(answer and answer["data"]["result"] and answer["data"]["result"][0]["value"][1] == str(count))
+
+    def fires(self, alert, service):
+        found = self.ask("alerts")
+        return any(one["labels"]["alertname"] == alert and one["state"] == "firing"
+                   and one["labels"]["instance"] == f"127.0.0.1:{service.operate}" for one in found["data"]["alerts"])
+
+    def close(self):
+        self.process.terminate()
+        self.process.wait()
+
+
+class Causes:
+    """What is done to one service, so that alerts fire and clear."""
+
+    def __init__(self, checks, prometheus, service, sink=None):
+        self.checks, self.prometheus, self.service, self.sink = checks, prometheus, service, sink
+        self.time = time.time_ns() - 10**15
+
+    def post(self, sender="A", value=1, names=("a",), start=None):
+        start = start or self.time
+        self.time = max(self.time, start + 10)
+        body = in_json([(name, start, start + 10, value) for name in names])
+        return ask(self.service.listen, "POST", "/v1/metrics", body, {"Content-Type": JSON, "x-sender": sender})[0]
+
+    def sees(self, alerts, cause, begin, end):
+        """Each of them fires behind the cause, and clears behind its end; and none fired before."""
+        alerts = [f"Totxegun{alert}" for alert in alerts.split()]
+        fired = set()
+
+        def firing():
+            return [alert for alert in alerts if self.prometheus.fires(alert, self.service)]
+
+        def have_fired():
+            fired.update(firing())
+            return len(fired) == len(alerts)
+
+        before = firing()
+        begin()
+        wait_until(have_fired, SECONDS)
+        end()
+        wait_until(lambda: not firing(), SECONDS)
+        self.checks.same(f"{' and '.join(alerts)}, by {cause}: fires and clears", ([], sorted(alerts), []),
+                         (before, sorted(fired), firing()))
+
+    def sees_repeated(self, alerts, cause, deed, every=0.3):
+        """The same of what is done again and again until it fires."""
+        over = threading.Event()
+
+        def repeat():
+            while not over.wait(every):
+                deed()
+
+        thread = threading.Thread(target=repeat, daemon=True)
+
+        def end():
+            over.set()
+            thread.join()
+
+        self.sees(alerts, cause, thread.start, end)
+
+    # Those of a sink that answers as it is told
+
+    def deliver(self):
+        self.post()
+        self.service.order("/flush")
+
+    def in_mood(self, *moods):
+        self.sink.mood(list(moods))
+        self.deliver()
+
+    def settle_letters(self, deed):
+        self.sink.mood(["well"])
+        _, body = ask(self.service.operate, "GET", "/dead")
+        for letter in json.loads(body):
+            self.service.order(f"/dead/{letter['key']}/{deed}")
+
+    def of_sink(self):
+        self.sees("SinkBehind", "a sink that is down", lambda: self.in_mood("busy"), lambda: self.sink.mood(["well"]))
+        self.sees("DeadRequests", "a request that is refused", lambda: self.in_mood("refuse"),
+                  lambda: self.settle_letters("resend"))
+        self.sees("Fault", "a point that the sink rejects", lambda: self.in_mood("part"), lambda: self.settle_letters("drop"))
+        self.sees("Down", "a service that is killed", self.service.kill, self.service.start)
+
+    # Those of senders and the disk
+
+    def post_many(self):
+        self.post("B", names=[f"many.{number}" for number in range(2 * SERIES)])
+        self.service.order("/flush")
+
+    def forget(self):
+        """Series that nobody has posted to for a second are left out of a fresh gateway."""
+        time.sleep(2)
+        self.service.order("/renew")
+
+    def of_senders(self, fill):
+        self.sees("NotFlushed", "nothing that flushes", self.post, lambda: self.service.order("/flush"))
+        self.sees("ForeignPoints", "a value that is not whole", self.post_foreign, lambda: None)
+        self.sees("Quarantine", "a quarantine", lambda: self.service.order("/quarantine/A"),
+                  lambda: self.service.order("/lift/A"))
+        self.sees("SeriesNearLimit", "many series", self.post_many, self.forget)
+        self.sees("DiskNearlyFull", "a file", lambda: take_disk(fill), lambda: os.remove(fill))
+
+    def post_foreign(self):
+        body = in_json([("a", self.time, self.time + 10, 1)]).replace(b'"asInt": "1"', b'"asDouble": 1.5')
+        ask(self.service.listen, "POST", "/v1/metrics", body, {"Content-Type": JSON, "x-sender": "A"})
+
+    # Those of refusals and of the gateway
+
+    def of_gateway(self):
+        self.post("A")
+        self.sees_repeated("PostsRefused", "another sender of a series", lambda: self.post("B"))
+        self.sees_repeated("PostsRefused", "a clock that went back", lambda: self.post("A", start=10**9))
+        self.sees_repeated("GatewayLost PostsTurnedAway", "a gateway that is killed", self.kill_and_post, 0.02)
+
+    def kill_and_post(self):
+        """Posts that come while a gateway is replaced are turned away."""
+        if self.service.is_ready():
+            self.service.signal_gateway(signal.SIGKILL)
+        self.post("C", names=["c"])
+
+
+def write(path, text):
+    with open(path, "w", encoding="utf-8") as file:
+        file.write(text)
+
+
+def take_disk(path):
+    with open(path, "wb") as file:
+        os.posix_fallocate(file.fileno(), 0, FILL)
+
+
+def promtool(checks, what, *words, given=b"", folder=OPERATE):
+    done = subprocess.run(["promtool", *words], input=given, cwd=folder, capture_output=True, check=False)
+    checks.same(f"promtool: {what}", 0, done.returncode) if not given else checks.same(
+        f"promtool says nothing of {what}", (0, b"", b""), (done.returncode, done.stdout, done.stderr))
+
+
+def look_at_dashboard(checks, prometheus, page):
+    """Each query is one that Prometheus takes, of metrics that are there."""
+    with open(f"{OPERATE}/dashboard.json", encoding="utf-8") as file:
+        queries = [target["expr"] for panel in json.load(file)["panels"] for target in panel["targets"]]
+    names = {line.split()[2] for line in page.decode().splitlines() if line.startswith("# TYPE")}
+    unknown = [name for query in queries for name in METRIC.findall(query)
+               if name not in names and re.sub("_(bucket|sum|count)$", "", name) not in names]
+    checks.same(f"the dashboard's {len(queries)} queries are of metrics that are there", [], unknown)
+    wrong = []
+    for query in queries:
+        told = query.replace("$__rate_interval", "5s").replace("$job", "totxegun").replace("$instance", ".*")
+        answer = prometheus.ask("query", query=told)
+        if not answer or answer["status"] != "success":
+            wrong.append((query, answer))
+    checks.same("Prometheus takes each of them", [], wrong)
+
+
+def run(checks, program, gateway, folder):
+    sink = Sink()
+    every = ("--flush-every", "1s")
+    services = [Service(program, gateway, f"{folder}/sink", sink.address, *every),
+                Service(program, gateway, f"{folder}/senders", f"sqlite:{folder}/senders.db", "--flush-every", "1h",
+                        "--forget-series", "1s"),
+                Service(program, gateway, f"{folder}/gateway", f"sqlite:{folder}/gateway.db", *every)]
+    with contextlib.ExitStack() as closing:
+        closing.callback(sink.close)
+        for service in services:
+            closing.callback(service.kill)
+            service.start()
+        checks.true("the services are ready", all(service.wait_ready() for service in services), services[0].last_lines())
+        prometheus = Prometheus(folder, services, shutil.disk_usage(folder).free)
+        closing.callback(prometheus.close)
+        checks.true("Prometheus scrapes them", wait_until(lambda: prometheus.is_up(len(services))), "it does not")
+        first, second, third = [Causes(checks, prometheus, service, sink) for service in services]
+        threads = [threading.Thread(target=first.of_sink), threading.Thread(target=third.of_gateway),
+                   threading.Thread(target=second.of_senders, args=(f"{folder}/fill",))]
+        for thread in threads:
+            thread.start()
+        for thread in threads:
+            thread.join()
+        _, page = ask(services[1].operate, "GET", "/metrics")
+        promtool(checks, "the page of metrics", "check", "metrics", given=page)
+        look_at_dashboard(checks, prometheus, page)
+
+
+def main(program, gateway):
+    checks = Checks()
+    missing = [name for name in ("prometheus", "promtool") if not shutil.which(name)]
+    if checks.has("alerts and dashboard", *missing):
+        promtool(checks, "the rules are rules", "check", "rules", "alerts.yml")
+        promtool(checks, "they fire and clear when they should", "test", "rules", f"{HERE}/alerts_by_time.yml")
+        with tempfile.TemporaryDirectory(prefix="alerts-", dir=FOLDERS) as folder:
+            run(checks, program, gateway, folder)
+    return checks.end()
+
+
+if __name__ == "__main__":
+    if len(sys.argv) != 3:
+        sys.exit(f"usage: {sys.argv[0]} TOTXEGUN GATEWAY")
+    sys.exit(main(*map(os.path.abspath, sys.argv[1:])))

@@ -1,0 +1,85 @@
+#!/usr/bin/env python3
+"""The demo in short: programs on OpenTelemetry's SDK, PostgreSQL and Prometheus, and kills of all that is between them.
+
+    tests/demo.py TOTXEGUN GATEWAY [SECONDS] [SEED]
+
+At the end the programs' own counts, the database's and Prometheus' are the same, by series and bucket, and the picture of
+the run is drawn. What is missing is said, and left out with status 77.
+
+Each line is one check; the last line counts those that passed and failed, and the status is 0 where none failed.
+"""
+import os
+import shutil
+import subprocess
+import sys
+import tempfile
+import xml.dom.minidom
+
+ROOT = os.path.dirname(os.path.dirname(os.path.abspath(__file__)))
+sys.path[1:1] = [f"{ROOT}/demo", f"{ROOT}/tools"]
+
+from checks import Checks  # noqa: E402
+from parts import initdb  # noqa: E402
+from picture import draw  # noqa: E402
+from play import VICTIMS, Play  # noqa: E402
+from run import LIBRARIES, build_sender  # noqa: E402
+from scraped import torn  # noqa: E402
+from service import ask  # noqa: E402
+
+SECONDS = 25
+GO_PACKAGES = {"golang-opentelemetry-otel-dev": "go.opentelemetry.io/otel/sdk/metric",
+               "golang-google-protobuf-dev": "google.golang.org/protobuf/encoding/protowire"}
+
+
+def missing():
+    """The packages that are missing."""
+    found = [name for name in ("go", "prometheus") if not shutil.which(name)]
+    found += [name for name, path in GO_PACKAGES.items() if not os.path.exists(f"{LIBRARIES}/src/{path}")]
+    return found if initdb() else [*found, "postgresql"]
+
+
+def look(checks, play, folder):
+    rows = play.rows()
+    checks.true("the programs posted", all(shop.said[0] > 0 for shop in play.shops), [shop.said for shop in play.shops])
+    killed = {victim for _, victim in play.kills}
+    checks.true("something was killed", killed, play.kills)
+    print(f"note: {[shop.said for shop in play.shops]}, killed {', '.join(sorted(killed))} of {', '.join(VICTIMS)}", flush=True)
+    differ = [row for row in rows if row[-1]]
+    checks.same("the programs, PostgreSQL and Prometheus have the same series, 18 of them", 18, len(rows))
+    checks.same("they have the same in each series", [], differ[:3])
+    count, wrong = torn(play.prometheus, play.database)
+    checks.true("Prometheus scraped the totals", count >= 5, count)
+    checks.same("each scrape is a state of the database", [], wrong[:1])
+    for path in ("/metrics", "/totals"):
+        status, page = ask(play.service.operate, "GET", path)
+        told = subprocess.run(["promtool", "check", "metrics"], input=page, capture_output=True, check=False)
+        checks.same(f"promtool says nothing of {path}", (200, 0, b"", b""), (status, told.returncode, told.stdout, told.stderr))
+    checks.same("the service found nothing that must not be", [], play.service.faults())
+    play.write_samples(f"{folder}/samples.json")
+    draw(f"{folder}/samples.json", f"{folder}/picture.svg")
+    drawn = xml.dom.minidom.parse(f"{folder}/picture.svg").getElementsByTagName("path")
+    checks.true("the picture is drawn", len(drawn) >= 5, len(drawn))
+
+
+def main(program, gateway, seconds=SECONDS, seed=1):
+    checks = Checks()
+    if not checks.has("the demo", *missing()):
+        return checks.end()
+    sender = build_sender()
+    checks.true("the programs that post are built", sender, sender)
+    print(f"note: seed {seed}", flush=True)
+    with tempfile.TemporaryDirectory(prefix="demo-test-") as folder:
+        play = Play(program, gateway, sender, f"{folder}/run", float(seconds), int(seed))
+        try:
+            play.begin()
+            play.go()
+            look(checks, play, folder)
+        finally:
+            play.close()
+    return checks.end()
+
+
+if __name__ == "__main__":
+    if len(sys.argv) < 3:
+        sys.exit(f"usage: {sys.argv[0]} TOTXEGUN GATEWAY [SECONDS] [SEED]")
+    sys.exit(main(*map(os.path.abspath, sys.argv[1:3]), *sys.argv[3:5]))

@@ -1,0 +1,159 @@
+#!/usr/bin/env python3
+"""InfluxDB as a back end, by operate/influxdb.py.
+
+    tests/influxdb.py TOTXEGUN GATEWAY [SECONDS] [SEED]
+
+Senders post to totxegun, whose sink is the bridge, while totxegun, its gateway, the bridge and InfluxDB are killed. At the end
+InfluxDB has, series by series and bucket by bucket, what the senders were told is taken. Without InfluxDB all is left out,
+with status 77.
+
+Each line is one check; the last line counts those that passed and failed, and the status is 0 where none failed.
+"""
+import json
+import os
+import random
+import shutil
+import signal
+import subprocess
+import sys
+import tempfile
+import threading
+import time
+import urllib.parse
+
+from checks import Checks
+from loopback import free_port
+from service import Sender, Service, ask, differences, told_to_all, wait_until
+
+BRIDGE = os.path.join(os.path.dirname(os.path.dirname(os.path.abspath(__file__))), "operate", "influxdb.py")
+SECONDS = 20
+SENDERS = 3
+DATABASE = "totals"
+SETTINGS = """\
+reporting-disabled = true
+bind-address = "127.0.0.1:{more}"
+[meta]
+  dir = "{folder}/meta"
+[data]
+  dir = "{folder}/data"
+  wal-dir = "{folder}/wal"
+[http]
+  bind-address = "127.0.0.1:{port}"
+  log-enabled = false
+[monitor]
+  store-enabled = false
+"""
+
+
+class Program:
+    """A program that is killed and started again."""
+
+    def __init__(self, words, log):
+        self.words, self.log = words, log
+        self.process = None
+
+    def start(self):
+        with open(self.log, "ab") as log:
+            self.process = subprocess.Popen(self.words, stdin=subprocess.DEVNULL, stdout=log, stderr=log)
+
+    def kill(self):
+        self.process.kill()
+        self.process.wait()
+
+
+class InfluxDb(Program):
+    def __init__(self, folder):
+        self.port = free_port()
+        os.makedirs(folder)
+        with open(f"{folder}/influxdb.conf", "w", encoding="utf-8") as file:
+            file.write(SETTINGS.format(folder=folder, port=self.port, more=free_port()))
+        super().__init__(["influxd", "-config", f"{folder}/influxdb.conf"], f"{folder}/log")
+
+    def ask(self, query):
+        path = urllib.parse.urlencode({"db": DATABASE, "q": query, "epoch": "ns"})
+        status, body = ask(self.port, "POST", f"/query?{path}")
+        return json.loads(body)["results"][0].get("series", []) if status == 200 else None
+
+    def totals(self):
+        """What it has of each metric: a number, or (buckets, sum) of a histogram."""
+        found = {}
+        for one in self.ask("select sum(*) from /.*/"):
+            row = {name.removeprefix("sum_"): number for name, number in zip(one["columns"], one["values"][0])}
+            if row.get("value") is not None:
+                found[one["name"]] = row["value"]
+            else:
+                buckets = sorted((name for name, number in row.items() if name.startswith("bucket_") and number is not None))
+                found[one["name"]] = tuple(row[name] for name in buckets), row["sum"]
+        return found
+
+
+def trouble(service, bridge, influxdb, until, chance):
+    while time.monotonic() < until:
+        time.sleep(chance.uniform(0.5, 2))
+        victim = chance.choice(["gateway", "service", "bridge", "influxdb"])
+        if victim == "gateway":
+            service.signal_gateway(signal.SIGKILL)
+        elif victim == "service":
+            service.kill()
+            service.start()
+        else:
+            program = bridge if victim == "bridge" else influxdb
+            program.kill()
+            time.sleep(chance.uniform(0, 1))
+            program.start()
+
+
+def run(checks, program, gateway, folder, seconds, seed):
+    influxdb = InfluxDb(f"{folder}/influxdb")
+    port = free_port()
+    bridge = Program([sys.executable, BRIDGE, str(port), f"127.0.0.1:{influxdb.port}", DATABASE], f"{folder}/bridge.log")
+    service = Service(program, gateway, f"{folder}/data", f"http://127.0.0.1:{port}/v1/metrics", "--flush-every", "1s")
+    try:
+        influxdb.start()
+        is_made = wait_until(lambda: influxdb.ask(f"create database {DATABASE}") is not None)
+        checks.true("InfluxDB is there", is_made, influxdb.log)
+        bridge.start()
+        service.start()
+        checks.true("the service is ready", service.wait_ready(), service.last_lines())
+        until = time.monotonic() + seconds
+        senders = [Sender(service, number, seed) for number in range(SENDERS)]
+
+        def go_on(sender):
+            while time.monotonic() < until:
+                sender.post(sender.next_points())
+                time.sleep(0.02)
+
+        threads = [threading.Thread(target=go_on, args=(sender,), daemon=True) for sender in senders]
+        for thread in threads:
+            thread.start()
+        trouble(service, bridge, influxdb, until, random.Random(seed))
+        for thread in threads:
+            thread.join()
+        checks.true("it is flushed", wait_until(lambda: service.order("/flush") == 200), service.last_lines())
+        checks.true("all is delivered", wait_until(service.is_drained), service.status())
+        checks.same("nothing was refused", 0, service.status()["dead"])
+        checks.true("InfluxDB is there again", wait_until(lambda: influxdb.ask("show databases") is not None), influxdb.log)
+        told = told_to_all(senders)
+        posts, repeats = (sum(getattr(sender, count) for sender in senders) for count in ("posts", "repeats"))
+        print(f"note: {posts} posts, {repeats} repeats", flush=True)
+        checks.same(f"InfluxDB has what the senders were told, {len(told)} series", [], differences(told, influxdb.totals()))
+    finally:
+        service.kill()
+        for one in (bridge, influxdb):
+            if one.process:
+                one.kill()
+
+
+def main(program, gateway, seconds=SECONDS, seed=1):
+    checks = Checks()
+    if checks.has("InfluxDB", *[name for name in ("influxd",) if not shutil.which(name)]):
+        print(f"note: seed {seed}", flush=True)
+        with tempfile.TemporaryDirectory(prefix="influxdb-") as folder:
+            run(checks, program, gateway, folder, float(seconds), int(seed))
+    return checks.end()
+
+
+if __name__ == "__main__":
+    if len(sys.argv) < 3:
+        sys.exit(f"usage: {sys.argv[0]} TOTXEGUN GATEWAY [SECONDS] [SEED]")
+    sys.exit(main(*map(os.path.abspath, sys.argv[1:3]), *sys.argv[3:5]))
