@@ -1,0 +1,299 @@
+#!/usr/bin/env python3
+"""What `make install` installs into a folder, and a service that runs from there.
+
+    tests/package_installs.py TOTXEGUN GATEWAY PLAY
+
+The programs are put where `make build` would have made them, with a proof written for the gateway. Then: every file has
+its place and mode; the service started as the unit starts it, with the shipped settings, finds its gateway, takes a
+point, flushes and shows it; the settings name every option, and all their defaults together start it too; the pages
+name every option of the programs and mandoc finds nothing; the completion completes; the version says whether the
+gateway was proved; systemd finds nothing in the unit; what is missing is said in one line.
+
+Each line is one check; the last line counts those that passed and failed, and the status is 0 where none failed, 77 where
+a part was left out for want of a program.
+"""
+import hashlib
+import json
+import os
+import re
+import shlex
+import shutil
+import signal
+import subprocess
+import sys
+import tempfile
+import time
+
+from checks import Checks
+from loopback import free_port
+from service import ask, wait_until
+
+ROOT = os.path.dirname(os.path.dirname(os.path.abspath(__file__)))
+PLACES = {
+    "usr/bin/totxegun": 0o755,
+    "usr/bin/totxegun-gateway": 0o755,
+    "usr/bin/totxegun-play": 0o755,
+    "usr/share/totxegun/totxegun-gateway.proved": 0o644,
+    "usr/share/man/man1/totxegun.1": 0o644,
+    "usr/share/man/man1/totxegun-gateway.1": 0o644,
+    "usr/share/man/man1/totxegun-play.1": 0o644,
+    "usr/share/bash-completion/completions/totxegun": 0o644,
+    "lib/systemd/system/totxegun.service": 0o644,
+    "etc/totxegun/totxegun.env": 0o600,
+    "usr/share/doc/totxegun/README.md": 0o644,
+    "usr/share/doc/totxegun/OPERATING.md": 0o644,
+    "usr/share/doc/totxegun/BACK_ENDS.md": 0o644,
+    "usr/share/doc/totxegun/FORMATS.md": 0o644,
+    "usr/share/doc/totxegun/SECURITY.md": 0o644,
+    "usr/share/doc/totxegun/examples/haproxy.cfg": 0o644,
+    "usr/share/doc/totxegun/examples/nginx.conf": 0o644,
+    "usr/share/doc/totxegun/examples/alerts.yml": 0o644,
+    "usr/share/doc/totxegun/examples/dashboard.json": 0o644,
+}
+# The most that the unit may be exposed, as systemd counts it.
+EXPOSURE = 1.2
+LONG = re.compile(r"^ +(?:-\w, )?--([a-z-]+)", re.MULTILINE)
+VARIABLE = re.compile(r"\[env: (TOTXEGUN_\w+)")
+SETTING = re.compile(r"^#?(TOTXEGUN_\w+)=(.*)$", re.MULTILINE)
+POINT = ('{"resourceMetrics":[{"scopeMetrics":[{"metrics":[{"name":"a","sum":{"aggregationTemporality":1,"isMonotonic":true,'
+         '"dataPoints":[{"asInt":"5","startTimeUnixNano":"%d","timeUnixNano":"%d"}]}}]}]}]}')
+
+
+def content(path):
+    with open(path, encoding="utf-8") as file:
+        return file.read()
+
+
+def ran(words, **how):
+    """The status of a program, and all that it printed."""
+    out = subprocess.run(words, stdin=subprocess.DEVNULL, stdout=subprocess.PIPE, stderr=subprocess.STDOUT, text=True,
+                         check=False, timeout=60, **how)
+    return out.returncode, out.stdout
+
+
+def without_settings():
+    return {name: value for name, value in os.environ.items() if not name.startswith("TOTXEGUN_")}
+
+
+def install(folder, programs, destination):
+    """`make install` as a package calls it."""
+    made = f"{folder}/made"
+    os.makedirs(made, exist_ok=True)
+    for name, program in zip(("totxegun", "gateway", "play"), programs):
+        shutil.copy2(program, f"{made}/{name}")
+    with open(f"{made}/gateway", "rb") as file:
+        digest = hashlib.sha256(file.read()).hexdigest()
+    with open(f"{made}/gateway.proved", "w", encoding="ascii") as file:
+        file.write(f"sha256 {digest}\nrevision 0123456789ab\ntoolchain kit logic 1\n")
+    places = {"DESTDIR": destination, "PREFIX": "/usr", "SYSCONFDIR": "/etc", "UNITDIR": "/lib/systemd/system"}
+    return ran([f"{ROOT}/tools/install", made], env={**without_settings(), **places})
+
+
+def look_at_files(checks, root):
+    for place, mode in PLACES.items():
+        path = f"{root}/{place}"
+        found = oct(os.stat(path).st_mode & 0o7777) if os.path.isfile(path) else "nothing"
+        checks.same(f"{place} is there", oct(mode), found)
+    all_files = {os.path.relpath(f"{at}/{name}", root) for at, _, names in os.walk(root) for name in names}
+    more = sorted(it for it in all_files - PLACES.keys() if "/examples/" not in it)
+    checks.same("nothing else is", [], more)
+
+
+def shipped_settings(root):
+    """The lines that are set, and those with a default, as variables."""
+    text = content(f"{root}/etc/totxegun/totxegun.env")
+    lines = {name: (value, f"\n{name}=" in text) for name, value in SETTING.findall(text)}
+    chosen = {name: value for name, (value, is_set) in lines.items() if is_set}
+    defaults = {name: value for name, (value, is_set) in lines.items() if not is_set and not re.fullmatch(r"[A-Z:= ]+", value)}
+    return lines, chosen, defaults
+
+
+def serve(checks, what, root, folder, settings):
+    """A first use: a post, a flush, the totals, an end by SIGTERM."""
+    words = shlex.split(re.search(r"^ExecStart=(.*)$", content(f"{root}/lib/systemd/system/totxegun.service"), re.M)[1])
+    words = [word.replace("%S", folder) for word in words]
+    listen, operate = free_port(), free_port()
+    places = {"TOTXEGUN_LISTEN": f"127.0.0.1:{listen}", "TOTXEGUN_OPERATE": f"127.0.0.1:{operate}"}
+    environment = {**without_settings(), **settings, **places}
+    log = f"{folder}/log"
+    with open(log, "wb") as out:
+        service = subprocess.Popen([f"{root}{words[0]}", *words[1:]], env=environment, stdin=subprocess.DEVNULL, stdout=out,
+                                   stderr=out)
+    try:
+        is_ready = wait_until(lambda: service.poll() is not None or ask(operate, "GET", "/ready", seconds=2)[0] == 200)
+        if not is_ready or service.poll() is not None:
+            checks.true(f"{what}: it serves", False, content(log)[-2000:])
+            return
+        now = time.time_ns()
+        body = POINT % (now - 10_000_000_000, now)
+        headers = {"Content-Type": "application/json", "x-sender": "A"}
+        checks.same(f"{what}: a point is taken", 200, ask(listen, "POST", "/v1/metrics", body.encode(), headers)[0])
+        program = f"{root}/usr/bin/totxegun"
+        at = ["--operate", f"127.0.0.1:{operate}"]
+        checks.same(f"{what}: a flush", (0, "done: 1 request went into the outbox\n"), ran([program, "flush", *at]))
+        is_there = wait_until(lambda: '"total":"5"' in ran([program, "totals", "--json", *at])[1].replace(" ", "").replace(
+            '"total":5', '"total":"5"'), 20)
+        checks.true(f"{what}: the total is shown", is_there, ran([program, "totals", "--json", *at]))
+        checks.same(f"{what}: it keeps its files where the unit says", True, os.path.isfile(f"{folder}/totxegun/metrics.db"))
+        first = content(log).splitlines()[0]
+        gateway = f"gateway {root}/usr/bin/totxegun-gateway: revision 0123456789ab, proved by kit logic 1"
+        checks.true(f"{what}: the log's first line is the version", f"totxegun {version()}; {gateway}" in first, first)
+    finally:
+        service.send_signal(signal.SIGTERM)
+        try:
+            status = service.wait(30)
+        except subprocess.TimeoutExpired:
+            service.kill()
+            status = service.wait()
+    checks.true(f"{what}: SIGTERM ends it", status == 0, f"status {status}: {content(log)}")
+    shutil.rmtree(f"{folder}/totxegun")
+
+
+def version():
+    return content(f"{ROOT}/VERSION").strip()
+
+
+def look_at_settings(checks, root, serve_help):
+    lines, _, _ = shipped_settings(root)
+    wanted = VARIABLE.findall(serve_help)
+    checks.true("the program has variables", len(wanted) > 15, serve_help)
+    checks.same("the settings name every variable, in order", wanted, list(lines))
+    text = content(f"{root}/etc/totxegun/totxegun.env")
+    bare = [name for name in wanted if not re.search(rf"^# \S.*\n#?{name}=", text, re.MULTILINE)]
+    checks.same("each with a line of text", [], bare)
+
+
+def options_of(page):
+    return sorted(set(re.findall(r"^\.It Fl -([a-z-]+)", page, re.MULTILINE)))
+
+
+def look_at_pages(checks, root, program):
+    man = f"{root}/usr/share/man/man1"
+    page = content(f"{man}/totxegun.1")
+    commands = json.loads(ran([program, "print", "options"])[1])["commands"]
+    wanted = set()
+    for words in command_lines(commands):
+        wanted |= set(LONG.findall(ran([program, *words, "--help"])[1])) - {"help", "version"}
+        checks.true(f"the page has `{' '.join(words)}`", f"\n.It Cm {' '.join(words)}" in page, "it is not there")
+    checks.same("the page has every option of the program, and no other", sorted(wanted), options_of(page))
+    gateway = f"{root}/usr/bin/totxegun-gateway"
+    wanted = set()
+    for words in (["serve"], ["rehearse"]):
+        wanted |= set(LONG.findall(ran([gateway, *words, "--help"])[1])) - {"help"}
+    checks.same("so has the gateway's", sorted(wanted), options_of(content(f"{man}/totxegun-gateway.1")))
+    checks.same("no place is left open", [], re.findall(r"@[A-Z]+@", page))
+    if checks.has("the pages' form", *([] if shutil.which("mandoc") else ["mandoc"])):
+        for name in sorted(os.listdir(man)):
+            # -W style: all that it knows; a page that names another, which is not installed here, is right.
+            status, said = ran(["mandoc", "-T", "lint", "-W", "style", f"{man}/{name}"])
+            lines = [line for line in said.splitlines() if f"{name}:" in line and "referenced manual not found" not in line]
+            checks.same(f"mandoc finds nothing in {name}", [], lines)
+
+
+def command_lines(commands, before=()):
+    for command in commands:
+        if command["commands"]:
+            yield from command_lines(command["commands"], (*before, command["name"]))
+        else:
+            yield [*before, command["name"]]
+
+
+def look_at_completion(checks, root, program, serve_help):
+    file = f"{root}/usr/share/bash-completion/completions/totxegun"
+    checks.same("the completion is the program's own", ran([program, "print", "completion"])[1], content(file))
+
+    def completed(*words):
+        script = f"source {file}; COMP_WORDS=({' '.join(words)}); COMP_CWORD={len(words) - 1}; " \
+                 f"_totxegun totxegun {words[-1]!r} {words[-2]!r}; printf '%s\\n' \"${{COMPREPLY[@]}}\""
+        return set(ran(["bash", "--norc", "-c", script])[1].split())
+    checks.same("it completes an option", {"--flush-every", "--flushers"}, completed("totxegun", "serve", "--flush"))
+    checks.same("it completes a command", {"quarantine"}, completed("totxegun", "qu"))
+    checks.same("what is hidden is not completed", set(), completed("totxegun", "pri"))
+    options = {f"--{name}" for name in LONG.findall(serve_help)}
+    checks.same("it has every option", set(), options - completed("totxegun", "serve", "--"))
+
+
+def look_at_version(checks, root):
+    program, gateway = f"{root}/usr/bin/totxegun", f"{root}/usr/bin/totxegun-gateway"
+    line = f"totxegun {version()}; gateway {gateway}: "
+    checks.same("the version tells the proof", (0, f"{line}revision 0123456789ab, proved by kit logic 1\n"),
+                ran([program, "version"], env=without_settings()))
+    with open(gateway, "ab") as file:
+        file.write(b"\n")
+    checks.same("of another program it tells none", (0, f"{line}nothing says that it was proved\n"),
+                ran([program, "version"], env=without_settings()))
+
+
+def look_at_unit(checks, root, folder):
+    """With the installed program in the place of the one that systemd would look for."""
+    if not checks.has("the unit", *([] if shutil.which("systemd-analyze") else ["systemd-analyze"])):
+        return
+    unit = f"{folder}/totxegun.service"
+    with open(unit, "w", encoding="utf-8") as file:
+        text = content(f"{root}/lib/systemd/system/totxegun.service")
+        checks.same("the unit has the installed names", [], re.findall(r"/usr/local\S*", text))
+        file.write(text.replace("=/usr/bin/", f"={root}/usr/bin/"))
+    checks.same("systemd finds nothing in it", (0, ""), ran(["systemd-analyze", "verify", "--man=no", unit]))
+    status, said = ran(["systemd-analyze", "security", "--offline=true", f"--threshold={EXPOSURE * 10:.0f}", unit])
+    overall = re.search(r"Overall exposure level.*?: ([\d.]+)", said)
+    checks.true(f"it is exposed by {EXPOSURE} at most", status == 0 and overall and float(overall[1]) <= EXPOSURE,
+                said[-500:])
+    print(f"note: exposure {overall[1] if overall else 'unknown'}", flush=True)
+
+
+def look_at_what_is_missing(checks, folder):
+    os.makedirs(f"{folder}/none")
+    status, said = ran([f"{ROOT}/tools/install", f"{folder}/none"])
+    checks.true("a missing program is said in one line", status == 1 and said.count("\n") == 1 and "make build" in said, said)
+    lone = f"{folder}/path"
+    os.makedirs(lone)
+    for name in ("sh", "env"):
+        os.symlink(shutil.which(name), f"{lone}/{name}")
+    status, said = ran(["/bin/sh", f"{ROOT}/tools/toolchain"], env={"PATH": lone})
+    checks.true("so is the toolchain", status == 1 and said.count("\n") == 1 and "dac8208d650f15bf" in said, said)
+    with open(f"{lone}/rt", "w", encoding="ascii") as file:
+        file.write("#!/bin/sh\necho other-kit logic 0000000000000000\n")
+    os.chmod(f"{lone}/rt", 0o755)
+    status, said = ran(["/bin/sh", f"{ROOT}/tools/toolchain"], env={"PATH": lone})
+    checks.true("so is one of another logic", status == 1 and said.count("\n") == 1 and "0000000000000000" in said, said)
+    with open(f"{lone}/rt", "w", encoding="ascii") as file:
+        file.write("#!/bin/sh\necho other-kit logic dac8208d650f15bf\n")
+    checks.same("the kit's name may differ", (0, ""), ran(["/bin/sh", f"{ROOT}/tools/toolchain"], env={"PATH": lone}))
+    status, said = ran(["make", "-C", ROOT, "--no-print-directory"])
+    targets = re.findall(r"^([a-z]+):.*##", content(f"{ROOT}/Makefile"), re.MULTILINE)
+    missing = [target for target in targets if f"make {target} " not in said]
+    checks.true("make alone prints what there is to make", status == 0 and len(targets) > 8 and not missing, said)
+
+
+def main(programs):
+    checks = Checks()
+    with tempfile.TemporaryDirectory(prefix="package-") as folder:
+        root = f"{folder}/root"
+        status, said = install(folder, programs, root)
+        checks.same("it is installed", (0, ""), (status, said))
+        if status:
+            return checks.end()
+        program = f"{root}/usr/bin/totxegun"
+        serve_help = ran([program, "serve", "--help"], env=without_settings())[1]
+        look_at_files(checks, root)
+        look_at_settings(checks, root, serve_help)
+        look_at_pages(checks, root, program)
+        look_at_completion(checks, root, program, serve_help)
+        look_at_unit(checks, root, folder)
+        _, chosen, defaults = shipped_settings(root)
+        # A program with a sanitizer takes more address space than that.
+        bound = f"ulimit -v {3 << 20}; exec {root}/usr/bin/totxegun-gateway rehearse"
+        bears = ran(["sh", "-c", bound])[0] == 0
+        if not checks.has("the shipped bound of memory", *([] if bears else ["a gateway that bears it"])):
+            chosen.pop("TOTXEGUN_MEMORY")
+        serve(checks, "as shipped", root, folder, chosen)
+        serve(checks, "with each default said", root, folder, {**defaults, **chosen})
+        look_at_version(checks, root)
+        look_at_what_is_missing(checks, folder)
+    return checks.end()
+
+
+if __name__ == "__main__":
+    if len(sys.argv) != 4 or not all(os.access(word, os.X_OK) for word in sys.argv[1:]):
+        sys.exit(f"usage: {sys.argv[0]} TOTXEGUN GATEWAY PLAY")
+    sys.exit(main(sys.argv[1:]))

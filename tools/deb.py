@@ -1,0 +1,105 @@
+#!/usr/bin/env python3
+"""Makes a Debian package of what `make build` has made, or of the programs of another folder.
+
+    tools/deb.py [FOLDER]
+
+It is out/totxegun_VERSION_amd64.deb. Nothing is compiled: the programs are installed into a folder by tools/install, and
+packaged by debhelper as packaging/debian says. The times in it are those of CHANGELOG.md's newest version, so the same
+programs give the same bytes. The log is out/logs/deb.log.
+"""
+import datetime
+import email.utils
+import hashlib
+import os
+import re
+import shutil
+import subprocess
+import sys
+import textwrap
+import time
+
+from crates import OUT, ROOT
+from pages import Wrong, version
+from steps import LOGS, end_of, shown
+
+WORK = f"{OUT}/deb"
+LOG = f"{LOGS}/deb.log"
+MAINTAINER = re.compile(r"^Maintainer: (.*)$", re.MULTILINE)
+ITEM = re.compile(r"^- (.*)$", re.MULTILINE)
+
+
+def content(path):
+    with open(path, encoding="utf-8") as file:
+        return file.read()
+
+
+def second_of(day):
+    """Noon of a day, as seconds since 1970."""
+    return int(datetime.datetime.fromisoformat(f"{day}T12:00:00+00:00").timestamp())
+
+
+def changelog():
+    """CHANGELOG.md as Debian has it."""
+    maintainer = MAINTAINER.search(content(f"{ROOT}/packaging/debian/control"))[1]
+    # Of older versions a heading has the revision behind the day.
+    parts = re.split(r"^## (\S+), (\S+).*$", content(f"{ROOT}/CHANGELOG.md"), flags=re.MULTILINE)[1:]
+    entries, days = [], []
+    for number, day, text in zip(parts[::3], parts[1::3], parts[2::3]):
+        items = "".join(f"{textwrap.fill(item, 78, initial_indent='  * ', subsequent_indent='    ')}\n" for item in ITEM.findall(text))
+        # Of one day an older version has an earlier hour.
+        when = email.utils.formatdate(second_of(day) - 3600 * days.count(day))
+        days.append(day)
+        entries.append(f"totxegun ({number}) unstable; urgency=medium\n\n{items}\n -- {maintainer}  {when.replace('-0000', '+0000')}\n")
+    return "\n".join(entries)
+
+
+def prepare(folder, programs):
+    """The source tree of the package; what is missing is told by tools/install, and ends this."""
+    shutil.rmtree(WORK, ignore_errors=True)
+    shutil.copytree(f"{ROOT}/packaging/debian", f"{folder}/debian")
+    with open(f"{folder}/debian/changelog", "w", encoding="utf-8") as file:
+        file.write(changelog())
+    places = {"DESTDIR": f"{folder}/installed", "PREFIX": "/usr", "SYSCONFDIR": "/etc", "UNITDIR": "/lib/systemd/system"}
+    ran = subprocess.run([f"{ROOT}/tools/install", programs], env={**os.environ, **places}, check=False)
+    return ran.returncode == 0
+
+
+def build(folder, second):
+    """Runs debhelper, and returns whether it made the package."""
+    os.makedirs(LOGS, exist_ok=True)
+    with open(LOG, "wb") as log:
+        words = ["dpkg-buildpackage", "--build=binary", "--no-sign"]
+        ran = subprocess.run(words, cwd=folder, stdin=subprocess.DEVNULL, stdout=log, stderr=log,
+                             env={**os.environ, "SOURCE_DATE_EPOCH": str(second)}, check=False)
+    return ran.returncode == 0
+
+
+def main(words):
+    if len(words) > 1:
+        sys.exit(f"usage: {sys.argv[0]} [FOLDER]")
+    begun = time.monotonic()
+    if subprocess.run([f"{ROOT}/tools/needs", "deb"], check=False).returncode:
+        return 1
+    try:
+        number, day = version()
+    except Wrong as why:
+        print(f"tools/deb.py: {why}", file=sys.stderr)
+        return 1
+    folder = f"{WORK}/totxegun-{number}"
+    if not prepare(folder, os.path.abspath(words[0]) if words else f"{ROOT}/bin"):
+        return 1
+    if not build(folder, second_of(day)):
+        print("\n".join(end_of(LOG)), file=sys.stderr)
+        print(f"tools/deb.py: debhelper failed; the log is {os.path.relpath(LOG)}", file=sys.stderr)
+        return 1
+    name = f"totxegun_{number}_amd64.deb"
+    os.replace(f"{WORK}/{name}", f"{OUT}/{name}")
+    with open(f"{OUT}/{name}", "rb") as file:
+        digest = hashlib.file_digest(file, "sha256").hexdigest()
+    print(f"{os.path.relpath(f'{OUT}/{name}')}: {os.path.getsize(f'{OUT}/{name}'):,} bytes, made in {shown(time.monotonic() - begun)}")
+    print(f"sha256 {digest}")
+    return 0
+
+
+if __name__ == "__main__":
+    sys.exit(main(sys.argv[1:]))

@@ -1,0 +1,255 @@
+#!/usr/bin/env python3
+"""Writes what a package has beside the programs, from the command line's own definition: the manual pages, the settings,
+and the completion of bash.
+
+    tools/pages.py TOTXEGUN FOLDER
+
+What is written by hand is packaging/options.toml and packaging/man. The definition is what `totxegun print options` says:
+a new option is in the page and in the settings by itself, and a text about one that is gone fails here. PREFIX (/usr/local)
+and SYSCONFDIR (/etc) name the places that the pages tell.
+"""
+import json
+import os
+import re
+import subprocess
+import sys
+import textwrap
+import tomllib
+
+from crates import ROOT
+
+PACKAGING = f"{ROOT}/packaging"
+MAN = f"{PACKAGING}/man"
+WIDTH = 78
+# One sentence a line, as mdoc wants it.
+SENTENCE = re.compile(r"(?<=[.!?])\s+(?=[A-Z])")
+VERSION_LINE = re.compile(r"^## (\d+\.\d+\.\d+), (\d{4}-\d\d-\d\d)$", re.MULTILINE)
+MONTHS = ("January February March April May June July August September October November December").split()
+SETTINGS_HEAD = """\
+# Settings of totxegun.service. The manual page, totxegun(1), says what each costs; the service reads them when it starts.
+#
+# A line behind # has the default; where that is in capitals there is none. Take the # away to set another value.
+# Its mode is 600, since a header may have a token.
+"""
+
+
+class Wrong(Exception):
+    """Why nothing is written."""
+
+
+def definition(program):
+    """The command line as the program describes it."""
+    return json.loads(printed(program, "options"))
+
+
+def printed(program, what):
+    return subprocess.run([program, "print", what], stdout=subprocess.PIPE, check=True).stdout.decode()
+
+
+def hand_written(serve):
+    """What packaging/options.toml says of options, each of which the program has to have."""
+    with open(f"{PACKAGING}/options.toml", "rb") as file:
+        texts = tomllib.load(file)
+    known = {option["long"] for option in serve["options"]}
+    for name, text in texts.items():
+        if name not in known:
+            raise Wrong(f"packaging/options.toml: totxegun serve has no option --{name}")
+        if not text.keys() <= {"costs", "set", "because"} or ("set" in text) != ("because" in text):
+            raise Wrong(f"packaging/options.toml, {name}: it has `costs`, or `set` and `because` too")
+    return texts
+
+
+def version():
+    """The version and its day: VERSION has to be the first one of CHANGELOG.md."""
+    with open(f"{ROOT}/VERSION", encoding="ascii") as file:
+        number = file.read().strip()
+    with open(f"{ROOT}/CHANGELOG.md", encoding="utf-8") as file:
+        newest = VERSION_LINE.search(file.read())
+    if not newest or newest[1] != number:
+        raise Wrong(f"VERSION says {number}, and CHANGELOG.md's first version is {newest[1] if newest else 'none'}")
+    return number, newest[2]
+
+
+# --------------------------------------------------------------------------------------------------------------------
+# The settings
+
+
+def settings(serve, texts):
+    """A line of text for each variable, and a line that sets it, behind # where it is the default."""
+    out = [SETTINGS_HEAD]
+    heading = None
+    for option in serve["options"]:
+        if not option["variable"]:
+            continue
+        if option["heading"] != heading:
+            heading = option["heading"]
+            out.append(f"\n# {heading}\n")
+        out.append(setting(option, texts.get(option["long"], {})))
+    return "\n".join(out)
+
+
+def setting(option, text):
+    help_line = option["help"].replace("\n", " ")
+    if option["long"] == "data":
+        return f"# {help_line}. The unit gives it, so this line changes nothing.\n#{option['variable']}=/var/lib/totxegun\n"
+    if "set" in text:
+        default = f" [default: {option['default']}]" if option["default"] else ""
+        return f"# {help_line}{default}. {text['because']}\n{option['variable']}={text['set']}\n"
+    if option["one_of"]:
+        help_line += f" [{' or '.join(option['one_of'])}]"
+    default = option["default"] or (option["value"] if option["value"] else "false")
+    return f"# {help_line}\n#{option['variable']}={default}\n"
+
+
+# --------------------------------------------------------------------------------------------------------------------
+# The manual page
+
+
+def in_mdoc(text):
+    """Text lines: a sentence a line, no line too long, and nothing that mdoc would take for its own."""
+    text = text.replace("\\", "\\e").replace("\n", " ")
+    text = re.sub(r"`([^`]*)`", r"\\(oq\1\\(cq", text)
+    text = re.sub(r"(?<!\w)--(?=\w)", r"\\-\\-", text)
+    lines = []
+    for sentence in SENTENCE.split(text.strip()):
+        lines += textwrap.wrap(sentence, WIDTH, break_long_words=False, break_on_hyphens=False)
+    return "\n".join(f"\\&{line}" if line[:1] in ".'" else line for line in lines)
+
+
+def with_point(text):
+    return text if not text or text.endswith((".", "]")) else f"{text}."
+
+
+def tag(option):
+    """How an option is typed, behind `.It`."""
+    value = f" Ar {quoted(option['value'])}" if option["value"] else ""
+    return f"Fl -{option['long']}{value}" if option["long"] else value.strip()
+
+
+def quoted(word):
+    return f'"{word}"' if re.search(r"[\s:]", word) else word
+
+
+def item(option, more=""):
+    """An option, its text, and what it is by default."""
+    default = f" The default is {option['default']}." if option["default"] else ""
+    one_of = f" It is {' or '.join(option['one_of'])}." if option["one_of"] else ""
+    text = in_mdoc(with_point(option["help"]) + one_of + default)
+    lines = [f".It {tag(option)}", *([text] if text else [])]
+    if option["variable"]:
+        lines += [f".Pq Ev {option['variable']}"]
+    if more:
+        lines += [".br", in_mdoc(more)]
+    return "\n".join(lines)
+
+
+def lines_of(command, before=()):
+    """A command, or the commands below it: their names and themselves."""
+    if command["commands"]:
+        return [it for below in command["commands"] for it in lines_of(below, (*before, command["name"]))]
+    return [((*before, command["name"]), command)]
+
+
+def all_commands(line):
+    return [it for command in line["commands"] for it in lines_of(command)]
+
+
+def synopsis(line):
+    out = []
+    for names, command in all_commands(line):
+        if names != ("serve",):
+            out += [".Nm", f".Cm {' '.join(names)}", *(f".{word}" for word in synopsis_words(command))]
+    return "\n".join(out)
+
+
+def synopsis_words(command):
+    return [tag(option) if option["required"] else f"Op {tag(option)}" for option in command["options"]]
+
+
+def shared(line):
+    """Options that several commands have alike: they are told once."""
+    lists = [command["options"] for names, command in all_commands(line) if names != ("serve",)]
+    found = {}
+    for option in (option for options in lists for option in options):
+        if option["long"] and sum(option in options for options in lists) > 1:
+            found.setdefault(option["long"], option)
+    return list(found.values())
+
+
+def commands(line):
+    out = []
+    those = shared(line)
+    for names, command in all_commands(line):
+        own = [option for option in command["options"] if option not in those]
+        also = "".join(f" , Cm {alias}" for alias in command["aliases"])
+        out += [f".It Cm {' '.join(names)}{also}", in_mdoc(with_point(command["about"]))]
+        if names != ("serve",) and any(option["help"] for option in own):
+            out += [".Bl -tag -width Ds", *map(item, own), ".El"]
+    return "\n".join(out)
+
+
+def headed(serve, texts):
+    """The sections of options that have a heading of their own."""
+    out = []
+    headings = dict.fromkeys(option["heading"] for option in serve["options"] if option["heading"])
+    for heading in headings:
+        those = [option for option in serve["options"] if option["heading"] == heading]
+        out += [f".Ss {heading}", ".Bl -tag -width Ds", *(with_costs(it, texts) for it in those), ".El"]
+    return "\n".join(out)
+
+
+def with_costs(option, texts):
+    return item(option, texts.get(option["long"], {}).get("costs", ""))
+
+
+def pages(line, serve, texts, places):
+    """Each manual page by its name."""
+    plain = [option for option in serve["options"] if not option["heading"]]
+    number, day = version()
+    year, month, date = day.split("-")
+    parts = {
+        **places,
+        "VERSION": number,
+        "DATE": f"{MONTHS[int(month) - 1]} {int(date)}, {year}",
+        "SYNOPSIS": synopsis(line),
+        "COMMANDS": commands(line),
+        "SHARED": "\n".join(map(item, shared(line))),
+        "OPTIONS": "\n".join(with_costs(option, texts) for option in plain),
+        "HEADED": headed(serve, texts),
+    }
+    made = {}
+    for name in sorted(os.listdir(MAN)):
+        with open(f"{MAN}/{name}", encoding="utf-8") as file:
+            text = file.read()
+        for part, its in parts.items():
+            text = text.replace(f"@{part}@", its)
+        left = re.search(r"@[A-Z]+@", text)
+        if left:
+            raise Wrong(f"packaging/man/{name}: nothing stands for {left[0]}")
+        made[name.removesuffix(".in")] = text
+    return made
+
+
+def main(words):
+    if len(words) != 2 or not os.access(words[0], os.X_OK):
+        sys.exit(f"usage: {sys.argv[0]} TOTXEGUN FOLDER")
+    program, folder = os.path.abspath(words[0]), words[1]
+    places = {"PREFIX": os.environ.get("PREFIX", "/usr/local"), "SYSCONFDIR": os.environ.get("SYSCONFDIR", "/etc")}
+    try:
+        line = definition(program)
+        serve = next(it for it in line["commands"] if it["name"] == "serve")
+        texts = hand_written(serve)
+        files = pages(line, serve, texts, places)
+    except Wrong as why:
+        sys.exit(f"tools/pages.py: {why}")
+    files["totxegun.env"] = settings(serve, texts)
+    files["totxegun.bash"] = printed(program, "completion")
+    os.makedirs(folder, exist_ok=True)
+    for name, text in files.items():
+        with open(f"{folder}/{name}", "w", encoding="utf-8") as file:
+            file.write(text.rstrip("\n") + "\n")
+    return 0
+
+
+if __name__ == "__main__":
+    sys.exit(main(sys.argv[1:]))
