@@ -1,34 +1,80 @@
 # The commands of the README. Their scripts are in tools/; what they log is in out/logs.
 
-.PHONY: run serve build check test edits soak
+.PHONY: help run serve demo build check fmt test edits wrong soak bench install deb image life version reproduce
 
-# Runs the script program on its stored script, with no proof, in about a minute at most.
-run:
+# The first one: what there is to make. Each line is the text behind ## at a target.
+help:
+	@sed -n 's/^\([a-z]*\):.*## /  make \1	/p' Makefile | expand -t 19
+
+# Its stored script, in about a minute at most.
+run: ## runs the script program play, unproved
+	@tools/toolchain
 	@cd crates/play && mkdir -p out && rt try < stdin 2> out/run.log || { cat out/run.log; exit 1; }
 	@echo 'This run proved nothing: make build proves what it builds, make test everything.'
 
-# Serves on 127.0.0.1:4318 with a SQLite file as the sink; builds what is missing, the gateway with no proof where
-# make build has not built it. Ctrl-C ends it.
-serve:
+# Builds what is missing, the gateway with no proof where make build has not built it. Ctrl-C ends it.
+serve: ## serves on 127.0.0.1:4318 with a SQLite file as the sink
 	@tools/serve.py
 
-# Proves the programs and builds them into bin/, crates side by side. What has not changed is not proved again.
-build:
+# While it kills them; what each has at the end: make demo, or make demo SEED=7 SECONDS=20.
+demo: ## two programs on OpenTelemetry's SDK, the service, PostgreSQL and Prometheus
+	@demo/run.py $(or $(SEED),1) $(or $(SECONDS),60)
+
+# Crates side by side. What has not changed is not proved again.
+build: ## proves the programs and builds them into bin/, and the service
+	@tools/toolchain
 	@tools/build.py
 
-# Checks one crate over what make build has kept: make check NAME=delta_book, or NAME="delta_book --allow-holes".
-check:
+# Over what make build has kept: make check NAME=delta_book, or NAME="delta_book --allow-holes".
+check: ## checks one crate: make check NAME=delta_book
+	@tools/toolchain
 	@tools/check.py $(NAME)
 
-# The gate: every proof from nothing, the must-fail edits, the tests and the programs; and then what
-# the prover can't see, by the steps that tools/gate.py lists, with the programs that the gate has built.
-test:
+fmt: ## lays out the code of the crates and of the service
+	@tools/format.py && tools/cargo fmt
+
+# Every proof from nothing, the must-fail edits, the tests and the programs; and then what the prover can't see, by the
+# steps that tools/gate.py lists, with the programs that the gate has built.
+test: ## the gate: all proofs, wrong code that must be refused, tests
+	@tools/toolchain
 	@tools/gate.py
 
-# Tries all edits, those too that the gate leaves out, many in one check: make edits, or make edits NAME=delta_book.
-edits:
+# Those too that the gate leaves out, many in one check: make edits, or make edits NAME=delta_book.
+edits: ## tries all wrong code
+	@tools/toolchain
 	@tools/edits.py $(NAME)
 
-# The service under load for an hour, with what `make build` has built, while all that it is made of is killed.
-soak:
+# A few minutes each: a test has to find what is wrong with each.
+wrong: ## tries wrong copies of the service
+	@tools/wrong.py bin/gateway $(NAME)
+
+# With what make build has built, while all that it is made of is killed.
+soak: ## the service under load for an hour
+	@for it in totxegun gateway; do \
+		[ -x bin/$$it ] || { echo "there is no bin/$$it: make build makes it" >&2; exit 1; }; done
 	@tests/service_load.py bin/totxegun bin/gateway 3600
+
+# DESTDIR, PREFIX (/usr/local), SYSCONFDIR (/etc) and UNITDIR (PREFIX/lib/systemd/system) say where.
+install: ## installs what make build has built: DESTDIR=, PREFIX=/usr/local
+	@DESTDIR='$(DESTDIR)' PREFIX='$(PREFIX)' SYSCONFDIR='$(SYSCONFDIR)' UNITDIR='$(UNITDIR)' tools/install
+
+deb: ## a Debian package of what make build has built
+	@tools/deb.py
+
+image: ## an image for containers of what make build has built
+	@tools/image
+
+# As root, behind make deb and make image; Debian's base is fetched once, into out/debian.
+life: ## tries package and image: installed, upgraded under load, killed, purged, stopped
+	@tests/package_lives.py out/totxegun_$$(cat VERSION)_amd64.deb
+	@tests/package_image.py out/totxegun_$$(cat VERSION)_image.tar
+
+version: ## the version, and of which gateway bin/ is
+	@cat VERSION
+	@[ ! -x bin/totxegun ] || bin/totxegun version
+
+reproduce: ## builds the service twice, in two folders, and compares
+	@tools/reproduce
+
+bench: ## figures of docs/MEASURED.md that want an idle machine, with what `make build` has built
+	@bench/all.sh

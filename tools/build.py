@@ -5,7 +5,8 @@
 
 The crates are play and gateway, or those that are named; then the service is not built. Crates that don't use each other are proved
 side by side, as many as processors and memory carry; a crate that is proved and has not changed since,
-nor one below it, is not proved again, also not after an interrupt. The logs are in out/logs.
+nor one below it, is not proved again, also not after an interrupt. Beside a program is written of which revision
+it is, and that it was proved (tools/proved.py). The logs are in out/logs.
 """
 import hashlib
 import os
@@ -16,6 +17,7 @@ import time
 
 from crates import OUT, ROOT, Digests, content, read_crates
 from prover import Prover, made_by, room_of
+from proved import write_proof
 from steps import GIGABYTE, Failed, Step, Steps, end_of, locked, shown
 
 PROGRAMS = ["play", "gateway"]
@@ -130,6 +132,7 @@ def main(names):
     for crate in crates:
         if crate.is_program:
             install(made_by(crate), crate.name)
+            write_proof(f"{ROOT}/bin/{crate.name}")
     built = " and ".join(shlex.quote(f"bin/{name}") for name in [*programs, *([] if names else [SERVICE])])
     print(f"{built or 'the libraries'}: built in {shown(time.monotonic() - begun)}")
     return 0

@@ -49,7 +49,13 @@ SERVICE_STEPS = (
     ("service_load.py", ["60"], 120),
     ("service_interrupted.py", ["9"], 150),
     ("behind_proxies.py", [], 60),
+    ("demo.py", ["25"], 60),
+    ("alerts.py", [], 60),
+    ("influxdb.py", ["15"], 40),
     ("protobuf_bodies.py", [], 40),
+    ("sdk_go.py", ["8"], 60),
+    ("grpc_calls.py", [], 30),
+    ("package_installs.py", [PLAY], 15),
 )
 STEP_LIMIT = 600
 # A network of its own for each step, so that none takes another's port.
@@ -133,6 +139,20 @@ def step_of(script, program, seconds, is_timed, before, of=""):
     return Step(name, work, " ".join(command), weight=seconds, lane=lane, alone=is_timed)
 
 
+def layout_step():
+    """The step that fails where `make fmt` would change a file."""
+    command = ["tools/format.py", "--check"]
+
+    def work(step):
+        status = step.run(command, limit=STEP_LIMIT)
+        last = (end_of(step.log) or ["it printed nothing"])[-1]
+        if status != 0:
+            raise Failed(last)
+        return last
+
+    return Step("crates_are_laid_out", work, " ".join(command), weight=20)
+
+
 def cargo_steps():
     """The steps of service/ that need no gateway, in order."""
     steps = []
@@ -176,7 +196,7 @@ def main(words):
         passed, failed = prover.passed, prover.failed
     if not failed:
         before = [OWN_NETWORK] if has_networks() else []
-        steps = Steps([*[step_of(*it, before) for it in STEPS], *cargo_steps(), *service_steps(before)])
+        steps = Steps([layout_step(), *[step_of(*it, before) for it in STEPS], *cargo_steps(), *service_steps(before)])
         steps.run()
         passed, failed = passed + len(steps.passed), len(steps.failed)
         print("beside the prover:" if words else "the gate, the prover's part and the steps beside it:")

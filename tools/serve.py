@@ -68,8 +68,7 @@ def gateway():
     if os.access(PROVED, os.X_OK):
         print("the gateway is bin/gateway, as make build has proved it", flush=True)
         return PROVED
-    if not shutil.which("rt"):
-        print("there is no bin/gateway, and no rt to build one: install the toolchain")
+    if subprocess.run([f"{ROOT}/tools/toolchain"], check=False).returncode:
         return None
     folder = f"{FOLDER}/gateway"
     digest = Digests().of(read_crates()["gateway"])
