@@ -3,10 +3,11 @@
 
     tools/wrong.py GATEWAY [NAME ..]
 
-Each file service/wrong/NAME.edit breaks one rule. It names the test that has to find this, and has the form of an edit of
-a crate: lines `file:`, `old:`, `new:`, where the old text is in that file exactly once. All edits, or those that are named,
-are tried one after another: the copy is built in out/wrong, and the test is run on it, up to three times, until it fails
-by a check of what was taken, sent or refused. A copy that can't be built, or that does not start, was not found.
+Each file service/wrong/NAME.edit breaks one rule. It names the test that has to find this, a script of tests/ or the words
+of `cargo test`, and has the form of an edit of a crate: lines `file:`, `old:`, `new:`, where the old text is in that file
+exactly once. All edits, or those that are named, are tried one after another: the copy is built in out/wrong, and the test
+is run on it, up to three times, until it fails by a check of what was taken, sent or refused. A copy that can't be built,
+or that does not start, was not found.
 
 A line for each edit; the last line counts those that were found and those that were not, and the status is 0 where all
 were. The logs are in out/logs.
@@ -24,15 +25,17 @@ from steps import LOGS
 EDITS = f"{ROOT}/service/wrong"
 FOLDER = f"{OUT}/wrong"
 PROGRAM = f"{FOLDER}/service/target/release/totxegun"
-# What is copied of service/.
-PARTS = ("Cargo.toml", "Cargo.lock", "build.rs", "rustfmt.toml", "clippy.toml", "src")
+CARGO = f"{FOLDER}/tools/cargo"
+# What is copied of service/, and what its build reads beside it.
+PARTS = ("Cargo.toml", "Cargo.lock", "build.rs", "rustfmt.toml", "clippy.toml", "src", "tests")
+BESIDE = ("VERSION",)
 # By its name: the words behind the programs of a run, one list a run.
 TESTS = {
     "service_load.py": [["60", str(seed)] for seed in (1, 2, 3)],
     "service_interrupted.py": [["3"]],
 }
 # A check that fails so has seen the fault; one that only says that it does not start has not.
-SEEN = re.compile(r"failed: (?!.*: it (?:is ready|starts))")
+SEEN = re.compile(r"failed: (?!.*: it (?:is ready|starts))|test .* FAILED$")
 LIMIT = 1200
 
 
@@ -44,7 +47,9 @@ def copy_service():
     """The service as it is, beside what earlier copies have built."""
     os.makedirs(f"{FOLDER}/service", exist_ok=True)
     os.makedirs(f"{FOLDER}/tools", exist_ok=True)
-    shutil.copy(f"{ROOT}/tools/cargo", f"{FOLDER}/tools/cargo")
+    shutil.copy(f"{ROOT}/tools/cargo", CARGO)
+    for path in BESIDE:
+        shutil.copy(f"{ROOT}/{path}", f"{FOLDER}/{path}")
     for part in PARTS:
         source, copy = f"{ROOT}/service/{part}", f"{FOLDER}/service/{part}"
         if os.path.isdir(source):
@@ -56,7 +61,7 @@ def copy_service():
 
 
 def apply(name):
-    """Makes an edit in the copy, and returns the name of its test."""
+    """Makes an edit in the copy, and returns its test."""
     test = path = old = None
     for line in content(f"{EDITS}/{name}.edit").decode().splitlines():
         key, _, text = line.partition(":")
@@ -73,28 +78,37 @@ def apply(name):
                 raise BadEdit(f"its old text is in the file {whole.count(old)} times: {old}")
             with open(path, "w", encoding="utf-8") as file:
                 file.write(whole.replace(old, text))
-    if test not in TESTS:
-        raise BadEdit(f"no test of this name: {test}")
     return test
 
 
-def run(command, log):
+def runs(test, gateway):
+    """The commands of a test, one a run."""
+    if test.startswith("cargo test "):
+        return [[CARGO, *test.split()[1:]]] * 3
+    if test not in TESTS:
+        raise BadEdit(f"no test of this name: {test}")
+    return [[f"{ROOT}/tests/{test}", PROGRAM, gateway, *words] for words in TESTS[test]]
+
+
+def run(command, log, gateway):
     with open(log, "a", encoding="utf-8") as file:
-        return subprocess.run(command, stdout=file, stderr=file, check=False, timeout=LIMIT).returncode
+        return subprocess.run(command, stdout=file, stderr=file, check=False, timeout=LIMIT,
+                              env=dict(os.environ, TOTXEGUN_GATEWAY=gateway)).returncode
 
 
 def check_that_finds(name, gateway):
     """The first check that fails for what is wrong, or nothing."""
     log = f"{LOGS}/wrong-{name}.log"
     open(log, "w", encoding="utf-8").close()
-    test = apply(name)
-    if run([f"{FOLDER}/tools/cargo", "build", "--release", "--quiet"], log) != 0:
+    commands = runs(apply(name), gateway)
+    built = ["test", "--no-run"] if commands[0][0] == CARGO else ["build", "--release"]
+    if run([CARGO, *built, "--quiet"], log, gateway) != 0:
         raise BadEdit(f"it can't be built: {log}")
-    for words in TESTS[test]:
-        run([f"{ROOT}/tests/{test}", PROGRAM, gateway, *words], log)
+    for command in commands:
+        run(command, log, gateway)
         for line in content(log).decode(errors="replace").splitlines():
             if SEEN.match(line):
-                return f"{test} {' '.join(words)}: {line.removeprefix('failed: ')}"
+                return line.removeprefix("failed: ")
     return None
 
 
@@ -111,7 +125,8 @@ def main(gateway, names):
             print(f"BAD EDIT {name}: {fault}", flush=True)
             continue
         found += check is not None
-        print(f"{'found' if check else 'NOT FOUND'}: {name}, {time.monotonic() - begun:.0f} s: {(check or '')[:200]}", flush=True)
+        seconds = time.monotonic() - begun
+        print(f"{'found' if check else 'NOT FOUND'}: {name}, {seconds:.0f} s: {(check or '')[:200]}", flush=True)
     print(f"{found} found, {len(names) - found} not found", flush=True)
     return 0 if found == len(names) else 1
 

@@ -49,6 +49,17 @@ impl Disk {
         }
     }
 
+    /// Each sync waits until `open` is true.
+    #[cfg(test)]
+    pub fn held(open: Arc<std::sync::atomic::AtomicBool>) -> Disk {
+        Disk::failing(move |call, _| {
+            while call == Call::Sync && !open.load(std::sync::atomic::Ordering::SeqCst) {
+                std::thread::sleep(std::time::Duration::from_millis(1));
+            }
+            Ok(())
+        })
+    }
+
     /// Tells `end` of the fault that would have ended the process; who met it never goes on.
     #[cfg(test)]
     pub fn ending(mut self, end: impl Fn(&Fault) + Send + Sync + 'static) -> Disk {

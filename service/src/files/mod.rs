@@ -56,3 +56,13 @@ fn seconds() -> u64 {
         .duration_since(std::time::UNIX_EPOCH)
         .map_or(0, |since| since.as_secs())
 }
+
+/// A journal whose syncs wait until `open` is true.
+#[cfg(test)]
+pub(crate) fn held_journal(
+    folder: &std::path::Path,
+    open: std::sync::Arc<std::sync::atomic::AtomicBool>,
+) -> Journal {
+    let room = std::sync::Arc::new(room::Room::new(folder).unwrap());
+    Journal::open(&disk::Disk::held(open), folder, Durability::Disk, room, 1).unwrap()
+}

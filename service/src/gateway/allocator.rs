@@ -49,15 +49,24 @@ mod tests {
         assert_eq!(library(Some(file.path())).unwrap().as_deref(), Some(file.path()));
         assert_eq!(library(Some(Path::new("none"))).unwrap(), None);
         let fault = library(Some(Path::new("/nowhere.so"))).unwrap_err();
-        assert_eq!(fault.to_string(), "--allocator /nowhere.so: there is no such file");
+        assert_eq!(
+            fault.to_string(),
+            "--allocator /nowhere.so: there is no such file"
+        );
         assert!(library(None).unwrap().is_none_or(|found| found.is_file()));
     }
 
     #[test]
     fn the_c_library_has_one_arena_where_memory_is_short() {
         let library = Path::new("/a.so");
-        assert_eq!(variable(Some(library), Some(1)), Some(("LD_PRELOAD", library.into())));
-        assert_eq!(variable(None, Some(ROOMY - 1)), Some(("MALLOC_ARENA_MAX", "1".into())));
+        assert_eq!(
+            variable(Some(library), Some(1)),
+            Some(("LD_PRELOAD", library.into()))
+        );
+        assert_eq!(
+            variable(None, Some(ROOMY - 1)),
+            Some(("MALLOC_ARENA_MAX", "1".into()))
+        );
         assert_eq!(variable(None, Some(ROOMY)), None);
         assert_eq!(variable(None, None), None);
     }

@@ -138,6 +138,9 @@ pub(crate) fn message_of(body: &[u8]) -> String {
 #[cfg(test)]
 mod tests {
     use super::*;
+    use std::sync::atomic::{AtomicBool, Ordering::SeqCst};
+    use std::sync::Arc;
+    use std::time::Duration;
 
     fn said(status: u16, body: &'static str) -> Option<Said> {
         Said::of(
@@ -180,6 +183,30 @@ mod tests {
         assert_eq!(refusal.message, "no JSON");
         for body in ["", "<html>", "{\"a\":1}", "{\"partialSuccess\":{}}"] {
             assert!(said(200, body).is_none(), "{body}");
+        }
+    }
+
+    #[tokio::test(flavor = "multi_thread")]
+    async fn a_refusal_waits_for_the_posts_before_it() {
+        let folder = tempfile::tempdir().unwrap();
+        let open = Arc::new(AtomicBool::new(true));
+        let journal = Arc::new(crate::files::held_journal(folder.path(), open.clone()));
+        open.store(false, SeqCst);
+        let Some(Said::Taken(taken)) = said(200, "{}") else {
+            panic!("taken")
+        };
+        let Some(Said::Refused(refusal)) = said(400, "out of order: point 0, frontier 5") else {
+            panic!("refused")
+        };
+        let answers = [taken.journal(&journal), refusal.journal(&journal)].map(|one| {
+            let journal = journal.clone();
+            tokio::spawn(async move { one.durable(&journal).await })
+        });
+        tokio::time::sleep(Duration::from_millis(50)).await;
+        assert!(answers.iter().all(|answer| !answer.is_finished()));
+        open.store(true, SeqCst);
+        for answer in answers {
+            answer.await.unwrap();
         }
     }
 }

@@ -40,13 +40,7 @@ async fn who_goes_away_leaves_nobody_waiting() {
     for pause in [0, 20] {
         let folder = tempfile::tempdir().unwrap();
         let open_gate = Arc::new(AtomicBool::new(true));
-        let gate = open_gate.clone();
-        let disk = Disk::failing(move |call, _| {
-            while call == Call::Sync && !gate.load(SeqCst) {
-                std::thread::sleep(Duration::from_millis(1));
-            }
-            Ok(())
-        });
+        let disk = Disk::held(open_gate.clone());
         let journal = Arc::new(open_on(&disk, folder.path(), Durability::Disk).unwrap());
         open_gate.store(false, SeqCst);
         let wait = |ticket| {
