@@ -25,6 +25,7 @@ pub struct Gateway {
     process: Process,
     address: SocketAddr,
     back: BackSide,
+    connections: u64,
     flushers: u16,
     flushing: tokio::sync::Mutex<()>,
     used: AtomicU64,
@@ -76,6 +77,7 @@ impl Gateway {
             process,
             address,
             back,
+            connections: options.connections,
             flushers: options.flushers.clamp(1, FLUSHERS),
             flushing: tokio::sync::Mutex::new(()),
             // The one by which it was seen that it listens.
@@ -84,13 +86,23 @@ impl Gateway {
         }))
     }
 
-    /// Posts a body of a sender.
-    pub async fn post(&self, sender: &str, body: &Bytes) -> Result<Answer, Doubt> {
-        self.post_within(PATIENCE, sender, body).await
+    /// Posts a body of a sender. None where the connections are nearly used up: those left are for what else is asked.
+    pub async fn post(&self, sender: &str, body: &Bytes) -> Result<Option<Answer>, Doubt> {
+        let most = self.connections - self.connections / 20;
+        let next = |used| (used < most).then_some(used + 1);
+        if self
+            .used
+            .fetch_update(Ordering::Relaxed, Ordering::Relaxed, next)
+            .is_err()
+        {
+            return Ok(None);
+        }
+        self.post_within(PATIENCE, sender, body).await.map(Some)
     }
 
     /// The same, of what a fresh gateway is refilled with.
     pub async fn refill(&self, sender: &str, body: &Bytes) -> Result<Answer, Doubt> {
+        self.used.fetch_add(1, Ordering::Relaxed);
         self.post_within(PATIENCE_OF_REFILL, sender, body).await
     }
 
@@ -110,6 +122,7 @@ impl Gateway {
 
     /// Asks anything else: `POST /quarantine/NAME`, `GET /report`, ..
     pub async fn ask(&self, method: &str, path: &str) -> Result<Answer, Doubt> {
+        self.used.fetch_add(1, Ordering::Relaxed);
         self.exchange(
             PATIENCE,
             &Request {
@@ -124,7 +137,6 @@ impl Gateway {
 
     async fn exchange(&self, patience: Duration, request: &Request<'_>) -> Result<Answer, Doubt> {
         self.is_sound()?;
-        self.used.fetch_add(1, Ordering::Relaxed);
         let answer = exchange(patience, self.address, request).await;
         answer.map_err(|fault| {
             self.doubt(Doubt::NoAnswer(format!(
@@ -214,6 +226,11 @@ impl Gateway {
     /// How many connections it has had.
     pub fn used(&self) -> u64 {
         self.used.load(Ordering::Relaxed)
+    }
+
+    /// How many it serves before it ends.
+    pub fn connections(&self) -> u64 {
+        self.connections
     }
 
     /// Its status, where it has ended.

@@ -33,7 +33,7 @@ pub struct Slot {
     pub(crate) metrics: Arc<Metrics>,
     pub(crate) gate: Gate,
     turns: Turns,
-    /// How many posts are in the journal and in no group.
+    /// How many posts are in the journal or under way, and in no group.
     pub(crate) ungrouped: AtomicU64,
     /// A gateway was doubted.
     pub(crate) trouble: Notify,
@@ -112,9 +112,29 @@ impl Slot {
         self.trouble.notify_one();
     }
 
-    fn count_taken(&self, sender: &str, rejected: u64) {
-        self.ungrouped.fetch_add(1, Ordering::Relaxed);
-        self.metrics.foreign(sender, rejected);
+    /// Counts a post that is under way, unless there are as many already.
+    fn count_ungrouped(&self, most: u64) -> Option<Counted<'_>> {
+        let next = |posts| (posts < most).then_some(posts + 1);
+        let counted = self
+            .ungrouped
+            .fetch_update(Ordering::Relaxed, Ordering::Relaxed, next);
+        counted.is_ok().then_some(Counted(&self.ungrouped))
+    }
+}
+
+/// A post that is counted, and no more where this is dropped: so while the gate is held.
+struct Counted<'a>(&'a AtomicU64);
+
+impl Counted<'_> {
+    /// It is in the journal.
+    fn stays(self) {
+        std::mem::forget(self);
+    }
+}
+
+impl Drop for Counted<'_> {
+    fn drop(&mut self) {
+        self.0.fetch_sub(1, Ordering::Relaxed);
     }
 }
 

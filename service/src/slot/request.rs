@@ -123,14 +123,23 @@ impl Slot {
         let Some(gateway) = gate.as_ref().filter(|_| self.is_ready()) else {
             return Put::Not(self.at_the_door().unwrap_or(Refusal::unavailable("recovering")));
         };
-        let answer = gateway.post(sender, body).await;
+        // What is in no group has to fit into a fresh gateway, which has as many connections.
+        let Some(counted) = self.count_ungrouped(gateway.connections() / 2) else {
+            return Put::Not(Refusal::unavailable("a checkpoint is due"));
+        };
+        let answer = match gateway.post(sender, body).await {
+            Ok(Some(answer)) => Ok(answer),
+            Ok(None) => return Put::Not(Refusal::unavailable("a renewal is due")),
+            Err(doubt) => Err(doubt),
+        };
         match answer.and_then(|answer| {
             Said::of(&answer, sender, body).ok_or_else(|| gateway.doubt_of_answer("a post", &answer))
         }) {
             Ok(Said::Taken(taken)) => {
                 let one = taken.journal(&self.journal);
+                counted.stays();
                 if let Verdict::Taken { rejected, .. } = one.verdict() {
-                    self.count_taken(sender, *rejected);
+                    self.metrics.foreign(sender, *rejected);
                 }
                 Put::Journalled(one)
             }

@@ -208,36 +208,6 @@ async fn renewals_come_before_the_connections_run_out() {
     check(run, 4, 500).await;
 }
 
-/// Posts of one sender and one series that are on their way side by side: whichever is taken first, the journal has them
-/// in the order in which they were taken, so behind a recovery each is there that was said to be taken.
-#[tokio::test(flavor = "multi_thread")]
-async fn posts_of_a_sender_that_overtake_one_another_outlive_a_kill() {
-    let Some(place) = Place::of_real() else { return };
-    let run = Arc::new(place.run().await);
-    let mut tasks = tokio::task::JoinSet::new();
-    for number in 1..=2000 {
-        let run = run.clone();
-        tasks.spawn(async move {
-            let outcome = run.post("A", point("a", number * 10, number * 10 + 10, 1)).await;
-            match message(&outcome) {
-                (200, _) => 1,
-                (400, why) if why.starts_with("out of order") => 0,
-                _ => panic!("{outcome:?}"),
-            }
-        });
-    }
-    let mut told = 0;
-    while let Some(ended) = tasks.join_next().await {
-        told += ended.unwrap();
-    }
-    assert!(told > 0);
-    assert!(run.kill_gateway());
-    run.post_until_answered("B", point("b", 10, 20, 1)).await;
-    let run = Arc::into_inner(run).expect("no task is left");
-    assert_eq!(run.checkpoint().await, 1);
-    assert_eq!(sums(&run.stop().await), [("a", told), ("b", 1)]);
-}
-
 async fn check(run: Arc<Run>, senders: usize, posts: u64) {
     for kind in ["reading", "replay", "owner"] {
         assert_eq!(run.metrics.faults.with_label_values(&[kind]).get(), 0, "{kind}");
