@@ -33,6 +33,7 @@ STEPS = (
     ("refused_libraries.py", GROWTHS, 5, False),
     ("gateway_rehearses.sh", GATEWAY, 5, False),
     ("hostile_input.py", GATEWAY, 5, False),
+    ("sizes.py", PLAY, 3, False),
     ("play_ends.sh", PLAY, 1, False),
     ("readme_examples.py", PLAY, 1, False),
     ("gateway_load.py", GATEWAY, 5, True),
