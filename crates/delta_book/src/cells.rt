@@ -14,10 +14,8 @@ ghost use Rattle.delta_book.specs.Tables.{id_of, on_series};
 ghost use Rattle.delta_book.specs.Parts.{part_of, parts_of};
 ghost use Rattle.delta_book.specs.Puts.{IsGap};
 
-use metric_events::batch::Batch;
 use metric_events::place::Place;
 use metric_events::point::Point;
-use metric_events::points::Points;
 use series_cell::cell::Cell;
 use series_id::{SeriesId, SharedId};
 
@@ -228,33 +226,4 @@ pub fn remove_batch(cells: &mut Vec<Cell>, batch: &[Point], number: u64)
         → AreCells cells.new.items (before ++ after) }
 {
     remove_points(cells, batch, Part::Whole, number);
-}
-
-/// A point of a batch shares the identity of its series' cell, where there is one.
-fn share_point(batch: &mut Points, place: usize, cells: &[Cell])
-    requires { place < length batch.old }
-    ensures { batch.new ≡ batch.old }
-{
-    if let Some(i) = find_cell(cells, batch.as_slice()[place].shared_series()) {
-        batch.adopt(place, cells[i].shared_id());
-    }
-}
-
-/// The points of a batch share the identities of their cells, so that an identity is kept once.
-/// Allocates nothing. No contract sees a difference.
-fn share_points(batch: &mut Points, cells: &[Cell])
-    ensures { batch.new ≡ batch.old }
-{
-    for place in 0..batch.as_slice().len() {
-        share_point(batch, place, cells);
-    }
-}
-
-/// The batch, its points sharing the identities of their cells.
-pub fn share_known(body: Batch, cells: &[Cell]) -> Batch
-    ensures { result ≡ body }
-{
-    let mut body = body;
-    share_points(&mut body.points, cells);
-    body
 }

@@ -388,10 +388,10 @@ fn expect_owners(
     look::count(rt, shared.owners(), owners, "owners");
 }
 
-// The points of a batch's entry share the identity of the cell, and so do the entry of a flush and
-// the point that it sends.
+// The cell of a series, the entry of a flush and the point that it sends share an identity. A batch
+// that brings the series with an identity of its own keeps that.
 #[test]
-fn known_series_are_kept_once(rt: HostRuntime) -> Result<(), Fail> {
+fn a_flush_shares_the_identity_of_its_cell(rt: HostRuntime) -> Result<(), Fail> {
     let alloc = rt.alloc();
     let mut book = Book::new(alloc)?;
     let falling = || Kind::Sum { monotonic: false };
@@ -400,15 +400,14 @@ fn known_series_are_kept_once(rt: HostRuntime) -> Result<(), Fail> {
     expect_owners(&rt, &mut book, first, 1, &shared, 3);
     let again = SharedId::new(alloc, series(alloc, 1, falling())?)?;
     let second = batch_of(alloc, again, 2)?;
-    expect_owners(&rt, &mut book, second, 2, &shared, 4);
+    expect_owners(&rt, &mut book, second, 2, &shared, 3);
     let flush = book.take(7, 1)?.ok_or("nothing was taken")?;
     look::count(&rt, flush.points.as_slice().len(), 1, "points");
-    look::count(&rt, shared.owners(), 6, "owners");
+    look::count(&rt, shared.owners(), 5, "owners");
     Ok(())
 }
 
-// A cell shares the identity of its first point, even if the points have two owners and can't adopt
-// an identity.
+// A cell shares the identity of its first point, whoever else has the points.
 #[test]
 fn a_cell_shares_the_identity_of_its_first_point(rt: HostRuntime) -> Result<(), Fail> {
     let alloc = rt.alloc();

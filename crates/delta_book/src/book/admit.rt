@@ -2,7 +2,6 @@
 ghost use Rattle.std.specs.Prelude.{◌≡◌, ◌+◌, ◌<◌, length, IfOk, IfErr, OnOk, OnErr, unwrap_or};
 
 use crate::book::Book;
-use crate::cells::share_known;
 use crate::faults::AdmitFault;
 use crate::lists::has_sender;
 use crate::open::Open;
@@ -60,7 +59,6 @@ impl Book {
         ) {
             return Err((fault, body));
         }
-        let body = share_known(body, &self.cells);
         self.opened.push_reserved(Open {
             number,
             entry: self.entries.len(),
