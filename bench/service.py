@@ -2,19 +2,20 @@
 """Prints what the service takes for a post beside the bare gateway, in one run.
 
     bench/service.py [--totxegun FILE] [--gateway FILE] [--senders N,..] [--series N] [--rows NAME,..] [--parties NAME,..]
-                     [--runs N] [--seconds N] [--data DIR] [--options WORDS]
+                     [--runs N] [--seconds N] [--slots N] [--data DIR] [--options WORDS]
 
 The programs are bin/totxegun and bin/gateway, as `make build` makes them, where none is named. Rows: json-1, json-20,
 protobuf-103, gzip-103, by the encoding and the points of a post, over 800 series. Parties: gateway, which is the bare
 one, process and disk, which are the service with this durability and a SQLite file as its sink; more options of it are
-in WORDS. The bare gateway gets a connection a request, and protobuf's points as JSON: it reads no other. It has the
-options and the environment that the service gives its own gateway. The service gets kept connections, a sender each.
-The folder of the service is made in DIR, which is out/bench where none is named: the disk that `disk` waits for.
+in WORDS. With --slots the service has so many gateways, which share the senders; the bare one stays one. The bare
+gateway gets a connection a request, and protobuf's points as JSON: it reads no other. It has the options and the
+environment that the service gives its own gateway. The service gets kept connections, a sender each. The folder of the
+service is made in DIR, which is out/bench where none is named: the disk that `disk` waits for.
 
 The parties run in turn, each run in fresh processes whose series are there already, and of about so many seconds.
 Figures are medians over the runs, with the least and the most in brackets; a ratio is one of a run of the service to the
-bare gateway's run beside it. Processor time is that of the service and of its gateway, with what flushing, journal and
-outbox take meanwhile.
+bare gateway's run beside it. Processor time is that of the service and of its gateways together, with what flushing,
+journal and outbox take meanwhile.
 """
 import contextlib
 import os
@@ -59,11 +60,10 @@ def run(party, arguments, served, row, clients, requests):
             port, process = stack.enter_context(bare(words, served[1]))
             loaded, (child,) = measured(port, [process.pid], clients, Posts("sum", points, arguments.series, "json", "each"), requests)
             return Figures(0, child, loaded)
-        one = stack.enter_context(serving(arguments, "--durable", party))
-        gateway, = one.gateways()
+        one = stack.enter_context(serving(arguments, "--durable", party, "--slots", str(arguments.slots)))
         posts = Posts("sum", points, arguments.series, encoding, "kept")
-        loaded, (own, child) = measured(one.listen, [one.process.pid, gateway], clients, posts, requests)
-        return Figures(own, child, loaded)
+        loaded, (own, *children) = measured(one.listen, [one.process.pid, *one.gateways()], clients, posts, requests)
+        return Figures(own, sum(children), loaded)
 
 
 def print_row(arguments, served, row, clients):
@@ -113,10 +113,11 @@ def main():
     parser.add_argument("--parties", type=lambda text: text.split(","), default=PARTIES)
     parser.add_argument("--runs", type=int, default=5)
     parser.add_argument("--seconds", type=float, default=1)
+    parser.add_argument("--slots", type=int, default=1)
     arguments = parser.parse_args()
     loading.build()
     served = as_served(arguments)
-    print(f"{arguments.totxegun}, {arguments.gateway}, {len(os.sched_getaffinity(0))} processors, {arguments.runs} runs in turn, the folder"
+    print(f"{arguments.totxegun}, {arguments.gateway}, {len(os.sched_getaffinity(0))} processors, {arguments.runs} runs in turn, {arguments.slots} slots, the folder"
           f" on {file_system(arguments.data)}; a gateway has {' '.join(served[0])}, and {shown(served[1])}", flush=True)
     for row in arguments.rows:
         for clients in arguments.senders:

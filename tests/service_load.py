@@ -1,13 +1,16 @@
 #!/usr/bin/env python3
 """The service under load, while all that it is made of is killed, stopped and replaced.
 
-    tests/service_load.py TOTXEGUN GATEWAY [SECONDS] [SEED]
+    tests/service_load.py TOTXEGUN GATEWAY [SECONDS] [SEED] [--slots N]
+
+With --slots the service has so many gateways; where it is more than one, a start behind a kill has another number of them
+now and then, which moves senders from slot to slot.
 
 Four runs of a quarter of the seconds each (60): durable `disk` and `process`, with a sink of OTLP and a SQLite file.
 Senders post sums and histograms, in JSON and protobuf, packed or not, on connections that they keep, and repeat each post
-until it is answered. Meanwhile the gateway, the service, or both are killed, also twice in a row; they are stopped and go
-on; gateways are renewed, senders are quarantined and released; the sink of OTLP answers late, 503, 400, not at all, or
-takes a request and loses its answer.
+until it is answered; now and then one posts to another's series, and is refused. Meanwhile the gateway, the service, or
+both are killed, also twice in a row; they are stopped and go on; gateways are renewed, senders are quarantined and
+released; the sink of OTLP answers late, 503, 400, not at all, or takes a request and loses its answer.
 
 At the end a repeat of what was taken is refused, SIGTERM ends the service within ten seconds with status 0, while the sink
 does not answer; a second start brings all to the sink, what the sink had refused is sent again, and the sink has, series
@@ -15,6 +18,7 @@ by series and bucket by bucket, what the senders were told is taken.
 
 Each line is one check; the last line counts those that passed and failed, and the status is 0 where none failed.
 """
+import argparse
 import json
 import os
 import random
@@ -25,8 +29,8 @@ import threading
 import time
 
 from checks import Checks
-from service import (OUT_OF_ORDER, OtlpSink, Sender, Service, SqliteSink, add_points, ask, differences, overlaps, told_to_all,
-                     wait_until)
+from service import (AGAIN, JSON, OUT_OF_ORDER, OtlpSink, Sender, Service, SqliteSink, add_points, ask, differences, in_json,
+                     overlaps, told_to_all, wait_until)
 
 SENDERS = 6
 SECONDS = 60
@@ -37,14 +41,16 @@ TIME_TO_END = 10
 class Trouble:
     """What is done to the service while senders post: one event after another, drawn by chance."""
 
-    def __init__(self, service, senders, seed):
+    def __init__(self, service, senders, seed, slots):
         self.service = service
         self.senders = senders
+        self.slots = slots
         self.chance = random.Random(f"trouble {seed}")
         self.quarantined = set()
         self.counts = {}
         kills = [self.kill_gateway, self.kill_service, self.kill_both, self.kill_twice]
         self.events = kills + [self.stop_gateway, self.stop_service, self.renew, self.flush, self.quarantine, self.lift]
+        self.events += [self.change_slots, self.kill_one] if slots > 1 else []
 
     def go_on(self, until):
         while time.monotonic() < until:
@@ -66,6 +72,15 @@ class Trouble:
     def kill_gateway(self):
         self.service.signal_gateway(signal.SIGKILL)
 
+    def kill_one(self):
+        """The gateway of one slot, while the others go on."""
+        pids = self.service.gateways() if self.service.is_running() else []
+        for pid in self.chance.sample(sorted(pids), min(1, len(pids))):
+            try:
+                os.kill(pid, signal.SIGKILL)
+            except ProcessLookupError:
+                pass
+
     def kill_service(self):
         self.service.kill()
         self.start()
@@ -79,6 +94,20 @@ class Trouble:
         self.kill_service()
         time.sleep(self.chance.choice([0, 0.01, 0.05, 0.2]))
         self.kill_service()
+
+    def change_slots(self):
+        """Another number, by two starts of which the first one is killed."""
+        before, after = self.service.words[-1], str(self.chance.randrange(1, self.slots + 2))
+        self.service.kill()
+        self.service.words[-1] = after
+        self.service.start()
+        time.sleep(self.chance.choice([0, 0.05, 0.2, 0.5]))
+        self.service.kill()
+        self.service.start()
+        if not self.service.wait_ready(20) and not self.service.is_running():
+            # A sender is quarantined, which keeps the number.
+            self.service.words[-1] = before
+            self.service.start()
 
     def stop_gateway(self):
         pids = self.service.gateways()
@@ -122,25 +151,39 @@ class Trouble:
         return wait_until(is_done)
 
 
-def post_meanwhile(senders, until):
+def intrude(sender, senders):
+    """Now and then, a post to a series that another sender has: it is refused, whichever slots the two have."""
+    if sender.chance.random() > 0.05:
+        return
+    other = sender.chance.choice([it for it in senders if it is not sender])
+    name = f"{other.name}.sum.0"
+    if name in other.told:
+        body = in_json([(name, sender.time, sender.time + 10, 1)])
+        status, text = sender.try_once(body, {"Content-Type": JSON, "x-sender": sender.name})
+        if status not in (None, *AGAIN) and not (status == 400 and b"other writer" in text):
+            sender.surprises.append((status, text))
+
+
+def post_meanwhile(senders, until, between=lambda sender: None):
     """Threads in which the senders post until then; each ends with a post that was answered."""
     def go_on(sender):
         while time.monotonic() < until:
             sender.post(sender.next_points())
+            between(sender)
     threads = [threading.Thread(target=go_on, args=(sender,), daemon=True) for sender in senders]
     for thread in threads:
         thread.start()
     return threads
 
 
-def load(checks, what, service, sink, seconds, seed):
+def load(checks, what, service, sink, seconds, seed, slots):
     """Senders and trouble at once; whether all senders were answered."""
     service.start()
     checks.true(f"{what}: it is ready", service.wait_ready(), service.last_lines())
     until = time.monotonic() + seconds
     senders = [Sender(service, number, seed) for number in range(SENDERS)]
-    trouble = Trouble(service, senders, seed)
-    threads = post_meanwhile(senders, until)
+    trouble = Trouble(service, senders, seed, slots)
+    threads = post_meanwhile(senders, until, lambda sender: intrude(sender, senders))
     sink.mood(MOODS)
     trouble.go_on(until)
     trouble.start()
@@ -201,29 +244,35 @@ def compare(checks, what, sink, senders):
     checks.same(f"{what}: the sink has what the senders were told, {len(wanted)} series", [], differences(wanted, found))
 
 
-def run(checks, program, gateway, durable, kind, seconds, seed):
+def run(checks, program, gateway, durable, kind, seconds, seed, slots):
     what = f"{durable}, {kind}"
     with tempfile.TemporaryDirectory(prefix="service-") as folder:
         sink = OtlpSink(seed) if kind == "OTLP" else SqliteSink(f"{folder}/sink.db")
-        service = Service(program, gateway, f"{folder}/data", sink.address, "--durable", durable, "--flush-every", "1s")
+        words = ["--durable", durable, "--flush-every", "1s", "--slots", str(slots)]
+        service = Service(program, gateway, f"{folder}/data", sink.address, *words)
         try:
-            senders = load(checks, what, service, sink, seconds, seed)
+            senders = load(checks, what, service, sink, seconds, seed, slots)
             end(checks, what, service, sink, senders)
         finally:
             service.kill()
             sink.close()
 
 
-def main(program, gateway, seconds=SECONDS, seed=1):
+def main(arguments):
     checks = Checks()
-    print(f"note: seed {seed}", flush=True)
+    print(f"note: seed {arguments.seed}, {arguments.slots} slots", flush=True)
     for durable in ("disk", "process"):
         for kind in ("OTLP", "SQLite"):
-            run(checks, program, gateway, durable, kind, float(seconds) / 4, f"{seed} {durable} {kind}")
+            run(checks, arguments.totxegun, arguments.gateway, durable, kind, arguments.seconds / 4,
+                f"{arguments.seed} {durable} {kind}", arguments.slots)
     return checks.end()
 
 
 if __name__ == "__main__":
-    if len(sys.argv) < 3:
-        sys.exit(f"usage: {sys.argv[0]} TOTXEGUN GATEWAY [SECONDS] [SEED]")
-    sys.exit(main(*map(os.path.abspath, sys.argv[1:3]), *sys.argv[3:5]))
+    parser = argparse.ArgumentParser(description=__doc__.split("\n", maxsplit=1)[0])
+    parser.add_argument("totxegun", type=os.path.abspath)
+    parser.add_argument("gateway", type=os.path.abspath)
+    parser.add_argument("seconds", type=float, nargs="?", default=SECONDS)
+    parser.add_argument("seed", nargs="?", default="1")
+    parser.add_argument("--slots", type=int, default=1)
+    sys.exit(main(parser.parse_args()))

@@ -77,7 +77,7 @@ fn help_names_each_command_and_option() {
 fn a_faulty_line_has_status_2() {
     refused(&[], 2, "Usage");
     refused(&["serve"], 2, "--data");
-    refused(&["serve", "--data", "d", "--slots", "4"], 2, "only 1 slot");
+    refused(&["serve", "--data", "d", "--slots", "65"], 2, "1..=64");
     refused(&["serve", "--data", "d", "--flush-every", "10"], 2, "10s");
     refused(&["quarantine", "no name"], 2, "1 to 64");
     refused(&["dead"], 2, "Usage");

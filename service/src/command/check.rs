@@ -5,6 +5,7 @@
 use super::table::Table;
 use super::{values, Failure, Form};
 use crate::files::{Durability, Fault, Folder, FolderFault, Journal, Outbox};
+use crate::slot::slot_of;
 use anyhow::{bail, Context};
 use clap::Args;
 use nix::fcntl::{flock, FlockArg};
@@ -30,6 +31,7 @@ pub struct Options {
 /// What a start would find.
 #[derive(Debug, Default, PartialEq, Eq, Serialize)]
 struct Found {
+    slots: u16,
     segments: u64,
     journal_bytes: u64,
     /// Posts that are in no group: a fresh gateway gets them.
@@ -128,44 +130,59 @@ fn copy_all(from: &Path, to: &Path) -> std::io::Result<()> {
 }
 
 fn found(copy: &Path) -> Result<Found, Failure> {
-    let segments = segments(&copy.join("slot-0/journal"));
     let folder = Folder::open(copy, Durability::Process).map_err(|fault| match fault {
         FolderFault::Fault(fault) => Failure::Disk(fault),
         in_use => Failure::Refused(in_use.into()),
     })?;
-    let (journal, outbox) = folder.slot(0)?;
-    let (waiting, outbox_bytes, _) = outbox.waiting();
-    let owners: Vec<bool> = outbox
-        .series()
-        .values()
-        .map(|series| series.owner.is_some())
-        .collect();
     let mut found = Found {
-        segments,
-        journal_bytes: journal.size().0,
-        waiting,
-        outbox_bytes,
-        series: owners.len(),
-        series_without_owner: owners.iter().filter(|is_owned| !**is_owned).count(),
-        quarantined: outbox.quarantined().into_iter().collect(),
+        slots: folder.slots(),
         dead: folder.dead()?.count(),
         ..Found::default()
     };
-    count_posts(&journal, &outbox, &mut found)?;
+    let mut senders = HashSet::new();
+    for number in 0..found.slots {
+        found.segments += segments(&copy.join(format!("slot-{number}/journal")));
+        let (journal, outbox) = folder.slot(number)?;
+        found.journal_bytes += journal.size().0;
+        found.add(number, &outbox)?;
+        count_posts(&journal, &outbox, &mut found, &mut senders)?;
+    }
+    let former = folder.slots_with_files()?.into_iter();
+    for number in former.filter(|number| *number >= folder.slots()) {
+        found.add(number, &folder.outbox(number)?)?;
+    }
+    found.senders = senders.len();
     Ok(found)
 }
 
-fn count_posts(journal: &Journal, outbox: &Outbox, found: &mut Found) -> Result<(), Fault> {
-    let mut senders = HashSet::new();
+impl Found {
+    /// What an outbox has, as a start finds it.
+    fn add(&mut self, number: u16, outbox: &Outbox) -> Result<(), Fault> {
+        outbox.leave(|owner| slot_of(owner, self.slots) != number)?;
+        let (waiting, bytes, _) = outbox.waiting();
+        self.waiting += waiting;
+        self.outbox_bytes += bytes;
+        let series = outbox.series();
+        self.series += series.len();
+        self.series_without_owner += series.values().filter(|series| series.owner.is_none()).count();
+        self.quarantined.extend(outbox.quarantined());
+        Ok(())
+    }
+}
+
+fn count_posts(
+    journal: &Journal,
+    outbox: &Outbox,
+    found: &mut Found,
+    senders: &mut HashSet<String>,
+) -> Result<(), Fault> {
     let (end, _) = journal.turn();
     journal.posts(outbox.journal(), end, |post| {
         found.posts += 1;
         found.post_bytes += post.body.len() as u64;
         senders.insert(post.sender);
         true
-    })?;
-    found.senders = senders.len();
-    Ok(())
+    })
 }
 
 fn segments(folder: &Path) -> u64 {
@@ -197,6 +214,7 @@ fn text(found: &Found, data: &Path) -> String {
     let mut table = Table::new(&["folder".to_string(), data.display().to_string()]);
     let mut row = |name: &str, text: String| table.row(&[name, text.as_str()]);
     let bytes = values::bytes_shown;
+    row("slots", found.slots.to_string());
     row(
         "journal",
         format!("{} segments, {}", found.segments, bytes(found.journal_bytes)),
@@ -232,7 +250,7 @@ fn text(found: &Found, data: &Path) -> String {
     row("refused for good", format!("{} requests", found.dead));
     row("faults", "none".into());
     let posts = found.posts;
-    format!("{table}\nA start primes a gateway with the series, gives it the {posts} posts, and delivers the requests in order.\n")
+    format!("{table}\nA start primes each slot's gateway with its series, gives it its posts ({posts} in all), and delivers the requests in order.\n")
 }
 
 #[cfg(test)]

@@ -149,7 +149,8 @@ mod tests {
     #[test]
     fn faulty_lines_are_refused_by_name() {
         for (words, part) in [
-            ("serve --data d --slots 2", "--slots"),
+            ("serve --data d --slots 0", "--slots"),
+            ("serve --data d --slots 65", "--slots"),
             ("serve --data d --flush-every 0s", "--flush-every"),
             ("serve --data d --flush-every ten", "--flush-every"),
             ("serve --data d --receivers 9", "--receivers"),

@@ -4,7 +4,7 @@ use super::reading::OfReading;
 use super::values::{size, time, time_or_never, MayBeNever};
 use super::version::Versions;
 use super::Failure;
-use crate::files::Durability;
+use crate::files::{Durability, MOST_SLOTS};
 use crate::gateway;
 use crate::service::{self, init, Settings};
 use crate::sinks::Address;
@@ -15,8 +15,9 @@ use std::time::Duration;
 
 /// Threads of all that no sender waits for: checkpoints, the delivery, operators.
 const BACKGROUND: usize = 2;
-/// Threads for calls of files that wait for a disk.
+/// Threads for calls of files that wait for a disk, and more for each further slot.
 const LONG_WORK: usize = 16;
+const LONG_WORK_OF_A_SLOT: usize = 4;
 
 #[derive(Args)]
 pub struct Options {
@@ -79,8 +80,8 @@ pub struct Options {
     /// How many threads serve senders
     #[arg(long, env = "TOTXEGUN_THREADS", value_name = "N", default_value_t = 2, value_parser = value_parser!(u16).range(1..=64))]
     threads: u16,
-    /// How many gateways there are: only 1 yet
-    #[arg(long, env = "TOTXEGUN_SLOTS", value_name = "N", default_value = "1", value_parser = one_slot)]
+    /// How many gateways share the senders, each with files of its own
+    #[arg(long, env = "TOTXEGUN_SLOTS", value_name = "N", default_value_t = 1, value_parser = value_parser!(u16).range(1..=i64::from(MOST_SLOTS)))]
     slots: u16,
     #[command(flatten)]
     of_gateway: OfGateway,
@@ -132,7 +133,7 @@ fn header(text: &str) -> Result<(String, String), String> {
 #[derive(Args)]
 #[command(next_help_heading = "Options of the gateway")]
 struct OfGateway {
-    /// The most address space of the gateway, as by `ulimit -v`
+    /// The most address space of each gateway, as by `ulimit -v`
     #[arg(long, env = "TOTXEGUN_MEMORY", value_name = "BYTES", value_parser = size)]
     memory: Option<u64>,
     /// An allocator's library, preloaded; `none` is the C library's own [default: tcmalloc, where it is installed]
@@ -164,7 +165,7 @@ impl Options {
         let mut building = tokio::runtime::Builder::new_multi_thread();
         building
             .worker_threads(BACKGROUND)
-            .max_blocking_threads(LONG_WORK)
+            .max_blocking_threads(LONG_WORK + LONG_WORK_OF_A_SLOT * (usize::from(self.slots) - 1))
             .enable_all();
         let runtime = building.build().context("no threads could be started")?;
         let ended = runtime.block_on(service::run(self.settings()?));
@@ -208,6 +209,7 @@ impl Options {
             most_bytes: usize::try_from(self.most_bytes).unwrap_or(usize::MAX),
             most_connections: self.most_connections as usize,
             threads: usize::from(self.threads),
+            slots: self.slots,
         })
     }
 }
@@ -215,13 +217,6 @@ impl Options {
 /// Other programs are told where files are: their folder may be another.
 fn absolute(path: &Path) -> anyhow::Result<PathBuf> {
     std::path::absolute(path).with_context(|| format!("{} is no path", path.display()))
-}
-
-fn one_slot(text: &str) -> Result<u16, String> {
-    match text {
-        "1" => Ok(1),
-        _ => Err("there is only 1 slot yet: for more series run another service, with --data, --listen and --operate of its own".into()),
-    }
 }
 
 /// As many open files as this process may have: each connection is one. Where it may not, there are fewer connections.

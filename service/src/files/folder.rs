@@ -3,8 +3,8 @@
 //! | file | what it is |
 //! |---|---|
 //! | `lock` | locked by the service that has the folder |
-//! | `version` | three lines: `totxegun 1`, the format's version; `epoch`, 16 hexadecimal digits; `lock`, the inode of the lock's file |
-//! | `slot-N/journal`, `slot-N/outbox` | segments |
+//! | `version` | lines: `totxegun 1`, the format's version; `epoch`, 16 hexadecimal digits; `lock`, the inode of the lock's file; of version 2 also `slots`, how many there are |
+//! | `slot-N/journal`, `slot-N/outbox` | segments. Where N is no slot any more, its outbox has what the sink has not taken |
 //! | `dead/` | one file a request that was refused for good |
 //!
 //! A folder that was copied, or put back from a copy, has a lock of another inode. Then a new epoch is drawn: what is
@@ -24,8 +24,10 @@ use std::path::{Path, PathBuf};
 use std::sync::{Arc, Mutex};
 use std::time::{Duration, Instant};
 
-/// Of the folder: which files there are, and where.
-const VERSION: u32 = 1;
+/// Of the folder: which files there are, and where. A folder is of the second once it had another number of slots than 1.
+const VERSION: u32 = 2;
+/// Of one service.
+pub const MOST_SLOTS: u16 = 64;
 /// How long a lock is waited for.
 const PATIENCE: Duration = Duration::from_secs(1);
 
@@ -43,15 +45,18 @@ pub struct Folder {
     path: PathBuf,
     durability: Durability,
     room: Arc<Room>,
-    epoch: Mutex<String>,
+    version: Mutex<Version>,
     /// Locked as long as it is open.
     lock: File,
 }
 
 /// What the file `version` says.
+#[derive(Clone)]
 struct Version {
     epoch: String,
     inode: u64,
+    /// None in a folder of version 1, which has one.
+    slots: Option<u16>,
 }
 
 impl Folder {
@@ -60,7 +65,7 @@ impl Folder {
         Folder::open_on(Disk::default(), path, durability)
     }
 
-    pub(super) fn open_on(disk: Disk, path: &Path, durability: Durability) -> Result<Folder, FolderFault> {
+    pub(crate) fn open_on(disk: Disk, path: &Path, durability: Durability) -> Result<Folder, FolderFault> {
         disk.make_folder(path)?;
         let lock = locked(path)?;
         let room = Arc::new(Room::new(path)?);
@@ -73,11 +78,15 @@ impl Folder {
             path: path.into(),
             durability,
             room,
-            epoch: Mutex::new(String::new()),
+            version: Mutex::new(Version {
+                epoch: String::new(),
+                inode: 0,
+                slots: known.as_ref().and_then(|known| known.slots),
+            }),
             lock,
         };
         match known {
-            Some(known) if known.inode == folder.inode()? => *super::lock(&folder.epoch) = known.epoch,
+            Some(known) if known.inode == folder.inode()? => *super::lock(&folder.version) = known,
             known => {
                 let epoch = folder.renew_epoch()?;
                 if known.is_some() {
@@ -99,14 +108,30 @@ impl Folder {
         File::open(source)
             .and_then(|mut file| file.read_exact(&mut random))
             .map_err(io_fault(source))?;
-        let version = Version {
-            epoch: format!("{:016x}", u64::from_le_bytes(random)),
-            inode: self.inode()?,
-        };
-        self.disk
-            .put_file(&self.path.join("version"), version.text().as_bytes())?;
-        *lock(&self.epoch) = version.epoch.clone();
-        Ok(version.epoch)
+        let epoch = format!("{:016x}", u64::from_le_bytes(random));
+        let inode = self.inode()?;
+        self.change(|version| (version.epoch, version.inode) = (epoch.clone(), inode))?;
+        Ok(epoch)
+    }
+
+    /// How many slots share the senders.
+    pub fn slots(&self) -> u16 {
+        lock(&self.version).slots.unwrap_or(1)
+    }
+
+    /// Durable, or not done, when this returns: a start finds the one number or the other.
+    pub fn set_slots(&self, slots: u16) -> Result<(), Fault> {
+        self.change(|version| version.slots = Some(slots))
+    }
+
+    fn change(&self, make: impl FnOnce(&mut Version)) -> Result<(), Fault> {
+        let mut version = lock(&self.version);
+        let mut changed = version.clone();
+        make(&mut changed);
+        let path = self.path.join("version");
+        self.disk.put_file(&path, changed.text().as_bytes())?;
+        *version = changed;
+        Ok(())
     }
 
     fn inode(&self) -> Result<u64, Fault> {
@@ -123,23 +148,46 @@ impl Folder {
 
     /// The files of a slot. What an earlier run wrote is synced before it is believed.
     pub fn slot(&self, number: u16) -> Result<(Journal, Outbox), Fault> {
-        let slot = self.path.join(format!("slot-{number}"));
+        let outbox = self.outbox(number)?;
+        let journal = Journal::open(
+            &self.disk,
+            &self.of_slot(number).join("journal"),
+            self.durability,
+            self.room.clone(),
+            outbox.journal(),
+        )?;
+        Ok((journal, outbox))
+    }
+
+    /// The outbox alone, of a slot whose journal has nothing more.
+    pub fn outbox(&self, number: u16) -> Result<Outbox, Fault> {
+        let slot = self.of_slot(number);
         let (journal, outbox) = (slot.join("journal"), slot.join("outbox"));
         for path in [&slot, &journal, &outbox] {
             self.disk.make_folder(path)?;
         }
         self.disk.sync_folder(&slot)?;
         self.disk.sync_folder(&self.path)?;
-        let epoch = lock(&self.epoch).clone();
-        let outbox = Outbox::open(&self.disk, &outbox, &epoch, self.room.clone())?;
-        let journal = Journal::open(
-            &self.disk,
-            &journal,
-            self.durability,
-            self.room.clone(),
-            outbox.journal(),
-        )?;
-        Ok((journal, outbox))
+        let epoch = lock(&self.version).epoch.clone();
+        Outbox::open(&self.disk, &outbox, &epoch, self.room.clone())
+    }
+
+    fn of_slot(&self, number: u16) -> PathBuf {
+        self.path.join(format!("slot-{number}"))
+    }
+
+    /// The slots that have files, also those that there are no more, ascending.
+    pub fn slots_with_files(&self) -> Result<Vec<u16>, Fault> {
+        let mut found = Vec::new();
+        for entry in std::fs::read_dir(&self.path).map_err(io_fault(&self.path))? {
+            let name = entry.map_err(io_fault(&self.path))?.file_name();
+            let number = name
+                .to_str()
+                .and_then(|name| name.strip_prefix("slot-")?.parse().ok());
+            found.extend(number.filter(|number| self.of_slot(*number).ends_with(&name)));
+        }
+        found.sort_unstable();
+        Ok(found)
     }
 
     pub fn dead(&self) -> Result<Dead, Fault> {
@@ -195,7 +243,11 @@ fn check_new(folder: &Path) -> Result<(), Fault> {
 
 impl Version {
     fn text(&self) -> String {
-        format!("totxegun {VERSION}\nepoch {}\nlock {}\n", self.epoch, self.inode)
+        let Version { epoch, inode, slots } = self;
+        match slots {
+            None => format!("totxegun 1\nepoch {epoch}\nlock {inode}\n"),
+            Some(slots) => format!("totxegun {VERSION}\nepoch {epoch}\nlock {inode}\nslots {slots}\n"),
+        }
     }
 
     fn read(folder: &Path) -> Result<Option<Version>, Fault> {
@@ -222,7 +274,7 @@ impl Version {
         };
         let version: Option<u32> = value("totxegun").and_then(|version| version.parse().ok());
         match version {
-            Some(VERSION) => {}
+            Some(1..=VERSION) => {}
             Some(version) if version > VERSION => {
                 return damaged(format!(
                     "the folder is of format version {version}, and this totxegun reads up to {VERSION}: start the later totxegun that wrote it"
@@ -232,11 +284,20 @@ impl Version {
         }
         let epoch = value("epoch")
             .filter(|epoch| epoch.len() == 16 && epoch.bytes().all(|byte| byte.is_ascii_hexdigit()));
-        match (epoch, value("lock").and_then(|inode| inode.parse().ok())) {
-            (Some(epoch), Some(inode)) => Ok(Some(Version { epoch, inode })),
-            _ => {
-                damaged("has no epoch, or no inode of the lock: put a copy of this file in its place".into())
-            }
+        let inode = value("lock").and_then(|inode| inode.parse().ok());
+        let slots = match version {
+            Some(1) => Some(None),
+            _ => value("slots")
+                .and_then(|slots| slots.parse().ok())
+                .filter(|slots| (1..=MOST_SLOTS).contains(slots))
+                .map(Some),
+        };
+        match (epoch, inode, slots) {
+            (Some(epoch), Some(inode), Some(slots)) => Ok(Some(Version { epoch, inode, slots })),
+            _ => damaged(
+                "has no epoch, no inode of the lock, or no number of slots: put a copy of this file in its place"
+                    .into(),
+            ),
         }
     }
 }

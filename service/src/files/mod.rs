@@ -13,7 +13,9 @@ mod room;
 mod segment;
 
 pub use dead::Dead;
-pub use folder::{Folder, FolderFault};
+#[cfg(test)]
+pub(crate) use disk::Disk;
+pub use folder::{Folder, FolderFault, MOST_SLOTS};
 pub use journal::{Journal, Post, Ticket};
 pub use outbox::{Outbox, Series};
 

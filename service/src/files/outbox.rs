@@ -4,6 +4,7 @@
 //! bytes are described in `rows`.
 
 mod changes;
+mod moved;
 mod open;
 mod rows;
 mod state;
@@ -69,6 +70,18 @@ struct Writer {
     failed: bool,
 }
 
+impl Writer {
+    /// From here on it has failed, until it is said that it has not.
+    fn begin(&mut self) -> Result<(), Fault> {
+        if !std::mem::replace(&mut self.failed, true) {
+            return Ok(());
+        }
+        let source = io::Error::other("an earlier write failed: start again, to see what is there");
+        let path = self.segment.path.clone();
+        Err(Fault::Io { path, source })
+    }
+}
+
 /// The ends of the points, as the gateway's own request tells them.
 fn ends(body: &[u8]) -> Result<Vec<(SeriesKey, u64)>, NotForwarded> {
     Ok(series::forwarded(body)?
@@ -98,12 +111,20 @@ impl Outbox {
             .collect()
     }
 
+    pub fn owner(&self, series: &SeriesKey) -> Option<String> {
+        lock(&self.state).series.get(series)?.series.owner.clone()
+    }
+
     pub fn series_count(&self) -> usize {
         lock(&self.state).series.len()
     }
 
     pub fn quarantined(&self) -> BTreeSet<String> {
         lock(&self.state).quarantined.clone()
+    }
+
+    pub fn is_quarantined(&self, sender: &str) -> bool {
+        lock(&self.state).quarantined.contains(sender)
     }
 
     /// Makes a group durable, whole or not at all. Posts of the journal's segments before `journal` are in it or in earlier ones.
@@ -176,21 +197,10 @@ impl Outbox {
             .map(drop)
     }
 
-    /// Leaves out the series that were last seen before this second, but those in `keep`. How many these were. A
+    /// Leaves out the series that were last seen before this second, but those in `keep`. Which these were. A
     /// series whose owner is unknown stays: the journal may still have its owner's posts.
-    pub fn forget(&self, before: u64, keep: &HashSet<SeriesKey>) -> Result<usize, Fault> {
-        let mut count = 0;
-        self.change(true, |state| {
-            let old = |series: &Series| series.seen < before && series.owner.is_some();
-            let all = state
-                .series
-                .iter()
-                .filter(|(key, known)| old(&known.series) && !keep.contains(*key));
-            let forgotten: Vec<_> = all.map(|(key, _)| key.clone()).collect();
-            count = forgotten.len();
-            (count > 0).then_some(Change::Forget(forgotten))
-        })?;
-        Ok(count)
+    pub fn forget(&self, before: u64, keep: &HashSet<SeriesKey>) -> Result<Vec<SeriesKey>, Fault> {
+        self.leave_out(|key, series| series.seen < before && series.owner.is_some() && !keep.contains(key))
     }
 
     /// How many requests wait, how many bytes they take on disk, and the first of them.
@@ -272,13 +282,7 @@ impl Outbox {
         sync: bool,
         change: impl FnOnce(u64) -> Change,
     ) -> Result<(), Fault> {
-        if std::mem::replace(&mut writer.failed, true) {
-            let source = io::Error::other("an earlier write failed: start again, to see what is there");
-            return Err(Fault::Io {
-                path: writer.segment.path.clone(),
-                source,
-            });
-        }
+        writer.begin()?;
         self.room.use_up(bytes.len() as u64);
         let begin = writer.segment.put(bytes)?;
         if sync {

@@ -24,7 +24,7 @@ pub(crate) use weight::Hold;
 
 use crate::metrics::Metrics;
 use crate::otlp::{self, Encoding, Outcome, Reading, Rounded};
-use crate::slot::Slot;
+use crate::slot::Slots;
 use bytes::Bytes;
 use head::{Head, Packing};
 use refusal::Refusal;
@@ -55,9 +55,10 @@ pub trait Taker: Send + Sync + 'static {
     fn post(self: &Arc<Self>, sender: String, bodies: Vec<Bytes>) -> impl Future<Output = Outcome> + Send;
 }
 
-impl Taker for Slot {
+impl Taker for Slots {
     fn post(self: &Arc<Self>, sender: String, bodies: Vec<Bytes>) -> impl Future<Output = Outcome> + Send {
-        Slot::post(self, sender, bodies)
+        let slots = self.clone();
+        async move { Slots::post(&slots, sender, bodies).await }
     }
 }
 

@@ -201,7 +201,9 @@ impl Keeper {
                 keep.extend(posted.into_iter().flat_map(|posted| posted.series.into_keys()));
                 true
             })?;
-            slot.outbox.forget(seconds_before_now(age), &keep)
+            let forgotten = slot.outbox.forget(seconds_before_now(age), &keep)?;
+            slot.give_up(&forgotten);
+            Ok(forgotten.len())
         });
         let forgotten = forgotten.await? as u64;
         self.slot.metrics.forgotten_series.inc_by(forgotten);

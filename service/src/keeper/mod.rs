@@ -4,6 +4,7 @@
 //! what the gateway stored to the outbox, `recovery` replaces a gateway, `refill` gives a fresh one what the files say.
 
 mod checkpoint;
+mod drain;
 mod orders;
 mod owners;
 mod recovery;
@@ -23,6 +24,7 @@ use tokio::sync::{mpsc, oneshot};
 /// Orders that wait for their turn. Who gives one more waits for a place.
 const WAITING_ORDERS: usize = 16;
 
+#[derive(Clone)]
 pub struct Settings {
     pub gateway: Options,
     /// How long between two checkpoints.

@@ -41,7 +41,7 @@ impl Keeper {
         *slot.gate.shut().await = None;
         // What is read of the journal has to be there.
         slot.journal.durable(slot.journal.now()).await;
-        slot.metrics.recoveries.inc();
+        slot.own.recoveries.inc();
         let mut pause = FIRST_PAUSE;
         loop {
             let raised = tokio::select! {

@@ -39,12 +39,16 @@ impl Keeper {
     /// while a gateway is replaced may leave posts in the journal alone: the next start puts them in.
     pub async fn run(mut self, mut stop: watch::Receiver<bool>) -> Result<(), Fault> {
         let ended = self.serve(&mut stop).await;
+        self.end().await;
+        ended
+    }
+
+    pub(super) async fn end(&mut self) {
         self.slot.gate.stop();
         if let Some(gateway) = self.gateway.take() {
             gateway.kill();
         }
         *self.slot.gate.shut().await = None;
-        ended
     }
 
     async fn serve(&mut self, stop: &mut watch::Receiver<bool>) -> Result<(), Fault> {
@@ -63,7 +67,7 @@ impl Keeper {
     }
 
     /// Brings the files to where the last commit left them.
-    async fn begin(&mut self) -> Result<(), Fault> {
+    pub(super) async fn begin(&mut self) -> Result<(), Fault> {
         let first = self.slot.outbox.journal();
         self.slot.journal.reach(first);
         // A commit may have come without the owners of its series.

@@ -49,9 +49,11 @@ pub fn metrics() -> Result<Metrics> {
             "renewals_total",
             "Gateways replaced before their connections ran out",
         )?,
-        recoveries: maker.counter(
+        recoveries: maker.counters(
             "recoveries_total",
             "Gateways started because one was lost, and at the start",
+            "slot",
+            &[],
         )?,
         forwarded_requests: maker.counter("forwarded_requests_total", "Requests put into the outbox")?,
         deliveries: maker.counters(
@@ -71,8 +73,12 @@ pub fn metrics() -> Result<Metrics> {
             "recovery_seconds",
             "How long it took to start, prime and refill a gateway",
         )?,
-        series: maker.gauge("series", "Series with an owner and a frontier")?,
-        gateway_connections: maker.gauge("gateway_connections", "Connections that the gateway has had")?,
+        series: maker.gauges("series", "Series with an owner and a frontier", "slot")?,
+        gateway_connections: maker.gauges(
+            "gateway_connections",
+            "Connections that the gateway has had",
+            "slot",
+        )?,
         levels: levels(&maker)?,
         senders: Mutex::new(HashSet::new()),
         registry: maker.0,
@@ -81,7 +87,7 @@ pub fn metrics() -> Result<Metrics> {
 
 fn levels(maker: &Maker) -> Result<Levels> {
     Ok(Levels {
-        ready: maker.gauge("ready", "1 where a gateway has all accepted posts")?,
+        ready: maker.gauge("ready", "1 where each slot has a gateway with all accepted posts")?,
         post_bytes_in_flight: maker.gauge(
             "post_bytes_in_flight",
             "Memory that posts hold until they are answered",
@@ -106,8 +112,10 @@ fn levels(maker: &Maker) -> Result<Levels> {
             "disk_free_bytes",
             "Bytes that are free on the file system of the folder",
         )?,
-        gateway_resident_memory_bytes: maker
-            .gauge("gateway_resident_memory_bytes", "Memory of the gateway's process")?,
+        gateway_resident_memory_bytes: maker.gauge(
+            "gateway_resident_memory_bytes",
+            "Memory of the gateways' processes",
+        )?,
     })
 }
 
@@ -139,6 +147,12 @@ impl Maker {
 
     fn gauge(&self, name: &str, help: &str) -> Result<IntGauge> {
         let made = IntGauge::new(format!("totxegun_{name}"), help)?;
+        self.0.register(Box::new(made.clone()))?;
+        Ok(made)
+    }
+
+    fn gauges(&self, name: &str, help: &str, label: &str) -> Result<IntGaugeVec> {
+        let made = IntGaugeVec::new(Opts::new(format!("totxegun_{name}"), help), &[label])?;
         self.0.register(Box::new(made.clone()))?;
         Ok(made)
     }

@@ -4,7 +4,9 @@ mod make;
 
 use crate::otlp::{Rounded, Rounding};
 use prometheus::core::Collector;
-use prometheus::{CounterVec, Encoder, IntCounter, IntCounterVec, IntGauge, Registry, TextEncoder};
+use prometheus::{
+    CounterVec, Encoder, IntCounter, IntCounterVec, IntGauge, IntGaugeVec, Registry, TextEncoder,
+};
 use std::collections::HashSet;
 use std::sync::{Mutex, PoisonError};
 
@@ -25,7 +27,8 @@ pub struct Metrics {
     /// By `outcome`: `done`, `failed`.
     pub checkpoints: IntCounterVec,
     pub renewals: IntCounter,
-    pub recoveries: IntCounter,
+    /// By `slot`, as the gauges of a gateway are: an alert is of one gateway.
+    pub recoveries: IntCounterVec,
     pub forwarded_requests: IntCounter,
     /// By `outcome`: `taken`, `again`, `refused`.
     pub deliveries: IntCounterVec,
@@ -34,13 +37,20 @@ pub struct Metrics {
     pub faults: IntCounterVec,
     pub checkpoint_pause_seconds: prometheus::Histogram,
     pub recovery_seconds: prometheus::Histogram,
-    pub series: IntGauge,
-    pub gateway_connections: IntGauge,
+    pub series: IntGaugeVec,
+    pub gateway_connections: IntGaugeVec,
     /// Set where the page is made.
     pub levels: Levels,
     /// Most answers are 200: their counter needs no look-up.
     taken_posts: IntCounter,
     senders: Mutex<HashSet<String>>,
+}
+
+/// What is counted of each slot.
+pub struct OfSlot {
+    pub recoveries: IntCounter,
+    pub series: IntGauge,
+    pub gateway_connections: IntGauge,
 }
 
 /// Gauges of what is elsewhere: read when someone asks, and then only.
@@ -61,6 +71,16 @@ pub struct Levels {
 impl Metrics {
     pub fn new() -> prometheus::Result<Metrics> {
         make::metrics()
+    }
+
+    /// Those of a slot, which are on the page from then on.
+    pub fn of_slot(&self, slot: u16) -> OfSlot {
+        let label = &[&*slot.to_string()];
+        OfSlot {
+            recoveries: self.recoveries.with_label_values(label),
+            series: self.series.with_label_values(label),
+            gateway_connections: self.gateway_connections.with_label_values(label),
+        }
     }
 
     /// Counts an answer to a sender.

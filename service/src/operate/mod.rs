@@ -3,6 +3,7 @@
 //! It is another address than the senders', loopback by default: who can post can't operate.
 
 mod letters;
+mod slots;
 mod status;
 mod totals;
 
@@ -12,11 +13,11 @@ pub use totals::Totals;
 
 use crate::files::{Dead, Outbox};
 use crate::intake::{connections::Handler, Budget};
-use crate::keeper::{Done, Order, Orders};
+use crate::keeper::{Order, Orders};
 use crate::metrics::Metrics;
 use crate::otlp::{Encoding, Outcome};
 use crate::sinks::{Delivery, Sink};
-use crate::slot::{is_sender, Slot};
+use crate::slot::Slot;
 use hyper::header::{HeaderValue, ALLOW, CONTENT_TYPE};
 use hyper::{Body, Method, Request, Response, StatusCode};
 use serde_json::json;
@@ -29,14 +30,14 @@ const PROMETHEUS: &str = "text/plain; version=0.0.4";
 
 /// All that an operator may ask.
 pub struct Desk {
-    pub slot: Arc<Slot>,
-    pub orders: Orders,
-    pub outbox: Arc<Outbox>,
+    /// In the order of their numbers, from 0.
+    pub slots: Vec<OfSlot>,
+    /// Slots that there are no more, with what the sink has not taken.
+    pub former: Vec<Left>,
     pub dead: Arc<Dead>,
     pub sink: Arc<dyn Sink>,
     /// Where the sink can be asked for them.
     pub totals: Option<Totals>,
-    pub delivery: Arc<Mutex<Delivery>>,
     pub metrics: Arc<Metrics>,
     pub budget: Arc<Budget>,
     /// Where senders post.
@@ -45,6 +46,20 @@ pub struct Desk {
     pub begun: Instant,
     /// One letter is sent again at a time.
     pub resending: tokio::sync::Mutex<()>,
+}
+
+/// A slot at work.
+pub struct OfSlot {
+    pub slot: Arc<Slot>,
+    pub orders: Orders,
+    pub left: Left,
+}
+
+/// What a slot has for the sink.
+pub struct Left {
+    pub number: u16,
+    pub outbox: Arc<Outbox>,
+    pub delivery: Arc<Mutex<Delivery>>,
 }
 
 /// A route of the operator's address.
@@ -107,7 +122,7 @@ impl Desk {
     async fn go(&self, route: Route) -> Response<Body> {
         match route {
             Route::Order(order) => self.order(order).await,
-            Route::Report => match self.slot.report().await {
+            Route::Report => match self.report().await {
                 Some(report) => reply(200, TEXT, report),
                 None => message(503, "recovering"),
             },
@@ -117,7 +132,7 @@ impl Desk {
             }
             Route::Totals => self.totals().await,
             Route::Health => reply(200, TEXT, "ok\n"),
-            Route::Ready if self.slot.is_ready() => reply(200, TEXT, "ready\n"),
+            Route::Ready if self.is_ready() => reply(200, TEXT, "ready\n"),
             Route::Ready => message(503, "recovering"),
             Route::Status => match serde_json::to_vec(&self.status()) {
                 Ok(status) => reply(200, JSON, status),
@@ -127,19 +142,6 @@ impl Desk {
             Route::Letter(key) => self.letter(&key),
             Route::Resend(key) => self.resend(&key).await,
             Route::Drop(key) => self.drop_letter(&key),
-        }
-    }
-
-    async fn order(&self, order: Order) -> Response<Body> {
-        if let Order::Quarantine(sender) | Order::Lift(sender) = &order {
-            if !is_sender(sender) {
-                return message(400, "bad sender");
-            }
-        }
-        match self.orders.order(order).await {
-            None => message(503, "ending"),
-            Some(Done::Flushed { requests }) => reply(200, JSON, json!({ "requests": requests }).to_string()),
-            Some(Done::Answered(outcome)) => answered(&outcome),
         }
     }
 }

@@ -1,6 +1,7 @@
 //! What the service says of itself: in JSON for `totxegun status`, in gauges for Prometheus.
 
-use super::Desk;
+use super::{Desk, Left};
+use crate::slot::Slot;
 use serde::{Deserialize, Serialize};
 use std::sync::PoisonError;
 use std::time::{SystemTime, UNIX_EPOCH};
@@ -77,12 +78,12 @@ impl Desk {
             version: env!("CARGO_PKG_VERSION").into(),
             pid: std::process::id(),
             uptime_seconds: self.begun.elapsed().as_secs(),
-            ready: self.slot.is_ready(),
+            ready: self.is_ready(),
             listen: self.listen.clone(),
             data: self.data.clone(),
             sink: self.sink.name(),
             dead: self.dead.count(),
-            slots: vec![self.slot_status()],
+            slots: self.slot_statuses(),
             rounded: self.rounded_status(),
         }
     }
@@ -97,64 +98,82 @@ impl Desk {
         .collect()
     }
 
-    fn slot_status(&self) -> SlotStatus {
-        let (journal, since) = self.slot.journal_size();
-        let (waiting, bytes, first) = self.outbox.waiting();
-        let delivery = self
+    /// Of a slot that there is no more, as long as it has something.
+    fn slot_statuses(&self) -> Vec<SlotStatus> {
+        let at_work = self.slots.iter().map(|of| {
+            let (journal, since) = of.slot.journal_size();
+            SlotStatus {
+                gateway: gateway_status(&of.slot),
+                journal: Stock::new(journal, since),
+                ..SlotStatus::of(&of.left)
+            }
+        });
+        let former = self.former.iter().map(SlotStatus::of);
+        at_work.chain(former.filter(|slot| slot.waiting > 0)).collect()
+    }
+
+    /// Sets the gauges of what is elsewhere.
+    pub(super) fn read_levels(&self) {
+        let slots = self.slot_statuses();
+        let sum = |of: fn(&SlotStatus) -> u64| slots.iter().map(of).sum::<u64>() as i64;
+        let oldest = |of: fn(&SlotStatus) -> &Stock| {
+            let ages = slots.iter().filter_map(|slot| of(slot).age_seconds);
+            ages.max().unwrap_or(0) as i64
+        };
+        let levels = &self.metrics.levels;
+        levels.ready.set(i64::from(self.is_ready()));
+        levels.post_bytes_in_flight.set(self.budget.used() as i64);
+        levels.journal_bytes.set(sum(|slot| slot.journal.bytes));
+        levels.journal_age_seconds.set(oldest(|slot| &slot.journal));
+        levels.outbox_requests.set(sum(|slot| slot.waiting));
+        levels.outbox_bytes.set(sum(|slot| slot.outbox.bytes));
+        levels.outbox_age_seconds.set(oldest(|slot| &slot.outbox));
+        levels.dead_requests.set(self.dead.count() as i64);
+        let quarantined = sum(|slot| slot.quarantined.len() as u64);
+        levels.quarantined_senders.set(quarantined);
+        if let Some(free) = free_bytes(&self.data) {
+            levels.disk_free_bytes.set(free as i64);
+        }
+        for (of, slot) in self.slots.iter().zip(&slots) {
+            of.slot.own.series.set(slot.series as i64);
+        }
+        let resident = |slot: &SlotStatus| slot.gateway.as_ref().and_then(|it| it.resident_bytes);
+        let resident: u64 = slots.iter().filter_map(resident).sum();
+        levels.gateway_resident_memory_bytes.set(resident as i64);
+    }
+}
+
+impl SlotStatus {
+    /// Without a gateway and a journal.
+    fn of(left: &Left) -> SlotStatus {
+        let outbox = &left.outbox;
+        let (waiting, bytes, first) = outbox.waiting();
+        let delivery = left
             .delivery
             .lock()
             .unwrap_or_else(PoisonError::into_inner)
             .clone(); // a copy is sound
         SlotStatus {
-            slot: 0,
-            series: self.outbox.series_count(),
-            quarantined: self.outbox.quarantined().into_iter().collect(),
-            gateway: self.gateway_status(),
-            journal: Stock::new(journal, since),
+            slot: left.number,
+            series: outbox.series_count(),
+            quarantined: outbox.quarantined().into_iter().collect(),
+            gateway: None,
+            journal: Stock::new(0, None),
             waiting,
             outbox: Stock::new(bytes, first.map(|first| first.since)),
             tries: delivery.tries,
             trouble: delivery.trouble,
         }
     }
+}
 
-    fn gateway_status(&self) -> Option<GatewayStatus> {
-        let pid = self.slot.gateway()?;
-        let connections = self.metrics.gateway_connections.get().unsigned_abs();
-        Some(GatewayStatus {
-            pid,
-            connections,
-            resident_bytes: resident_bytes(pid),
-        })
-    }
-
-    /// Sets the gauges of what is elsewhere.
-    pub(super) fn read_levels(&self) {
-        let status = self.slot_status();
-        let levels = &self.metrics.levels;
-        levels.ready.set(i64::from(self.slot.is_ready()));
-        levels.post_bytes_in_flight.set(self.budget.used() as i64);
-        levels.journal_bytes.set(status.journal.bytes as i64);
-        levels
-            .journal_age_seconds
-            .set(status.journal.age_seconds.unwrap_or(0) as i64);
-        levels.outbox_requests.set(status.waiting as i64);
-        levels.outbox_bytes.set(status.outbox.bytes as i64);
-        levels
-            .outbox_age_seconds
-            .set(status.outbox.age_seconds.unwrap_or(0) as i64);
-        levels.dead_requests.set(self.dead.count() as i64);
-        levels.quarantined_senders.set(status.quarantined.len() as i64);
-        if let Some(free) = free_bytes(&self.data) {
-            levels.disk_free_bytes.set(free as i64);
-        }
-        self.metrics.series.set(status.series as i64);
-        let resident = status
-            .gateway
-            .and_then(|gateway| gateway.resident_bytes)
-            .unwrap_or(0);
-        levels.gateway_resident_memory_bytes.set(resident as i64);
-    }
+fn gateway_status(slot: &Slot) -> Option<GatewayStatus> {
+    let pid = slot.gateway()?;
+    Some(GatewayStatus {
+        pid,
+        connections: slot.connections(),
+        resident_bytes: resident_bytes(pid),
+    })
 }
 
 /// `VmRSS` of a process, by the kernel: a file without a disk behind it.

@@ -33,10 +33,11 @@ pub trait Owners: Send + Sync + 'static {
     fn owner(&self, series: &SeriesKey) -> Option<String>;
 }
 
-impl Owners for Arc<Outbox> {
+/// Of all slots.
+impl Owners for Vec<Arc<Outbox>> {
     /// Known once the series was forwarded.
     fn owner(&self, series: &SeriesKey) -> Option<String> {
-        self.series().get(series)?.owner.clone()
+        self.iter().find_map(|outbox| outbox.owner(series))
     }
 }
 

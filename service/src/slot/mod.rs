@@ -1,21 +1,27 @@
 //! A slot: one gateway with its journal and outbox, and the way of a post through them.
 //!
-//! `request` is that way, `verdict` what is said of a post and when, `gate` who may ask the gateway and when.
+//! `request` is that way, `verdict` what is said of a post and when, `gate` who may ask the gateway and when. `slots` are
+//! several beside each other, and `claims` keep them from having one series twice.
 
+mod claims;
 mod gate;
 mod points;
 mod request;
+mod slots;
 mod turns;
 mod verdict;
 mod whole;
 
+pub use claims::Claims;
 pub(crate) use gate::Phase;
+pub use slots::{slot_of, Slots};
 pub(crate) use verdict::{foreign_of, message_of};
 pub(crate) use whole::Whole;
 
 use crate::files::{Folder, Journal, Outbox};
 use crate::gateway::Gateway;
-use crate::metrics::Metrics;
+use crate::metrics::{Metrics, OfSlot};
+use crate::otlp::series::SeriesKey;
 use crate::otlp::Outcome;
 use bytes::Bytes;
 use gate::Gate;
@@ -31,8 +37,12 @@ pub struct Slot {
     pub(crate) journal: Arc<Journal>,
     pub(crate) outbox: Arc<Outbox>,
     pub(crate) metrics: Arc<Metrics>,
+    /// Those of this slot alone.
+    pub(crate) own: OfSlot,
     pub(crate) gate: Gate,
     turns: Turns,
+    /// Where there are other slots.
+    claims: Option<Arc<Claims>>,
     /// How many posts are in the journal or under way, and in no group.
     pub(crate) ungrouped: AtomicU64,
     /// A gateway was doubted.
@@ -49,14 +59,28 @@ impl Slot {
         outbox: Arc<Outbox>,
         metrics: Arc<Metrics>,
     ) -> Arc<Slot> {
+        Slot::beside_others(number, folder, Arc::new(journal), outbox, metrics, None)
+    }
+
+    /// One of several, which share these claims.
+    pub fn beside_others(
+        number: u16,
+        folder: Arc<Folder>,
+        journal: Arc<Journal>,
+        outbox: Arc<Outbox>,
+        metrics: Arc<Metrics>,
+        claims: Option<Arc<Claims>>,
+    ) -> Arc<Slot> {
         Arc::new(Slot {
             number,
             folder,
-            journal: Arc::new(journal),
+            journal,
             outbox,
+            own: metrics.of_slot(number),
             metrics,
             gate: Gate::new(),
             turns: Turns::new(),
+            claims,
             ungrouped: AtomicU64::new(0),
             trouble: Notify::new(),
             crowded: Notify::new(),
@@ -102,6 +126,11 @@ impl Slot {
     /// The process id of the gateway, where there is one and nobody waits for it.
     pub fn gateway(&self) -> Option<u32> {
         self.gate.gateway_now().map(|gateway| gateway.pid())
+    }
+
+    /// How many connections the gateway has had.
+    pub fn connections(&self) -> u64 {
+        self.own.gateway_connections.get().unsigned_abs()
     }
 
     /// Says why the gateway is replaced, and has the keeper do it. Until then nobody is let in.
@@ -155,8 +184,15 @@ impl Slot {
     }
 
     pub(crate) fn show_gateway(&self, gateway: &Gateway) {
-        self.metrics.gateway_connections.set(gateway.used() as i64);
-        self.metrics.series.set(self.outbox.series_count() as i64);
+        self.own.gateway_connections.set(gateway.used() as i64);
+        self.own.series.set(self.outbox.series_count() as i64);
+    }
+
+    /// Another slot may have these series from now on.
+    pub(crate) fn give_up(&self, series: &[SeriesKey]) {
+        if let Some(claims) = &self.claims {
+            claims.forget(self.number, series);
+        }
     }
 }
 

@@ -14,10 +14,12 @@
 //! - Where that takes too long the answer is 503. The repeat's bodies that are in the books are refused as
 //!   `out of order`, since each series' frontier is at the end of what was taken, and the others are taken then.
 
+use super::claims::{Claimed, NotClaimed};
 use super::points::points;
 use super::verdict::{Journalled, Refusal, Said, Verdict};
 use super::{is_sender, Phase, Slot};
 use crate::files::Ticket;
+use crate::otlp::series::{first_places, SeriesKey};
 use crate::otlp::Outcome;
 use bytes::Bytes;
 use std::time::{Duration, Instant};
@@ -25,6 +27,8 @@ use std::time::{Duration, Instant};
 /// How long a body behind one that was taken is tried. Senders wait 10 seconds, as a rule.
 const PATIENCE: Duration = Duration::from_secs(8);
 const PAUSE: Duration = Duration::from_millis(100);
+/// A longer body is read on a thread beside the runtime's.
+const SHORT: usize = 64 << 10;
 
 /// What became of one body.
 enum Put {
@@ -118,10 +122,19 @@ impl Slot {
 
     /// Puts a body to the gateway and into the journal, and says what became of it.
     async fn put(&self, sender: &str, body: &Bytes) -> Put {
+        let series = self.series_of(body).await;
         // Held until the journal has the record: a checkpoint finds each post in both or in neither.
         let gate = self.gate.enter().await;
         let Some(gateway) = gate.as_ref().filter(|_| self.is_ready()) else {
             return Put::Not(self.at_the_door().unwrap_or(Refusal::unavailable("recovering")));
+        };
+        // Held as long: another slot's gateway takes none of these series meanwhile.
+        let claimed = match self.claimed(series).await {
+            Ok(claimed) => claimed,
+            Err(not) => {
+                drop(gate);
+                return self.put_elsewhere(sender, not).await;
+            }
         };
         // What is in no group has to fit into a fresh gateway, which has as many connections.
         let Some(counted) = self.count_ungrouped(gateway.connections() / 2) else {
@@ -138,6 +151,9 @@ impl Slot {
             Ok(Said::Taken(taken)) => {
                 let one = taken.journal(&self.journal);
                 counted.stays();
+                if let Some(claimed) = claimed {
+                    claimed.hold();
+                }
                 if let Verdict::Taken { rejected, .. } = one.verdict() {
                     self.metrics.foreign(sender, *rejected);
                 }
@@ -155,6 +171,54 @@ impl Slot {
                 Put::Not(Refusal::unavailable("recovering"))
             }
         }
+    }
+
+    /// The series that have to be claimed: none where there is no other slot. A body that can't be read is for the
+    /// gateway to refuse.
+    async fn series_of(&self, body: &Bytes) -> Vec<(SeriesKey, u64)> {
+        if self.claims.is_none() {
+            return Vec::new();
+        }
+        if body.len() <= SHORT {
+            return first_places(body).unwrap_or_default();
+        }
+        let body = body.clone();
+        let read = tokio::task::spawn_blocking(move || first_places(&body).unwrap_or_default());
+        match read.await {
+            Ok(read) => read,
+            Err(ended) => match ended.try_into_panic() {
+                Ok(panic) => std::panic::resume_unwind(panic),
+                Err(_) => std::future::pending().await, // the runtime is ending
+            },
+        }
+    }
+
+    async fn claimed(&self, series: Vec<(SeriesKey, u64)>) -> Result<Option<Claimed<'_>>, NotClaimed> {
+        match &self.claims {
+            None => Ok(None),
+            Some(claims) => claims.claim(self.number, series).await.map(Some),
+        }
+    }
+
+    /// Refuses a body in the words of a gateway that has all of the series.
+    async fn put_elsewhere(&self, sender: &str, not: NotClaimed) -> Put {
+        let (NotClaimed::Elsewhere { slot, place }, Some(claims)) = (not, &self.claims) else {
+            return Put::Not(Refusal::unavailable("another slot may have a series of it"));
+        };
+        let refusal = match self.outbox.is_quarantined(sender) {
+            true => Refusal {
+                status: 403,
+                message: "quarantined".into(),
+            },
+            false => {
+                claims.durable(slot).await;
+                Refusal {
+                    status: 400,
+                    message: format!("other writer: point {place}"),
+                }
+            }
+        };
+        Put::Journalled(refusal.journal(&self.journal))
     }
 
     async fn put_patiently(&self, sender: &str, body: &Bytes, deadline: Instant) -> Put {

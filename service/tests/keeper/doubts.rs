@@ -25,7 +25,7 @@ async fn a_post_without_an_answer_is_in_no_book() {
             (400, "out of order: point 0, frontier 30"),
             "{what}"
         );
-        assert_eq!(run.metrics.recoveries.get(), 2, "{what}");
+        assert_eq!(run.recoveries(), 2, "{what}");
         let (sum, spans) = run.stop().await.remove("a").unwrap();
         assert_eq!((sum, spans), (12, vec![(10, 30)]), "{what}");
     }

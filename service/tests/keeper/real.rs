@@ -203,7 +203,7 @@ async fn renewals_come_before_the_connections_run_out() {
     settings.every = Duration::from_millis(100);
     let run = Arc::new(place.run_with(settings).await);
     load(run.clone(), 4, 500).await;
-    let renewals = run.metrics.renewals.get() + run.metrics.recoveries.get();
+    let renewals = run.metrics.renewals.get() + run.recoveries();
     assert!(renewals >= 3, "{renewals}");
     check(run, 4, 500).await;
 }
@@ -217,7 +217,7 @@ async fn check(run: Arc<Run>, senders: usize, posts: u64) {
     };
     // A stop alone leaves the posts in the journal where the gateway has just ended.
     run.checkpoint().await;
-    let recoveries = run.metrics.recoveries.get();
+    let recoveries = run.recoveries();
     let taken = run.stop().await;
     eprintln!("{recoveries} recoveries");
     assert_eq!(taken.len(), senders);

@@ -39,7 +39,7 @@ async fn a_sender_that_goes_away_strands_nothing() {
     assert_eq!(message(&repeat), (400, "out of order: point 0, frontier 20"));
     assert!(run.kill_gateway());
     run.post_until_answered("B", point("b", 10, 20, 1)).await;
-    assert_eq!(run.metrics.recoveries.get(), 2);
+    assert_eq!(run.recoveries(), 2);
     assert_eq!(
         sums(&run.stop().await),
         [("a", 5), ("b", 1)],

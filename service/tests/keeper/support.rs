@@ -159,6 +159,10 @@ impl Run {
         }
     }
 
+    pub fn recoveries(&self) -> u64 {
+        self.metrics.of_slot(self.slot.number()).recoveries.get()
+    }
+
     /// Kills the gateway from outside.
     pub fn kill_gateway(&self) -> bool {
         let Some(pid) = self.slot.gateway() else {

@@ -7,7 +7,7 @@ fn open(path: &Path) -> Result<Folder, FolderFault> {
 }
 
 fn epoch(folder: &Folder) -> String {
-    super::super::lock(&folder.epoch).clone()
+    super::super::lock(&folder.version).epoch.clone()
 }
 
 /// Run by the next test in a process of its own.
@@ -114,13 +114,17 @@ fn a_later_or_missing_version_is_refused_by_name() {
     let version = place.path().join("version");
     let text = std::fs::read_to_string(&version).unwrap();
     let refused = || open(place.path()).err().unwrap().to_string();
-    std::fs::write(&version, text.replacen("totxegun 1", "totxegun 2", 1)).unwrap();
-    assert!(refused().contains("format version 2"), "{}", refused());
+    std::fs::write(&version, text.replacen("totxegun 1", "totxegun 3", 1)).unwrap();
+    assert!(refused().contains("format version 3"), "{}", refused());
     for wrong in [
         "",
         "totxegun\n",
+        "totxegun 0\nepoch 0123456789abcdef\nlock 1\n",
         "totxegun 1\nepoch 12\nlock 1\n",
         "totxegun 1\nepoch 0123456789abcdef\n",
+        "totxegun 2\nepoch 0123456789abcdef\nlock 1\n",
+        "totxegun 2\nepoch 0123456789abcdef\nlock 1\nslots 0\n",
+        "totxegun 2\nepoch 0123456789abcdef\nlock 1\nslots 65\n",
     ] {
         std::fs::write(&version, wrong).unwrap();
         assert!(refused().contains("put a copy"), "{}", refused());
@@ -140,4 +144,38 @@ fn the_journal_goes_on_behind_what_the_outbox_knows() {
     drop((journal, outbox));
     let (journal, _outbox) = folder.slot(0).unwrap();
     assert_eq!(journal.turn().0, 10);
+}
+
+#[test]
+fn the_number_of_slots_stays_and_one_slot_is_of_version_1() {
+    let place = tempfile::tempdir().unwrap();
+    let text = || std::fs::read_to_string(place.path().join("version")).unwrap();
+    let folder = open(place.path()).unwrap();
+    assert_eq!(
+        (folder.slots(), folder.slots_with_files().unwrap()),
+        (1, Vec::<u16>::new())
+    );
+    assert!(text().starts_with("totxegun 1\n"), "an earlier version reads it");
+    let drawn = epoch(&folder);
+    folder.set_slots(3).unwrap();
+    for number in [2, 0, 10] {
+        folder.outbox(number).unwrap();
+    }
+    for other in ["slot-", "slot-x", "slot-01"] {
+        std::fs::create_dir(place.path().join(other)).unwrap();
+    }
+    drop(folder);
+    let folder = open(place.path()).unwrap();
+    assert_eq!(
+        (folder.slots(), folder.slots_with_files().unwrap(), epoch(&folder)),
+        (3, vec![0, 2, 10], drawn)
+    );
+    folder.renew_epoch().unwrap();
+    folder.set_slots(1).unwrap();
+    assert_eq!(folder.slots(), 1);
+    assert!(
+        text().starts_with("totxegun 2\n") && text().ends_with("slots 1\n"),
+        "files of other slots are left: {}",
+        text()
+    );
 }

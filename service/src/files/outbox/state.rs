@@ -153,6 +153,15 @@ impl State {
         }
     }
 
+    /// A snapshot has to follow: no record names these.
+    pub fn adopt(&mut self, series: Vec<(SeriesKey, Series)>) {
+        for (key, series) in series {
+            let id = self.next_id;
+            self.next_id += 1;
+            self.series.insert(key, Known { id, series });
+        }
+    }
+
     fn advance(&mut self, ends: HashMap<SeriesKey, u64>, seen: u64) {
         // New ones in the order of their keys, as the commit has them.
         let mut ends: Vec<_> = ends.into_iter().collect();

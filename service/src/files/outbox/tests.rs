@@ -156,8 +156,11 @@ fn a_series_without_an_owner_is_never_forgotten() {
         .unwrap();
     let owner = |key| (key_of(key), "me".to_string());
     outbox.own(HashMap::from([owner("a"), owner("b")])).unwrap();
-    assert_eq!(outbox.forget(0, &HashSet::new()).unwrap(), 0);
-    assert_eq!(outbox.forget(u64::MAX, &HashSet::from([key_of("b")])).unwrap(), 1);
+    assert_eq!(outbox.forget(0, &HashSet::new()).unwrap(), []);
+    assert_eq!(
+        outbox.forget(u64::MAX, &HashSet::from([key_of("b")])).unwrap(),
+        [key_of("a")]
+    );
     drop(outbox);
     let outbox = open(folder.path());
     assert_eq!(outbox.series_count(), 2);

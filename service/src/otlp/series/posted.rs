@@ -5,7 +5,7 @@ use super::point::{histogram_point, sum_kind, sum_point};
 use super::why::{What, Why};
 use super::{Posted, SeriesKey};
 use crate::otlp::json::{write_text, Document, Elements, Value};
-use std::collections::HashMap;
+use std::collections::{HashMap, HashSet};
 use std::sync::Arc;
 
 /// A point where it is in its body.
@@ -32,6 +32,25 @@ pub fn posted(body: &[u8]) -> Option<Posted> {
         Ok(end) => posted.add(seen.key, end),
     })?;
     Some(posted)
+}
+
+/// Each series that a body has points of the profile of, with the place of the first among all of these. None where the
+/// gateway refuses the body whole.
+pub fn first_places(body: &[u8]) -> Option<Vec<(SeriesKey, u64)>> {
+    let document = Document::parse(body).ok()?;
+    let (mut known, mut places, mut place) = (HashSet::new(), Vec::new(), 0);
+    visit(&document, |seen| {
+        if seen.found.is_err() {
+            return;
+        }
+        if !known.contains(seen.key) {
+            let key = SeriesKey(Arc::from(seen.key));
+            known.insert(key.clone());
+            places.push((key, place));
+        }
+        place += 1;
+    })?;
+    Some(places)
 }
 
 impl Posted {

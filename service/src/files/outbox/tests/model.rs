@@ -43,7 +43,8 @@ impl Model {
                 let keep = HashSet::from([key_of(&key)]);
                 let count = self.series.len();
                 self.series.retain(|one, known| known.1.is_none() || *one == key);
-                assert_eq!(outbox.forget(u64::MAX, &keep).unwrap(), count - self.series.len());
+                let forgotten = outbox.forget(u64::MAX, &keep).unwrap();
+                assert_eq!(forgotten.len(), count - self.series.len());
             }
         }
     }

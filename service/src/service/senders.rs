@@ -1,0 +1,70 @@
+//! Where senders come to.
+
+use super::Ended;
+use crate::grpc;
+use crate::intake::connections::Limits;
+use crate::intake::{front, Intake, Taker, Threads};
+use anyhow::Context;
+use std::sync::Arc;
+use tokio::net::TcpListener;
+use tokio::sync::watch;
+
+pub(super) async fn bind(option: &str, address: &str) -> Result<TcpListener, Ended> {
+    let bound = TcpListener::bind(address).await;
+    Ok(bound.with_context(|| {
+        format!("{option} {address} can't be listened on: end what listens there, or give another {option}")
+    })?)
+}
+
+/// Where a listener really listens: port 0 is any free one.
+pub(super) fn local(listener: &TcpListener) -> String {
+    listener
+        .local_addr()
+        .map_or_else(|error| error.to_string(), |address| address.to_string())
+}
+
+pub(super) struct Senders {
+    pub senders: TcpListener,
+    pub callers: Option<TcpListener>,
+}
+
+impl Senders {
+    pub fn shown(&self) -> String {
+        let callers = self
+            .callers
+            .iter()
+            .map(|callers| format!(", gRPC to {}", local(callers)));
+        local(&self.senders) + &callers.collect::<String>()
+    }
+
+    /// Until both have ended.
+    pub async fn serve<T: Taker>(
+        self,
+        limits: Limits,
+        intake: Intake<T>,
+        threads: Arc<Threads>,
+        stop: watch::Receiver<bool>,
+    ) {
+        let intake = Arc::new(intake);
+        let callers = async {
+            if let Some(callers) = self.callers {
+                grpc::serve(
+                    callers,
+                    limits.clone(),
+                    intake.clone(),
+                    threads.clone(),
+                    stop.clone(),
+                )
+                .await;
+            }
+        };
+        let senders = front::serve(
+            self.senders,
+            limits.clone(),
+            intake.clone(),
+            threads.clone(),
+            stop.clone(),
+        );
+        tokio::join!(senders, callers);
+    }
+}
