@@ -57,12 +57,18 @@ fn rivals() -> (String, String) {
 fn a_series_of_another_slot_is_refused_as_a_gateway_does() {
     let place = Place::new();
     let (one, other) = rivals();
-    let refused = (400, "{\"message\":\"other writer: point 0\"}".to_string());
+    let refused = (
+        400,
+        "{\"code\":3,\"message\":\"other writer: point 0\"}".to_string(),
+    );
     let mut service = place.serve(2);
     assert_eq!(service.post(&one, &points(&["a"], 100, 5)).unwrap().0, 200);
     assert_eq!(service.post(&other, &points(&["a"], 110, 7)).unwrap(), refused);
     let second = service.post(&other, &points(&["b", "a"], 110, 7)).unwrap();
-    assert_eq!(second, (400, "{\"message\":\"other writer: point 1\"}".into()));
+    assert_eq!(
+        second,
+        (400, "{\"code\":3,\"message\":\"other writer: point 1\"}".into())
+    );
     // Of what was refused nothing is kept: `b` is free.
     assert_eq!(service.post(&one, &points(&["b"], 110, 1)).unwrap().0, 200);
     for pid in service.gateways() {
