@@ -28,6 +28,16 @@ DONE = response(b"200 OK", JSON, b"{}")
 BLANKS = b" " * 400_000
 
 
+FAULT = b"400 Bad Request"
+# A request in chunks, and one with two foreign points.
+CHUNKED = (b"POST /v1/metrics HTTP/1.1\r\nContent-Type: application/json\r\nTransfer-Encoding: chunked\r\n\r\n"
+           b"2\r\n{}\r\n0\r\n\r\n")
+FOREIGN = (b'{"resourceMetrics":[{"scopeMetrics":[{"metrics":[{"name":"g","gauge":{"dataPoints":['
+           b'{"asInt":"1","timeUnixNano":"20"},{"asDouble":1.5,"timeUnixNano":"20"}]}}]}]}]}')
+PARTIAL = b'{"partialSuccess":{"errorMessage":"points outside the profile","rejectedDataPoints":"2"}}'
+MOST = 2**63 - 1
+
+
 class Store:
     """What a gateway holds of the sum `a`, as docs/FORMATS.md has it. Rows are (points, value)."""
 
@@ -42,10 +52,12 @@ class Store:
         if sender in self.quarantined:
             return response(b"403 Forbidden", JSON, b'{"message":"quarantined"}')
         if self.owner not in (None, sender):
-            return response(b"400 Bad Request", JSON, b'{"message":"other writer: point 0"}')
+            return response(FAULT, JSON, b'{"message":"other writer: point 0"}')
         if start < self.frontier:
             text = f'{{"message":"out of order: point 0, frontier {self.frontier}"}}'
-            return response(b"400 Bad Request", JSON, text.encode())
+            return response(FAULT, JSON, text.encode())
+        if self.accepted[1] + value > MOST:
+            return response(b"503 Service Unavailable", JSON, b'{"message":"too large"}')
         self.start = start if self.stored == (0, 0) else self.start
         self.frontier, self.owner = end, sender
         self.accepted = (self.accepted[0] + 1, self.accepted[1] + value)
@@ -79,7 +91,7 @@ class Store:
 
     def lift(self):
         if "B" not in self.quarantined:
-            return response(b"400 Bad Request", JSON, b'{"message":"not quarantined"}')
+            return response(FAULT, JSON, b'{"message":"not quarantined"}')
         self.quarantined.remove("B")
         return DONE
 
@@ -105,7 +117,11 @@ EXCHANGES = [
     (posted(point(30, 40, 1), "B"), lambda store: store.post(30, 40, 1, "B"), False),
     (posted(point(10, 20, 5)), lambda store: store.post(10, 20, 5), False),
     (ordered("POST /flush"), Store.flush, True),
-    (posted(b"[1"), lambda store: response(b"400 Bad Request", JSON, b'{"message":"not JSON"}'), False),
+    (posted(b"[1"), lambda store: response(FAULT, JSON, b'{"message":"not JSON"}'), False),
+    (posted(b"{}"), lambda store: DONE, False),
+    (CHUNKED, lambda store: DONE, False),
+    (posted(FOREIGN), lambda store: response(b"200 OK", JSON, PARTIAL), False),
+    (posted(point(40, 50, MOST)), lambda store: store.post(40, 50, MOST), False),
     (ordered("POST /lift/B"), Store.lift, False),
     (ordered("GET /report"), lambda store: response(b"200 OK", b"text/plain", store.report()), False),
 ]

@@ -11,6 +11,8 @@ lines are put behind each script, which show what the store has at its end.
     run of the script without those lines; a `wire` may also have taken its flush and given it back.
   - Or the run ends with `play: no memory` after whole replies, which are those of such a run.
   - Or each line is answered as in the full run, where the program can do without what it was refused.
+Where growth k alone has a line refused, the script is run once more with that line twice. The second time
+it is answered in full, and so are all others: as in the full run, but for what a `wire` has given back.
 The last line counts the runs that passed and failed, and the status is 0 where none failed.
 """
 import concurrent.futures
@@ -62,15 +64,34 @@ def replies_of(script, text):
     return replies, b"".join(texts)
 
 
-class Player:
-    """A script with its full run, and its runs without some lines."""
+def refused_of(replies):
+    """The places of the lines that found no memory."""
+    return [place for place, reply in enumerate(replies) if reply == NO_MEMORY]
 
-    def __init__(self, program, name, script):
+
+class Player:
+    """A script with its full run, its runs without some lines, and itself with a line twice."""
+
+    def __init__(self, program, name, script, size=None):
         self.program = program
         self.name = name
-        self.script = script
+        # A last line, which is no command, makes the input as long as that of a script with a line twice.
+        size = size or len(b"".join(script)) + len(script) + max(map(len, script)) + 3
+        pad = b"-" * (size - len(b"".join(script)) - len(script) - 1)
+        self.size = size
+        self.script = script + [pad]
+        self.given = b"".join(line + b"\n" for line in self.script)
         self.known = {}
-        self.full = plain([program], b"\n".join(script) + b"\n")
+        self.twice = {}
+        self.full = plain([program], self.given)
+
+    def with_twice(self, place):
+        """The script with the line at this place twice."""
+        if place not in self.twice:
+            lines = self.script[:-1]
+            script = lines[:place + 1] + lines[place:]
+            self.twice[place] = Player(self.program, f"{self.name} with line {place} twice", script, self.size)
+        return self.twice[place]
 
     def replies(self, lines):
         text = b"".join(line + b"\n" for line in lines)
@@ -118,7 +139,7 @@ class Player:
         replies, rest = replies_of(self.script, run.out)
         if rest or (len(replies) < len(self.script)) != ended:
             return None, f"{len(replies)} whole replies, and then {rest}"
-        refused = [place for place, reply in enumerate(replies) if reply == NO_MEMORY]
+        refused = refused_of(replies)
         if len(refused) > 1 and form == "alone":
             return None, f"lines {refused} are refused"
         if any(verb(self.script[place]) not in TAKES_MEMORY for place in refused):
@@ -126,6 +147,13 @@ class Player:
         if not self.is_possible(replies, refused):
             return None, f"not the replies of the script without the lines {refused}: {replies}"
         return ("ended" if ended else "refused a line" if refused else "did without"), None
+
+    def made_again(self, run, place):
+        """As `way_of`, of a run in which the line at this place is to be refused, and is made again."""
+        way, fault = self.way_of(run, "alone")
+        if way == "refused a line" and refused_of(replies_of(self.script, run.out)[0]) == [place]:
+            return "refused a line and made it again", None
+        return None, fault or f"not line {place} alone is refused: {run.out}"
 
 
 def play_all(refusing, counts, program, path):
@@ -139,12 +167,17 @@ def play_all(refusing, counts, program, path):
     whole = plain([program], b"\n".join(script) + b"\n" if script else b"")
     is_right = (whole.status, whole.out, whole.err) == (0, wanted, b"")
     counts.add(whole, "without refusal" if is_right else None, f"{name}: {whole.out}")
-    given = b"\n".join(player.script) + b"\n"
     for form in FORMS:
         for growth in itertools.count(1):
-            run = refusing.run([program], given, growth, form)
+            run = refusing.run([program], player.given, growth, form)
             way, fault = player.way_of(run, form)
             counts.add(run, way, f"{name}, growth {growth} {form}: {fault}")
+            if way == "refused a line" and form == "alone":
+                [place] = refused_of(replies_of(player.script, run.out)[0])
+                twice = player.with_twice(place)
+                run = refusing.run([program], twice.given, growth)
+                way, fault = twice.made_again(run, place)
+                counts.add(run, way, f"{twice.name}, growth {growth}: {fault}")
             if run.refused == 0 or run.status == "no end":
                 break
 
