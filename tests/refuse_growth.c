@@ -3,6 +3,7 @@
  *   REFUSE_GROWTH=K           the Kth growth of the program is refused, counted from 1
  *   REFUSE_FORM=alone|from    that growth alone, or it and all later ones
  *   REFUSE_COUNTS=FILE        at its end the program leaves here `growths N refused M`
+ *   REFUSE_WRITES=FILE        and here, at each write to standard output, `growths N bytes M`
  *
  * A growth is a call of malloc, calloc, realloc, reallocarray, posix_memalign, aligned_alloc, memalign
  * or valloc, or of mmap or mremap for memory of no file. Those before `main` do not count. Any number
@@ -36,6 +37,7 @@ static Main *program;
 static long refused_from, refused_to; /* the growths that are refused; none where both are 0 */
 static long growths, refused;
 static int counting;
+static int writes = -1; /* the file that is told of writes */
 
 /* What the loader takes before the real functions are known. It is never given back. */
 static char early[65536];
@@ -179,6 +181,22 @@ static char *put(char *at, const char *word, long number)
     return (char *)memcpy(at, digit, count) + count;
 }
 
+/* Leaves a line of two words and their numbers. */
+static long tell(int file, const char *word, long number, const char *other, long more)
+{
+    char line[96], *end = stpcpy(put(put(line, word, number), other, more), "\n");
+    return syscall(SYS_write, file, line, (size_t)(end - line));
+}
+
+ssize_t write(int file, const void *bytes, size_t count)
+{
+    if (file == STDOUT_FILENO && writes >= 0)
+        tell(writes, "growths ", __atomic_load_n(&growths, __ATOMIC_SEQ_CST), " bytes ", (long)count);
+    return syscall(SYS_write, file, bytes, count);
+}
+
+ssize_t __write(int file, const void *bytes, size_t count) __attribute__((alias("write")));
+
 static void leave(int status)
 {
     for (;;)
@@ -187,14 +205,12 @@ static void leave(int status)
 
 static void tell_counts(void)
 {
-    char line[96];
     const char *path = getenv("REFUSE_COUNTS");
     int file = path ? open(path, O_WRONLY | O_CREAT | O_TRUNC, 0644) : -1;
     counting = 0;
     if (file < 0)
         return;
-    char *end = stpcpy(put(put(line, "growths ", growths), " refused ", refused), "\n");
-    if (write(file, line, (size_t)(end - line)) < 0)
+    if (tell(file, "growths ", growths, " refused ", refused) < 0)
         leave(99);
     close(file);
 }
@@ -217,7 +233,9 @@ int __libc_start_main(Main *start, int count, char **words, void (*first)(void),
                       void (*loader_last)(void), void *stack)
 {
     StartMain *real = (StartMain *)dlsym(RTLD_NEXT, "__libc_start_main");
-    const char *growth = getenv("REFUSE_GROWTH"), *form = getenv("REFUSE_FORM");
+    const char *growth = getenv("REFUSE_GROWTH"), *form = getenv("REFUSE_FORM"), *path = getenv("REFUSE_WRITES");
+    if (path)
+        writes = open(path, O_WRONLY | O_CREAT | O_TRUNC | O_CLOEXEC, 0644);
     refused_from = growth ? atol(growth) : 0;
     refused_to = form && !strcmp(form, "from") ? (refused_from ? __LONG_MAX__ : 0) : refused_from;
     program = start;

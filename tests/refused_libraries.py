@@ -10,6 +10,8 @@ is crates/growths/stdout. For each k from 1 until a run meets no refusal:
   - With all from k on refused the lines are those of the full run up to a call that finds no memory,
     and then those of the calls that take none, which are answered as ever.
   - No call says that something changed, and none but the last ones ends the program.
+  - Of the calls that take none, whose lines begin with `end: `, none has a growth, counted before and behind
+    each in a run that is refused nothing.
   - Where the two books that it keeps find no memory the program ends with `growths: no memory`, and no
     line.
 The last line counts the runs that passed and failed, and the status is 0 where none failed.
@@ -17,7 +19,7 @@ The last line counts the runs that passed and failed, and the status is 0 where 
 import os
 import sys
 
-from refusing import HERE, program_named, refuse_each
+from refusing import HERE, Run, program_named, refuse_each
 
 MARK = "no memory: "
 CUT = "the calls end here"
@@ -73,6 +75,18 @@ def way_of(full, run, form):
     return way_alone(full, lines) if form == "alone" else way_from(full, lines)
 
 
+def none_grows(refusing, counts, program):
+    """Counts the growths of each call at the end: from the line before it to its own."""
+    pieces = refusing.counted([program])
+    before = [0] + [growths for growths, _ in pieces]
+    calls = [(text, growths - before[place]) for place, (growths, text) in enumerate(pieces)
+             if text.startswith(b"end: ")]
+    grown = [(text, count) for text, count in calls if count]
+    run = Run(0, b"", b"", before[-1], 0)
+    counts.add(run, None if grown or not calls else "without refusal", f"calls that take memory: {grown}")
+    print(f"{len(calls)} calls are counted to take no memory", flush=True)
+
+
 def main(program):
     with open(os.path.join(HERE, "..", "crates", "growths", "stdout")) as file:
         full = file.read().splitlines()
@@ -81,7 +95,7 @@ def main(program):
         run = refusing.run([program], b"", growth, form)
         return run, *way_of(full, run, form)
 
-    return refuse_each("libraries", run_once)
+    return refuse_each("libraries", run_once, lambda refusing, counts: none_grows(refusing, counts, program))
 
 
 if __name__ == "__main__":

@@ -46,6 +46,19 @@ class Refusing:
             found = None
         return (int(found[1]), int(found[2])) if found else (None, None)
 
+    def counted(self, words):
+        """What a run without a refusal writes to standard output, piece by piece, each with how many growths
+        there were before it was written."""
+        path = os.path.join(self.folder, "writes")
+        environment = dict(self.environment(0, "alone"), REFUSE_WRITES=path)
+        out = subprocess.run(words, stdout=subprocess.PIPE, timeout=SECONDS, env=environment, check=True).stdout
+        pieces = []
+        with open(path) as file:
+            for growths, size in re.findall(r"growths (\d+) bytes (\d+)\n", file.read()):
+                pieces.append((int(growths), out[:int(size)]))
+                out = out[int(size):]
+        return pieces
+
     def run(self, words, given, growth, form="alone"):
         try:
             done = subprocess.run(words, input=given, capture_output=True, timeout=SECONDS,
@@ -68,9 +81,10 @@ def program_named(words, more=""):
     return words[0]
 
 
-def refuse_each(what, run_once):
+def refuse_each(what, run_once, check=None):
     """Calls run_once(refusing, growth, form), which returns a run, its way and what is wrong with it, for each
-    growth of the full run and those behind it. Returns the script's status."""
+    growth of the full run and those behind it, and before them check(refusing, counts). Returns the script's
+    status."""
     counts = Counts(what)
 
     def count_once(growth, form):
@@ -80,6 +94,8 @@ def refuse_each(what, run_once):
 
     with tempfile.TemporaryDirectory() as folder:
         refusing = Refusing(folder)
+        if check:
+            check(refusing, counts)
         in_turn(count_once(0, "alone").growths or 0, count_once)
     return counts.end()
 
