@@ -1,12 +1,12 @@
 #!/usr/bin/env python3
 """The service under load, while all that it is made of is killed, stopped and replaced.
 
-    tests/service_load.py TOTXEGUN GATEWAY [SECONDS] [SEED] [--slots N]
+    tests/service_load.py TOTXEGUN GATEWAY [SECONDS] [SEED] [--slots N[,M]]
 
-With --slots the service has so many gateways; where it is more than one, a start behind a kill has another number of them
-now and then, which moves senders from slot to slot.
+Four runs of a quarter of the seconds each (60): durable `disk` and `process`, with a sink of OTLP and a SQLite file. Two of
+them have one slot and two have three, or so many as is said. Where there is more than one, a start behind a kill has another
+number of them now and then, which moves senders from slot to slot.
 
-Four runs of a quarter of the seconds each (60): durable `disk` and `process`, with a sink of OTLP and a SQLite file.
 Senders post sums and histograms, in JSON and protobuf, packed or not, on connections that they keep, and repeat each post
 until it is answered; now and then one posts to another's series, and is refused. Meanwhile the gateway, the service, or
 both are killed, also twice in a row; they are stopped and go on; gateways are renewed, senders are quarantined and
@@ -245,7 +245,7 @@ def compare(checks, what, sink, senders):
 
 
 def run(checks, program, gateway, durable, kind, seconds, seed, slots):
-    what = f"{durable}, {kind}"
+    what = f"{durable}, {kind}, {slots} slots" if slots > 1 else f"{durable}, {kind}"
     with tempfile.TemporaryDirectory(prefix="service-") as folder:
         sink = OtlpSink(seed) if kind == "OTLP" else SqliteSink(f"{folder}/sink.db")
         words = ["--durable", durable, "--flush-every", "1s", "--slots", str(slots)]
@@ -260,11 +260,12 @@ def run(checks, program, gateway, durable, kind, seconds, seed, slots):
 
 def main(arguments):
     checks = Checks()
-    print(f"note: seed {arguments.seed}, {arguments.slots} slots", flush=True)
-    for durable in ("disk", "process"):
-        for kind in ("OTLP", "SQLite"):
-            run(checks, arguments.totxegun, arguments.gateway, durable, kind, arguments.seconds / 4,
-                f"{arguments.seed} {durable} {kind}", arguments.slots)
+    print(f"note: seed {arguments.seed}", flush=True)
+    first, second = (arguments.slots * 2)[:2]
+    for durable, kind, slots in (("disk", "OTLP", first), ("disk", "SQLite", second), ("process", "OTLP", second),
+                                 ("process", "SQLite", first)):
+        run(checks, arguments.totxegun, arguments.gateway, durable, kind, arguments.seconds / 4,
+            f"{arguments.seed} {durable} {kind}", slots)
     return checks.end()
 
 
@@ -274,5 +275,5 @@ if __name__ == "__main__":
     parser.add_argument("gateway", type=os.path.abspath)
     parser.add_argument("seconds", type=float, nargs="?", default=SECONDS)
     parser.add_argument("seed", nargs="?", default="1")
-    parser.add_argument("--slots", type=int, default=1)
+    parser.add_argument("--slots", type=lambda text: [int(word) for word in text.split(",")], default=[1, 3])
     sys.exit(main(parser.parse_args()))
