@@ -6,6 +6,7 @@
  * answered. The SERIES are shared out among the senders; KIND is sum or histogram (11 buckets); ENCODING is json,
  * protobuf or gzip, which is packed protobuf; CONNECTIONS is each, one for each request, or kept. A sender's points go
  * round its series and on in time, so a second run begins at the point FROM of each sender, where the first one ended.
+ * ENCODING may also be grpc: protobuf over HTTP/2, on connections that are kept, whatever CONNECTIONS says.
  * All requests are written before the first is posted. Prints, separated by blanks: requests, those that were not answered
  * 200, seconds, the median and the 99th percentile of a request in microseconds, from before its connection is made, or
  * before it is sent on one that is kept, until its answer has ended, and the bytes of all bodies. */
@@ -42,7 +43,7 @@ struct client {
     double *took;
 };
 
-static int port, is_histogram, is_protobuf, is_packed, is_kept;
+static int port, is_histogram, is_protobuf, is_packed, is_kept, is_grpc;
 static long clients, points, series, from;
 static pthread_barrier_t prepared;
 
@@ -213,9 +214,65 @@ static size_t packed(char *to, size_t room_, char *bytes, size_t length) {
     return room_ - stream.avail_out;
 }
 
+/* gRPC: frames of HTTP/2. A stream is one request; the next one begins behind its answer, so no window is used up. */
+
+enum { FRAME = 9, MOST_OF_A_FRAME = 16384, DATA = 0, HEADERS = 1, SETTINGS = 4, PING = 6, GO_AWAY = 7 };
+enum { ACKNOWLEDGED = 1, END_STREAM = 1, END_HEADERS = 4 };
+/* The client's preface, no settings, and a window that all answers fit into. */
+static const char PREFACE[] = "PRI * HTTP/2.0\r\n\r\nSM\r\n\r\n\0\0\0\4\0\0\0\0\0" "\0\0\4\x8\0\0\0\0\0\x3f\0\0\0";
+
+static size_t put_frame(char *to, size_t length, int kind, int flags, unsigned stream) {
+    unsigned at = htonl(stream);
+    char head[] = { (char)(length >> 16), (char)(length >> 8), (char)length, (char)kind, (char)flags };
+    memcpy(to, head, sizeof head);
+    memcpy(to + sizeof head, &at, sizeof at);
+    return FRAME;
+}
+
+/* A header that no table keeps: `name` is its index in the first table, or its text behind a zero. */
+static size_t put_header(char *to, const char *name, size_t of_name, const char *value) {
+    size_t length = strlen(value);
+    memcpy(to, name, of_name);
+    to[of_name] = (char)length;
+    memcpy(to + of_name + 1, value, length);
+    return of_name + 1 + length;
+}
+
+static struct text call_of(struct client *client, long number, const char *body, size_t length) {
+    unsigned stream = 2 * number + 1;
+    char fields[HEAD_ROOM] = "\x83\x86", sender[32];
+    size_t at = 2;
+    sprintf(sender, "s%d", client->number);
+    at += put_header(fields + at, "\x04", 1, "/opentelemetry.proto.collector.metrics.v1.MetricsService/Export");
+    at += put_header(fields + at, "\x01", 1, "127.0.0.1");
+    at += put_header(fields + at, "\x0f\x10", 2, "application/grpc");
+    at += put_header(fields + at, "\0\2te", 4, "trailers");
+    at += put_header(fields + at, "\0\x8x-sender", 10, sender);
+    size_t frames = (5 + length) / MOST_OF_A_FRAME + 1, written;
+    struct text call = { room(at + 5 + length + FRAME * (frames + 1)), 0 };
+    written = put_frame(call.bytes, at, HEADERS, END_HEADERS, stream);
+    memcpy(call.bytes + written, fields, at);
+    written += at;
+    char *message = room(5 + length);
+    unsigned of_body = htonl(length);
+    message[0] = 0;
+    memcpy(message + 1, &of_body, 4);
+    memcpy(message + 5, body, length);
+    for (size_t from_ = 0; from_ < 5 + length;) {
+        size_t part = 5 + length - from_ > MOST_OF_A_FRAME ? MOST_OF_A_FRAME : 5 + length - from_;
+        written += put_frame(call.bytes + written, part, DATA, from_ + part == 5 + length ? END_STREAM : 0, stream);
+        memcpy(call.bytes + written, message + from_, part);
+        written += part;
+        from_ += part;
+    }
+    free(message);
+    call.length = written;
+    return call;
+}
+
 /* Requests */
 
-static struct text request_of(struct client *client, long first) {
+static struct text request_of(struct client *client, long index, long first) {
     size_t most = BODY_ROOM + points * POINT_ROOM;
     char *body = room(most), head[HEAD_ROOM];
     size_t length = is_protobuf ? put_protobuf(body, client->number, first) : put_json(body, client->number, first);
@@ -224,6 +281,12 @@ static struct text request_of(struct client *client, long first) {
         length = packed(smaller, most, body, length);
         free(body);
         body = smaller;
+    }
+    if (is_grpc) {
+        struct text call = call_of(client, index, body, length);
+        client->bytes += length;
+        free(body);
+        return call;
     }
     int start = sprintf(head,
         "POST /v1/metrics HTTP/1.1\r\nHost: 127.0.0.1:%d\r\nContent-Type: application/%s\r\nx-sender: s%d\r\n"
@@ -256,16 +319,53 @@ static int is_whole(char *answer, size_t held) {
     return end && length && length < end && held >= (size_t)(end + 4 - answer) + atol(length + 15);
 }
 
+static void send_all(int socket_, const char *bytes, size_t length) {
+    for (size_t sent = 0; sent < length;) {
+        ssize_t more = send(socket_, bytes + sent, length - sent, MSG_NOSIGNAL);
+        if (more <= 0) break;
+        sent += more;
+    }
+}
+
+static void read_all(int socket_, char *to, size_t length) {
+    for (size_t held = 0; held < length;) {
+        ssize_t more = recv(socket_, to + held, length - held, 0);
+        if (more <= 0) stop("an HTTP/2 connection ended");
+        held += more;
+    }
+}
+
+/* One call; whether its answer has a message: one that was refused has none. */
+static int call(struct client *client, struct text request) {
+    char head[FRAME], held[MOST_OF_A_FRAME];
+    if (client->socket_ < 0) {
+        client->socket_ = connection_of(client);
+        send_all(client->socket_, PREFACE, sizeof PREFACE - 1);
+    }
+    send_all(client->socket_, request.bytes, request.length);
+    for (int has_message = 0;;) {
+        read_all(client->socket_, head, FRAME);
+        size_t length = (unsigned char)head[0] << 16 | (unsigned char)head[1] << 8 | (unsigned char)head[2];
+        if (length > sizeof held || head[3] == GO_AWAY) return 0;
+        read_all(client->socket_, held, length);
+        if ((head[3] == SETTINGS || head[3] == PING) && !(head[4] & ACKNOWLEDGED)) {
+            char answer[FRAME + 8];
+            size_t whole = head[3] == PING ? 8 : 0;
+            put_frame(answer, whole, head[3], ACKNOWLEDGED, 0);
+            memcpy(answer + FRAME, held, whole);
+            send_all(client->socket_, answer, FRAME + whole);
+        }
+        has_message |= head[3] == DATA && length >= 5;
+        if ((head[3] == DATA || head[3] == HEADERS) && head[4] & END_STREAM) return has_message;
+    }
+}
+
 /* One request; whether it was answered 200. */
 static int post(struct client *client, struct text request) {
     char answer[ANSWER_ROOM];
     size_t held = 0;
     if (client->socket_ < 0) client->socket_ = connection_of(client);
-    for (size_t sent = 0; sent < request.length;) {
-        ssize_t more = send(client->socket_, request.bytes + sent, request.length - sent, MSG_NOSIGNAL);
-        if (more <= 0) break;
-        sent += more;
-    }
+    send_all(client->socket_, request.bytes, request.length);
     int is_ended = 0;
     while (!is_ended && !(is_kept && is_whole(answer, held))) {
         ssize_t more = recv(client->socket_, answer + held, sizeof answer - 1 - held, 0);
@@ -282,11 +382,11 @@ static int post(struct client *client, struct text request) {
 static void *run(void *given) {
     struct client *client = given;
     for (long number = 0; number < client->requests; number++)
-        client->posts[number] = request_of(client, from + number * points);
+        client->posts[number] = request_of(client, number, from + number * points);
     pthread_barrier_wait(&prepared);
     for (long number = 0; number < client->requests; number++) {
         double begun = now();
-        client->failed += !post(client, client->posts[number]);
+        client->failed += !(is_grpc ? call : post)(client, client->posts[number]);
         client->took[number] = now() - begun;
     }
     return NULL;
@@ -307,8 +407,9 @@ int main(int count, char **words) {
     series = atol(words[5]);
     is_histogram = !strcmp(words[6], "histogram");
     is_packed = !strcmp(words[7], "gzip");
-    is_protobuf = is_packed || !strcmp(words[7], "protobuf");
-    is_kept = !strcmp(words[8], "kept");
+    is_grpc = !strcmp(words[7], "grpc");
+    is_protobuf = is_packed || is_grpc || !strcmp(words[7], "protobuf");
+    is_kept = is_grpc || !strcmp(words[8], "kept");
     from = atol(words[9]);
     if (clients < 1 || clients > MOST_CLIENTS || requests < 1 || points < 1 || series < clients) return 2;
     double *took = room(clients * requests * sizeof *took);

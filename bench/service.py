@@ -5,7 +5,7 @@
                      [--runs N] [--seconds N] [--slots N] [--data DIR] [--options WORDS]
 
 The programs are bin/totxegun and bin/gateway, as `make build` makes them, where none is named. Rows: json-1, json-20,
-protobuf-103, gzip-103, by the encoding and the points of a post, over 800 series. Parties: gateway, which is the bare
+protobuf-103, gzip-103, grpc-1, grpc-103, by the encoding and the points of a post, over 800 series. Parties: gateway, which is the bare
 one, process and disk, which are the service with this durability and a SQLite file as its sink; more options of it are
 in WORDS. With --slots the service has so many gateways, which share the senders; the bare one stays one. The bare
 gateway gets a connection a request, and protobuf's points as JSON: it reads no other. It has the options and the
@@ -25,8 +25,11 @@ from loading import Posts, Senders, rounded
 from process import file_system, numbers, processor_seconds, spread
 from running import as_served, bare, options, serving, shown
 
+from loopback import free_port
+
 # Each row with what is posted, and how many posts a second are looked for where it is not known yet.
-ROWS = {"json-1": ("json", 1, 4000), "json-20": ("json", 20, 1000), "protobuf-103": ("protobuf", 103, 300), "gzip-103": ("gzip", 103, 300)}
+ROWS = {"json-1": ("json", 1, 4000), "json-20": ("json", 20, 1000), "protobuf-103": ("protobuf", 103, 300), "gzip-103": ("gzip", 103, 300),
+        "grpc-1": ("grpc", 1, 4000), "grpc-103": ("grpc", 103, 300)}
 PARTIES = ["gateway", "process", "disk"]
 # Of each sender, so that what a run begins with does not count.
 LEAST_POSTS = 50
@@ -60,9 +63,11 @@ def run(party, arguments, served, row, clients, requests):
             port, process = stack.enter_context(bare(words, served[1]))
             loaded, (child,) = measured(port, [process.pid], clients, Posts("sum", points, arguments.series, "json", "each"), requests)
             return Figures(0, child, loaded)
-        one = stack.enter_context(serving(arguments, "--durable", party, "--slots", str(arguments.slots)))
+        grpc = free_port()
+        one = stack.enter_context(serving(arguments, "--durable", party, "--slots", str(arguments.slots), "--listen-grpc",
+                                          f"127.0.0.1:{grpc}"))
         posts = Posts("sum", points, arguments.series, encoding, "kept")
-        loaded, (own, *children) = measured(one.listen, [one.process.pid, *one.gateways()], clients, posts, requests)
+        loaded, (own, *children) = measured(grpc if encoding == "grpc" else one.listen, [one.process.pid, *one.gateways()], clients, posts, requests)
         return Figures(own, sum(children), loaded)
 
 
@@ -117,8 +122,9 @@ def main():
     arguments = parser.parse_args()
     loading.build()
     served = as_served(arguments)
-    print(f"{arguments.totxegun}, {arguments.gateway}, {len(os.sched_getaffinity(0))} processors, {arguments.runs} runs in turn, {arguments.slots} slots, the folder"
-          f" on {file_system(arguments.data)}; a gateway has {' '.join(served[0])}, and {shown(served[1])}", flush=True)
+    print(f"{arguments.totxegun}, {arguments.gateway}, {len(os.sched_getaffinity(0))} processors, {arguments.runs} runs in turn,"
+          f" {arguments.slots} slots, the folder on {file_system(arguments.data)}; a gateway has {' '.join(served[0])}, and"
+          f" {shown(served[1])}", flush=True)
     for row in arguments.rows:
         for clients in arguments.senders:
             print_row(arguments, served, row, clients)
