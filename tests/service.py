@@ -49,6 +49,16 @@ def wait_until(what, seconds=SECONDS):
     return True
 
 
+def is_stopped(pid):
+    """Whether all threads of a process are stopped, or it is gone."""
+    with contextlib.suppress(OSError):
+        for thread in os.listdir(f"/proc/{pid}/task"):
+            with open(f"/proc/{pid}/task/{thread}/stat", encoding="utf-8") as file:
+                if file.read().rpartition(")")[2].split()[0] not in "TXZ":
+                    return False
+    return True
+
+
 # --------------------------------------------------------------------------------------------------------------------
 # The program
 
@@ -96,11 +106,12 @@ class Service:
             self.process.send_signal(number)
 
     def signal_gateway(self, number):
+        """SIGSTOP is waited for: until one of its threads has it, the others go on."""
         for pid in self.gateways() if self.is_running() else ():
-            try:
+            with contextlib.suppress(ProcessLookupError):
                 os.kill(pid, number)
-            except ProcessLookupError:
-                pass
+                if number == signal.SIGSTOP:
+                    wait_until(lambda pid=pid: is_stopped(pid), 5)
 
     def kill(self):
         """As `kill -9`."""
