@@ -38,6 +38,11 @@ STEPS = (
     ("readme_examples.py", PLAY, 1, False),
     ("gateway_load.py", GATEWAY, 5, True),
 )
+# Of the sources alone: what `make fmt` would change, and the number of definitions that docs/PROOFS.md begins with.
+TOOL_STEPS = (
+    ("crates_are_laid_out", ["tools/format.py", "--check"], 20),
+    ("promise_is_counted", ["tools/promise.py", "--check"], 2),
+)
 # The service: cargo's steps, one after another over one folder, and scripts of tests/ with what they run.
 CARGO_STEPS = (
     ("service_is_laid_out", ["fmt", "--check"]),
@@ -140,9 +145,8 @@ def step_of(script, program, seconds, is_timed, before, of=""):
     return Step(name, work, " ".join(command), weight=seconds, lane=lane, alone=is_timed)
 
 
-def layout_step():
-    """The step that fails where `make fmt` would change a file."""
-    command = ["tools/format.py", "--check"]
+def tool_step(name, command, seconds):
+    """The step that runs a command of tools/."""
 
     def work(step):
         status = step.run(command, limit=STEP_LIMIT)
@@ -151,7 +155,7 @@ def layout_step():
             raise Failed(last)
         return last
 
-    return Step("crates_are_laid_out", work, " ".join(command), weight=20)
+    return Step(name, work, " ".join(command), weight=seconds)
 
 
 def cargo_steps():
@@ -197,7 +201,9 @@ def main(words):
         passed, failed = prover.passed, prover.failed
     if not failed:
         before = [OWN_NETWORK] if has_networks() else []
-        steps = Steps([layout_step(), *[step_of(*it, before) for it in STEPS], *cargo_steps(), *service_steps(before)])
+        steps = Steps([
+            *[tool_step(*it) for it in TOOL_STEPS], *[step_of(*it, before) for it in STEPS], *cargo_steps(), *service_steps(before),
+        ])
         steps.run()
         passed, failed = passed + len(steps.passed), len(steps.failed)
         print("beside the prover:" if words else "the gate, the prover's part and the steps beside it:")

@@ -1,0 +1,304 @@
+#!/usr/bin/env python3
+"""What the promise stands on: the definitions that the top contracts name, and those that these name, all the way down.
+
+    tools/promise.py                    the number of each top contract, and of all together
+    tools/promise.py CRATE FUNCTION     the reading list of one: what to read, lowest first, with lines
+    tools/promise.py --inner            the definitions that no public contract needs, by file
+    tools/promise.py --check            whether docs/PROOFS.md has the number of all: a step of the gate
+
+It goes by names and imports, and reads no type: what a trait's function means, and the fields of types of src/, are not
+followed. What the toolchain's libraries define is not counted.
+"""
+import glob
+import os
+import re
+import sys
+
+from crates import ROOT, read_crates
+
+# The contracts that docs/MODEL.md begins with: a crate, and its functions, or a file of definitions.
+TOP = (
+    ("delta_book", ["specs/Calls"]),
+    ("play_script", ["play"]),
+    ("gate_workers", ["serve_with", "serve_book", "flush_turn"]),
+    ("shared_book", ["finish"]),
+    ("gateway_serve", ["serve_bound"]),
+    ("metric_events", ["striking", "closing", "recovery", "priming", "lasting"]),
+)
+PROOFS = f"{ROOT}/docs/PROOFS.md"
+NUMBERED = "stands on {definitions:,} definitions, {lines:,} lines in {files} files"
+
+IMPORT = re.compile(r"^\s*(?:ghost |pub )*use Rattle\.([\w.]+)(?:\.\{([^}]*)\}| as (\w+))?;?$", re.MULTILINE)
+DEFINED = re.compile(r"^(?:(?:abbrev|unfoldable|pub|record|data) )*([^\s:({]+)")
+DIRECTIVE = re.compile(r"(pub )?(use|mod) |infix[lr]? ")
+# What begins at the margin of a file of src/, with what it may have further in.
+ITEM = re.compile(r"^(?P<public>pub )?(?:(?P<kind>fn|trait) (?P<name>\w+)|impl\b(?P<head>[^{]*)\{)", re.MULTILINE)
+METHOD = re.compile(r"^    (?P<public>pub )?fn (?P<name>\w+)", re.MULTILINE)
+# What an implementation gives in the place of a trait's own words.
+MEANT = re.compile(r"^    ghost \w+ [^;]*= [^;]*;$", re.MULTILINE)
+# The type of `impl<L: Round> Drop for Book<L>`, and whose trait it is.
+IMPLEMENTED = re.compile(r"(?:<.*?> )?(?:(?P<trait>\w+)(?:<.*>)? for )?(?P<type>\w+)")
+EXPORT = re.compile(r"^\s*pub (?:mod (\w+);|use [\w:]+?::(?:\{([^}]*)\}|(\w+));|(?:fn|trait|struct|enum) (\w+))", re.MULTILINE)
+# A word of a text, with what stands behind its dots; or an operator.
+WORD = re.compile(r"[\w']+(?:\.[\w']+)*|[^\w\s'.,;(){}\[\]]+")
+
+
+def read(path):
+    with open(path, encoding="utf-8") as file:
+        return file.read()
+
+
+class Names:
+    """What the names of one file stand for: a module of the repository, and its name there."""
+
+    def __init__(self, text):
+        self.of = {}
+        self.modules = {}
+        for module, names, alias in IMPORT.findall(text):
+            for name in filter(None, (it.strip() for it in names.split(","))):
+                known, _, renamed = name.partition(" as ")
+                for part in parts_of(renamed or known):
+                    self.of[part] = (module, known)
+            if not names:
+                self.modules[alias or module.rpartition(".")[2]] = module
+
+    def meant(self, word):
+        """The module and the name behind a word, where an import gives it."""
+        first, _, rest = word.partition(".")
+        if first in self.of:
+            return self.of[first]
+        if first in self.modules and rest:
+            return self.modules[first], rest.partition(".")[0]
+        return None
+
+
+def parts_of(name):
+    """The words by which a name is used: those of an operator are between its places."""
+    return [it for it in name.split("◌") if it] if "◌" in name else [name]
+
+
+class Definition:
+    """A definition of specs/, with the comment before it."""
+
+    def __init__(self, file, line, text):
+        self.file = file
+        self.line = line
+        self.lines = text.count("\n") + 1
+        self.code = "\n".join(it for it in text.split("\n") if not it.lstrip().startswith("--"))
+        self.name = DEFINED.match(self.code).group(1)
+
+
+class Specs:
+    """A file of specs/."""
+
+    def __init__(self, crate, path):
+        self.crate = crate
+        self.path = path
+        self.module = f"{crate}.specs.{os.path.relpath(path, f'{ROOT}/crates/{crate}/specs')[:-5].replace('/', '.')}"
+        text = read(path)
+        self.names = Names(text)
+        self.definitions = {}
+        line = 1
+        for block in text.split("\n\n"):
+            code = [it for it in block.split("\n") if it and not it.startswith("--")]
+            if code and not DIRECTIVE.match(code[0]):
+                # A blank line before it was split off.
+                it = Definition(self, line, block.strip("\n"))
+                for part in parts_of(it.name):
+                    self.definitions[part] = it
+            line += block.count("\n") + 2
+
+
+def exports(folder, module):
+    """The names that a module of src/ gives to those who use the crate."""
+    path = f"{folder}/{module}.rt"
+    found = set()
+    if os.path.isfile(path):
+        for public_module, several, one, item in EXPORT.findall(read(path)):
+            found |= exports(folder if module == "lib" else f"{folder}/{module}", public_module) if public_module else set()
+            found |= {it.strip() for it in several.split(",")} | {one, item}
+    return found
+
+
+def public_contracts(text, exported):
+    """Each public function or trait of a file, with the text of its contract."""
+    for it in ITEM.finditer(text):
+        if it["head"] is None:
+            if it["public"] and it["name"] in exported:
+                yield it["name"], block(text, it.start()) if it["kind"] == "trait" else signature(text, it.start(), "")
+            continue
+        of = IMPLEMENTED.match(it["head"].strip())
+        # How a type is kept is nobody's to know.
+        if of["type"] in exported and of["trait"] != "Model":
+            inside = block(text, it.start())
+            if of["trait"]:
+                yield of["type"], "\n".join(MEANT.findall(inside))
+            for method in METHOD.finditer(inside):
+                if method["public"] or of["trait"]:
+                    yield method["name"], signature(inside, method.start(), "    ")
+
+
+def block(text, start):
+    """An item from here to the brace that ends it at the margin."""
+    end = re.compile(r"^\}|\{\}$", re.MULTILINE).search(text, start)
+    return text[start:end.end()]
+
+
+def signature(text, start, indent):
+    """A function from here to its body."""
+    end = re.compile(rf"^{indent}\{{|[;{{]$|\{{\}}$", re.MULTILINE).search(text, start)
+    return text[start:end.start() if end else None]
+
+
+class Promise:
+    """All files of specs/, by their modules."""
+
+    def __init__(self):
+        self.crates = list(read_crates())
+        self.files = {}
+        for crate in self.crates:
+            for path in sorted(glob.glob(f"{ROOT}/crates/{crate}/specs/**/*.antt", recursive=True)):
+                file = Specs(crate, path)
+                self.files[file.module] = file
+
+    def found(self, names, word, file=None):
+        """The definition behind a word of a text with these imports, if it is one of the repository."""
+        if file and word.partition(".")[0] in file.definitions:
+            return file.definitions[word.partition(".")[0]]
+        meant = names.meant(word)
+        module, name = meant or (None, None)
+        if module not in self.files:
+            return None
+        target = self.files[module]
+        for part in parts_of(name):
+            if part in target.definitions:
+                return target.definitions[part]
+        # It is passed on from another file.
+        return self.found(target.names, parts_of(name)[0]) if target.names.meant(parts_of(name)[0]) else None
+
+    def needed(self, names, text, file=None):
+        """The definitions that a text names."""
+        found = (self.found(names, word, file) for word in WORD.findall(text))
+        return {it for it in found if it}
+
+    def below(self, definitions):
+        """These, and all that they name."""
+        seen, left = set(), list(definitions)
+        while left:
+            it = left.pop()
+            if it not in seen:
+                seen.add(it)
+                left += self.needed(it.file.names, it.code, it.file)
+        return seen
+
+    def contracts(self, crate):
+        """The text that says what each public function or trait of a crate does, by its name, with the file's imports."""
+        exported = exports(f"{ROOT}/crates/{crate}/src", "lib")
+        for path in sorted(glob.glob(f"{ROOT}/crates/{crate}/src/**/*.rt", recursive=True)):
+            text = read(path)
+            names = Names(text)
+            for name, contract in public_contracts(text, exported):
+                yield name, contract, names
+
+    def of(self, crate, name):
+        """All that a top contract stands on."""
+        if name.startswith("specs/"):
+            return self.below(self.files[f"{crate}.{name.replace('/', '.')}"].definitions.values())
+        roots = set()
+        for function, contract, names in self.contracts(crate):
+            if function == name:
+                roots |= self.needed(names, contract)
+        return self.below(roots)
+
+    def in_order(self, definitions):
+        """Lowest first: by crate, in a crate each file behind those that it names, in a file as it stands."""
+        wanted = {}
+        for it in sorted(definitions, key=lambda it: (self.crates.index(it.file.crate), it.file.module, it.line)):
+            wanted.setdefault(it.file, []).append(it)
+        seen, ordered = set(), []
+
+        def add(file):
+            if file in seen:
+                return
+            seen.add(file)
+            for lower in {below.file for it in wanted[file] for below in self.needed(file.names, it.code, file)}:
+                add(lower)
+            ordered.append(file)
+
+        for file in wanted:
+            add(file)
+        return [(file, wanted[file]) for file in ordered]
+
+
+def number(definitions):
+    return {"definitions": len(definitions), "lines": sum(it.lines for it in definitions), "files": len({it.file for it in definitions})}
+
+
+def tops(promise):
+    """Each top contract's crate and name, and what it stands on."""
+    return [(crate, name, promise.of(crate, name)) for crate, names in TOP for name in names]
+
+
+def all_of(promise):
+    return set().union(*(found for _, _, found in tops(promise)))
+
+
+def show_tops(promise):
+    for crate, name, found in tops(promise):
+        print("{:<40}{definitions:>6} definitions {lines:>6} lines {files:>4} files".format(f"{crate} {name}", **number(found)))
+    print("all together " + NUMBERED.format(**number(all_of(promise))))
+
+
+def show_list(promise, crate, name):
+    found = promise.of(crate, name)
+    if not found:
+        return f"no public function {name} of {crate} has a contract that names a definition"
+    for file, definitions in promise.in_order(found):
+        print(f"{os.path.relpath(file.path, ROOT)}, {sum(it.lines for it in definitions)} lines")
+        for it in definitions:
+            print(f"    {it.line}: {it.name}")
+    print(f"{crate} {name} " + NUMBERED.format(**number(found)))
+    return None
+
+
+def public(promise):
+    """All that public contracts need."""
+    found = set()
+    for crate in promise.crates:
+        for _, contract, names in promise.contracts(crate):
+            found |= promise.needed(names, contract)
+    return promise.below(found)
+
+
+def show_inner(promise):
+    needed = public(promise)
+    for file in promise.files.values():
+        inner = sorted({it for it in file.definitions.values() if it not in needed}, key=lambda it: it.line)
+        if inner:
+            whole = len(inner) == len(set(file.definitions.values()))
+            print(f"{os.path.relpath(file.path, ROOT)}: {'all' if whole else ' '.join(it.name for it in inner)}")
+
+
+def check(promise):
+    wanted = NUMBERED.format(**number(all_of(promise)))
+    if wanted not in read(PROOFS):
+        return f"docs/PROOFS.md has to say that the promise {wanted}"
+    print(f"the promise {wanted}, as docs/PROOFS.md says")
+    return None
+
+
+def main():
+    promise, words = Promise(), sys.argv[1:]
+    if not words:
+        return show_tops(promise)
+    if words == ["--inner"]:
+        return show_inner(promise)
+    if words == ["--check"]:
+        return check(promise)
+    if len(words) == 2 and words[0] in promise.crates:
+        return show_list(promise, *words)
+    return __doc__
+
+
+if __name__ == "__main__":
+    sys.exit(main())
