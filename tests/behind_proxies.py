@@ -34,10 +34,10 @@ LOAD_SECONDS = 15
 LIMIT = 4_194_304
 HIDDEN = ["/", "/flush", "/report", "/metrics", "/status", "/dead", "/quarantine/sender-1", "//flush", "/%66lush",
           "/v1/metrics/../../flush", "/v1/metrics/"]
-TOKENS = {f"t0ken-{number}": f"sender-{number}" for number in range(1, SENDERS, 2)} | {"t0ken": "by-token"}
+# Beside those of the senders, of which every other one has a certificate, and the others tokens.
+TOKENS = {"t0ken": "by-token"}
 # Of each certificate its subject.
-CERTIFICATES = {f"sender-{number}": f"/CN=sender-{number}" for number in range(0, SENDERS, 2)} | {
-    "server": "/CN=localhost", "client": "/O=x,CN=other/CN=by-certificate", "nameless": "/CN=no name"}
+CERTIFICATES = {"server": "/CN=localhost", "client": "/O=x,CN=other/CN=by-certificate", "nameless": "/CN=no name"}
 
 
 # --------------------------------------------------------------------------------------------------------------------
@@ -48,14 +48,16 @@ def openssl(at, *words):
     subprocess.run(["openssl", *words], check=True, cwd=at, capture_output=True, timeout=SECONDS)
 
 
-def make_names(at):
+def make_names(at, senders=SENDERS):
     """Certificates of the proxy and of clients, and tokens, as the proxies look for them; `stranger` is signed by itself."""
+    certificates = CERTIFICATES | {f"sender-{number}": f"/CN=sender-{number}" for number in range(0, senders, 2)}
+    tokens = TOKENS | {f"t0ken-{number}": f"sender-{number}" for number in range(1, senders, 2)}
     key = ["-newkey", "ec", "-pkeyopt", "ec_paramgen_curve:prime256v1", "-nodes"]
     for name in ("ca", "stranger"):
         openssl(at, "req", "-x509", *key, "-keyout", f"{name}.key", "-out", f"{name}.pem", "-subj", f"/CN={name}", "-days", "2")
     with open(f"{at}/names", "w") as file:
         file.write("subjectAltName=DNS:localhost,IP:127.0.0.1\n")
-    for name, subject in CERTIFICATES.items():
+    for name, subject in certificates.items():
         openssl(at, "req", *key, "-keyout", f"{name}.key", "-out", f"{name}.csr", "-subj", subject)
         openssl(at, "x509", "-req", "-in", f"{name}.csr", "-CA", "ca.pem", "-CAkey", "ca.key", "-CAcreateserial",
                 "-extfile", "names", "-out", f"{name}.crt", "-days", "2")
@@ -64,9 +66,9 @@ def make_names(at):
                 with open(f"{at}/{name}.{part}") as file:
                     both.write(file.read())
     with open(f"{at}/tokens.map", "w") as file:
-        file.writelines(f"{token} {name}\n" for token, name in TOKENS.items())
+        file.writelines(f"{token} {name}\n" for token, name in tokens.items())
     with open(f"{at}/tokens.nginx", "w") as file:
-        file.writelines(f'"Bearer {token}" {name};\n' for token, name in TOKENS.items())
+        file.writelines(f'"Bearer {token}" {name};\n' for token, name in tokens.items())
 
 
 def context(at, certificate=None, key=None):
@@ -81,9 +83,9 @@ def context(at, certificate=None, key=None):
 
 
 class Proxy:
-    """A proxy with a copy of its shipped file, in front of the service."""
+    """A proxy with a copy of its shipped file, in front of the service. `replaced` is what else is another in the copy."""
 
-    def __init__(self, stack, kind, at, listen):
+    def __init__(self, stack, kind, at, listen, replaced=()):
         self.stack, self.kind, self.at = stack, kind, at
         self.port = free_port()
         self.file = f"{at}/{kind}"
@@ -91,7 +93,7 @@ class Proxy:
         ports.pop(":4320" if kind == "nginx" else " 4320 ")
         with open(self.file, "w") as copy:
             copy.write(shipped({"haproxy": "haproxy.cfg", "nginx": "nginx.conf"}[kind],
-                               {**self.own()[kind], **ports, "/etc/totxegun": at}))
+                               {**dict(replaced), **self.own()[kind], **ports, "/etc/totxegun": at}))
         self.process = None
 
     def own(self):
@@ -99,7 +101,7 @@ class Proxy:
         temporary = "".join(f"    {name}_temp_path {self.at}/{name};\n"
                             for name in ("client_body", "proxy", "fastcgi", "uwsgi", "scgi"))
         users = {} if os.getuid() == 0 else {"    user haproxy\n": "", "    group haproxy\n": ""}
-        return {"haproxy": {"at port 4320": "", **users},
+        return {"haproxy": {"at port 4320": "", "/run/haproxy": self.at, **users},
                 "nginx": {"at port 4320": "", "/run/nginx.pid": f"{self.at}/pid", "/var/log/nginx": self.at,
                           "http {\n": "http {\n" + temporary}}
 
@@ -149,8 +151,8 @@ class Poster:
 class Client(Sender):
     """A sender by way of the proxy: with a certificate where its number is even, else with a token."""
 
-    def __init__(self, service, proxy, number):
-        super().__init__(service, number, seconds=SECONDS)
+    def __init__(self, service, proxy, number, seed=0, seconds=SECONDS):
+        super().__init__(service, number, seed, seconds)
         self.proxy, self.number = proxy, number
 
     def try_once(self, body, headers):
@@ -230,7 +232,8 @@ def under_load(checks, proxy, service, sink):
     kind = proxy.kind
     before = sink.points() if service.order("/flush") == 200 and wait_until(service.is_drained) else None
     clients = [Client(service, proxy, number) for number in range(SENDERS)]
-    threads = post_meanwhile(clients, time.monotonic() + LOAD_SECONDS)
+    until = time.monotonic() + LOAD_SECONDS
+    threads = post_meanwhile(clients, lambda: time.monotonic() > until)
     for kill in kills(proxy, service):
         service.wait_ready()
         time.sleep(LOAD_SECONDS / 15)

@@ -26,9 +26,9 @@ OUT_OF_ORDER = b"out of order"
 AGAIN = (403, 408, 425, 429, 502, 503, 504)
 
 
-def ask(port, method, path, body=b"", headers=None, seconds=20):
+def ask(port, method, path, body=b"", headers=None, seconds=20, host="127.0.0.1"):
     """The status and the body of an answer, or (None, why)."""
-    connection = http.client.HTTPConnection("127.0.0.1", port, timeout=seconds)
+    connection = http.client.HTTPConnection(host, port, timeout=seconds)
     try:
         connection.request(method, path, body, headers or {})
         answer = connection.getresponse()
@@ -64,12 +64,14 @@ def is_stopped(pid):
 
 
 class Service:
-    """The service on a folder, which may be killed and started again."""
+    """The service on a folder, which may be killed and started again; `before` are words that run it elsewhere, where `host`
+    is its address."""
 
-    def __init__(self, program, gateway, data, sink, *options):
-        self.listen, self.operate = free_port(), free_port()
-        places = ["--listen", f"127.0.0.1:{self.listen}", "--operate", f"127.0.0.1:{self.operate}"]
-        self.words = [program, "serve", "--data", data, "--gateway", gateway, "--sink", sink, *places, *options]
+    def __init__(self, program, gateway, data, sink, *options, host="127.0.0.1", ports=None, before=()):
+        self.host = host
+        self.listen, self.operate = ports or (free_port(), free_port())
+        places = ["--listen", f"{host}:{self.listen}", "--operate", f"{host}:{self.operate}"]
+        self.words = [*before, program, "serve", "--data", data, "--gateway", gateway, "--sink", sink, *places, *options]
         self.log = f"{data}.log"
         self.process = None
 
@@ -81,8 +83,12 @@ class Service:
     def is_running(self):
         return self.process is not None and self.process.poll() is None
 
+    def asked(self, method, path, seconds=20):
+        """What the operator's address answers."""
+        return ask(self.operate, method, path, seconds=seconds, host=self.host)
+
     def is_ready(self):
-        return ask(self.operate, "GET", "/ready", seconds=2)[0] == 200
+        return self.asked("GET", "/ready", 2)[0] == 200
 
     def wait_ready(self, seconds=SECONDS):
         """Whether it took posts within so many seconds; not where it ended."""
@@ -131,10 +137,10 @@ class Service:
 
     def order(self, path, seconds=SECONDS):
         """An operator's order; its status."""
-        return ask(self.operate, "POST", path, seconds=seconds)[0]
+        return self.asked("POST", path, seconds)[0]
 
     def status(self):
-        status, body = ask(self.operate, "GET", "/status")
+        status, body = self.asked("GET", "/status")
         return json.loads(body) if status == 200 else None
 
     def is_drained(self):
@@ -144,7 +150,7 @@ class Service:
 
     def faults(self):
         """What must never be, as the service counts it: the lines of its metrics that are not 0."""
-        status, page = ask(self.operate, "GET", "/metrics")
+        status, page = self.asked("GET", "/metrics")
         lines = page.decode().splitlines() if status == 200 else ["no metrics"]
         return [line for line in lines if line.startswith("totxegun_faults_total") and not line.endswith(" 0")] or (
             lines if status != 200 else [])

@@ -164,10 +164,10 @@ def intrude(sender, senders):
             sender.surprises.append((status, text))
 
 
-def post_meanwhile(senders, until, between=lambda sender: None):
-    """Threads in which the senders post until then; each ends with a post that was answered."""
+def post_meanwhile(senders, is_over, between=lambda sender: None):
+    """Threads in which the senders post until it is over; each ends with a post that was answered."""
     def go_on(sender):
-        while time.monotonic() < until:
+        while not is_over():
             sender.post(sender.next_points())
             between(sender)
     threads = [threading.Thread(target=go_on, args=(sender,), daemon=True) for sender in senders]
@@ -183,7 +183,7 @@ def load(checks, what, service, sink, seconds, seed, slots):
     until = time.monotonic() + seconds
     senders = [Sender(service, number, seed) for number in range(SENDERS)]
     trouble = Trouble(service, senders, seed, slots)
-    threads = post_meanwhile(senders, until, lambda sender: intrude(sender, senders))
+    threads = post_meanwhile(senders, lambda: time.monotonic() > until, lambda sender: intrude(sender, senders))
     sink.mood(MOODS)
     trouble.go_on(until)
     trouble.start()
