@@ -120,6 +120,13 @@ def page():
         return file.read()
 
 
+def listed(words):
+    """These words, which the page has to have."""
+    if words not in page():
+        raise OSError(f"docs/OPERATING.md has no {words}")
+    return words
+
+
 def parts():
     """What the page has for two services, with the addresses of machines 1 and 2."""
     return re.search(r"^```\n( +use_backend t.*?)^```$", page(), re.DOTALL | re.MULTILINE)[1]
@@ -142,9 +149,9 @@ class Parts(Proxy):
 
     def order(self, order, part, address=""):
         """One that the page has."""
-        if order not in page():
-            raise OSError(f"docs/OPERATING.md has no {order}")
-        self.ask(order.replace("t0", part).replace("10.0.0.3", address))
+        reply = self.ask(listed(order).replace("t0", part).replace("10.0.0.3", address)).strip()
+        if reply and "changed" not in reply and "no need to change" not in reply:
+            raise OSError(f"haproxy, asked to {order}: {reply}")
 
     def write(self, part, address, more=""):
         """Into its file, for its next start."""
@@ -163,11 +170,9 @@ class Parts(Proxy):
         return int(self.row(part, "BACKEND")["scur"])
 
     def unanswered(self, part):
-        if UNANSWERED not in page():
-            raise OSError(f"docs/OPERATING.md has no {UNANSWERED}")
         row = self.row(part, part)
-        all_of_them, *answered = (int(row[name]) for name in UNANSWERED.split(" - "))
-        return all_of_them - sum(answered)
+        sent, *answered = (int(row[name]) for name in listed(UNANSWERED).split(" - "))
+        return sent - sum(answered)
 
     def restart(self):
         self.kill()
@@ -236,15 +241,16 @@ SINKS = {"own": OwnSinks, "one": OneSink}
 
 
 class Operator:
-    """Does the lists of the page. `of` is the service that has a part."""
+    """Does the lists of the page. `of` is the service that has a part, `wrong` what did not go as it should."""
 
-    def __init__(self, programs, checks, stack, at, machines, what, sinks, chance, without):
-        self.programs, self.checks, self.stack, self.at, self.what = programs, checks, stack, at, what
-        self.sinks, self.chance, self.without = sinks, chance, without
+    def __init__(self, programs, stack, machines, sinks, chance, without):
+        self.programs, self.stack, self.sinks, self.chance, self.without = programs, stack, sinks, chance, without
         self.spare = machines[::-1]
         self.hasty, self.pause = (MORE_HASTY, SHORT_PAUSE) if without else (HASTY, PAUSE)
         self.count = 0
-        self.done = []
+        self.done, self.wrong = [], []
+        self.at = at = folder(stack)
+        make_names(at, SENDERS)
         self.of = {part: self.place() for part in ("t0", "t1")}
         self.proxy = Parts(stack, at)
         self.proxy.hasty = self.hasty
@@ -262,9 +268,9 @@ class Operator:
         return [*dict.fromkeys(self.of.values())]
 
     def see(self, what, holds, found):
-        """A check that only counts where it fails: a run has many steps."""
+        """One check is for all steps: a run has many."""
         if not holds:
-            self.checks.true(f"{self.what}: {what}", False, found)
+            self.wrong.append((what, found))
 
     def place(self, data=None):
         """A service on a spare machine, on this folder or a fresh one."""
@@ -377,8 +383,8 @@ class Operator:
             self.hold([part])
         else:
             self.hold_calm(part)
+        self.disturb(service, to)
         if list(self.of.values()).count(service) == 1:
-            self.disturb(service, to)
             self.drain(service)
             self.spare.append(service.machine)
         self.release([part], to)
@@ -429,7 +435,7 @@ class Operator:
 # A run
 
 
-def load(checks, operator, seconds):
+def load(checks, what, operator, seconds):
     """The senders, behind all that the operator does."""
     is_over, senders = [], operator.senders
     threads = post_meanwhile(senders, lambda: is_over, lambda sender: time.sleep(operator.pause))
@@ -437,20 +443,18 @@ def load(checks, operator, seconds):
     is_over.append(True)
     for thread in threads:
         thread.join(60)
-    checks.true(f"{operator.what}: all posts are answered", not any(thread.is_alive() for thread in threads), threads)
-    print(f"note: {operator.what}: {sum(it.posts for it in senders)} posts, {sum(it.repeats for it in senders)} repeats; "
+    checks.true(f"{what}: all posts are answered", not any(thread.is_alive() for thread in threads), threads)
+    print(f"note: {what}: {sum(it.posts for it in senders)} posts, {sum(it.repeats for it in senders)} repeats; "
           f"{', '.join(operator.done)}", flush=True)
 
 
 def run(programs, checks, machines, kind, options):
     what = {"own": "a file for each folder", "one": "one database"}[kind]
     with contextlib.ExitStack() as stack:
-        at = folder(stack)
-        make_names(at, SENDERS)
         chance = random.Random(f"operator {options.seed} {kind}")
-        operator = Operator(programs, checks, stack, at, machines, what, SINKS[kind](stack), chance, options.without)
+        operator = Operator(programs, stack, machines, SINKS[kind](stack), chance, options.without)
         operator.begin()
-        load(checks, operator, options.seconds / len(options.sink))
+        load(checks, what, operator, options.seconds / len(options.sink))
         senders, services = operator.senders, operator.services()
         checks.same(f"{what}: no post was answered otherwise", [], [it for sender in senders for it in sender.surprises][:3])
         repeat_late(checks, f"{what}: late repeats are refused", senders)
@@ -459,6 +463,7 @@ def run(programs, checks, machines, kind, options):
         checks.true(f"{what}: all is flushed and delivered", all(drained), [service.status() for service in services])
         checks.same(f"{what}: the sinks refused nothing", [0] * len(services), [service.status()["dead"] for service in services])
         compare(checks, what, operator.sinks, senders)
+        checks.same(f"{what}: each step went as it should", [], operator.wrong[:3])
 
 
 def make_machines(checks, stack):

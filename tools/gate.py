@@ -55,7 +55,7 @@ SERVICE_STEPS = (
     ("service_load.py", ["60"], 120),
     ("service_interrupted.py", ["9"], 150),
     ("behind_proxies.py", [], 60),
-    ("two_services.py", ["0"], 60),
+    ("two_services.py", ["0", "1", "--sink", "one"], 40),
     ("demo.py", ["25"], 60),
     ("alerts.py", [], 60),
     ("influxdb.py", ["15"], 40),
