@@ -285,6 +285,15 @@ gateway=
     > "$folder/printed" 2> "$folder/errors"
 status=$?
 ended 'no room for a connection' 1 '' 'gateway: cannot accept'
+# Eight receivers wait. One of them serves a request and has no room for the next: the others wait no longer.
+start "$nobody" 100 --receivers 8
+python3 -c 'import resource, sys; resource.prlimit(int(sys.argv[1]), resource.RLIMIT_NOFILE, (3, 3))' \
+    "$(cat "/proc/$gateway/task/$gateway/children")"
+curl -s -m 60 -o "$folder/answer" "$at/report"
+wait "$gateway"
+status=$?
+gateway=
+ended 'no more room while others wait' 1 '' 'gateway: cannot accept'
 timeout 20 "$program" serve --backend "$nobody" --connections 0 --listen 127.0.0.1:0 >&- 2> "$folder/errors"
 status=$?
 same 'closed output, status' 1 "$status"

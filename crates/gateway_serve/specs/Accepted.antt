@@ -1,27 +1,27 @@
 -- How the connections of a round are accepted.
-use Rattle.std.specs.Prelude.{◌≡◌, ℕ, zero, suc, ◌+◌, List, length, Option, Some, None, Result, Err}
-use Rattle.gateway_serve.specs.Passed.{ArePassed}
+use Rattle.std.specs.Prelude.{◌≡◌, ℕ, zero, suc, ◌+◌, List, length, All, Option, Some, None, Result, Err}
 use Rattle.gateway_serve.specs.declared.fault.GatewayFault.{GatewayFault}
 use Rattle.gateway_serve.specs.declared.fault.GatewayFault.TheVariants.{CannotAccept}
 
--- from this entrance on all but so many of these connections were accepted, one after another, and
--- nothing else was done
-abbrev pub AreAccepted : {S X : Type 0} → (S → X → S → Type 0) → Option S → ℕ → ℕ → S → Type 0
-AreAccepted {S} {X} accepts begun connections left s =
-    (first : S) × (begun ≡ Some first) × (all : List X)
-    × (length all + left ≡ connections) × ArePassed accepts first all s
+-- this connection came in at the entrance that the round began with
+abbrev pub IsAccepted : {S X : Type 0} → (S → X → Type 0) → Option S → X → Type 0
+IsAccepted {S} {X} accepts begun x = (s : S) × (begun ≡ Some s) × accepts s x
 
--- nothing more is accepted: there was a fault, or all were accepted
+-- all but so many of the round's connections came in there
+abbrev pub AreAccepted : {S X : Type 0} → (S → X → Type 0) → Option S → ℕ → ℕ → Type 0
+AreAccepted {S} {X} accepts begun connections missing =
+    (all : List X) × (length all + missing ≡ connections) × All (IsAccepted accepts begun) all
+
+-- nothing more is permitted: there was a fault, or all were permitted
 abbrev pub IsEnded : ℕ → Option GatewayFault → Type 0
 IsEnded left None = left ≡ 0
 IsEnded left (Some fault) = Unit {0}
 
--- the fault behind a call that gave no connection: the one before; else, where some connections
--- were left, the next one could not be accepted
-abbrev pub next_fault : ℕ → Option GatewayFault → Option GatewayFault
-next_fault left (Some fault) = Some fault
-next_fault zero None = None
-next_fault (suc left) None = Some CannotAccept
+-- the fault of a round: the first one; else, where not all were accepted, that they can't be
+abbrev pub round_fault : ℕ → Option GatewayFault → Option GatewayFault
+round_fault missing (Some fault) = Some fault
+round_fault zero None = None
+round_fault (suc missing) None = Some CannotAccept
 
 -- a fault comes first, and else this outcome counts
 abbrev pub or_fault : {X : Type 0} → Option GatewayFault → Result X GatewayFault

@@ -5,6 +5,7 @@
 //! streams; their impls over the system's only forward.
 #![tactic(auto)]
 
+mod accepted;
 mod acceptor;
 mod accepts;
 mod backend;
@@ -12,6 +13,7 @@ mod beginning;
 mod client_connection;
 mod dial;
 mod dialler;
+mod door;
 mod entrance;
 mod fault;
 mod finish;

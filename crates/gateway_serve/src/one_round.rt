@@ -42,8 +42,8 @@ fn round_over<
     requires entrance { L.entrance ≡ Some entrance }
     requires connections { L.connections ≡ connections }
     ensures over { IfOk result (λ r. IsOver book r.0 r.1) }
-    ensures accepted { OnOk result ((end : Entrance)
-        × ∥ AreAccepted ⟦<Entrance as Accepts>⟧.accepts (Some entrance) connections 0 end ∥₁) }
+    ensures accepted { OnOk result (
+        ∥ AreAccepted ⟦<Entrance as Accepts>⟧.accepts (Some entrance) connections 0 ∥₁) }
 {
     let seats = options.receivers + options.flushers;
     let Ok((shared, seats)) = SharedBook::<L>::new(alloc, book, blank, seats) else {
@@ -69,8 +69,8 @@ pub fn one_round<
 ) -> Result<(Book, Audit), GatewayFault>
     requires empty { book.entries ≡ [] }
     ensures over { IfOk result (λ r. IsOver book r.0 r.1) }
-    ensures accepted { OnOk result ((begun : Entrance) × (end : Entrance)
-        × ∥ AreAccepted ⟦<Entrance as Accepts>⟧.accepts (Some begun) connections 0 end ∥₁) }
+    ensures accepted { OnOk result ((begun : Entrance)
+        × ∥ AreAccepted ⟦<Entrance as Accepts>⟧.accepts (Some begun) connections 0 ∥₁) }
 {
     let parts = u64::from(options.receivers) + u64::from(options.flushers);
     let blank = Blank::new(parts);

@@ -1,7 +1,7 @@
-use crate::acceptor::Acceptor;
 use crate::backend::Backend;
 use crate::beginning::Beginning;
 use crate::dialler::Dialler;
+use crate::door::Door;
 use crate::entrance::Entrance;
 use crate::shared_acceptor::SharedAcceptor;
 use crate::work::Work;
@@ -12,7 +12,7 @@ use shared_book::seat::Seat;
 use shared_book::shared::SharedBook;
 use std::alloc::Global;
 use std::net::{Net, TcpStream};
-use std::sync::{Mutex, Wait};
+use std::sync::Wait;
 use std::time::Clock;
 
 /// Works from a seat until there is no more work, and gives the seat back with all its receipts.
@@ -22,12 +22,12 @@ pub fn work<L: Round + Beginning<Entrance>, R: Net<Stream = TcpStream> + Wait + 
     shared: &SharedBook<L>,
     seat: Seat<L>,
     options: &ServeOptions<'_>,
-    acceptor: &Mutex<Acceptor<Entrance, L>>,
+    door: &Door<Entrance, L>,
     work: Work,
 ) -> Seat<L> {
     match work {
         Work::Receive { order } => {
-            let connections = SharedAcceptor::new(acceptor, rt);
+            let connections = SharedAcceptor::new(door, rt);
             let mut keeper = SharedKeeper::new(rt, alloc, shared, seat, Some(order));
             receiver_loop(rt, alloc, connections, &mut keeper, &mut NoPace);
             keeper.into_seat()

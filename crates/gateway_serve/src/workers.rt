@@ -4,9 +4,9 @@ ghost use Rattle.gateway_serve.specs.Tasks.{is_flush};
 ghost use Rattle.gateway_serve.specs.Accepted.{AreAccepted};
 ghost use Rattle.gateway_serve.specs.declared.fault.GatewayFault.TheVariants.{NoMemory};
 
-use crate::acceptor::Acceptor;
 use crate::accepts::Accepts;
 use crate::beginning::Beginning;
+use crate::door::Door;
 use crate::entrance::Entrance;
 use crate::fault::GatewayFault;
 use crate::order_channel::OrderChannel;
@@ -18,8 +18,8 @@ use shared_book::seat::Seat;
 use shared_book::shared::SharedBook;
 use std::alloc::Global;
 use std::net::{Net, TcpListener, TcpStream};
+use std::sync::Wait;
 use std::sync::ledger::Ledger;
-use std::sync::{Mutex, Wait};
 use std::thread;
 use std::thread::{Builder, JoinHandle, Threads};
 use std::time::Clock;
@@ -73,13 +73,13 @@ fn run_workers<
     alloc: Global,
     shared: &SharedBook<L>,
     seats: Vec<Seat<L>>,
-    acceptor: &Mutex<Acceptor<Entrance, L>>,
+    door: &Door<Entrance, L>,
     orders: OrderChannel,
     options: &ServeOptions<'_>,
 ) -> Result<Vec<Seat<L>>, GatewayFault> {
     thread::scope(thread::scope_env(), rt, |scope| {
         let mut running = Vec::new(alloc);
-        let mut closed = acceptor.lock(rt);
+        let mut closed = door.hold(rt);
         for seat in seats {
             let task = match work_of(&orders, options.flushers, seat.number()) {
                 Ok(task) => task,
@@ -91,7 +91,7 @@ fn run_workers<
             let started = Builder::new()
                 .stack_size(STACK)
                 .spawn_scoped(scope, move || {
-                    work(rt, alloc, shared, seat, options, acceptor, task)
+                    work(rt, alloc, shared, seat, options, door, task)
                 });
             let Ok(worker) = started else {
                 closed.close(GatewayFault::CannotStart);
@@ -110,8 +110,7 @@ fn run_workers<
 
 /// Starts a worker on each seat, and waits until they end: the receivers once so many connections
 /// were accepted and served, or after a fault, and then the flushers. None is accepted before all
-/// have started. If it returns Ok, so many connections were accepted at this entrance, and nothing
-/// else was done there.
+/// have started. If it returns Ok, so many connections were accepted at this entrance.
 pub fn serve_beside<
     L: Round + Beginning<Entrance> + Send + Sync,
     R: Net<Listener = TcpListener, Stream = TcpStream> + Threads + Wait + Clock + Sync,
@@ -126,11 +125,11 @@ pub fn serve_beside<
 ) -> Result<Vec<Seat<L>>, GatewayFault>
     requires entrance { L.entrance ≡ Some entrance }
     requires connections { L.connections ≡ connections }
-    ensures accepted { OnOk result ((end : Entrance)
-        × ∥ AreAccepted ⟦<Entrance as Accepts>⟧.accepts (Some entrance) connections 0 end ∥₁) }
+    ensures accepted { OnOk result (
+        ∥ AreAccepted ⟦<Entrance as Accepts>⟧.accepts (Some entrance) connections 0 ∥₁) }
 {
     let orders = OrderChannel::new(alloc)?;
-    let acceptor = Mutex::new(Acceptor::<Entrance, L>::new(entrance, connections));
-    let seats = run_workers(rt, alloc, shared, seats, &acceptor, orders, options);
-    acceptor.into_inner().end(seats)
+    let door = Door::<Entrance, L>::new(entrance, connections);
+    let seats = run_workers(rt, alloc, shared, seats, &door, orders, options);
+    door.end(seats)
 }

@@ -10,6 +10,5 @@ where_ok (Err e) p = tt
 
 pub returns-in-None-2-clause-all : goal.returns-in-None-2-clause-all
 returns-in-None-2-clause-all g c =
-    where_ok c.args.outcome (∥∥₁_map c.args.self.now.accepted (λ all.
-    let h = all c.in-None-2.is in
-    (h.0, h.1, h.2, omega (arith, h.3), h.4)))
+    where_ok c.args.outcome (∥∥₁_map c.args.self.now.accepted (λ h.
+    (h.0, omega (arith, h.1, c.if-self-gt0.false), h.2)))
