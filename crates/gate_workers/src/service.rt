@@ -132,7 +132,8 @@ fn close<K: Store>(keeper: &mut K, batch: Option<u64>, written: Written) -> End
 }
 
 /// Serves the request that the reader's bytes begin with. No read follows the one that completes
-/// it or shows a fault, so a client that keeps its side open is not waited for.
+/// it or shows a fault, so a client that keeps its side open is not waited for. The body is read
+/// without a memo.
 pub fn serve<K: Keeper, S: Source, W: Sink, P: Pace>(
     alloc: Global,
     keeper: &mut K,
@@ -148,7 +149,7 @@ pub fn serve<K: Keeper, S: Source, W: Sink, P: Pace>(
     ensures written { WritingFails W.one_more (W.failures writer.old) (W.failures writer.new)
         result }
 {
-    let mut memo = Memo::new(alloc);
+    let mut memo = Memo::without_slots();
     serve_with(alloc, keeper, reader, writer, pace, &mut memo)
 }
 

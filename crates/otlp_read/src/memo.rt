@@ -1,6 +1,6 @@
 //! The identities that a reader keeps from one body to the next.
 
-ghost use Rattle.std.specs.Prelude.{◌≡◌, [], IfOk, IfSome};
+ghost use Rattle.std.specs.Prelude.{◌≡◌, [], IfOk, IfSome, None, Some};
 
 use crate::digest::{Digest, SLOTS};
 use series_id::{SeriesId, SharedId};
@@ -8,61 +8,56 @@ use std::alloc::{AllocError, Global};
 use std::marker::Model;
 
 /// The identities of earlier points. A point whose identity is kept shares it, and no second one is
-/// made. Contracts see the slots; there are none before the first identity is kept.
+/// made. Contracts see the slots: there are none before the first identity is kept, and a memo that
+/// keeps nothing is `None`.
 ///
 /// What a body says does not depend on its reader's memo: an identity in a slot is compared in
 /// full. It is replaced by a later one that needs its slot. One of more than 4,096 bytes is not
 /// kept. If the memory for the slots can't be allocated, nothing is kept.
 #[derive(Drop)]
 pub struct Memo {
-    slots: Vec<Option<SharedId>>,
-    keeps: bool,
-    alloc: Global,
+    slots: Option<Vec<Option<SharedId>>>,
 }
 
 impl Model for Memo {
-    ghost use Rattle.std.specs.Prelude.{List, Option};
+    ghost use Rattle.std.specs.Prelude.{List, Option, option_map};
     ghost use Rattle.series_id.specs.Identity.{Identity};
 
-    ghost Value = { List (Option Identity) };
+    ghost Value = { Option (List (Option Identity)) };
 
-    ghost view = { λ m. m.slots.items };
+    ghost view = { λ m. option_map (λ slots. slots.items) m.slots };
 }
 
 impl Memo {
-    /// A memo without slots. Allocates nothing.
+    /// A memo without an identity. Allocates nothing until it keeps the first.
     pub fn new(alloc: Global) -> Memo
-        ensures { result ≡ [] }
+        ensures { result ≡ Some [] }
     {
         Memo {
-            slots: Vec::new(alloc),
-            keeps: true,
-            alloc,
+            slots: Some(Vec::new(alloc)),
         }
     }
 
-    /// A memo that never has slots.
-    pub(crate) fn without_slots(alloc: Global) -> Memo
-        ensures { result ≡ [] }
+    /// A memo that never keeps an identity, for a reader of one body. Never allocates.
+    pub fn without_slots() -> Memo
+        ensures { result ≡ None }
     {
-        Memo {
-            slots: Vec::new(alloc),
-            keeps: false,
-            alloc,
-        }
+        Memo { slots: None }
     }
 
     /// Whether there are no slots.
     pub(crate) fn is_empty(&self) -> bool {
-        self.slots.is_empty()
+        match &self.slots {
+            None => true,
+            Some(slots) => slots.is_empty(),
+        }
     }
 
     /// The identity in a slot, if there is one.
     pub(crate) fn at(&self, slot: usize) -> Option<&SharedId> {
-        if slot < self.slots.len() {
-            self.slots[slot].as_ref()
-        } else {
-            None
+        match &self.slots {
+            None => None,
+            Some(slots) => identity_at(slots.as_slice(), slot),
         }
     }
 
@@ -73,7 +68,8 @@ impl Memo {
         digest: Digest,
         series: SeriesId,
     ) -> Result<SharedId, AllocError>
-        ensures { IfOk result (λ shared. shared ≡ series) }
+        ensures same { IfOk result (λ shared. shared ≡ series) }
+        ensures without { self.old ≡ None → self.new ≡ None }
     {
         if let Some(shared) = self.share_same(digest.slot(), &series) {
             return Ok(shared);
@@ -82,7 +78,7 @@ impl Memo {
             return Ok(shared);
         }
         let shared = SharedId::new(alloc, series)?;
-        self.keep(digest, &shared);
+        self.keep(alloc, digest, &shared);
         Ok(shared)
     }
 
@@ -98,29 +94,47 @@ impl Memo {
         }
     }
 
-    /// Puts an identity into the first of its slots if that is free, else into the other one.
-    fn keep(&mut self, digest: Digest, series: &SharedId) {
-        if !self.keeps || !digest.is_small() || self.take_slots().is_err() {
-            return;
-        }
-        let slot = if self.at(digest.slot()).is_none() {
-            digest.slot()
-        } else {
-            digest.other_slot()
-        };
-        if slot < self.slots.len()
-            && let Ok(shared) = series.share()
+    /// Keeps an identity, if it is small and there are slots or memory for them.
+    fn keep(&mut self, alloc: Global, digest: Digest, series: &SharedId)
+        ensures { self.old ≡ None → self.new ≡ None }
+    {
+        if let Some(slots) = &mut self.slots
+            && digest.is_small()
+            && take_slots(alloc, slots).is_ok()
         {
-            self.slots[slot] = Some(shared);
+            put(slots, digest, series);
         }
     }
+}
 
-    /// Allocates the slots, unless they are there.
-    fn take_slots(&mut self) -> Result<(), AllocError> {
-        if self.slots.is_empty() {
-            self.slots = free_slots(self.alloc)?;
-        }
-        Ok(())
+/// The identity in one of these slots, if there is one.
+fn identity_at(slots: &[Option<SharedId>], slot: usize) -> Option<&SharedId> {
+    if slot < slots.len() {
+        slots[slot].as_ref()
+    } else {
+        None
+    }
+}
+
+/// Allocates the slots, unless they are there.
+fn take_slots(alloc: Global, slots: &mut Vec<Option<SharedId>>) -> Result<(), AllocError> {
+    if slots.is_empty() {
+        *slots = free_slots(alloc)?;
+    }
+    Ok(())
+}
+
+/// Puts an identity into the first of its slots if that is free, else into the other one.
+fn put(slots: &mut Vec<Option<SharedId>>, digest: Digest, series: &SharedId) {
+    let slot = if identity_at(slots.as_slice(), digest.slot()).is_none() {
+        digest.slot()
+    } else {
+        digest.other_slot()
+    };
+    if slot < slots.len()
+        && let Ok(shared) = series.share()
+    {
+        slots[slot] = Some(shared);
     }
 }
 

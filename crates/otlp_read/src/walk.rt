@@ -35,7 +35,7 @@ use std::alloc::Global;
 pub fn read_request(alloc: Global, bytes: &[u8]) -> Result<Reading, ReadFault>
     ensures { Answers bytes.now result }
 {
-    let mut memo = Memo::without_slots(alloc);
+    let mut memo = Memo::without_slots();
     read_request_with(alloc, bytes, &mut memo)
 }
 
