@@ -13,9 +13,10 @@ use series_id::SharedId;
 use std::alloc::{AllocError, Global};
 
 /// The calls, in the order in which they are made.
-pub const CALLS: [&str; 5] = [
+pub const CALLS: [&str; 6] = [
     "SharedId::new",
     "Points::push",
+    "Points::reserve",
     "Cell::put",
     "Cell::put_span",
     "Cell::reserve",
@@ -26,6 +27,7 @@ pub fn make(rt: &impl Print, alloc: Global, call: &str) -> Result<(), AllocError
     match call {
         "SharedId::new" => share(rt, alloc),
         "Points::push" => push(rt, alloc),
+        "Points::reserve" => reserve_points(rt, alloc),
         "Cell::put" => put(rt, alloc),
         "Cell::put_span" => put_span(rt, alloc),
         _ => reserve(rt, alloc),
@@ -74,6 +76,28 @@ fn push_one(
         match points.push(one) {
             Ok(()) => return Ok(()),
             Err(_) => no_memory(rt, "Points::push", points.is_same(&before)),
+        }
+    }
+    Err(AllocError)
+}
+
+/// Points without memory for more are as before, both where there are none and where there are some.
+fn reserve_points(rt: &impl Print, alloc: Global) -> Result<(), AllocError> {
+    let mut none = Points::new(alloc);
+    let mut sums = points_of(alloc, SUMS)?;
+    reserve_more(rt, &mut none)?;
+    reserve_more(rt, &mut sums)?;
+    let are_as_before = none.as_slice().is_empty() && sums.as_slice().len() == 3;
+    print_right(rt, "Points::reserve", are_as_before);
+    Ok(())
+}
+
+fn reserve_more(rt: &impl Print, points: &mut Points) -> Result<(), AllocError> {
+    let before = points.as_slice().len();
+    for _ in 0..2 {
+        match points.reserve(100) {
+            Ok(()) => return Ok(()),
+            Err(_) => no_memory(rt, "Points::reserve", points.as_slice().len() == before),
         }
     }
     Err(AllocError)

@@ -18,6 +18,7 @@ mod memo;
 mod metrics;
 mod place;
 mod reading;
+mod room;
 mod scalar_ref;
 mod streams;
 mod sums;

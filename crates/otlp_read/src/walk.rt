@@ -17,8 +17,8 @@ use crate::memo::Memo;
 use crate::metrics::metric;
 use crate::place::Place;
 use crate::reading::Reading;
+use crate::room::room_for;
 use crate::streams::{Resource, Scope, inner, resource_in, scope_in};
-use metric_events::points::Points;
 use serde_json::Value;
 use std::alloc::Global;
 
@@ -52,23 +52,29 @@ pub fn read_request_with(alloc: Global, bytes: &[u8], memo: &mut Memo) -> Result
         Err(e) if e.is_memory() => return Err(ReadFault::NoMemory),
         Err(_) => return Err(ReadFault::NotJson),
     };
-    read_value(alloc, memo, &value)
+    read_value(alloc, memo, &value, bytes.len())
 }
 
-/// Reads a request.
+/// Reads a request of this length.
 #[tactic(auto, unfolding(crate::specs::Reading::reading))]
-fn read_value(alloc: Global, memo: &mut Memo, value: &Value) -> Result<Reading, ReadFault>
+fn read_value(
+    alloc: Global,
+    memo: &mut Memo,
+    value: &Value,
+    length: usize,
+) -> Result<Reading, ReadFault>
     ensures { Gives tally result (reading (view value.now)) }
 {
     if !value.is_object() {
         return Err(ReadFault::WrongShape(Place::Root));
     }
     let mut out = Reading {
-        points: Points::new(alloc),
+        points: room_for(alloc, value, length),
         foreign: 0,
         metrics: 0,
     };
     body(alloc, memo, &mut out, value)?;
+    out.points.fit();
     Ok(out)
 }
 
