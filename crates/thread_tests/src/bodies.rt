@@ -1,12 +1,10 @@
-//! Batches of one point, calls that admit and take, and rows to compare.
+//! Series, senders, batches of one point, and the call that admits one.
 ghost use Rattle.std.specs.Prelude.{◌≡◌, false, IfOk};
 
-use delta_book::faults::{AdmitFault, TakeFault};
-use delta_book::totals::SeriesTotals;
+use delta_book::faults::AdmitFault;
 use metric_events::batch::Batch;
 use metric_events::point::Point;
 use metric_events::points::Points;
-use metric_events::row::Row;
 use metric_events::sender_name::SenderName;
 use series_id::{AttrSet, Kind, SeriesId, Text};
 use shared_book::round::Round;
@@ -18,7 +16,7 @@ use std::sync::Wait;
 use std::test::Fail;
 
 /// The non-monotonic sum of this name.
-fn series(alloc: Global, name: &str) -> Result<SeriesId, Fail>
+pub fn series(alloc: Global, name: &str) -> Result<SeriesId, Fail>
     ensures { IfOk result (λ x. x.kind ≡ Kind.Sum false) }
 {
     Ok(SeriesId::new(
@@ -75,47 +73,4 @@ pub fn admit<L: Round, R: Wait + Abort>(
         Ok(number) => Ok(number),
         Err((fault, _)) => Err(fault),
     }
-}
-
-/// A flush that was taken: its number, and the end and the row of its one point.
-#[derive(Clone, Copy, Debug, PartialEq, Eq)]
-pub struct Sent {
-    pub number: u64,
-    pub end: u64,
-    pub row: [u64; 3],
-}
-
-/// Takes up to ten series; the flush has one point of a sum.
-pub fn take<L: Round, R: Wait + Abort>(
-    rt: &R,
-    shared: &SharedBook<L>,
-    seat: &mut Seat<L>,
-) -> Result<Option<Sent>, TakeFault> {
-    let Some(flush) = shared.take(rt, seat, 10)? else {
-        return Ok(None);
-    };
-    let points = flush.points.as_slice();
-    assert_eq!(rt; points.len(), 1);
-    let row = points[0].row();
-    assert_eq!(rt; row.len(), 3);
-    Ok(Some(Sent {
-        number: flush.number,
-        end: points[0].span().end(),
-        row: [row[0], row[1], row[2]],
-    }))
-}
-
-fn expect_row(rt: &impl Abort, row: &Row, words: &[u64; 3]) {
-    assert!(rt; row.as_slice() == words.as_slice());
-}
-
-/// Compares the rows of a series: accepted, acknowledged, dropped, in flight, stored, quarantined.
-pub fn expect_rows(rt: &impl Abort, totals: &SeriesTotals, frontier: u64, rows: &[[u64; 3]; 6]) {
-    assert_eq!(rt; totals.frontier, frontier);
-    expect_row(rt, &totals.accepted, &rows[0]);
-    expect_row(rt, &totals.acknowledged, &rows[1]);
-    expect_row(rt, &totals.dropped, &rows[2]);
-    expect_row(rt, &totals.in_flight, &rows[3]);
-    expect_row(rt, &totals.stored, &rows[4]);
-    expect_row(rt, &totals.quarantined, &rows[5]);
 }

@@ -1,8 +1,8 @@
 //! Tests of a book that threads share: seats in their own threads, the calls of a seat with worked
-//! values, audits and rounds; and of workers over a shared book, which overlap. They test what no
-//! contract says: that calls succeed with ample memory, that each calls its own function of the
-//! book, that audits pass, that the lock is free while a flush is sent, and that orders are
-//! answered.
+//! values, quarantines of two senders, audits and rounds; and of workers over a shared book, which
+//! overlap. They test what no contract says: that calls succeed with ample memory, that each calls
+//! its own function of the book, for the sender that it names, that audits pass, that the lock is
+//! free while a flush is sent, and that orders are answered.
 #![tactic(auto)]
 
 #[cfg(test)]
@@ -12,9 +12,13 @@ mod bodies;
 #[cfg(test)]
 mod call;
 #[cfg(test)]
+mod compare;
+#[cfg(test)]
 mod pair;
 #[cfg(test)]
 mod pause;
+#[cfg(test)]
+mod quarantines;
 #[cfg(test)]
 mod rounds;
 #[cfg(test)]

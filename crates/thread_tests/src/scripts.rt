@@ -3,12 +3,11 @@
 //! begins with a quarantine.
 ghost use Rattle.std.specs.Prelude.{◌≡◌, []};
 
-use crate::bodies::Sent;
 use crate::call::Call::{
-    Admit, AdmitOf, Confirm, DropFlush, GiveBack, Lift, Quarantine, Rows, Series, Settle, Take,
-    Undo,
+    Admit, AdmitOf, Confirm, DropFlush, GiveBack, Lift, Quarantine, Settle, Take, Totals, Undo,
 };
 use crate::call::{Call, run};
+use crate::compare::{Sent, Total};
 use crate::pair::finish;
 use delta_book::book::Book;
 use delta_book::faults::{
@@ -56,7 +55,8 @@ fn one_seat<L: Round, R: Wait + Abort>(
 /// Flush 1, which takes the point of batch 1.
 const FIRST: Sent = Sent {
     number: 1,
-    end: 20,
+    series: "req",
+    span: (10, 20),
     row: [1, 5, 0],
 };
 
@@ -65,10 +65,12 @@ const FIRST_PATH: &[Call] = &[
     Take(Some(FIRST)),
     Settle(1, Ok(())),
     Settle(1, Err(NotLive)),
-    Rows(
+    Totals(&[Total(
+        "req",
+        "A",
         20,
         [[1, 5, 0], [1, 5, 0], NOTHING, NOTHING, NOTHING, NOTHING],
-    ),
+    )]),
 ];
 
 #[test]
@@ -91,26 +93,32 @@ const QUARANTINED_SENDER: &[Call] = &[
     Take(Some(FIRST)),
     Admit(20, 7, Ok(2)),
     Take(None),
-    Quarantine(Ok(())),
-    Quarantine(Err(QuarantineFault::Already)),
+    Quarantine("A", Ok(())),
+    Quarantine("A", Err(QuarantineFault::Already)),
     Admit(30, 1, Err(AdmitFault::Quarantined)),
-    Rows(
+    Totals(&[Total(
+        "req",
+        "A",
         30,
         [[2, 12, 0], NOTHING, NOTHING, [1, 5, 0], NOTHING, [1, 7, 0]],
-    ),
+    )]),
     GiveBack(1, Ok(())),
-    Rows(
+    Totals(&[Total(
+        "req",
+        "A",
         30,
         [[2, 12, 0], NOTHING, NOTHING, NOTHING, NOTHING, [2, 12, 0]],
-    ),
+    )]),
     Take(None),
     Lift("B", Err(NotQuarantined)),
     Lift("A", Ok(())),
     Lift("A", Err(NotQuarantined)),
-    Rows(
+    Totals(&[Total(
+        "req",
+        "A",
         30,
         [[2, 12, 0], NOTHING, NOTHING, NOTHING, [2, 12, 0], NOTHING],
-    ),
+    )]),
 ];
 
 #[test]
@@ -134,7 +142,7 @@ const UNDO_AFTER_TAKE: &[Call] = &[
     Undo(1, Err(UndoFault::Taken)),
     GiveBack(1, Ok(())),
     Undo(1, Ok(())),
-    Series(0),
+    Totals(&[]),
     Admit(10, 5, Ok(2)),
     Confirm(2, Ok(())),
     Undo(2, Err(UndoFault::NotOpen)),
@@ -162,7 +170,8 @@ const REFUSED_FLUSHES: &[Call] = &[
     GiveBack(1, Ok(())),
     Take(Some(Sent {
         number: 2,
-        end: 20,
+        series: "req",
+        span: (10, 20),
         row: [1, 5, 0],
     })),
     DropFlush(2, Ok(())),
@@ -170,14 +179,17 @@ const REFUSED_FLUSHES: &[Call] = &[
     Admit(20, 7, Ok(2)),
     Take(Some(Sent {
         number: 3,
-        end: 30,
+        series: "req",
+        span: (20, 30),
         row: [1, 7, 0],
     })),
     GiveBack(3, Ok(())),
-    Rows(
+    Totals(&[Total(
+        "req",
+        "A",
         30,
         [[2, 12, 0], NOTHING, [1, 5, 0], NOTHING, [1, 7, 0], NOTHING],
-    ),
+    )]),
 ];
 
 #[test]
@@ -197,12 +209,14 @@ fn flushes_that_are_refused(rt: HostRuntime) -> Result<(), Fail> {
 const REFUSED_BATCHES: &[Call] = &[
     Admit(10, 5, Ok(1)),
     Admit(15, 1, Err(AdmitFault::OutOfOrder(0, 20))),
-    AdmitOf("B", 20, 1, Err(AdmitFault::OtherWriter(0))),
+    AdmitOf("B", "req", 20, 1, Err(AdmitFault::OtherWriter(0))),
     Admit(20, i64::MAX, Err(AdmitFault::TooLarge)),
-    Rows(
+    Totals(&[Total(
+        "req",
+        "A",
         20,
         [[1, 5, 0], NOTHING, NOTHING, NOTHING, [1, 5, 0], NOTHING],
-    ),
+    )]),
     Admit(20, 7, Ok(2)),
 ];
 
@@ -225,13 +239,15 @@ const LEFT_BEHIND: &[Call] = &[Admit(10, 5, Ok(1)), Confirm(1, Ok(()))];
 /// The next round begins with a quarantine of what was pending. The numbers of batches and flushes
 /// continue.
 const QUARANTINED_AT_FIRST: &[Call] = &[
-    Quarantine(Ok(())),
+    Quarantine("A", Ok(())),
     Admit(20, 7, Err(AdmitFault::Quarantined)),
     Take(None),
-    Rows(
+    Totals(&[Total(
+        "req",
+        "A",
         20,
         [[1, 5, 0], NOTHING, NOTHING, NOTHING, NOTHING, [1, 5, 0]],
-    ),
+    )]),
     Lift("A", Ok(())),
     Take(Some(FIRST)),
     Settle(1, Ok(())),
