@@ -1,6 +1,7 @@
 //! What no contract says of the vector operations: that they run over rows of every length up to
-//! 259 words (no full block, full blocks alone, each remainder), and detect an overflow of a word.
-ghost use Rattle.std.specs.Prelude.{◌≡◌, length};
+//! 259 words (no full block, full blocks alone, each remainder), that one word that differs from
+//! the others counts wherever it is, and that they detect an overflow of a word.
+ghost use Rattle.std.specs.Prelude.{◌≡◌, ◌≤◌, length};
 
 use bucket_lanes::{add_into, clear, fits, is_zero, move_into, sub_from, total};
 use std::process::Abort;
@@ -84,6 +85,47 @@ fn expect_carry(rt: &impl Abort, words: &mut [u64], ones: &[u64], at: usize)
     expect_fits(rt, words, ones, MOST, true);
 }
 
+/// The word at this index is `here`, and each other one `rest`.
+fn expect_one(rt: &impl Abort, words: &[u64], rest: u64, at: usize, here: u64) {
+    for (k, word) in words.iter().enumerate() {
+        let want = if k == at { here } else { rest };
+        assert_eq!(rt; *word, want, "word {k} of {}", words.len());
+    }
+}
+
+/// A row of 0 but for one word, up to a sum of 2^64 - 1, changes the word at this index alone.
+fn expect_changed(rt: &impl Abort, a: &mut [u64], b: &mut [u64], at: usize)
+    requires { length a.old ≡ length b.old }
+{
+    a.fill(3);
+    clear(b);
+    assert!(rt; at < b.len());
+    b[at] = MOST - 3;
+    assert!(rt; fits(a, b, MOST));
+    add_into(a, b);
+    expect_one(rt, a, 3, at, MOST);
+    expect_one(rt, b, 0, at, MOST - 3);
+    sub_from(a, b);
+    expect_one(rt, a, 3, at, 3);
+    assert!(rt; fits(a, b, MOST));
+    move_into(a, b);
+    expect_one(rt, a, 3, at, MOST);
+    expect_one(rt, b, 0, at, 0);
+}
+
+/// Makes each call on rows of this length in which one word differs from the others.
+fn expect_place(rt: &impl Abort, len: usize, at: usize)
+    requires { len ≤ 259 }
+{
+    let mut a = [0u64; 259];
+    let mut b = [0u64; 259];
+    let zeros = [0u64; 259];
+    let ones = [1u64; 259];
+    expect_changed(rt, &mut a[..len], &mut b[..len], at);
+    expect_seen(rt, &mut a[..len], &zeros[..len], at);
+    expect_carry(rt, &mut a[..len], &ones[..len], at);
+}
+
 #[test]
 fn rows_of_each_length(rt: HostRuntime) {
     for len in 0usize..260 {
@@ -93,18 +135,34 @@ fn rows_of_each_length(rt: HostRuntime) {
     }
 }
 
+/// Every word of each row of at most one block.
+#[test]
+fn each_place_of_short_rows_counts(rt: HostRuntime) {
+    for len in 0usize..9 {
+        for at in 0..len {
+            expect_place(&rt, len, at);
+        }
+    }
+}
+
 /// The first word, the last of the first block, the one after it and the last of all.
 #[test]
 fn each_place_counts(rt: HostRuntime) {
     for len in 9usize..260 {
         for at in [0, 7, 8, len - 1] {
-            let mut words = [3u64; 259];
-            let zeros = [0u64; 259];
-            let ones = [1u64; 259];
-            expect_seen(&rt, &mut words[..len], &zeros[..len], at);
-            expect_carry(&rt, &mut words[..len], &ones[..len], at);
+            expect_place(&rt, len, at);
         }
     }
+}
+
+/// A row without words is all 0, and fits with another one under every limit.
+#[test]
+fn rows_without_words(rt: HostRuntime) {
+    let mut words = [3u64; 1];
+    clear(&mut words[..0]);
+    assert_eq!(rt; words, [3]);
+    expect_total(&rt, &words[..0], 0);
+    expect_fits(&rt, &words[..0], &words[..0], 0, true);
 }
 
 #[test]
