@@ -1,6 +1,7 @@
-//! A book behind an uplink that gives one answer, and requests to it.
+//! A book behind an uplink that gives one answer, and requests to it, from readers that give all at
+//! once or a byte a call.
 use back_answers::Answer;
-use byte_ends::{Script, Tape};
+use byte_ends::{Script, Step, Tape};
 use delta_book::book::Book;
 use gate_workers::{BookKeeper, End, NoPace, Served, serve_book};
 use http_edge::Written;
@@ -8,6 +9,12 @@ use std::alloc::Global;
 use std::process::Abort;
 use std::test::Fail;
 use test_support::Fixed;
+
+/// The most bytes that a reader gives one by one.
+const SINGLE_BYTES: usize = 512;
+
+/// The calls of the readers that give a request: all that is left, or one byte each time.
+pub const READS: [&[Step]; 2] = [&[], &[Step::AtMost(1); SINGLE_BYTES]];
 
 pub fn keeper(alloc: Global, answer: Answer) -> Result<BookKeeper<Fixed>, Fail> {
     let book = Book::new(alloc)?;
@@ -22,7 +29,20 @@ pub fn ask<R: Abort + AllocGlobal>(
     served: Served,
     text: &[u8],
 ) -> Result<(), Fail> {
-    let mut reader = Script::new(request, &[]);
+    ask_by(rt, keeper, &[], request, served, text)
+}
+
+/// The same, where the reader follows these steps.
+pub fn ask_by<R: Abort + AllocGlobal>(
+    rt: &R,
+    keeper: &mut BookKeeper<Fixed>,
+    reads: &[Step],
+    request: &[u8],
+    served: Served,
+    text: &[u8],
+) -> Result<(), Fail> {
+    assert!(rt; request.len() <= SINGLE_BYTES);
+    let mut reader = Script::new(request, reads);
     let mut writer = Tape::new(rt.alloc(), &[]);
     let got = serve_book(rt.alloc(), keeper, &mut reader, &mut writer, &mut NoPace);
     assert_eq!(rt; got, served);

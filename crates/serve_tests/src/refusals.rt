@@ -1,7 +1,7 @@
 //! Refusals, and their order.
-use crate::desk::{ask, done, keeper, refused};
+use crate::desk::{READS, ask, done, keeper, refused};
 use back_answers::Answer;
-use byte_ends::{Script, Tape};
+use byte_ends::{Script, Step, Tape};
 use gate_workers::{BookKeeper, End, NoPace, serve_book};
 use std::process::Abort;
 use std::test::Fail;
@@ -159,15 +159,17 @@ const POSTED_BY_A: &[u8] = b"POST /v1/metrics HTTP/1.1\r\n\
     {\"aggregationTemporality\":1,\"isMonotonic\":true,\"dataPoints\":[\
     {\"asInt\":\"5\",\"startTimeUnixNano\":\"10\",\"timeUnixNano\":\"20\"}]}}]}]}]}";
 
-/// Serves a request, and looks at how its response begins and ends.
+/// Serves a request from a reader that follows these steps, and looks at how its response begins
+/// and ends.
 fn refuses<R: Abort + AllocGlobal>(
     rt: &R,
     keeper: &mut BookKeeper<Fixed>,
+    reads: &[Step],
     request: &[u8],
-    refusal: Refusal,
+    line: &[u8],
+    body: &[u8],
 ) -> Result<(), Fail> {
-    let (line, body) = refusal;
-    let mut reader = Script::new(request, &[]);
+    let mut reader = Script::new(request, reads);
     let mut writer = Tape::new(rt.alloc(), &[]);
     let _ = serve_book(rt.alloc(), keeper, &mut reader, &mut writer, &mut NoPace);
     assert!(rt; writer.taken().starts_with(line));
@@ -178,8 +180,10 @@ fn refuses<R: Abort + AllocGlobal>(
 #[test]
 fn each_by_its_first_fault(rt: HostRuntime) -> Result<(), Fail> {
     let mut keeper = keeper(rt.alloc(), Answer::Success)?;
-    for (request, refusal) in FAULTS {
-        refuses(&rt, &mut keeper, request, refusal)?;
+    for reads in READS {
+        for (request, (line, body)) in FAULTS {
+            refuses(&rt, &mut keeper, reads, request, line, body)?;
+        }
     }
     Ok(())
 }
@@ -187,8 +191,10 @@ fn each_by_its_first_fault(rt: HostRuntime) -> Result<(), Fail> {
 #[test]
 fn path_method_sender_content_body_in_this_order(rt: HostRuntime) -> Result<(), Fail> {
     let mut keeper = keeper(rt.alloc(), Answer::Success)?;
-    for (request, refusal) in SEVERAL_FAULTS {
-        refuses(&rt, &mut keeper, request, refusal)?;
+    for reads in READS {
+        for (request, (line, body)) in SEVERAL_FAULTS {
+            refuses(&rt, &mut keeper, reads, request, line, body)?;
+        }
     }
     Ok(())
 }
@@ -230,8 +236,10 @@ fn a_media_type_in_any_case_with_parameters(rt: HostRuntime) -> Result<(), Fail>
 fn a_quarantined_sender_is_refused_until_it_is_released(rt: HostRuntime) -> Result<(), Fail> {
     let mut keeper = keeper(rt.alloc(), Answer::Success)?;
     ask(&rt, &mut keeper, QUARANTINE, done(End::NoBatch), ACCEPTED)?;
-    refuses(&rt, &mut keeper, QUARANTINE, ALREADY_QUARANTINED)?;
-    refuses(&rt, &mut keeper, POSTED_BY_A, QUARANTINED)?;
+    let (line, body) = ALREADY_QUARANTINED;
+    refuses(&rt, &mut keeper, &[], QUARANTINE, line, body)?;
+    let (line, body) = QUARANTINED;
+    refuses(&rt, &mut keeper, &[], POSTED_BY_A, line, body)?;
     ask(&rt, &mut keeper, LIFT, done(End::NoBatch), ACCEPTED)?;
     ask(
         &rt,

@@ -1,5 +1,5 @@
 //! Requests that are served, with their whole responses.
-use crate::desk::{ask, done, keeper, refused};
+use crate::desk::{READS, ask, ask_by, done, keeper, refused};
 use back_answers::Answer;
 use byte_ends::{Script, Step, Tape};
 use gate_workers::{End, NoPace, Served, serve_book};
@@ -14,9 +14,14 @@ const CHUNKED: &[u8] = b"POST /v1/metrics HTTP/1.1\r\n\
         {}\r\n\
         0\r\n\r\n";
 
+const NOT_JSON: &[u8] = b"HTTP/1.1 400 Bad Request\r\n\
+        Content-Type: application/json\r\n\
+        Content-Length: 22\r\n\
+        Connection: close\r\n\r\n\
+        {\"message\":\"not JSON\"}";
+
 #[test]
 fn a_body_without_points_asks_nothing(rt: HostRuntime) -> Result<(), Fail> {
-    let mut keeper = keeper(rt.alloc(), Answer::Success)?;
     let bodies: [&[u8]; 2] = [
         b"POST /v1/metrics HTTP/1.1\r\n\
             Content-Type: application/json\r\n\
@@ -27,8 +32,24 @@ fn a_body_without_points_asks_nothing(rt: HostRuntime) -> Result<(), Fail> {
             Content-Length: 22\r\n\r\n\
             {\"resourceMetrics\":[]}",
     ];
-    for body in bodies {
-        ask(&rt, &mut keeper, body, done(End::NoBatch), ACCEPTED)?;
+    for reads in READS {
+        let mut keeper = keeper(rt.alloc(), Answer::Success)?;
+        for body in bodies {
+            ask_by(&rt, &mut keeper, reads, body, done(End::NoBatch), ACCEPTED)?;
+        }
+    }
+    Ok(())
+}
+
+#[test]
+fn a_body_without_a_byte_is_no_json(rt: HostRuntime) -> Result<(), Fail> {
+    let mut keeper = keeper(rt.alloc(), Answer::Success)?;
+    let posted = b"POST /v1/metrics HTTP/1.1\r\n\
+        Content-Type: application/json\r\n\
+        Content-Length: 0\r\n\r\n"
+        .as_slice();
+    for reads in READS {
+        ask_by(&rt, &mut keeper, reads, posted, refused(400), NOT_JSON)?;
     }
     Ok(())
 }
@@ -97,12 +118,12 @@ fn sums_over_a_limit_are_refused(rt: HostRuntime) -> Result<(), Fail> {
     )
 }
 
-/// What is served where the writer follows these steps.
-fn written_by(rt: &HostRuntime, steps: &[Step]) -> Result<Served, Fail> {
+/// What is served where reader and writer follow these steps.
+fn served_by(rt: &HostRuntime, reads: &[Step], writes: &[Step]) -> Result<Served, Fail> {
     let alloc = rt.alloc();
     let mut keeper = keeper(alloc, Answer::Success)?;
-    let mut reader = Script::new(POSTED, &[]);
-    let mut writer = Tape::new(alloc, steps);
+    let mut reader = Script::new(POSTED, reads);
+    let mut writer = Tape::new(alloc, writes);
     Ok(serve_book(alloc, &mut keeper, &mut reader, &mut writer, &mut NoPace))
 }
 
@@ -117,16 +138,34 @@ fn a_batch_ends_by_what_was_written(rt: HostRuntime) -> Result<(), Fail> {
             End::Confirmed,
         ),
     ];
-    for (steps, written, end) in cases {
-        let served = written_by(&rt, steps)?;
-        assert_eq!(rt;
-            served,
-            Served::Replied {
-                status: 200,
-                written,
-                end
-            }
-        );
+    for reads in READS {
+        for (writes, written, end) in cases {
+            let served = served_by(&rt, reads, writes)?;
+            assert_eq!(rt;
+                served,
+                Served::Replied {
+                    status: 200,
+                    written,
+                    end
+                }
+            );
+        }
+    }
+    Ok(())
+}
+
+#[test]
+fn a_chunked_body_byte_by_byte(rt: HostRuntime) -> Result<(), Fail> {
+    let mut keeper = keeper(rt.alloc(), Answer::Success)?;
+    for reads in READS {
+        ask_by(
+            &rt,
+            &mut keeper,
+            reads,
+            CHUNKED,
+            done(End::NoBatch),
+            ACCEPTED,
+        )?;
     }
     Ok(())
 }
@@ -137,11 +176,14 @@ fn a_chunked_body_for_every_cut(rt: HostRuntime) -> Result<(), Fail> {
     let mut keeper = keeper(alloc, Answer::Success)?;
     for cut in 1..CHUNKED.len() {
         let steps = [Step::AtMost(cut)];
-        let mut reader = Script::new(CHUNKED, &steps);
-        let mut writer = Tape::new(alloc, &[]);
-        let got = serve_book(alloc, &mut keeper, &mut reader, &mut writer, &mut NoPace);
-        assert_eq!(rt; got, done(End::NoBatch));
-        assert_eq!(rt; writer.taken(), ACCEPTED);
+        ask_by(
+            &rt,
+            &mut keeper,
+            &steps,
+            CHUNKED,
+            done(End::NoBatch),
+            ACCEPTED,
+        )?;
     }
     Ok(())
 }
