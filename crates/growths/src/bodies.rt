@@ -1,4 +1,4 @@
-//! The requests that the calls are made on.
+//! The bodies and the requests that the calls are made on.
 
 /// A body with a histogram and a sum with attributes of each kind, and two points that are foreign.
 pub const MIXED: &[u8] = b"{\"resourceMetrics\":[{\"resource\":{\"attributes\":[{\"key\":\"host\",\
@@ -55,3 +55,40 @@ pub const CHUNKED: &[u8] = b"POST /v1/metrics HTTP/1.1\r\n\
 
 /// What a back end answers that asks to wait.
 pub const WAIT: &[u8] = b"HTTP/1.1 503 Service Unavailable\r\nRetry-After: 2\r\n\r\n";
+
+/// A post without points.
+pub const NO_POINTS: &[u8] = b"POST /v1/metrics HTTP/1.1\r\n\
+        Content-Type: application/json\r\n\
+        Content-Length: 2\r\n\r\n\
+        {}";
+
+/// A post of a point of 5 in (10, 20] of the sum `a`, and of three points that are foreign.
+pub const FOREIGN: &[u8] = b"POST /v1/metrics HTTP/1.1\r\n\
+        Content-Type: application/json\r\n\
+        Content-Length: 242\r\n\r\n\
+        {\"resourceMetrics\":[{\"scopeMetrics\":[{\"metrics\":[{\"name\":\"a\",\"sum\":{\
+        \"aggregationTemporality\":1,\"isMonotonic\":true,\"dataPoints\":[{\"asInt\":\"5\",\
+        \"startTimeUnixNano\":\"10\",\"timeUnixNano\":\"20\"}]}},{\"name\":\"g\",\"gauge\":{\
+        \"dataPoints\":[{},{},{}]}}]}]}]}";
+
+/// A post of two points of the sum `a`, which together are too large.
+pub const TOO_LARGE: &[u8] = b"POST /v1/metrics HTTP/1.1\r\n\
+        Content-Type: application/json\r\n\
+        Content-Length: 272\r\n\r\n\
+        {\"resourceMetrics\":[{\"scopeMetrics\":[{\"metrics\":[{\"name\":\"a\",\"sum\":{\
+        \"aggregationTemporality\":1,\"isMonotonic\":true,\"dataPoints\":[{\
+        \"asInt\":\"9223372036854775807\",\"startTimeUnixNano\":\"10\",\
+        \"timeUnixNano\":\"20\"},{\"asInt\":\"1\",\"startTimeUnixNano\":\"20\",\
+        \"timeUnixNano\":\"30\"}]}}]}]}]}";
+
+/// A post of a point of 5 in (10, 20] of the sum `a`, in two chunks.
+pub const CHUNKED_POINT: &[u8] = b"POST /v1/metrics HTTP/1.1\r\n\
+        Content-Type: application/json\r\n\
+        Transfer-Encoding: chunked\r\n\r\n\
+        5f\r\n\
+        {\"resourceMetrics\":[{\"scopeMetrics\":[{\"metrics\":[{\"name\":\"a\",\"sum\":{\
+        \"aggregationTemporality\":1,\r\n\
+        64\r\n\
+        \"isMonotonic\":true,\"dataPoints\":[{\"asInt\":\"5\",\
+        \"startTimeUnixNano\":\"10\",\"timeUnixNano\":\"20\"}]}}]}]}]}\r\n\
+        0\r\n\r\n";

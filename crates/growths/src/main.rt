@@ -1,7 +1,7 @@
-//! Makes each call of the libraries that can be out of memory. Where one is, a line says so, and it
-//! is made again. At the end come the calls that allocate nothing. Each call's line is its answer,
-//! so that two runs can be compared. `tests/refused_libraries.py` makes each allocation fail in
-//! turn.
+//! Makes each call of the libraries that can be out of memory, and serves requests. Where one is, a
+//! line says so, and it is made again. At the end come the calls that allocate nothing. Each call's
+//! line is its answer, so that two runs can be compared. `tests/refused_libraries.py` makes each
+//! allocation fail in turn.
 #![tactic(auto)]
 
 ghost use Rattle.std.specs.Prelude.{◌≡◌};
@@ -14,6 +14,7 @@ mod kept;
 mod lines;
 mod making;
 mod parts;
+mod served;
 mod shared_calls;
 mod shared_kept;
 mod tables;
@@ -61,7 +62,8 @@ fn make_all<R: Print + Wait>(rt: &R, alloc: Global) -> Result<(), AllocError> {
         make_handed(rt, alloc, call)?;
     }
     books::two_rounds(rt, alloc)?;
-    shared_calls::make_all(rt, alloc)
+    shared_calls::make_all(rt, alloc)?;
+    served::make_all(rt, alloc)
 }
 
 /// All calls, and a line if they end before the last one.
