@@ -1,5 +1,5 @@
 -- What was read of a source and written to a sink, call by call.
-use Rattle.std.proofs.Common.{◌≡◌, ℕ, ◌+◌, ◌-◌, ◌<◌, take, drop, List, ◌++◌, length, Option, Some, None, ap, ◌∙◌, append_assoc, length-append, arith}
+use Rattle.std.proofs.Common.{◌≡◌, ℕ, ◌+◌, ◌-◌, ◌<◌, ◌≤◌, take, drop, List, ◌++◌, length, Option, Some, None, sym, ap, ◌∙◌, append_assoc, length-append, length-take-le, arith}
 use Rattle.std.specs.Io.KnownBytes.{Consumes, IsAtEnd, Appends}
 use Rattle.std.proofs.lemmas.List.{append-nil, take-append-drop, take_rest}
 use Rattle.byte_ends.specs.Ends.{AreAll}
@@ -21,6 +21,12 @@ more_consumed None mid new xs ys most h k long = tt
 more_consumed (Some a) None new xs ys most h k long = absurd h
 more_consumed (Some a) (Some b) None xs ys most h k long = absurd k
 more_consumed (Some a) (Some b) (Some c) xs ys most h k long = omega (arith, ap length h, ap length k, length-append xs b, length-append ys c)
+
+-- how far an input was read, where n bytes came last
+pub stopped : (Passes : ℕ → Type 0) (old mid new : Option (List ℕ)) (given n : ℕ) (before buf : List ℕ) → Consumes old mid before → Consumes mid new (take n buf) → n ≤ length buf → length buf ≡ 4096 → given ≡ n → length before ≤ 16777216 → Passes (length before + given)
+    → (b : List ℕ) × (last : List ℕ) × Consumes old new (b ++ last) × (length last ≡ given) × (given ≤ 4096) × (length b ≤ 16777216) × Passes (length b + given)
+stopped Passes old mid new given n before buf known took within len is short passes =
+    (before, take n buf, consumed old mid new before (take n buf) known took, length-take-le n buf within ∙ sym is, omega arith, short, passes)
 
 pub appended : (old mid new : Option (List ℕ)) (xs ys : List ℕ) → Appends old mid xs → Appends mid new ys → Appends old new (xs ++ ys)
 appended None mid new xs ys h k = tt

@@ -1,12 +1,13 @@
 -- What is read and written.
-use Rattle.std.specs.Prelude.{◌≡◌, ℕ, ◌<◌, Bool, true, false, List, ◌++◌, length, Some, None, Ok}
-use Rattle.std.specs.Prelude.{Err, ⊤}
+use Rattle.std.specs.Prelude.{◌≡◌, ℕ, ◌+◌, ◌<◌, ◌≤◌, Bool, true, false, List, ◌++◌, length, Some, None}
+use Rattle.std.specs.Prelude.{Ok, Err, ⊤}
 use Rattle.std.specs.declared.option.Option.{Option}
 use Rattle.std.specs.declared.result.Result.{Result}
-use Rattle.std.specs.Io.KnownBytes.{Appends}
+use Rattle.std.specs.Io.KnownBytes.{Appends, Consumes}
 use Rattle.play_script.specs.declared.fault.PlayFault.{PlayFault}
 use Rattle.play_script.specs.declared.fault.PlayFault.TheVariants.{CannotRead, TooLong, CannotWrite}
 use Rattle.play_script.specs.declared.fault.PlayFault.TheVariants.{NoMemory}
+use Rattle.play_script.specs.declared.input.TheConstants.{MAX_INPUT, MAX_PIECE}
 
 -- there are more bytes than that, where they are known
 abbrev pub HasMore : Option (List ℕ) → ℕ → Type 0
@@ -39,3 +40,25 @@ IsReadFault old most CannotRead = ⊤
 IsReadFault old most TooLong = HasMore old most
 IsReadFault old most CannotWrite = ⊥
 IsReadFault old most NoMemory = ⊤
+
+-- so many bytes were read of an input, by the outcome: over the limit where it is too long, and
+-- there alone
+abbrev pub FaultPasses : PlayFault → ℕ → Type 0
+FaultPasses CannotRead count = count ≤ MAX_INPUT
+FaultPasses TooLong count = MAX_INPUT < count
+FaultPasses CannotWrite count = count ≤ MAX_INPUT
+FaultPasses NoMemory count = count ≤ MAX_INPUT
+
+abbrev pub PassesLimit : {T : Type 0} → Result T PlayFault → ℕ → Type 0
+PassesLimit (Ok x) count = count ≤ MAX_INPUT
+PassesLimit (Err e) count = FaultPasses e count
+
+-- what was read before the last call is within the limit, and so is what was read in all, but where
+-- the input is too long: there the last call, of at most a piece, passed the limit, and nothing was
+-- read after it
+abbrev pub StopsReading : {T : Type 0} → Option (List ℕ) → Option (List ℕ) → ℕ
+    → Result T PlayFault → Type 0
+StopsReading old new given result =
+    (before : List ℕ) × (last : List ℕ) × Consumes old new (before ++ last) × (length last ≡ given)
+    × (given ≤ MAX_PIECE) × (length before ≤ MAX_INPUT)
+    × PassesLimit result (length before + given)

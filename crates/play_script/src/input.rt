@@ -3,7 +3,7 @@
 ghost use Rattle.std.specs.Prelude.{◌≡◌, ◌≤◌, IfOk, IfErr, length, vec_len};
 ghost use Rattle.byte_ends.specs.Counts.{counted};
 ghost use Rattle.byte_ends.specs.Ends.{AreAll};
-ghost use Rattle.play_script.specs.Ends.{IsReadFault, cannot_read};
+ghost use Rattle.play_script.specs.Ends.{IsReadFault, StopsReading, cannot_read};
 
 use crate::fault::PlayFault;
 use byte_ends::Source;
@@ -13,18 +13,21 @@ use std::alloc::Global;
 pub const MAX_INPUT: usize = 16_777_216;
 
 /// The most bytes that one call of the reader is asked for.
-const PIECE: usize = 4096;
+pub const MAX_PIECE: usize = 4096;
 
-/// Reads all bytes, at most `MAX_INPUT` of them. So a reader without end gives `TooLong`.
+/// Reads all bytes, at most `MAX_INPUT` of them. So a reader without end gives `TooLong`, and the
+/// call that passes the limit is the last one.
 pub fn read_all<R: Source>(alloc: Global, reader: &mut R) -> Result<Vec<u8>, PlayFault>
     ensures all { IfOk result (λ input. AreAll (R.remaining reader.old) input.items) }
     ensures short { IfOk result (λ input. vec_len input ≤ MAX_INPUT) }
     ensures fault { IfErr result (λ fault. IsReadFault (R.remaining reader.old) MAX_INPUT fault) }
+    ensures stops { StopsReading (R.remaining reader.old) (R.remaining reader.new)
+        (R.given reader.new) result }
     ensures failed { R.failures reader.new ≡ counted R.one_more (cannot_read result)
         (R.failures reader.old) }
 {
     let mut input = Vec::new(alloc);
-    let mut piece = [0; PIECE];
+    let mut piece = [0; MAX_PIECE];
     loop {
         let Ok(count) = reader.read(&mut piece) else {
             return Err(PlayFault::CannotRead);

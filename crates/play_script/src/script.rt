@@ -6,7 +6,7 @@ ghost use Rattle.metric_events.specs.History.{Start};
 ghost use Rattle.delta_book.specs.Journal.{history};
 ghost use Rattle.play_script.specs.Answered.{IsReply, reply_text};
 ghost use Rattle.play_script.specs.Commands.{command};
-ghost use Rattle.play_script.specs.Ends.{cannot_read, cannot_write};
+ghost use Rattle.play_script.specs.Ends.{StopsReading, cannot_read, cannot_write};
 ghost use Rattle.play_script.specs.Pieces.{lines};
 ghost use Rattle.play_script.specs.Played.{LineIsAnswered, LinesArePlayed, IsPlayed};
 
@@ -83,7 +83,8 @@ fn answer_lines<W: Sink>(
 /// Errors: `CannotRead` and `CannotWrite` where a call of the reader or the writer failed,
 /// `TooLong` where the input has more than `MAX_INPUT` bytes, `NoMemory` where an allocation failed
 /// that no reply could report. After `CannotRead`, or any error where the input is too long,
-/// nothing was written; after another `NoMemory`, the replies to the lines before.
+/// nothing was written; after another `NoMemory`, the replies to the lines before. The reader is not
+/// called again after the call that passes the limit, which gives at most 4,096 bytes.
 pub fn play<R: Source, W: Sink>(
     alloc: Global,
     reader: &mut R,
@@ -91,6 +92,8 @@ pub fn play<R: Source, W: Sink>(
 ) -> Result<(), PlayFault>
     ensures played { (input : List ℕ) → R.remaining reader.old ≡ Some input → IsPlayed
         (W.contents writer.old) (W.contents writer.new) input result }
+    ensures stops { StopsReading (R.remaining reader.old) (R.remaining reader.new)
+        (R.given reader.new) result }
     ensures read { R.failures reader.new ≡ counted R.one_more (cannot_read result)
         (R.failures reader.old) }
     ensures written { W.failures writer.new ≡ counted W.one_more (cannot_write result)
