@@ -1,9 +1,10 @@
 //! Names and meanings of all that is counted. A name ends in its unit, a counter's in `_total`.
 
+use super::rounding::RoundingBySeries;
 use super::{Levels, Metrics};
 use prometheus::{
-    CounterVec, Histogram, HistogramOpts, IntCounter, IntCounterVec, IntGauge, IntGaugeVec, Opts, Registry,
-    Result,
+    CounterVec, GaugeVec, Histogram, HistogramOpts, IntCounter, IntCounterVec, IntGauge, IntGaugeVec, Opts,
+    Registry, Result,
 };
 use std::collections::HashSet;
 use std::sync::Mutex;
@@ -39,6 +40,8 @@ pub fn metrics() -> Result<Metrics> {
             &[],
         )?,
         rounding: maker.rounding()?,
+        by_series: RoundingBySeries::new(),
+        greatest_rounding: maker.greatest_rounding()?,
         checkpoints: maker.counters(
             "checkpoints_total",
             "Checkpoints by how they ended",
@@ -139,8 +142,16 @@ impl Maker {
     }
 
     fn rounding(&self) -> Result<CounterVec> {
-        let help = "What these values were rounded by together, in the finer unit: no total is further from the truth";
+        let help = "What these values were rounded by together, in the finer unit, over all series";
         let made = CounterVec::new(Opts::new("totxegun_rounding_units_total", help), &["whole"])?;
+        self.0.register(Box::new(made.clone()))?;
+        Ok(made)
+    }
+
+    fn greatest_rounding(&self) -> Result<GaugeVec> {
+        let help = "What the values of one series were rounded by together, in the finer unit, of all series the most: \
+                    no total is further from the truth";
+        let made = GaugeVec::new(Opts::new("totxegun_greatest_rounding_units", help), &["whole"])?;
         self.0.register(Box::new(made.clone()))?;
         Ok(made)
     }

@@ -1,12 +1,16 @@
 //! Counters and gauges of the service, and the page that Prometheus scrapes.
 
 mod make;
+mod rounding;
+
+pub use rounding::{RoundedSeries, SeriesOfRule};
 
 use crate::otlp::{Rounded, Rounding};
 use prometheus::core::Collector;
 use prometheus::{
-    CounterVec, Encoder, IntCounter, IntCounterVec, IntGauge, IntGaugeVec, Registry, TextEncoder,
+    CounterVec, Encoder, GaugeVec, IntCounter, IntCounterVec, IntGauge, IntGaugeVec, Registry, TextEncoder,
 };
+use rounding::RoundingBySeries;
 use std::collections::HashSet;
 use std::sync::{Mutex, PoisonError};
 
@@ -24,6 +28,9 @@ pub struct Metrics {
     /// By `whole`, the rule: values that were not whole, and what they were rounded by together.
     pub rounded_values: IntCounterVec,
     pub rounding: CounterVec,
+    by_series: RoundingBySeries,
+    /// By `whole`: the greatest of `by_series`, set where the page is made.
+    greatest_rounding: GaugeVec,
     /// By `outcome`: `done`, `failed`.
     pub checkpoints: IntCounterVec,
     pub renewals: IntCounter,
@@ -76,6 +83,7 @@ impl Metrics {
     /// Those of a slot, which are on the page from then on.
     pub fn of_slot(&self, slot: u16) -> OfSlot {
         let label = &[&*slot.to_string()];
+        self.by_series.has_slot(slot);
         OfSlot {
             recoveries: self.recoveries.with_label_values(label),
             series: self.series.with_label_values(label),
@@ -108,6 +116,7 @@ impl Metrics {
                 .inc_by(rounding.values);
             self.rounding.with_label_values(&[rule]).inc_by(rounding.together);
         }
+        self.by_series.add(rounded);
     }
 
     /// What was rounded since the start, by rule.
@@ -126,6 +135,11 @@ impl Metrics {
             .collect()
     }
 
+    /// The series that a rule has rounded since the start.
+    pub fn rounded_series(&self, rule: &str) -> SeriesOfRule {
+        self.by_series.of_rule(rule)
+    }
+
     fn has_label(&self, sender: &str) -> bool {
         let mut senders = self.senders.lock().unwrap_or_else(PoisonError::into_inner); // a set is sound at any time
         if senders.contains(sender) {
@@ -136,6 +150,9 @@ impl Metrics {
 
     /// The page, in Prometheus' text form.
     pub fn page(&self) -> Vec<u8> {
+        for (rule, units) in self.by_series.greatest() {
+            self.greatest_rounding.with_label_values(&[&*rule]).set(units);
+        }
         let mut page = Vec::new();
         if let Err(error) = TextEncoder::new().encode(&self.registry.gather(), &mut page) {
             tracing::warn!("the metrics page is not whole: {error}");
@@ -183,7 +200,7 @@ mod tests {
         );
         let rounded = Rounded {
             by_rule: [(rule.clone(), once)].into(),
-            unfit: None,
+            ..Rounded::default()
         };
         metrics.rounded(&rounded);
         metrics.rounded(&rounded);

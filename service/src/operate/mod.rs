@@ -8,7 +8,7 @@ mod status;
 mod totals;
 
 pub use letters::Resent;
-pub use status::{RoundedStatus, SlotStatus, Status, Stock};
+pub use status::{RoundedSeriesStatus, RoundedStatus, SlotStatus, Status, Stock};
 pub use totals::Totals;
 
 use crate::files::{Dead, Outbox};

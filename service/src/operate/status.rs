@@ -1,6 +1,7 @@
 //! What the service says of itself: in JSON for `totxegun status`, in gauges for Prometheus.
 
 use super::{Desk, Left};
+use crate::metrics::RoundedSeries;
 use crate::slot::Slot;
 use serde::{Deserialize, Serialize};
 use std::sync::PoisonError;
@@ -31,6 +32,35 @@ pub struct RoundedStatus {
     pub rule: String,
     pub values: u64,
     pub together: f64,
+    /// How many series these are of.
+    #[serde(default)]
+    pub series: usize,
+    /// The series that were rounded by most, this one first.
+    #[serde(default)]
+    pub greatest: Vec<RoundedSeriesStatus>,
+}
+
+/// The same of one series: its total is off by no more than `together`.
+#[derive(Debug, Serialize, Deserialize)]
+pub struct RoundedSeriesStatus {
+    pub metric: String,
+    /// `key=value, ..`; what is long is cut.
+    pub attributes: String,
+    pub resource: String,
+    pub values: u64,
+    pub together: f64,
+}
+
+impl From<RoundedSeries> for RoundedSeriesStatus {
+    fn from(series: RoundedSeries) -> RoundedSeriesStatus {
+        RoundedSeriesStatus {
+            metric: series.metric,
+            attributes: series.attributes,
+            resource: series.resource.to_string(),
+            values: series.rounding.values,
+            together: series.rounding.together,
+        }
+    }
 }
 
 #[derive(Debug, Serialize, Deserialize)]
@@ -90,10 +120,19 @@ impl Desk {
 
     fn rounded_status(&self) -> Vec<RoundedStatus> {
         let all = self.metrics.all_rounded().into_iter();
-        all.map(|(rule, rounding)| RoundedStatus {
-            rule,
-            values: rounding.values,
-            together: rounding.together,
+        all.map(|(rule, rounding)| {
+            let of_rule = self.metrics.rounded_series(&rule);
+            RoundedStatus {
+                rule,
+                values: rounding.values,
+                together: rounding.together,
+                series: of_rule.count,
+                greatest: of_rule
+                    .greatest
+                    .into_iter()
+                    .map(RoundedSeriesStatus::from)
+                    .collect(),
+            }
         })
         .collect()
     }

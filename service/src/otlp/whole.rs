@@ -2,12 +2,14 @@
 //!
 //! `rewrite` does it to a request in the gateway's form, so it is the same for both encodings. `decimal` has the
 //! numbers: a double counts as its shortest decimal, which is what a program wrote or meant, and is multiplied
-//! exactly.
+//! exactly. `rounded` is what was rounded meanwhile.
 
 mod decimal;
 mod rewrite;
+mod rounded;
 
 pub(super) use rewrite::rewritten;
+pub use rounded::{Rounded, Rounding};
 
 use std::collections::BTreeMap;
 use std::fmt;
@@ -137,22 +139,6 @@ impl Whole {
     pub fn rule(&self, unit: &str) -> Option<&Rule> {
         self.0.get(unit)
     }
-}
-
-/// What was done to the values of a request.
-#[derive(Clone, Debug, Default, PartialEq)]
-pub struct Rounded {
-    /// By the rule, as it is written with its factor.
-    pub by_rule: BTreeMap<String, Rounding>,
-    /// The first point that stays foreign though its unit has a rule, in words.
-    pub unfit: Option<String>,
-}
-
-/// Values that were not whole, and what they were rounded by together, in the finer unit.
-#[derive(Clone, Copy, Debug, Default, PartialEq)]
-pub struct Rounding {
-    pub values: u64,
-    pub together: f64,
 }
 
 #[cfg(test)]

@@ -3,12 +3,15 @@
 //! A point that can't be had so stays foreign: what does not fit becomes a text with its unit, which no reader takes
 //! for a number. Nothing is changed in a metric that is foreign as a whole, but its unit.
 
-use super::decimal::{Decimal, Nearest};
+use super::decimal::Decimal;
+use super::rounded::{resource_shown, rounded, Mark};
 use super::{Rounded, Rule, Whole};
 use crate::otlp::json::{write_text, Document, NotJson, Value};
 use crate::otlp::number::{double_shown, MAX_WHOLE_DOUBLE};
 use std::borrow::Cow;
+use std::cell::OnceCell;
 use std::ops::Range;
+use std::sync::Arc;
 
 const DATA: [&str; 5] = ["sum", "histogram", "gauge", "exponentialHistogram", "summary"];
 /// How a request in the gateway's form has the name before its value.
@@ -18,22 +21,20 @@ const NAME_SHOWN: usize = 100;
 
 /// The text is one that `otlp` has written.
 pub fn rewritten(text: &str, whole: &Whole) -> Result<(String, Rounded), NotJson> {
-    let document = Document::parse(text.as_bytes())?;
     let mut rewriting = Rewriting {
         text,
+        whole,
         copied: 0,
         out: String::with_capacity(text.len() + text.len() / 8),
-        rounded: Rounded::default(),
+        marks: Vec::new(),
+        unfit: None,
     };
-    for resource in elements(document.root(), "resourceMetrics") {
-        for scope in elements(resource, "scopeMetrics") {
-            for metric in elements(scope, "metrics") {
-                rewriting.metric(metric, whole);
-            }
-        }
-    }
-    rewriting.out.push_str(&text[rewriting.copied..]);
-    Ok((rewriting.out, rewriting.rounded))
+    rewriting.request(&Document::parse(text.as_bytes())?);
+    let Rewriting {
+        out, marks, unfit, ..
+    } = rewriting;
+    let rounded = rounded(&out, marks)?;
+    Ok((out, Rounded { unfit, ..rounded }))
 }
 
 fn member<'d>(object: Value<'d>, name: &str) -> Option<Value<'d>> {
@@ -47,41 +48,74 @@ fn elements<'d>(object: Value<'d>, name: &str) -> impl Iterator<Item = Value<'d>
         .flatten()
 }
 
-struct Rewriting<'d> {
-    text: &'d str,
+struct Rewriting<'r> {
+    text: &'r str,
+    whole: &'r Whole,
     /// How much of the text is done.
     copied: usize,
     out: String,
-    rounded: Rounded,
+    marks: Vec<Mark<'r>>,
+    /// The first point that stays foreign though its unit has a rule, in words.
+    unfit: Option<String>,
 }
 
 /// A metric with a rule.
 struct Metric<'r, 'd> {
     rule: &'r Rule,
     name: Option<Value<'d>>,
+    resource: &'d Resource<'d>,
+}
+
+/// A resource, and how it is shown once something of it was rounded.
+struct Resource<'d> {
+    value: Option<Value<'d>>,
+    shown: OnceCell<Arc<str>>,
+}
+
+impl Resource<'_> {
+    fn shown(&self) -> Arc<str> {
+        let shown = || self.value.map(resource_shown).unwrap_or_default();
+        self.shown.get_or_init(shown).clone()
+    }
 }
 
 /// A part of the text, and what it becomes.
 type Edit = (Range<usize>, String);
 
-impl Rewriting<'_> {
+impl<'r> Rewriting<'r> {
+    fn request(&mut self, document: &Document<'_>) {
+        for element in elements(document.root(), "resourceMetrics") {
+            let resource = Resource {
+                value: member(element, "resource"),
+                shown: OnceCell::new(),
+            };
+            for scope in elements(element, "scopeMetrics") {
+                for metric in elements(scope, "metrics") {
+                    self.metric(metric, &resource);
+                }
+            }
+        }
+        self.out.push_str(&self.text[self.copied..]);
+    }
+
     fn put(&mut self, (range, new): Edit) {
         self.out.push_str(&self.text[self.copied..range.start]);
         self.out.push_str(&new);
         self.copied = range.end;
     }
 
-    fn metric(&mut self, value: Value<'_>, whole: &Whole) {
+    fn metric<'d>(&mut self, value: Value<'d>, resource: &'d Resource<'d>) {
         let unit = match member(value, "unit") {
             None => Some(Cow::Borrowed("")),
             Some(unit) => unit.text(),
         };
-        let Some(rule) = unit.and_then(|unit| whole.rule(&unit)) else {
+        let Some(rule) = unit.and_then(|unit| self.whole.rule(&unit)) else {
             return;
         };
         let metric = Metric {
             rule,
             name: member(value, "name"),
+            resource,
         };
         let there = value.named(DATA).into_iter().flatten().flatten().count();
         for (name, part) in value.members().into_iter().flatten() {
@@ -103,7 +137,7 @@ impl Rewriting<'_> {
         }
     }
 
-    fn sum(&mut self, metric: &Metric<'_, '_>, data: Value<'_>) {
+    fn sum(&mut self, metric: &Metric<'r, '_>, data: Value<'_>) {
         let is_monotonic = member(data, "isMonotonic").and_then(Value::truth) == Some(true);
         for point in elements(data, "dataPoints") {
             match point.named(["asInt", "asDouble"]) {
@@ -114,7 +148,7 @@ impl Rewriting<'_> {
         }
     }
 
-    fn whole(&mut self, metric: &Metric<'_, '_>, value: Value<'_>) {
+    fn whole(&mut self, metric: &Metric<'r, '_>, value: Value<'_>) {
         let Some(text) = value.text() else { return };
         let product = Decimal::times(&text, metric.rule.factor).and_then(|product| product.whole());
         match product.filter(is_word) {
@@ -123,7 +157,7 @@ impl Rewriting<'_> {
         }
     }
 
-    fn double(&mut self, metric: &Metric<'_, '_>, value: Value<'_>, is_monotonic: bool) {
+    fn double(&mut self, metric: &Metric<'r, '_>, value: Value<'_>, is_monotonic: bool) {
         let product = exact(value, metric.rule).filter(|product| !(is_monotonic && product.is_below_zero()));
         match product
             .map(|product| product.nearest())
@@ -132,17 +166,17 @@ impl Rewriting<'_> {
             Some(near) => {
                 let range = value.range().start - AS_DOUBLE.len()..value.range().end;
                 self.put((range, format!("\"asInt\":\"{}\"", near.whole)));
-                self.count(metric.rule, near);
+                self.mark(metric, near.by);
             }
             None => self.note(metric, value, "the value"),
         }
     }
 
-    fn histogram_point(&mut self, metric: &Metric<'_, '_>, point: Value<'_>) {
+    fn histogram_point(&mut self, metric: &Metric<'r, '_>, point: Value<'_>) {
         let Some([sum, bounds]) = point.named(["sum", "explicitBounds"]) else {
             return;
         };
-        let mut edits = Vec::new();
+        let (mut edits, mut by) = (Vec::new(), 0.0);
         for bound in bounds.and_then(Value::elements).into_iter().flatten() {
             let product = exact(bound, metric.rule).and_then(|product| product.whole());
             match product.filter(is_whole_double) {
@@ -158,25 +192,30 @@ impl Rewriting<'_> {
             {
                 Some(near) => {
                     edits.push((sum.range(), near.whole.to_string()));
-                    self.count(metric.rule, near);
+                    by = near.by;
                 }
                 None => return self.unfit(metric, sum, "the sum"),
             }
         }
         edits.sort_by_key(|edit| edit.0.start);
         edits.into_iter().for_each(|edit| self.put(edit));
+        self.mark(metric, by);
     }
 
-    fn count(&mut self, rule: &Rule, near: Nearest) {
-        if near.by > 0.0 {
-            let rounding = self.rounded.by_rule.entry(rule.to_string()).or_default();
-            rounding.values += 1;
-            rounding.together += near.by;
+    /// Marks the point of the last edit, of which a value was rounded by so much.
+    fn mark(&mut self, metric: &Metric<'r, '_>, by: f64) {
+        if by > 0.0 {
+            self.marks.push(Mark {
+                at: self.out.len() - 1,
+                by,
+                rule: metric.rule,
+                resource: metric.resource.shown(),
+            });
         }
     }
 
     /// A value that keeps its point foreign.
-    fn unfit(&mut self, metric: &Metric<'_, '_>, value: Value<'_>, what: &str) {
+    fn unfit(&mut self, metric: &Metric<'r, '_>, value: Value<'_>, what: &str) {
         self.note(metric, value, what);
         if let Some(shown) = shown(value) {
             let mut text = String::new();
@@ -185,14 +224,14 @@ impl Rewriting<'_> {
         }
     }
 
-    fn note(&mut self, metric: &Metric<'_, '_>, value: Value<'_>, what: &str) {
-        let (None, Some(shown)) = (&self.rounded.unfit, shown(value)) else {
+    fn note(&mut self, metric: &Metric<'r, '_>, value: Value<'_>, what: &str) {
+        let (None, Some(shown)) = (&self.unfit, shown(value)) else {
             return;
         };
         let name = metric.name.and_then(Value::text).unwrap_or_default();
         let name: String = name.chars().take(NAME_SHOWN).collect();
         let Rule { from, to, .. } = metric.rule;
-        self.rounded.unfit = Some(format!(
+        self.unfit = Some(format!(
             "{what} {shown} {from} of `{name}` can't be had in whole {to}"
         ));
     }

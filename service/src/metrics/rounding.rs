@@ -1,0 +1,262 @@
+//! What `--whole` has rounded since the start, by series: which series' total may be off, and by how much at most.
+//!
+//! It has as many series as the slots may have. Of more, those are left out that were rounded longest ago, as a slot
+//! forgets series that nobody posts to.
+
+use crate::otlp::{Rounded, Rounding};
+use std::cmp::Ordering;
+use std::collections::{BTreeMap, HashMap};
+use std::sync::atomic::{AtomicUsize, Ordering::Relaxed};
+use std::sync::{Arc, Mutex, MutexGuard, PoisonError};
+
+/// As a gateway has.
+const SERIES_OF_A_SLOT: usize = 10_000;
+
+/// How many series of a rule are shown: those that were rounded by most.
+pub const SHOWN: usize = 10;
+
+/// A series and its values that were not whole.
+#[derive(Clone, Debug, PartialEq)]
+pub struct RoundedSeries {
+    pub metric: String,
+    pub attributes: String,
+    pub resource: Arc<str>,
+    pub rounding: Rounding,
+    /// The place of its last point among all that were rounded.
+    last: u64,
+}
+
+/// The series that a rule has rounded.
+#[derive(Debug, Default, PartialEq)]
+pub struct SeriesOfRule {
+    pub count: usize,
+    /// The first of them, in the order of what they were rounded by.
+    pub greatest: Vec<RoundedSeries>,
+}
+
+/// By rule and series.
+pub struct RoundingBySeries {
+    most: AtomicUsize,
+    table: Mutex<Table>,
+}
+
+#[derive(Default)]
+struct Table {
+    points: u64,
+    /// By the hash of a series' key.
+    rules: BTreeMap<Arc<str>, HashMap<u64, RoundedSeries>>,
+}
+
+impl RoundingBySeries {
+    pub fn new() -> RoundingBySeries {
+        RoundingBySeries {
+            most: AtomicUsize::new(SERIES_OF_A_SLOT),
+            table: Mutex::new(Table::default()),
+        }
+    }
+
+    /// There is room for the series of this slot, and of those before it.
+    pub fn has_slot(&self, slot: u16) {
+        let slots = usize::from(slot) + 1;
+        self.most.fetch_max(slots * SERIES_OF_A_SLOT, Relaxed);
+    }
+
+    /// Counts the points of a post that was taken.
+    pub fn add(&self, rounded: &Rounded) {
+        if rounded.points.is_empty() {
+            return;
+        }
+        let mut table = self.table();
+        table.add(rounded);
+        let most = self.most.load(Relaxed);
+        if table.count() > most {
+            table.keep(most - most / 16);
+        }
+    }
+
+    /// By how much one series was rounded at most, by rule.
+    pub fn greatest(&self) -> Vec<(Arc<str>, f64)> {
+        let table = self.table();
+        let rules = table.rules.iter();
+        rules
+            .map(|(rule, series)| {
+                let all = series.values().map(|one| one.rounding.together);
+                (rule.clone(), all.fold(0.0, f64::max))
+            })
+            .collect()
+    }
+
+    pub fn of_rule(&self, rule: &str) -> SeriesOfRule {
+        let table = self.table();
+        let Some(series) = table.rules.get(rule) else {
+            return SeriesOfRule::default();
+        };
+        let mut all: Vec<&RoundedSeries> = series.values().collect();
+        if all.len() > SHOWN {
+            all.select_nth_unstable_by(SHOWN, by_greatest);
+            all.truncate(SHOWN);
+        }
+        all.sort_unstable_by(by_greatest);
+        SeriesOfRule {
+            count: series.len(),
+            greatest: all.into_iter().cloned().collect(),
+        }
+    }
+
+    fn table(&self) -> MutexGuard<'_, Table> {
+        self.table.lock().unwrap_or_else(PoisonError::into_inner) // each change of it is sound
+    }
+}
+
+/// The greatest first; of two the one that was rounded last.
+fn by_greatest(one: &&RoundedSeries, other: &&RoundedSeries) -> Ordering {
+    let (this, that) = (one.rounding.together, other.rounding.together);
+    that.total_cmp(&this).then(other.last.cmp(&one.last))
+}
+
+impl Table {
+    fn add(&mut self, rounded: &Rounded) {
+        for point in &rounded.points {
+            self.points += 1;
+            let series = match self.rules.get_mut(&*point.rule) {
+                Some(series) => series,
+                None => self.rules.entry(point.rule.clone()).or_default(),
+            };
+            let one = series.entry(point.series).or_insert_with(|| RoundedSeries {
+                metric: point.metric.clone(),
+                attributes: point.attributes.clone(),
+                resource: point.resource.clone(),
+                rounding: Rounding::default(),
+                last: 0,
+            });
+            one.rounding.add(point.by);
+            one.last = self.points;
+        }
+    }
+
+    fn count(&self) -> usize {
+        self.rules.values().map(HashMap::len).sum()
+    }
+
+    /// Leaves out all series but so many, those that were rounded last. There are more.
+    fn keep(&mut self, most: usize) {
+        let series = self.rules.values().flat_map(HashMap::values);
+        let mut lasts: Vec<u64> = series.map(|one| one.last).collect();
+        let left_out = lasts.len() - most;
+        let first = *lasts.select_nth_unstable(left_out).1;
+        for series in self.rules.values_mut() {
+            series.retain(|_, one| one.last >= first);
+        }
+    }
+}
+
+#[cfg(test)]
+mod tests {
+    use super::*;
+    use crate::otlp::{prepare, Encoding, Reading, Whole};
+
+    /// A post of one point of each of these series: its name, and a value in seconds that whole milliseconds are made of.
+    fn post(points: &[(String, &str)]) -> Rounded {
+        let metrics: Vec<String> = points
+            .iter()
+            .map(|(name, value)| {
+                format!(
+                    r#"{{"name":"{name}","unit":"s","sum":{{"aggregationTemporality":1,"dataPoints":[{{"startTimeUnixNano":"1",
+                    "timeUnixNano":"2","asDouble":{value},"attributes":[{{"key":"a","value":{{"intValue":"5"}}}}]}}]}}}}"#
+                )
+            })
+            .collect();
+        let body = format!(
+            r#"{{"resourceMetrics":[{{"resource":{{"attributes":[{{"key":"r","value":{{"stringValue":"x"}}}}]}},
+            "scopeMetrics":[{{"metrics":[{}]}}]}}]}}"#,
+            metrics.join(",")
+        );
+        let reading = Reading {
+            whole: Whole::new(["s=ms".parse().unwrap()]).unwrap(),
+            ..Reading::default()
+        };
+        prepare(Encoding::Json, body.into(), &reading).unwrap().rounded
+    }
+
+    fn names(found: &SeriesOfRule) -> Vec<(&str, u64, f64)> {
+        let shown = |one: &RoundedSeries| (one.rounding.values, one.rounding.together);
+        found
+            .greatest
+            .iter()
+            .map(|one| (one.metric.as_str(), shown(one).0, shown(one).1))
+            .collect()
+    }
+
+    #[test]
+    fn each_series_has_what_it_was_rounded_by() {
+        let table = RoundingBySeries::new();
+        let one = |name: &str, value| (name.to_string(), value);
+        table.add(&post(&[
+            one("a", "0.0105"),
+            one("b", "0.01025"),
+            one("c", "0.01"),
+        ]));
+        table.add(&post(&[one("b", "0.0005"), one("a", "0.01025")]));
+        table.add(&Rounded::default());
+        let found = table.of_rule("s=1000:ms");
+        assert_eq!(
+            (found.count, names(&found)),
+            (2, vec![("a", 2, 0.75), ("b", 2, 0.75)])
+        );
+        assert_eq!(
+            (&*found.greatest[0].attributes, &*found.greatest[0].resource),
+            ("a=5", "r=x")
+        );
+        table.add(&post(&[one("b", "0.01025")]));
+        assert_eq!(table.greatest(), [("s=1000:ms".into(), 1.0)]);
+        assert_eq!(names(&table.of_rule("s=1000:ms"))[0], ("b", 3, 1.0));
+        assert_eq!(table.of_rule("ms=1000:us"), SeriesOfRule::default());
+    }
+
+    #[test]
+    fn the_greatest_are_shown() {
+        let table = RoundingBySeries::new();
+        let points: Vec<_> = (0..100).map(|one| (format!("n{one}"), "0.00025")).collect();
+        for first in 0..points.len() {
+            table.add(&post(&points[first..]));
+        }
+        let found = table.of_rule("s=1000:ms");
+        let wanted: Vec<_> = (90..100).rev().map(|one| format!("n{one}")).collect();
+        let shown: Vec<_> = found.greatest.iter().map(|one| one.metric.clone()).collect();
+        assert_eq!((found.count, shown), (100, wanted));
+        assert_eq!(table.greatest()[0].1, 25.0);
+    }
+
+    #[test]
+    fn what_was_rounded_longest_ago_is_left_out() {
+        let table = RoundingBySeries::new();
+        let points = |from: usize, to: usize| -> Vec<_> {
+            (from..to).map(|one| (format!("n{one}"), "0.0005")).collect()
+        };
+        table.add(&post(&points(0, 9_000)));
+        table.add(&post(&points(0, 1)));
+        table.add(&post(&points(9_000, 10_000)));
+        assert_eq!(table.of_rule("s=1000:ms").count, 10_000);
+        table.add(&post(&points(10_000, 10_001)));
+        let found = table.of_rule("s=1000:ms");
+        // The series that was rounded again is there still, with all that it was rounded by.
+        assert_eq!((found.count, names(&found)[0]), (10_000 - 625, ("n0", 2, 1.0)));
+        let table = table.table();
+        let of = |name: &str| table.rules["s=1000:ms"].values().any(|one| one.metric == name);
+        let left_out = 10_001 - found.count;
+        assert!(!of("n1") && !of(&format!("n{left_out}")));
+        assert!(of(&format!("n{}", left_out + 1)) && of("n9999") && of("n10000"));
+    }
+
+    #[test]
+    fn more_slots_have_more_series() {
+        let table = RoundingBySeries::new();
+        for slot in [2, 0, 1] {
+            table.has_slot(slot);
+        }
+        let points: Vec<_> = (0..10_001).map(|one| (format!("n{one}"), "0.0005")).collect();
+        table.add(&post(&points));
+        assert_eq!(table.of_rule("s=1000:ms").count, 10_001);
+        assert_eq!(table.most.load(Relaxed), 30_000);
+    }
+}

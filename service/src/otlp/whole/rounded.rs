@@ -1,0 +1,211 @@
+//! What was rounded in a request: by rule, and by point with its series.
+//!
+//! While a request is rewritten, each value that is rounded leaves a mark at its place in the new text. Where there are
+//! marks, the new text is read once more as the service reads it: that says which series a marked point is of, and
+//! whether it can be taken.
+
+use super::Rule;
+use crate::otlp::json::{Document, NotJson, Value};
+use crate::otlp::series::{visit, Seen};
+use std::collections::hash_map::DefaultHasher;
+use std::collections::BTreeMap;
+use std::hash::Hasher;
+use std::sync::Arc;
+
+/// Of a longer key both ends count, so that the time for a point is bounded whatever its resource has.
+const HASHED: usize = 8 << 10;
+
+/// How much is shown of a name or a value, in characters, and of all attributes of a point or a resource, in bytes.
+const SHOWN: usize = 100;
+const SHOWN_OF_POINT: usize = 300;
+const SHOWN_OF_RESOURCE: usize = 1000;
+
+/// What was done to the values of a request.
+#[derive(Clone, Debug, Default, PartialEq)]
+pub struct Rounded {
+    /// By the rule, as it is written with its factor.
+    pub by_rule: BTreeMap<String, Rounding>,
+    /// Points that can be taken, in the order of the request, each with a value of these.
+    pub points: Vec<RoundedPoint>,
+    /// The first point that stays foreign though its unit has a rule, in words.
+    pub unfit: Option<String>,
+}
+
+/// Values that were not whole, and what they were rounded by together, in the finer unit.
+#[derive(Clone, Copy, Debug, Default, PartialEq)]
+pub struct Rounding {
+    pub values: u64,
+    pub together: f64,
+}
+
+impl Rounding {
+    pub fn add(&mut self, by: f64) {
+        self.values += 1;
+        self.together += by;
+    }
+}
+
+/// A point that can be taken, and whose value or sum was rounded.
+#[derive(Clone, Debug, PartialEq)]
+pub struct RoundedPoint {
+    pub rule: Arc<str>,
+    /// A hash of its series' key. Series of one hash are taken for one: what they were rounded by is added up.
+    pub series: u64,
+    /// In the finer unit: over 0, at most a half.
+    pub by: f64,
+    /// How people know its series again: the metric's name, and attributes as `key=value, ..`, in the order in which
+    /// they came. What is long is cut.
+    pub metric: String,
+    pub attributes: String,
+    pub resource: Arc<str>,
+}
+
+/// A value that was rounded.
+pub(super) struct Mark<'r> {
+    /// Within its point, in the new text.
+    pub at: usize,
+    pub by: f64,
+    pub rule: &'r Rule,
+    /// The attributes of its resource, as they are shown.
+    pub resource: Arc<str>,
+}
+
+/// What was rounded. The marks are in the order of the text, which is the new one.
+pub(super) fn rounded(text: &str, marks: Vec<Mark<'_>>) -> Result<Rounded, NotJson> {
+    if marks.is_empty() {
+        return Ok(Rounded::default());
+    }
+    let document = Document::parse(text.as_bytes())?;
+    let rules = Rules::of(&marks);
+    let mut points = Vec::new();
+    let mut marks = marks.into_iter().peekable();
+    let whole = visit(&document, |seen| {
+        let place = seen.point.range();
+        while let Some(mark) = marks.next_if(|mark| mark.at < place.end) {
+            if place.contains(&mark.at) && seen.found.is_ok() {
+                points.push(point(mark, &seen, &rules));
+            }
+        }
+    });
+    if whole.is_none() {
+        points.clear(); // the gateway refuses it whole
+    }
+    let by_rule = rules.0.into_iter().map(|of| (of.text.to_string(), of.sum));
+    Ok(Rounded {
+        by_rule: by_rule.collect(),
+        points,
+        unfit: None,
+    })
+}
+
+fn point(mark: Mark<'_>, seen: &Seen<'_, '_>, rules: &Rules<'_>) -> RoundedPoint {
+    let name = seen.metric.named(["name"]).and_then(|[name]| name?.text());
+    RoundedPoint {
+        rule: rules.text(mark.rule),
+        series: hash(seen.key),
+        by: mark.by,
+        metric: cut(&name.unwrap_or_default()),
+        attributes: attributes(seen.point, SHOWN_OF_POINT),
+        resource: mark.resource,
+    }
+}
+
+/// The rules of a request, of which there are few.
+struct Rules<'r>(Vec<OfRule<'r>>);
+
+struct OfRule<'r> {
+    rule: &'r Rule,
+    text: Arc<str>,
+    sum: Rounding,
+}
+
+impl<'r> Rules<'r> {
+    fn of(marks: &[Mark<'r>]) -> Rules<'r> {
+        let mut rules: Vec<OfRule<'r>> = Vec::new();
+        for Mark { rule, by, .. } in marks {
+            match rules.iter_mut().find(|of| of.rule == *rule) {
+                Some(of) => of.sum.add(*by),
+                None => {
+                    let (values, together) = (1, *by);
+                    rules.push(OfRule {
+                        rule,
+                        text: rule.to_string().into(),
+                        sum: Rounding { values, together },
+                    });
+                }
+            }
+        }
+        Rules(rules)
+    }
+
+    fn text(&self, rule: &Rule) -> Arc<str> {
+        let known = self.0.iter().find(|of| of.rule == rule);
+        known.map(|of| of.text.clone()).unwrap_or_default()
+    }
+}
+
+fn hash(key: &str) -> u64 {
+    let mut hasher = DefaultHasher::new();
+    let key = key.as_bytes();
+    match key.len() {
+        0..=HASHED => hasher.write(key),
+        length => {
+            hasher.write(&key[..HASHED / 2]);
+            hasher.write(&key[length - HASHED / 2..]);
+        }
+    }
+    hasher.write_usize(key.len());
+    hasher.finish()
+}
+
+/// The attributes of a resource.
+pub(super) fn resource_shown(resource: Value<'_>) -> Arc<str> {
+    attributes(resource, SHOWN_OF_RESOURCE).into()
+}
+
+/// The attributes of a point or a resource: behind so many bytes no other one begins.
+fn attributes(of: Value<'_>, most: usize) -> String {
+    let list = of.named(["attributes"]).and_then(|[list]| list?.elements());
+    let mut text = String::new();
+    for pair in list.into_iter().flatten() {
+        if !text.is_empty() {
+            text.push_str(", ");
+        }
+        if text.len() > most {
+            text.push_str("..");
+            break;
+        }
+        let [key, value] = pair.named(["key", "value"]).unwrap_or_default();
+        text.push_str(&cut(&key.and_then(Value::text).unwrap_or_default()));
+        text.push('=');
+        text.push_str(&value.map(shown).unwrap_or_default());
+    }
+    text
+}
+
+/// `{"stringValue":"a"}` is a, `{"intValue":"5"}` is 5, `{"arrayValue":{"values":[..]}}` is [..].
+fn shown(value: Value<'_>) -> String {
+    match value.named(["arrayValue"]) {
+        Some([Some(array)]) => {
+            let values = array.named(["values"]).and_then(|[values]| values?.elements());
+            let values: Vec<String> = values.into_iter().flatten().map(single).collect();
+            cut(&format!("[{}]", values.join(", ")))
+        }
+        _ => single(value),
+    }
+}
+
+fn single(value: Value<'_>) -> String {
+    let inner = value.members().and_then(|mut members| members.next());
+    match inner.map(|member| member.1) {
+        None => String::new(),
+        Some(inner) => cut(&inner.text().unwrap_or(inner.raw().into())),
+    }
+}
+
+fn cut(text: &str) -> String {
+    match text.char_indices().nth(SHOWN) {
+        Some((at, _)) => format!("{}..", &text[..at]),
+        None => text.to_string(),
+    }
+}
