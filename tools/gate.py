@@ -62,6 +62,7 @@ SERVICE_STEPS = (
     ("protobuf_bodies.py", [], 40),
     ("sdk_go.py", ["8"], 60),
     ("grpc_calls.py", [], 30),
+    ("clients.py", [], 30),
     ("package_installs.py", [PLAY], 15),
 )
 STEP_LIMIT = 600

@@ -1,0 +1,222 @@
+#!/usr/bin/env python3
+"""Clients of several languages post to the service, and each counts what it was told is taken.
+
+    tests/clients.py TOTXEGUN GATEWAY
+
+curl (JSON; protobuf packed by gzip; over 1 KiB behind `Expect: 100-continue`; HTTP/1.0; in chunks from its standard input),
+wrk on kept connections, Python (http.client on a kept connection, urllib), Node (http with an agent, fetch) and Java
+(HttpClient as it is, which asks for HTTP/2, and in HTTP/1.1). Python, Node and Java post in JSON, and in protobuf that
+Python's library has written. Each way has a series of its own, and repeats what is answered 503 after as many seconds as
+Retry-After says.
+
+First wrk is alone, and each answer has to be 200. Then all post at once, while the gateway is killed twice as by `kill -9`.
+The sink has to have what each has counted; of wrk, which breaks off a post at its end, what the service has counted. Two
+ways post fractions of a second: the service has to say of each of these series by how much it rounded.
+
+It needs curl, wrk and python3-protobuf; where one is missing a line says so, and the status is 77. Each other line is one
+check; the last one counts those that passed and failed and names the clients that are not installed, and the status is 1
+where one failed.
+"""
+import contextlib
+import importlib.util
+import os
+import re
+import shutil
+import signal
+import subprocess
+import sys
+import tempfile
+import threading
+import time
+
+# Debian's package is for Debian's Python.
+if importlib.util.find_spec("google") is None and os.path.realpath(sys.executable) != os.path.realpath("/usr/bin/python3"):
+    os.execv("/usr/bin/python3", ["/usr/bin/python3", *sys.argv])
+
+sys.path.append(os.path.join(os.path.dirname(os.path.abspath(__file__)), "clients"))
+from checks import Checks
+from protobuf_bodies import descriptor_pb2, message_classes
+from service import Service, SqliteSink, add_points, ask, differences, overlaps, wait_until
+from ways import BODIES, External, InSeconds, Programs, Wrk, own_ways
+
+RULE = "s=1000000:us"
+# A machine that is busy takes its time.
+PATIENCE = 180
+LEAST_POSTS = 200
+
+
+def metrics(service):
+    """Each line of the page, by its name with labels."""
+    _, page = ask(service.operate, "GET", "/metrics")
+    lines = [line.rsplit(" ", 1) for line in page.decode().splitlines() if not line.startswith("#")]
+    return {name: float(value) for name, value in lines}
+
+
+def accepted(service):
+    """How many posts it has answered 200."""
+    return metrics(service)['totxegun_posts_total{status="200"}']
+
+
+def settle(service):
+    """Returns once no post is under way: the service may take one that wrk has broken off."""
+    before = None
+    while (now := accepted(service)) != before or metrics(service)["totxegun_post_bytes_in_flight"]:
+        before = now
+        time.sleep(0.7)
+
+
+def totals(checks, what, service, sink):
+    """What the sink has of each series, behind a flush."""
+    settle(service)
+    service.order("/flush")
+    checks.true(f"{what}: all is delivered", wait_until(service.is_drained), service.last_lines())
+    points, found = sink.points(), {}
+    checks.same(f"{what}: no span is in the sink twice", [], overlaps(points))
+    add_points(found, points)
+    return found
+
+
+def compare_wrk(checks, what, told, found, accepted):
+    """Each series has what was answered, and a post more where wrk broke it off behind its end; the service counted all."""
+    found = {name: found.get(name, 0) for name in told}
+    checks.true(f"{what}: of each series the sink has what was answered, or one post more",
+                all(found[name] - told[name] in (0, 1) for name in told), (told, found))
+    checks.same(f"{what}: the sink has as many posts as the service took", accepted, sum(found.values()))
+
+
+def alone(checks, service, sink, folder, stack):
+    wrk = Wrk(service.listen, folder, "wrk.alone")
+    stack.callback(wrk.kill)
+    time.sleep(1.5)
+    wait_until(lambda: accepted(service) > LEAST_POSTS, PATIENCE)
+    wrk.end(checks, "wrk alone")
+    checks.same("wrk alone: each answer is 200", 0, sum(repeats for _, repeats, _ in wrk.series.values()))
+    found = totals(checks, "wrk alone", service, sink)
+    compare_wrk(checks, "wrk alone", wrk.taken, found, accepted(service))
+    return wrk.taken
+
+
+def recoveries(service):
+    return metrics(service)['totxegun_recoveries_total{slot="0"}']
+
+
+def read(ways):
+    for way in ways:
+        way.read()
+    return ways
+
+
+def have_more(ways, than):
+    """Whether each way has two posts more that were taken."""
+    def has(way):
+        out_of_bodies = isinstance(way, External) and way.taken == BODIES
+        return way.taken > than.get(way.series, 0) + 1 or out_of_bodies or way.surprise
+    return wait_until(lambda: all(has(way) for way in read(ways)), PATIENCE)
+
+
+def kill_gateway(checks, service, ways, which):
+    """Behind it each way goes on."""
+    service.signal_gateway(signal.SIGKILL)
+    is_there = wait_until(lambda: recoveries(service) > which, PATIENCE) and service.wait_ready(PATIENCE)
+    checks.true(f"behind kill {which} there is a gateway", is_there, service.last_lines())
+    before = {way.series: way.taken for way in read(ways)}
+    checks.true(f"behind kill {which} each way goes on", have_more(ways, before),
+                [(way.series, before[way.series], way.taken, way.surprise) for way in ways])
+
+
+def beside(checks, service, ways, folder, stack):
+    """All at once, over two kills."""
+    checks.true("each way posts", have_more(ways, {}), [(way.series, way.taken, way.surprise) for way in ways])
+    wrk = Wrk(service.listen, folder, "wrk.beside")
+    stack.callback(wrk.kill)
+    for which in (1, 2):
+        time.sleep(0.7)
+        kill_gateway(checks, service, ways, which)
+    time.sleep(1.2)  # so long waits who is told so
+    wrk.end(checks, "wrk beside the others")
+    return wrk
+
+
+def compare_rounding(checks, totxegun, service, ways, found):
+    """What the service says of the series in seconds, beside what was counted here."""
+    (rounded,) = service.status()["rounded"]
+    wanted = {way.series: (way.rounded, round(float(way.rounded_by), 6)) for way in ways}
+    checks.same("status has by how much each series was rounded", (RULE, len(ways), wanted),
+                (rounded["rule"], rounded["series"],
+                 {one["metric"]: (one["values"], round(one["together"], 6)) for one in rounded["greatest"]}))
+    order = [one["together"] for one in rounded["greatest"]]
+    checks.same("the one that was rounded by most comes first", sorted(order, reverse=True), order)
+    greatest = metrics(service)[f'totxegun_greatest_rounding_units{{whole="{RULE}"}}']
+    checks.same("the metric has the most", max(order), greatest)
+    checks.true("no total is further from the truth", all(abs(found[way.series] - way.exact) <= way.rounded_by for way in ways),
+                [(way.series, way.exact, way.rounded_by, found[way.series]) for way in ways])
+    text = subprocess.run([totxegun, "status", "--operate", f"127.0.0.1:{service.operate}"], stdout=subprocess.PIPE, text=True,
+                          check=False).stdout
+    checks.true("totxegun status shows them", all(re.search(rf"(?m)^\d+\.\d{{3}} us +\d+ +{way.series}\b", text) for way in ways), text)
+
+
+def run(checks, totxegun, gateway, folder, stack):
+    """Which clients are not installed."""
+    sink, stop = SqliteSink(f"{folder}/sink.db"), threading.Event()
+    service = Service(totxegun, gateway, f"{folder}/data", sink.address, "--flush-every", "1s", "--whole", "s=us")
+    stack.callback(service.kill)
+    service.start()
+    checks.true("the service is ready", service.wait_ready(PATIENCE), service.last_lines())
+    of_wrk = alone(checks, service, sink, folder, stack)
+    message = message_classes()["ExportMetricsServiceRequest"]
+    own = own_ways(service.listen, stop, message)
+    programs = Programs(service.listen, folder, message)
+    stack.callback(programs.kill)
+    stack.callback(stop.set)
+    for way in own:
+        way.start()
+    ways = [*own, *programs.ways]
+    wrk = beside(checks, service, ways, folder, stack)
+    of_wrk |= wrk.taken
+    stop.set()
+    checks.same("the programs end", {}, programs.end())
+    for way in own:
+        way.join(PATIENCE)
+    compare(checks, totxegun, service, sink, read(ways), of_wrk)
+    repeats = sum(way.repeats for way in ways) + sum(repeats for _, repeats, _ in wrk.series.values())
+    checks.true("some posts were repeated", repeats > 0, repeats)
+    ended = service.end()
+    checks.true("SIGTERM ends the service", ended[0] == 0 and ended[1] < 10, ended)
+    print(f"note: {sum(way.taken for way in ways)} posts in {len(ways)} ways, {sum(of_wrk.values())} by wrk; {repeats} answers"
+          " were 503", flush=True)
+    return programs.left_out
+
+
+def compare(checks, totxegun, service, sink, ways, of_wrk):
+    checks.same("no answer surprises", {}, {way.series: way.surprise for way in ways if way.surprise})
+    found = totals(checks, "all", service, sink)
+    of_ways = {name: total for name, total in found.items() if name not in of_wrk}
+    checks.same("the sink has what each way has counted", [], differences({way.series: way.sum for way in ways}, of_ways))
+    compare_wrk(checks, "wrk", of_wrk, found, accepted(service) - sum(way.taken for way in ways))
+    checks.same("kept connections are kept", {}, {way.series: way.connections for way in ways if way.connections > 1})
+    others = {name: count for name, count in metrics(service).items() if re.match(r'totxegun_posts_total\{status="(?!200|503)', name)}
+    checks.same("no post was answered otherwise than 200 and 503", {}, others)
+    checks.same("the service found nothing that must not be", [], service.faults())
+    compare_rounding(checks, totxegun, service, [way for way in ways if isinstance(way, InSeconds)], found)
+
+
+def missing():
+    programs = [name for name in ("curl", "wrk") if not shutil.which(name)]
+    return programs + ([] if descriptor_pb2 else ["python3-protobuf"])
+
+
+def main(totxegun, gateway):
+    checks = Checks()
+    if not checks.has("all clients", *missing()):
+        return checks.end()
+    with tempfile.TemporaryDirectory(prefix="clients-") as folder, contextlib.ExitStack() as stack:
+        left_out = run(checks, totxegun, gateway, folder, stack)
+    names = "".join(f"; {name} left out" for name in left_out)
+    print(f"{checks.passed} passed, {checks.failed} failed{names}", flush=True)
+    return 1 if checks.failed else 0
+
+
+if __name__ == "__main__":
+    if len(sys.argv) != 3:
+        sys.exit(f"usage: {sys.argv[0]} TOTXEGUN GATEWAY")
+    sys.exit(main(*map(os.path.abspath, sys.argv[1:])))
