@@ -37,7 +37,7 @@ pub fn written(document: &Document<'_>, reading: &Reading) -> Result<Written, Re
     }
     .body(document);
     match walked {
-        Ok(()) => Ok(out.written()),
+        Ok(()) => out.written(),
         Err(Stop::Refused(refused)) => Err(refused),
         // A walk that writes goes on past changes.
         Err(Stop::Changed) => Err(Refused::Unreadable("not JSON of OTLP".to_string())),
@@ -75,13 +75,14 @@ impl Walk<'_, '_> {
 
     fn push(&mut self, text: &str) {
         if let Some(out) = &mut self.out {
-            out.text.push_str(text);
+            out.push(text);
         }
     }
 
     /// A message that is an object.
     fn message(&mut self, of: &'static Message, value: Value<'_>) -> Result<(), Stop> {
         self.push("{");
+        let inside = self.length();
         let mut found: u32 = 0;
         for (name, member) in value.members().into_iter().flatten() {
             let place = of
@@ -107,7 +108,8 @@ impl Walk<'_, '_> {
                 self.changed()?;
             }
             if let Some(out) = &mut self.out {
-                out.name(field.name);
+                out.separate(inside);
+                out.push(field.written);
             }
             self.member(of, field.name, field.kind, member)?;
         }
@@ -153,8 +155,10 @@ impl Walk<'_, '_> {
             return Ok(());
         };
         self.push("[");
+        let inside = self.length();
         for element in elements {
-            let from = self.separate();
+            let from = self.length();
+            self.separate(inside);
             self.part(of, element)?;
             if let (Some(out), Kind::ResourceAttributes) = (&mut self.out, kind) {
                 out.drop_attribute(from);
@@ -164,12 +168,15 @@ impl Walk<'_, '_> {
         Ok(())
     }
 
-    /// A comma behind an element; where it is.
-    fn separate(&mut self) -> usize {
-        let Some(out) = &mut self.out else { return 0 };
-        let from = out.text.len();
-        out.separate('[');
-        from
+    /// How much is written.
+    fn length(&self) -> usize {
+        self.out.as_ref().map_or(0, |out| out.text.len())
+    }
+
+    fn separate(&mut self, inside: usize) {
+        if let Some(out) = &mut self.out {
+            out.separate(inside);
+        }
     }
 
     fn leaf(&mut self, kind: Kind, value: Value<'_>) -> Result<(), Stop> {
@@ -177,8 +184,8 @@ impl Walk<'_, '_> {
             Kind::Text => {
                 if let Some(out) = &mut self.out {
                     match value.text() {
-                        Some(text) => out.quoted(&text),
-                        None => out.text.push_str("false"),
+                        Some(text) => out.quoted(text.as_bytes()),
+                        None => out.push("false"),
                     }
                 }
             }
@@ -211,8 +218,9 @@ impl Walk<'_, '_> {
             return Ok(());
         };
         self.push("[");
+        let inside = self.length();
         for element in elements {
-            self.separate();
+            self.separate(inside);
             each(self, element)?;
         }
         self.push("]");
@@ -243,7 +251,7 @@ impl Walk<'_, '_> {
         if let Some(out) = &mut self.out {
             match meant {
                 Some(whole) => out.whole(whole),
-                None => out.text.push_str("false"),
+                None => out.push("false"),
             }
         }
         Ok(())
@@ -259,7 +267,7 @@ impl Walk<'_, '_> {
             match (known, meant) {
                 (Some(whole), _) => out.whole_number(whole),
                 (None, Some(double)) => out.double(double),
-                (None, None) => out.text.push_str("false"),
+                (None, None) => out.push("false"),
             }
         }
         Ok(())
@@ -270,7 +278,7 @@ impl Walk<'_, '_> {
         let Some(out) = &mut self.out else { return };
         match mapped_double(value) {
             Some(double) => out.double(double),
-            None => out.text.push_str("false"),
+            None => out.push("false"),
         }
     }
 
@@ -289,7 +297,7 @@ impl Walk<'_, '_> {
         if let Some(out) = &mut self.out {
             match meant {
                 Some(number) => out.whole_number(number),
-                None => out.text.push_str("false"),
+                None => out.push("false"),
             }
         }
         Ok(())

@@ -1,75 +1,92 @@
 //! A request in protobuf, written as the gateway reads it.
 //!
-//! It is never held as a tree of messages: each field is written as it is found. So the memory is that of the
-//! JSON, however many small messages the bytes are.
+//! It is never held as a tree of messages: each is looked through once, and then its fields are written in the order of
+//! its table. So the memory is that of the JSON, however many small messages the bytes are.
 
-use super::output::Output;
-use super::output::Written;
+use super::output::{Output, Written};
 use super::schema::{Field, Kind, Message, Wire, EXEMPLAR, KEY_VALUE, KEY_VALUE_LIST, REQUEST};
-use super::wire::{Fields, Payload};
+use super::wire::{Fields, Malformed, Payload};
 use super::{Reading, Refused};
 
 /// Messages may be nested as deep as protobuf's own readers allow.
 const MAX_DEPTH: usize = 100;
 
 pub fn written(body: &[u8], reading: &Reading) -> Result<Written, Refused> {
-    let mut out = Output::new(body.len() * 3 + 64, reading);
-    message(&mut out, &REQUEST, body, 0)?;
-    Ok(out.written())
+    let mut writer = Writer {
+        out: Output::new(body.len() * 3 + 64, reading),
+        found: Vec::new(),
+    };
+    writer.message(&REQUEST, body, 0)?;
+    writer.out.written()
 }
 
 fn refused(message: &Message, what: impl std::fmt::Display) -> Refused {
     Refused::Unreadable(format!("not protobuf of OTLP: {}: {what}", message.name))
 }
 
-fn message(out: &mut Output<'_>, of: &'static Message, bytes: &[u8], depth: usize) -> Result<(), Refused> {
-    if depth >= MAX_DEPTH {
-        return Err(refused(of, "nested too deep"));
-    }
-    let found = look_through(of, bytes)?;
-    out.text.push('{');
-    for (place, field) in of.fields.iter().enumerate() {
-        if found & (1 << place) == 0 {
-            continue;
-        }
-        let from = out.text.len();
-        out.name(field.name);
-        let payloads = Payloads {
-            of,
-            field,
-            fields: Fields::of(bytes),
-        };
-        value(out, payloads, depth)?;
-        if let Kind::Exemplars = field.kind {
-            out.text.truncate(from);
-        }
-    }
-    out.text.push('}');
-    Ok(())
+struct Writer<'a, 'r> {
+    out: Output<'r>,
+    /// Of the messages that are under way, each behind the one around it.
+    found: Vec<Found<'a>>,
 }
 
-/// Which fields are there, by their places in the table. Refuses what is malformed and what would be lost.
-fn look_through(of: &'static Message, bytes: &[u8]) -> Result<u32, Refused> {
-    let mut found = 0;
-    for field in Fields::of(bytes) {
-        let (number, payload) = field.map_err(|malformed| refused(of, malformed))?;
-        if let Some(lost) = of.refused.iter().find(|lost| lost.number == number) {
-            return Err(refused(of, format_args!("{} {}", lost.names[0], lost.why)));
-        }
-        let Some(place) = of.fields.iter().position(|field| field.number == number) else {
-            continue;
+/// What a message has of one field.
+#[derive(Clone, Copy)]
+struct Found<'a> {
+    /// In the message's table.
+    place: usize,
+    times: usize,
+    /// From the first time on.
+    fields: Fields<'a>,
+    last: Payload<'a>,
+}
+
+impl<'a> Found<'a> {
+    /// Each time, in order.
+    fn all(self, number: u32) -> impl Iterator<Item = Payload<'a>> {
+        let own = move |field: Result<(u32, Payload<'a>), Malformed>| {
+            field.ok().filter(|found| found.0 == number).map(|found| found.1)
         };
-        let field = &of.fields[place];
-        if !is_payload_of(field.kind, payload) {
-            return Err(refused(of, format_args!("{} of another wire type", field.name)));
-        }
-        let single = matches!(field.kind, Kind::Message(_) | Kind::Part(_) | Kind::Map);
-        if single && found & (1 << place) != 0 {
-            return Err(refused(of, format_args!("{} is there twice", field.name)));
-        }
-        found |= 1 << place;
+        self.fields.filter_map(own).take(self.times)
     }
-    Ok(found)
+
+    /// The bytes of a text or a message; of several the last count.
+    fn bytes(self) -> &'a [u8] {
+        bytes_of(self.last)
+    }
+
+    /// The bits of a number; of several the last counts.
+    fn bits(self) -> u64 {
+        match self.last {
+            Payload::Varint(bits) | Payload::Fixed64(bits) => bits,
+            _ => 0,
+        }
+    }
+
+    /// The elements of a list of 8 bytes each, packed or not.
+    fn each_bits(self, number: u32) -> impl Iterator<Item = u64> + 'a {
+        self.all(number).flat_map(|payload| {
+            let one = match payload {
+                Payload::Fixed64(bits) => Some(bits),
+                _ => None,
+            };
+            let packed = bytes_of(payload).chunks_exact(8);
+            let bits = |eight: &[u8]| {
+                eight
+                    .iter()
+                    .rev()
+                    .fold(0, |bits, byte| bits << 8 | u64::from(*byte))
+            };
+            one.into_iter().chain(packed.map(bits))
+        })
+    }
+}
+
+fn bytes_of(payload: Payload<'_>) -> &[u8] {
+    match payload {
+        Payload::Bytes(bytes) => bytes,
+        _ => &[],
+    }
 }
 
 fn is_payload_of(kind: Kind, payload: Payload<'_>) -> bool {
@@ -88,84 +105,6 @@ fn is_payload_of(kind: Kind, payload: Payload<'_>) -> bool {
     }
 }
 
-/// What a message has of one field; it was looked through, so each is of the field's wire type.
-struct Payloads<'a> {
-    of: &'static Message,
-    field: &'static Field,
-    fields: Fields<'a>,
-}
-
-impl<'a> Payloads<'a> {
-    fn all(&self) -> impl Iterator<Item = Payload<'a>> {
-        let number = self.field.number;
-        self.fields
-            .filter_map(move |field| field.ok().filter(|found| found.0 == number).map(|found| found.1))
-    }
-
-    fn messages(&self) -> impl Iterator<Item = &'a [u8]> {
-        self.all().filter_map(|payload| match payload {
-            Payload::Bytes(bytes) => Some(bytes),
-            _ => None,
-        })
-    }
-
-    /// The bits of a number; of several the last counts.
-    fn bits(&self) -> u64 {
-        match self.all().last() {
-            Some(Payload::Varint(bits) | Payload::Fixed64(bits)) => bits,
-            _ => 0,
-        }
-    }
-
-    /// The elements of a list of 8 bytes each, packed or not.
-    fn each_bits(&self) -> impl Iterator<Item = u64> + 'a {
-        self.all().flat_map(|payload| {
-            let (one, packed) = match payload {
-                Payload::Fixed64(bits) => (Some(bits), &[][..]),
-                Payload::Bytes(packed) => (None, packed),
-                _ => (None, &[][..]),
-            };
-            let bits = |eight: &[u8]| {
-                eight
-                    .iter()
-                    .rev()
-                    .fold(0, |bits, byte| bits << 8 | u64::from(*byte))
-            };
-            one.into_iter().chain(packed.chunks_exact(8).map(bits))
-        })
-    }
-}
-
-fn value(out: &mut Output<'_>, payloads: Payloads<'_>, depth: usize) -> Result<(), Refused> {
-    match payloads.field.kind {
-        Kind::Message(of) | Kind::Part(of) => last_message(out, &payloads, of, depth)?,
-        Kind::Messages(of) | Kind::Parts(of) => messages(out, &payloads, of, depth)?,
-        Kind::Exemplars => messages(out, &payloads, &EXEMPLAR, depth)?,
-        Kind::ResourceAttributes => messages(out, &payloads, &KEY_VALUE, depth)?,
-        Kind::Text => out.quoted(text(&payloads)?),
-        Kind::Unit => out.unit(text(&payloads)?),
-        Kind::Bool => out
-            .text
-            .push_str(if payloads.bits() != 0 { "true" } else { "false" }),
-        // An enum has 32 bits, of which a reader keeps the lowest.
-        Kind::Temporality => out.whole_number(i128::from(payloads.bits() as i32)),
-        Kind::Whole(wire) => out.whole(whole(wire, payloads.bits())),
-        Kind::Double | Kind::Fraction => out.double(f64::from_bits(payloads.bits())),
-        Kind::Wholes => list(out, payloads.each_bits(), |out, bits| out.whole(i128::from(bits))),
-        Kind::Doubles => list(out, payloads.each_bits(), |out, bits| {
-            out.double(f64::from_bits(bits))
-        }),
-        Kind::Bytes => out.text.push_str("\"\""),
-        Kind::Map => {
-            let from = out.text.len();
-            last_message(out, &payloads, &KEY_VALUE_LIST, depth)?;
-            out.text.truncate(from);
-            out.text.push_str("{}");
-        }
-    }
-    Ok(())
-}
-
 fn whole(wire: Wire, bits: u64) -> i128 {
     match wire {
         Wire::Fixed64 => i128::from(bits),
@@ -174,45 +113,198 @@ fn whole(wire: Wire, bits: u64) -> i128 {
     }
 }
 
-fn last_message(
-    out: &mut Output<'_>,
-    payloads: &Payloads<'_>,
-    of: &'static Message,
-    depth: usize,
-) -> Result<(), Refused> {
-    message(out, of, payloads.messages().last().unwrap_or_default(), depth + 1)
+fn is_text(bytes: &[u8]) -> bool {
+    bytes.is_ascii() || std::str::from_utf8(bytes).is_ok()
 }
 
-fn messages(
-    out: &mut Output<'_>,
-    payloads: &Payloads<'_>,
-    of: &'static Message,
-    depth: usize,
-) -> Result<(), Refused> {
-    out.text.push('[');
-    for bytes in payloads.messages() {
-        let from = out.text.len();
-        out.separate('[');
-        message(out, of, bytes, depth + 1)?;
-        if let Kind::ResourceAttributes = payloads.field.kind {
-            out.drop_attribute(from);
+fn not_text(of: &'static Message, field: &Field) -> Refused {
+    refused(of, format_args!("{} is not UTF-8", field.name))
+}
+
+/// The key and the value of an attribute, where it has one of each and no more, as nearly all have.
+fn key_and_value(attribute: &[u8]) -> Option<(&[u8], Payload<'_>)> {
+    let mut fields = Fields::of(attribute);
+    let (Ok((1, Payload::Bytes(key))), Ok((2, Payload::Bytes(any)))) = (fields.next()?, fields.next()?)
+    else {
+        return None;
+    };
+    let mut fields_of_any = Fields::of(any);
+    let value = match fields_of_any.next()?.ok()? {
+        (1, Payload::Bytes(text)) if is_text(text) => Payload::Bytes(text),
+        (3, Payload::Varint(bits)) => Payload::Varint(bits),
+        _ => return None,
+    };
+    let is_all = is_text(key) && fields.next().is_none() && fields_of_any.next().is_none();
+    is_all.then_some((key, value))
+}
+
+impl<'a> Writer<'a, '_> {
+    fn message(&mut self, of: &'static Message, bytes: &'a [u8], depth: usize) -> Result<(), Refused> {
+        if depth >= MAX_DEPTH {
+            return Err(refused(of, "nested too deep"));
+        }
+        let first = self.found.len();
+        self.look_through(of, bytes)?;
+        self.out.text.push(b'{');
+        let inside = self.out.text.len();
+        for index in first..self.found.len() {
+            let found = self.found[index];
+            let field = &of.fields[found.place];
+            let from = self.out.text.len();
+            self.out.separate(inside);
+            self.out.push(field.written);
+            self.value(of, field, found, depth)?;
+            if let Kind::Exemplars = field.kind {
+                self.out.text.truncate(from);
+            }
+        }
+        self.found.truncate(first);
+        self.out.text.push(b'}');
+        Ok(())
+    }
+
+    /// Puts behind what is found what this message has, in the order of its table. Refuses what is malformed and what
+    /// would be lost.
+    fn look_through(&mut self, of: &'static Message, bytes: &'a [u8]) -> Result<(), Refused> {
+        let first = self.found.len();
+        let mut fields = Fields::of(bytes);
+        loop {
+            let here = fields;
+            let Some(next) = fields.next() else { return Ok(()) };
+            let (number, payload) = next.map_err(|malformed| refused(of, malformed))?;
+            let Some(place) = of.fields.iter().position(|field| field.number == number) else {
+                not_lost(of, number)?;
+                continue;
+            };
+            let field = &of.fields[place];
+            if !is_payload_of(field.kind, payload) {
+                return Err(refused(of, format_args!("{} of another wire type", field.name)));
+            }
+            let before = self.found[first..].iter().rposition(|found| found.place <= place);
+            let index = before.map_or(first, |before| first + before + 1);
+            match self.found[first..index].last_mut() {
+                Some(known) if known.place == place => {
+                    if let Kind::Message(_) | Kind::Part(_) | Kind::Map = field.kind {
+                        return Err(refused(of, format_args!("{} is there twice", field.name)));
+                    }
+                    known.times += 1;
+                    known.last = payload;
+                }
+                _ => self.found.insert(
+                    index,
+                    Found {
+                        place,
+                        times: 1,
+                        fields: here,
+                        last: payload,
+                    },
+                ),
+            }
         }
     }
-    out.text.push(']');
-    Ok(())
+
+    fn value(
+        &mut self,
+        of: &'static Message,
+        field: &Field,
+        found: Found<'a>,
+        depth: usize,
+    ) -> Result<(), Refused> {
+        let number = field.number;
+        match field.kind {
+            Kind::Message(inner) | Kind::Part(inner) => self.message(inner, found.bytes(), depth + 1)?,
+            Kind::Messages(inner) | Kind::Parts(inner) => self.messages(inner, field, found, depth)?,
+            Kind::Exemplars => self.messages(&EXEMPLAR, field, found, depth)?,
+            Kind::ResourceAttributes => self.messages(&KEY_VALUE, field, found, depth)?,
+            Kind::Text if is_text(found.bytes()) => self.out.quoted(found.bytes()),
+            Kind::Text => return Err(not_text(of, field)),
+            Kind::Unit => {
+                let unit = std::str::from_utf8(found.bytes());
+                self.out.unit(unit.map_err(|_| not_text(of, field))?);
+            }
+            Kind::Bool => self.out.push(match found.bits() {
+                0 => "false",
+                _ => "true",
+            }),
+            // An enum has 32 bits, of which a reader keeps the lowest.
+            Kind::Temporality => self.out.whole_number(i128::from(found.bits() as i32)),
+            Kind::Whole(wire) => self.out.whole(whole(wire, found.bits())),
+            Kind::Double | Kind::Fraction => self.out.double(f64::from_bits(found.bits())),
+            Kind::Wholes => list(&mut self.out, found.each_bits(number), |out, bits| {
+                out.whole(i128::from(bits))
+            }),
+            Kind::Doubles => list(&mut self.out, found.each_bits(number), |out, bits| {
+                out.double(f64::from_bits(bits))
+            }),
+            Kind::Bytes => self.out.push("\"\""),
+            Kind::Map => {
+                let from = self.out.text.len();
+                self.message(&KEY_VALUE_LIST, found.bytes(), depth + 1)?;
+                self.out.text.truncate(from);
+                self.out.push("{}");
+            }
+        }
+        Ok(())
+    }
+
+    fn messages(
+        &mut self,
+        of: &'static Message,
+        field: &Field,
+        found: Found<'a>,
+        depth: usize,
+    ) -> Result<(), Refused> {
+        self.out.text.push(b'[');
+        let inside = self.out.text.len();
+        let are_attributes = std::ptr::eq(of, &KEY_VALUE) && depth + 2 < MAX_DEPTH;
+        for payload in found.all(field.number) {
+            let from = self.out.text.len();
+            self.out.separate(inside);
+            let bytes = bytes_of(payload);
+            match are_attributes.then(|| key_and_value(bytes)).flatten() {
+                Some((key, value)) => self.attribute(key, value),
+                None => self.message(of, bytes, depth + 1)?,
+            }
+            if let Kind::ResourceAttributes = field.kind {
+                self.out.drop_attribute(from);
+            }
+        }
+        self.out.text.push(b']');
+        Ok(())
+    }
+
+    /// What `message` writes of an attribute with a text or a whole number.
+    fn attribute(&mut self, key: &[u8], value: Payload<'_>) {
+        self.out.push("{\"key\":");
+        self.out.quoted(key);
+        match value {
+            Payload::Varint(bits) => {
+                self.out.push(",\"value\":{\"intValue\":");
+                self.out.whole(whole(Wire::Int64, bits));
+            }
+            other => {
+                self.out.push(",\"value\":{\"stringValue\":");
+                self.out.quoted(bytes_of(other));
+            }
+        }
+        self.out.push("}}");
+    }
 }
 
-fn text<'a>(payloads: &Payloads<'a>) -> Result<&'a str, Refused> {
-    let bytes = payloads.messages().last().unwrap_or_default();
-    std::str::from_utf8(bytes)
-        .map_err(|_| refused(payloads.of, format_args!("{} is not UTF-8", payloads.field.name)))
+/// Refuses a field that is not in the table and would be lost in silence.
+fn not_lost(of: &'static Message, number: u32) -> Result<(), Refused> {
+    match of.refused.iter().find(|lost| lost.number == number) {
+        Some(lost) => Err(refused(of, format_args!("{} {}", lost.names[0], lost.why))),
+        None => Ok(()),
+    }
 }
 
 fn list<T>(out: &mut Output<'_>, all: impl Iterator<Item = T>, mut each: impl FnMut(&mut Output<'_>, T)) {
-    out.text.push('[');
+    out.text.push(b'[');
+    let inside = out.text.len();
     for one in all {
-        out.separate('[');
+        out.separate(inside);
         each(out, one);
     }
-    out.text.push(']');
+    out.text.push(b']');
 }

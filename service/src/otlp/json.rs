@@ -200,32 +200,70 @@ impl<'d> Iterator for Members<'d> {
 
 /// Writes a text as the gateway does: only `"`, `\` and what is below 32 is escaped.
 pub fn write_text(out: &mut String, text: &str) {
-    out.push('"');
-    let mut from = 0;
-    for (at, byte) in text.bytes().enumerate() {
-        if byte >= 32 && byte != b'"' && byte != b'\\' {
-            continue;
-        }
-        out.push_str(&text[from..at]);
-        from = at + 1;
-        match byte {
-            b'"' => out.push_str("\\\""),
-            b'\\' => out.push_str("\\\\"),
-            8 => out.push_str("\\b"),
-            b'\t' => out.push_str("\\t"),
-            b'\n' => out.push_str("\\n"),
-            12 => out.push_str("\\f"),
-            b'\r' => out.push_str("\\r"),
-            _ => {
-                const DIGITS: &[u8; 16] = b"0123456789abcdef";
-                out.push_str("\\u00");
-                out.push(DIGITS[usize::from(byte >> 4)].into());
-                out.push(DIGITS[usize::from(byte & 15)].into());
-            }
-        }
+    if plain_length(text.as_bytes()) == text.len() {
+        out.push('"');
+        out.push_str(text);
+        out.push('"');
+        return;
     }
-    out.push_str(&text[from..]);
-    out.push('"');
+    let mut escaped = Vec::new();
+    put_text(&mut escaped, text.as_bytes());
+    out.push_str(&String::from_utf8_lossy(&escaped)); // it is UTF-8, as the text is
+}
+
+/// The same of the bytes of a text.
+pub fn put_text(out: &mut Vec<u8>, text: &[u8]) {
+    out.push(b'"');
+    let mut rest = text;
+    loop {
+        let (plain, behind) = rest.split_at(plain_length(rest));
+        out.extend_from_slice(plain);
+        let Some((byte, behind)) = behind.split_first() else {
+            break;
+        };
+        put_escaped(out, *byte);
+        rest = behind;
+    }
+    out.push(b'"');
+}
+
+fn put_escaped(out: &mut Vec<u8>, byte: u8) {
+    let short = match byte {
+        b'"' | b'\\' => byte,
+        8 => b'b',
+        b'\t' => b't',
+        b'\n' => b'n',
+        12 => b'f',
+        b'\r' => b'r',
+        _ => {
+            const DIGITS: &[u8; 16] = b"0123456789abcdef";
+            out.extend_from_slice(b"\\u00");
+            return out.extend([byte >> 4, byte & 15].map(|digit| DIGITS[usize::from(digit)]));
+        }
+    };
+    out.extend([b'\\', short]);
+}
+
+/// How many bytes are before the first `"`, `\` or byte below 32: those that stand for themselves in a text. It looks at
+/// eight bytes at once; the lowest bit that a subtraction leaves is of a byte that is looked for, those above may not be.
+pub fn plain_length(bytes: &[u8]) -> usize {
+    const EACH: u64 = u64::MAX / 255;
+    let below = |word: u64, limit: u8| word.wrapping_sub(EACH * u64::from(limit)) & !word;
+    let mut at = 0;
+    while let Some(eight) = bytes[at..].first_chunk() {
+        let word = u64::from_le_bytes(*eight);
+        let quotes = below(word ^ (EACH * u64::from(b'"')), 1);
+        let slashes = below(word ^ (EACH * u64::from(b'\\')), 1);
+        let found = (quotes | slashes | below(word, 32)) & (EACH << 7);
+        if found != 0 {
+            return at + found.trailing_zeros() as usize / 8;
+        }
+        at += 8;
+    }
+    let mut last = bytes[at..].iter();
+    at + last
+        .position(|byte| *byte < 32 || *byte == b'"' || *byte == b'\\')
+        .unwrap_or(bytes.len() - at)
 }
 
 #[cfg(test)]

@@ -1,13 +1,14 @@
 //! A request as it is written for the gateway, of whichever encoding it came in.
 
-use super::json::{write_text, Document};
-use super::number::whole_double;
-use super::Reading;
+use super::json::{put_text, Document};
+use super::number::{put_whole, whole_double};
+use super::{Reading, Refused};
 use std::borrow::Cow;
-use std::fmt::Write;
+use std::io::Write;
 
 pub struct Output<'r> {
-    pub text: String,
+    /// UTF-8, of which no part is looked at twice: all of it is, at the end.
+    pub text: Vec<u8>,
     reading: &'r Reading,
     is_measured: bool,
 }
@@ -22,67 +23,64 @@ pub struct Written {
 impl<'r> Output<'r> {
     pub fn new(capacity: usize, reading: &'r Reading) -> Output<'r> {
         Output {
-            text: String::with_capacity(capacity),
+            text: Vec::with_capacity(capacity),
             reading,
             is_measured: reading.whole.has_no_unit(),
         }
     }
 
-    pub fn written(self) -> Written {
-        Written {
-            text: self.text,
-            is_measured: self.is_measured,
+    pub fn written(self) -> Result<Written, Refused> {
+        match String::from_utf8(self.text) {
+            Ok(text) => Ok(Written {
+                text,
+                is_measured: self.is_measured,
+            }),
+            Err(_) => Err(Refused::Unreadable("not UTF-8".to_string())), // who gave a text has looked at it
         }
     }
 
-    /// The name of a member, behind a comma where it is not the first.
-    pub fn name(&mut self, name: &str) {
-        self.separate('{');
-        self.text.push('"');
-        self.text.push_str(name);
-        self.text.push_str("\":");
+    pub fn push(&mut self, text: &str) {
+        self.text.extend_from_slice(text.as_bytes());
     }
 
-    /// A comma, but behind what opens a container.
-    pub fn separate(&mut self, opener: char) {
-        if !self.text.ends_with(opener) {
-            self.text.push(',');
+    /// A comma, but behind what opens a container, whose inside begins at `inside`.
+    pub fn separate(&mut self, inside: usize) {
+        if self.text.len() > inside {
+            self.text.push(b',');
         }
     }
 
     /// 64 bits do not fit a number of each reader of JSON, so it is a text.
     pub fn whole(&mut self, whole: i128) {
-        let _ = write!(self.text, "\"{whole}\"");
+        self.text.push(b'"');
+        put_whole(&mut self.text, whole);
+        self.text.push(b'"');
     }
 
     /// A number that all readers read alike.
     pub fn whole_number(&mut self, number: i128) {
-        let _ = write!(self.text, "{number}");
+        put_whole(&mut self.text, number);
     }
 
     /// A whole double as a whole number; another as a text, which the gateway takes for no number.
     pub fn double(&mut self, double: f64) {
         match whole_double(double) {
             Some(whole) => self.whole_number(whole.into()),
-            None if double.is_nan() => self.text.push_str("\"NaN\""),
-            None if double.is_infinite() => {
-                self.text.push_str(if double > 0.0 {
-                    "\"Infinity\""
-                } else {
-                    "\"-Infinity\""
-                });
-            }
-            None => drop(write!(self.text, "\"{double:e}\"")),
+            None if double.is_nan() => self.push("\"NaN\""),
+            None if double.is_infinite() && double > 0.0 => self.push("\"Infinity\""),
+            None if double.is_infinite() => self.push("\"-Infinity\""),
+            None => drop(write!(self.text, "\"{double:e}\"")), // into memory it never fails
         }
     }
 
-    pub fn quoted(&mut self, text: &str) {
-        write_text(&mut self.text, text);
+    /// A text of UTF-8.
+    pub fn quoted(&mut self, text: &[u8]) {
+        put_text(&mut self.text, text);
     }
 
     pub fn unit(&mut self, unit: &str) {
         self.is_measured |= self.reading.whole.rule(unit).is_some();
-        self.quoted(unit);
+        self.quoted(unit.as_bytes());
     }
 
     /// Takes back a resource attribute that begins at `from`, if it is one to drop.
@@ -90,14 +88,14 @@ impl<'r> Output<'r> {
         if self.reading.dropped.is_empty() {
             return;
         }
-        let element = self.text[from..].trim_start_matches(',');
-        if self.is_dropped(element) {
+        let element = &self.text[from..];
+        if self.is_dropped(element.strip_prefix(b",").unwrap_or(element)) {
             self.text.truncate(from);
         }
     }
 
-    fn is_dropped(&self, element: &str) -> bool {
-        let Ok(document) = Document::parse(element.as_bytes()) else {
+    fn is_dropped(&self, element: &[u8]) -> bool {
+        let Ok(document) = Document::parse(element) else {
             return false;
         };
         let Some([key]) = document.root().named(["key"]) else {

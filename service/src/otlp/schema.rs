@@ -14,6 +14,8 @@ pub struct Message {
 pub struct Field {
     /// The name that the gateway reads (lowerCamelCase).
     pub name: &'static str,
+    /// The same with its quotes and colon.
+    pub written: &'static str,
     /// The name of the `.proto` file, which the JSON mapping allows too.
     pub proto_name: &'static str,
     pub number: u32,
@@ -67,13 +69,16 @@ pub enum Wire {
     Sfixed64,
 }
 
-const fn field(name: &'static str, proto_name: &'static str, number: u32, kind: Kind) -> Field {
-    Field {
-        name,
-        proto_name,
-        number,
-        kind,
-    }
+macro_rules! field {
+    ($name:literal, $proto_name:literal, $number:literal, $kind:expr $(,)?) => {
+        Field {
+            name: $name,
+            written: concat!("\"", $name, "\":"),
+            proto_name: $proto_name,
+            number: $number,
+            kind: $kind,
+        }
+    };
 }
 
 const fn refused(names: &'static [&'static str], number: u32, why: &'static str) -> RefusedField {
@@ -86,7 +91,7 @@ const OLD: &str = "is of an old version of OTLP and can't be read: send it with 
 
 pub static REQUEST: Message = Message {
     name: "ExportMetricsServiceRequest",
-    fields: &[field(
+    fields: &[field!(
         "resourceMetrics",
         "resource_metrics",
         1,
@@ -114,8 +119,8 @@ pub static REQUEST: Message = Message {
 static RESOURCE_METRICS: Message = Message {
     name: "ResourceMetrics",
     fields: &[
-        field("resource", "resource", 1, Kind::Message(&RESOURCE)),
-        field("scopeMetrics", "scope_metrics", 2, Kind::Messages(&SCOPE_METRICS)),
+        field!("resource", "resource", 1, Kind::Message(&RESOURCE)),
+        field!("scopeMetrics", "scope_metrics", 2, Kind::Messages(&SCOPE_METRICS)),
     ],
     refused: &[
         refused(
@@ -138,15 +143,15 @@ static RESOURCE_METRICS: Message = Message {
 
 static RESOURCE: Message = Message {
     name: "Resource",
-    fields: &[field("attributes", "attributes", 1, Kind::ResourceAttributes)],
+    fields: &[field!("attributes", "attributes", 1, Kind::ResourceAttributes)],
     refused: &[refused(&["labels"], 0, OLD)],
 };
 
 static SCOPE_METRICS: Message = Message {
     name: "ScopeMetrics",
     fields: &[
-        field("scope", "scope", 1, Kind::Message(&SCOPE)),
-        field("metrics", "metrics", 2, Kind::Messages(&METRIC)),
+        field!("scope", "scope", 1, Kind::Message(&SCOPE)),
+        field!("metrics", "metrics", 2, Kind::Messages(&METRIC)),
     ],
     refused: &[refused(
         &["instrumentationLibrary", "instrumentation_library"],
@@ -158,9 +163,9 @@ static SCOPE_METRICS: Message = Message {
 static SCOPE: Message = Message {
     name: "InstrumentationScope",
     fields: &[
-        field("name", "name", 1, Kind::Text),
-        field("version", "version", 2, Kind::Text),
-        field("attributes", "attributes", 3, Kind::Parts(&KEY_VALUE)),
+        field!("name", "name", 1, Kind::Text),
+        field!("version", "version", 2, Kind::Text),
+        field!("attributes", "attributes", 3, Kind::Parts(&KEY_VALUE)),
     ],
     refused: &[],
 };
@@ -168,18 +173,18 @@ static SCOPE: Message = Message {
 static METRIC: Message = Message {
     name: "Metric",
     fields: &[
-        field("name", "name", 1, Kind::Text),
-        field("unit", "unit", 3, Kind::Unit),
-        field("gauge", "gauge", 5, Kind::Message(&OTHER_DATA)),
-        field("sum", "sum", 7, Kind::Message(&SUM)),
-        field("histogram", "histogram", 9, Kind::Message(&HISTOGRAM)),
-        field(
+        field!("name", "name", 1, Kind::Text),
+        field!("unit", "unit", 3, Kind::Unit),
+        field!("gauge", "gauge", 5, Kind::Message(&OTHER_DATA)),
+        field!("sum", "sum", 7, Kind::Message(&SUM)),
+        field!("histogram", "histogram", 9, Kind::Message(&HISTOGRAM)),
+        field!(
             "exponentialHistogram",
             "exponential_histogram",
             10,
             Kind::Message(&OTHER_DATA),
         ),
-        field("summary", "summary", 11, Kind::Message(&OTHER_DATA)),
+        field!("summary", "summary", 11, Kind::Message(&OTHER_DATA)),
     ],
     refused: &[
         refused(&["intGauge", "int_gauge"], 4, OLD),
@@ -206,7 +211,7 @@ static METRIC: Message = Message {
 /// A gauge, an exponential histogram or a summary: its points are counted, no more.
 static OTHER_DATA: Message = Message {
     name: "Metric.data",
-    fields: &[field("dataPoints", "data_points", 1, Kind::Messages(&COUNTED))],
+    fields: &[field!("dataPoints", "data_points", 1, Kind::Messages(&COUNTED))],
     refused: &[],
 };
 
@@ -219,14 +224,14 @@ static COUNTED: Message = Message {
 static SUM: Message = Message {
     name: "Sum",
     fields: &[
-        field("dataPoints", "data_points", 1, Kind::Messages(&NUMBER_POINT)),
-        field(
+        field!("dataPoints", "data_points", 1, Kind::Messages(&NUMBER_POINT)),
+        field!(
             "aggregationTemporality",
             "aggregation_temporality",
             2,
             Kind::Temporality,
         ),
-        field("isMonotonic", "is_monotonic", 3, Kind::Bool),
+        field!("isMonotonic", "is_monotonic", 3, Kind::Bool),
     ],
     refused: &[],
 };
@@ -234,18 +239,18 @@ static SUM: Message = Message {
 static NUMBER_POINT: Message = Message {
     name: "NumberDataPoint",
     fields: &[
-        field(
+        field!(
             "startTimeUnixNano",
             "start_time_unix_nano",
             2,
             Kind::Whole(Wire::Fixed64),
         ),
-        field("timeUnixNano", "time_unix_nano", 3, Kind::Whole(Wire::Fixed64)),
-        field("asDouble", "as_double", 4, Kind::Fraction),
-        field("exemplars", "exemplars", 5, Kind::Exemplars),
-        field("asInt", "as_int", 6, Kind::Whole(Wire::Sfixed64)),
-        field("attributes", "attributes", 7, Kind::Parts(&KEY_VALUE)),
-        field("flags", "flags", 8, Kind::Whole(Wire::Uint32)),
+        field!("timeUnixNano", "time_unix_nano", 3, Kind::Whole(Wire::Fixed64)),
+        field!("asDouble", "as_double", 4, Kind::Fraction),
+        field!("exemplars", "exemplars", 5, Kind::Exemplars),
+        field!("asInt", "as_int", 6, Kind::Whole(Wire::Sfixed64)),
+        field!("attributes", "attributes", 7, Kind::Parts(&KEY_VALUE)),
+        field!("flags", "flags", 8, Kind::Whole(Wire::Uint32)),
     ],
     refused: &[refused(&["labels"], 1, OLD), refused(&["value"], 0, OLD)],
 };
@@ -253,8 +258,8 @@ static NUMBER_POINT: Message = Message {
 static HISTOGRAM: Message = Message {
     name: "Histogram",
     fields: &[
-        field("dataPoints", "data_points", 1, Kind::Messages(&HISTOGRAM_POINT)),
-        field(
+        field!("dataPoints", "data_points", 1, Kind::Messages(&HISTOGRAM_POINT)),
+        field!(
             "aggregationTemporality",
             "aggregation_temporality",
             2,
@@ -267,20 +272,20 @@ static HISTOGRAM: Message = Message {
 static HISTOGRAM_POINT: Message = Message {
     name: "HistogramDataPoint",
     fields: &[
-        field(
+        field!(
             "startTimeUnixNano",
             "start_time_unix_nano",
             2,
             Kind::Whole(Wire::Fixed64),
         ),
-        field("timeUnixNano", "time_unix_nano", 3, Kind::Whole(Wire::Fixed64)),
-        field("count", "count", 4, Kind::Whole(Wire::Fixed64)),
-        field("sum", "sum", 5, Kind::Double),
-        field("bucketCounts", "bucket_counts", 6, Kind::Wholes),
-        field("explicitBounds", "explicit_bounds", 7, Kind::Doubles),
-        field("exemplars", "exemplars", 8, Kind::Exemplars),
-        field("attributes", "attributes", 9, Kind::Parts(&KEY_VALUE)),
-        field("flags", "flags", 10, Kind::Whole(Wire::Uint32)),
+        field!("timeUnixNano", "time_unix_nano", 3, Kind::Whole(Wire::Fixed64)),
+        field!("count", "count", 4, Kind::Whole(Wire::Fixed64)),
+        field!("sum", "sum", 5, Kind::Double),
+        field!("bucketCounts", "bucket_counts", 6, Kind::Wholes),
+        field!("explicitBounds", "explicit_bounds", 7, Kind::Doubles),
+        field!("exemplars", "exemplars", 8, Kind::Exemplars),
+        field!("attributes", "attributes", 9, Kind::Parts(&KEY_VALUE)),
+        field!("flags", "flags", 10, Kind::Whole(Wire::Uint32)),
     ],
     refused: &[refused(&["labels"], 1, OLD)],
 };
@@ -288,12 +293,12 @@ static HISTOGRAM_POINT: Message = Message {
 pub static EXEMPLAR: Message = Message {
     name: "Exemplar",
     fields: &[
-        field("timeUnixNano", "time_unix_nano", 2, Kind::Whole(Wire::Fixed64)),
-        field("asDouble", "as_double", 3, Kind::Fraction),
-        field("spanId", "span_id", 4, Kind::Bytes),
-        field("traceId", "trace_id", 5, Kind::Bytes),
-        field("asInt", "as_int", 6, Kind::Whole(Wire::Sfixed64)),
-        field(
+        field!("timeUnixNano", "time_unix_nano", 2, Kind::Whole(Wire::Fixed64)),
+        field!("asDouble", "as_double", 3, Kind::Fraction),
+        field!("spanId", "span_id", 4, Kind::Bytes),
+        field!("traceId", "trace_id", 5, Kind::Bytes),
+        field!("asInt", "as_int", 6, Kind::Whole(Wire::Sfixed64)),
+        field!(
             "filteredAttributes",
             "filtered_attributes",
             7,
@@ -306,8 +311,8 @@ pub static EXEMPLAR: Message = Message {
 pub static KEY_VALUE: Message = Message {
     name: "KeyValue",
     fields: &[
-        field("key", "key", 1, Kind::Text),
-        field("value", "value", 2, Kind::Part(&ANY_VALUE)),
+        field!("key", "key", 1, Kind::Text),
+        field!("value", "value", 2, Kind::Part(&ANY_VALUE)),
     ],
     refused: &[],
 };
@@ -315,25 +320,25 @@ pub static KEY_VALUE: Message = Message {
 static ANY_VALUE: Message = Message {
     name: "AnyValue",
     fields: &[
-        field("stringValue", "string_value", 1, Kind::Text),
-        field("boolValue", "bool_value", 2, Kind::Bool),
-        field("intValue", "int_value", 3, Kind::Whole(Wire::Int64)),
-        field("doubleValue", "double_value", 4, Kind::Fraction),
-        field("arrayValue", "array_value", 5, Kind::Part(&ARRAY_VALUE)),
-        field("kvlistValue", "kvlist_value", 6, Kind::Map),
-        field("bytesValue", "bytes_value", 7, Kind::Bytes),
+        field!("stringValue", "string_value", 1, Kind::Text),
+        field!("boolValue", "bool_value", 2, Kind::Bool),
+        field!("intValue", "int_value", 3, Kind::Whole(Wire::Int64)),
+        field!("doubleValue", "double_value", 4, Kind::Fraction),
+        field!("arrayValue", "array_value", 5, Kind::Part(&ARRAY_VALUE)),
+        field!("kvlistValue", "kvlist_value", 6, Kind::Map),
+        field!("bytesValue", "bytes_value", 7, Kind::Bytes),
     ],
     refused: &[],
 };
 
 static ARRAY_VALUE: Message = Message {
     name: "ArrayValue",
-    fields: &[field("values", "values", 1, Kind::Parts(&ANY_VALUE))],
+    fields: &[field!("values", "values", 1, Kind::Parts(&ANY_VALUE))],
     refused: &[],
 };
 
 pub static KEY_VALUE_LIST: Message = Message {
     name: "KeyValueList",
-    fields: &[field("values", "values", 1, Kind::Parts(&KEY_VALUE))],
+    fields: &[field!("values", "values", 1, Kind::Parts(&KEY_VALUE))],
     refused: &[],
 };

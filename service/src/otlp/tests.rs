@@ -221,6 +221,44 @@ fn protobuf_is_written_as_the_gateway_reads_it() {
     assert_eq!(prepared(Encoding::Protobuf, ""), Ok(vec![Bytes::from("{}")]));
 }
 
+/// Most attributes have a key and a value, one of each and in this order; others mean as much.
+#[test]
+fn attributes_in_protobuf_may_come_in_any_form() {
+    let written = |attribute: &[u8]| {
+        let metric = bytes(7, &bytes(1, &bytes(7, attribute)));
+        let bodies = prepared(Encoding::Protobuf, within_request(&metric)).unwrap();
+        let text = std::str::from_utf8(&bodies[0]).unwrap().to_string();
+        let attributes = text.split_once("\"attributes\":").unwrap().1;
+        attributes.strip_suffix("}]}}]}]}]}").unwrap().to_string()
+    };
+    let (key, text, whole) = (bytes(1, b"k"), bytes(2, &bytes(1, b"t")), bytes(2, &[24, 5]));
+    let with_text = r#"[{"key":"k","value":{"stringValue":"t"}}]"#;
+    let (other_key, other, longer) = (bytes(1, b"x"), bytes(9, b"x"), [&[24, 4][..], &[24, 5]].concat());
+    assert_eq!(written(&[key.clone(), text.clone()].concat()), with_text);
+    for parts in [
+        [&text, &key, &other],
+        [&other_key, &key, &text],
+        [&key, &text, &other],
+        [&other, &key, &text],
+    ] {
+        assert_eq!(written(&parts.map(|part| &part[..]).concat()), with_text);
+    }
+    let with_whole = r#"[{"key":"k","value":{"intValue":"5"}}]"#;
+    for whole in [whole, bytes(2, &longer)] {
+        assert_eq!(written(&[key.clone(), whole].concat()), with_whole);
+    }
+    let without = [
+        (key.clone(), r#"[{"key":"k"}]"#),
+        (text.clone(), r#"[{"value":{"stringValue":"t"}}]"#),
+    ];
+    for (one, expected) in without {
+        assert_eq!(written(&one), expected);
+    }
+    let of_two = bytes(2, &[bytes(1, b"t"), vec![24, 5]].concat());
+    let both = r#"[{"key":"k","value":{"stringValue":"t","intValue":"5"}}]"#;
+    assert_eq!(written(&[key, of_two].concat()), both);
+}
+
 #[test]
 fn resource_attributes_are_dropped() {
     let reading = Reading {

@@ -31,6 +31,7 @@ impl<'a> Fields<'a> {
         Fields { rest: message }
     }
 
+    #[inline(always)]
     fn field(&mut self) -> Result<(u32, Payload<'a>), Malformed> {
         let key = u32::try_from(self.varint()?).map_err(|_| Malformed::LongNumber)?;
         let payload = match key & 7 {
@@ -50,6 +51,7 @@ impl<'a> Fields<'a> {
         }
     }
 
+    #[inline]
     fn take(&mut self, length: usize) -> Result<&'a [u8], Malformed> {
         if length > self.rest.len() {
             return Err(Malformed::Cut);
@@ -63,7 +65,19 @@ impl<'a> Fields<'a> {
         self.take(N)?.try_into().map_err(|_| Malformed::Cut)
     }
 
+    #[inline]
     fn varint(&mut self) -> Result<u64, Malformed> {
+        match self.rest.split_first() {
+            // As a rule it is one byte.
+            Some((byte @ ..128, rest)) => {
+                self.rest = rest;
+                Ok(u64::from(*byte))
+            }
+            _ => self.long_varint(),
+        }
+    }
+
+    fn long_varint(&mut self) -> Result<u64, Malformed> {
         let mut number = 0;
         for (place, byte) in self.rest.iter().enumerate().take(10) {
             let bits = u64::from(byte & 127);
@@ -87,6 +101,7 @@ impl<'a> Fields<'a> {
 impl<'a> Iterator for Fields<'a> {
     type Item = Result<(u32, Payload<'a>), Malformed>;
 
+    #[inline(always)]
     fn next(&mut self) -> Option<Self::Item> {
         if self.rest.is_empty() {
             return None;
