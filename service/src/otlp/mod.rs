@@ -1,8 +1,8 @@
 //! Requests and answers of OTLP, in protobuf and in JSON, and the series that a body has.
 //!
 //! `prepare` writes a request of either encoding as the gateway reads it: `from_protobuf` and `from_json` go
-//! by the tables of `schema`, over the readers `wire` and `json`; `whole` takes fractions as whole numbers of a finer
-//! unit, `split` cuts what is too long. `series` reads bodies as the gateway does, and what it forwards.
+//! by the tables of `schema`, over the readers `wire` and `json`; `usual` sees at once most JSON that goes on as it came;
+//! `whole` takes fractions as whole numbers of a finer unit, `split` cuts what is too long. `series` reads bodies as the gateway does, and what it forwards.
 //! `answers` is what senders are answered.
 
 mod answers;
@@ -17,6 +17,7 @@ mod schema;
 mod sender;
 pub mod series;
 mod split;
+mod usual;
 mod whole;
 mod wire;
 
@@ -80,18 +81,27 @@ pub struct Prepared {
     pub rounded: Rounded,
 }
 
+impl Prepared {
+    fn as_it_is(body: Bytes) -> Prepared {
+        Prepared {
+            bodies: vec![body],
+            rounded: Rounded::default(),
+        }
+    }
+}
+
 /// Puts a request into the gateway's form. Nothing of a request is lost in silence: it is read whole or refused whole.
 pub fn prepare(encoding: Encoding, body: Bytes, reading: &Reading) -> Result<Prepared, Refused> {
     let written = match encoding {
         Encoding::Protobuf => from_protobuf::written(&body, reading)?,
         Encoding::Json => {
-            let document = json::Document::parse(&body)?;
             let may_go_on = reading.dropped.is_empty() && body.len() <= split::LIMIT;
+            if may_go_on && usual::is_usual(&body, reading) {
+                return Ok(Prepared::as_it_is(body));
+            }
+            let document = json::Document::parse(&body)?;
             if may_go_on && from_json::is_read_as_it_is(&document, reading)? {
-                return Ok(Prepared {
-                    bodies: vec![body.clone()],
-                    rounded: Rounded::default(),
-                });
+                return Ok(Prepared::as_it_is(body.clone()));
             }
             from_json::written(&document, reading)?
         }

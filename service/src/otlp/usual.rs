@@ -1,0 +1,255 @@
+//! JSON in the form that most senders write: the gateway reads it as it is meant, which one look over the bytes says.
+//!
+//! Here is known what needs no thought: names as the gateway has them, each once, plain texts, short numbers. Of any
+//! other body nothing is said, and `from_json` looks at it.
+
+use super::json::plain_length;
+use super::schema::{Field, Kind, Message, KEY_VALUE, REQUEST};
+use super::Reading;
+
+/// More than a request has, but for values in values.
+const MAX_DEPTH: usize = 16;
+/// Digits that fit 64 bits.
+const DIGITS: usize = 19;
+/// Digits of a whole number that is exact as a double.
+const DIGITS_OF_DOUBLE: usize = 15;
+
+/// Whether the gateway reads the body as it is meant, as far as that is seen at once. False says nothing.
+pub fn is_usual(body: &[u8], reading: &Reading) -> bool {
+    let mut look = Look { rest: body, reading };
+    let is_known = !reading.whole.has_no_unit() && look.message(&REQUEST, 0).is_some();
+    is_known && look.peek().is_none() && look.rest.is_empty() && std::str::from_utf8(body).is_ok()
+}
+
+/// What is not known is None.
+struct Look<'a> {
+    rest: &'a [u8],
+    reading: &'a Reading,
+}
+
+impl<'a> Look<'a> {
+    /// The next byte behind blanks.
+    fn peek(&mut self) -> Option<u8> {
+        loop {
+            match self.rest {
+                [byte @ b'!'..=255, ..] => return Some(*byte),
+                [b' ' | b'\t' | b'\n' | b'\r', rest @ ..] => self.rest = rest,
+                _ => return None,
+            }
+        }
+    }
+
+    /// Whether this byte is next; it is passed then.
+    fn is_next(&mut self, byte: u8) -> bool {
+        let is_next = self.peek() == Some(byte);
+        if is_next {
+            self.rest = &self.rest[1..];
+        }
+        is_next
+    }
+
+    fn take(&mut self, byte: u8) -> Option<()> {
+        self.is_next(byte).then_some(())
+    }
+
+    /// Whether a container goes on behind a comma, or else ends with `end`.
+    fn goes_on(&mut self, end: u8) -> Option<bool> {
+        let byte = self.peek()?;
+        self.rest = &self.rest[1..];
+        match byte {
+            b',' => Some(true),
+            byte if byte == end => Some(false),
+            _ => None,
+        }
+    }
+
+    fn word(&mut self, word: &[u8]) -> Option<()> {
+        self.rest = self.rest.strip_prefix(word)?;
+        Some(())
+    }
+
+    /// A text without escapes.
+    fn text(&mut self) -> Option<&'a [u8]> {
+        self.take(b'"')?;
+        let (text, behind) = self.rest.split_at(plain_length(self.rest));
+        self.rest = behind.strip_prefix(b"\"")?;
+        Some(text)
+    }
+
+    fn digits(&mut self, most: usize) -> Option<&'a [u8]> {
+        let digits = self.rest.iter().take_while(|byte| byte.is_ascii_digit());
+        let (digits, behind) = self.rest.split_at(digits.count());
+        self.rest = behind;
+        (1..=most).contains(&digits.len()).then_some(digits)
+    }
+
+    /// A whole number of so many digits at most. What follows of another number is not passed.
+    fn number(&mut self, most: usize) -> Option<()> {
+        let has_minus = self.is_next(b'-');
+        match self.digits(most)? {
+            [b'0'] if has_minus => None, // to the gateway it is a double
+            [b'0', _, ..] => None,
+            _ => Some(()),
+        }
+    }
+
+    /// A whole number, or a text of one.
+    fn whole(&mut self) -> Option<()> {
+        if !self.is_next(b'"') {
+            return self.number(DIGITS - 1); // with a minus it may have no more
+        }
+        self.rest = self.rest.strip_prefix(b"-").unwrap_or(self.rest);
+        self.digits(DIGITS)?;
+        self.word(b"\"")
+    }
+
+    fn truth(&mut self) -> Option<()> {
+        match self.peek()? {
+            b't' => self.word(b"true"),
+            _ => self.word(b"false"),
+        }
+    }
+
+    /// A value that is passed over.
+    fn scalar(&mut self) -> Option<()> {
+        match self.peek()? {
+            b'"' => self.text().map(|_| ()),
+            b't' | b'f' => self.truth(),
+            _ => {
+                self.number(DIGITS)?;
+                match self.word(b".") {
+                    Some(()) => self.digits(DIGITS).map(|_| ()),
+                    None => Some(()),
+                }
+            }
+        }
+    }
+
+    fn list(&mut self, mut each: impl FnMut(&mut Self) -> Option<()>) -> Option<()> {
+        self.take(b'[')?;
+        if self.is_next(b']') {
+            return Some(());
+        }
+        loop {
+            each(self)?;
+            if !self.goes_on(b']')? {
+                return Some(());
+            }
+        }
+    }
+
+    fn message(&mut self, of: &'static Message, depth: usize) -> Option<()> {
+        self.take(b'{')?;
+        if depth >= MAX_DEPTH {
+            return None;
+        }
+        if self.is_next(b'}') {
+            return Some(());
+        }
+        let mut found: u32 = 0;
+        loop {
+            let name = self.text()?;
+            self.take(b':')?;
+            match of.fields.iter().position(|field| field.name.as_bytes() == name) {
+                Some(place) if found & (1 << place) == 0 => {
+                    found |= 1 << place;
+                    self.member(&of.fields[place], depth + 1)?;
+                }
+                None if says_nothing(of, name) => self.scalar()?,
+                _ => return None,
+            }
+            if !self.goes_on(b'}')? {
+                return Some(());
+            }
+        }
+    }
+
+    fn member(&mut self, field: &Field, depth: usize) -> Option<()> {
+        match field.kind {
+            Kind::Message(inner) | Kind::Part(inner) => self.message(inner, depth),
+            Kind::Messages(inner) | Kind::Parts(inner) => self.list(|look| look.message(inner, depth)),
+            Kind::ResourceAttributes => self.list(|look| look.message(&KEY_VALUE, depth)),
+            Kind::Text | Kind::Bytes => self.text().map(|_| ()),
+            Kind::Unit => {
+                let unit = std::str::from_utf8(self.text()?).ok()?;
+                self.reading.whole.rule(unit).is_none().then_some(())
+            }
+            Kind::Bool => self.truth(),
+            Kind::Temporality => self.number(1),
+            Kind::Whole(_) => self.whole(),
+            Kind::Wholes => self.list(Self::whole),
+            Kind::Double => self.number(DIGITS_OF_DOUBLE),
+            Kind::Doubles => self.list(|look| look.number(DIGITS_OF_DOUBLE)),
+            Kind::Fraction => self.scalar(),
+            Kind::Exemplars => self.list(|_| None),
+            Kind::Map => None,
+        }
+    }
+}
+
+/// Whether a name that no field has is that of nothing that could be lost.
+fn says_nothing(of: &Message, name: &[u8]) -> bool {
+    let lost = of.refused.iter().flat_map(|lost| lost.names);
+    let mut known = of.fields.iter().map(|field| &field.proto_name).chain(lost);
+    !known.any(|known| known.as_bytes() == name)
+}
+
+#[cfg(test)]
+mod tests {
+    use super::super::{from_json, json::Document};
+    use super::*;
+
+    const BODY: &str = r#"{"resourceMetrics":[{"resource":{"attributes":[{"key":"a","value":{"stringValue":"é"}}]},
+        "schemaUrl":"u","scopeMetrics": [{"scope":{"name":"s","version":"1"},"metrics":[{"name":"m","description":"d",
+        "unit":"By","sum":{"aggregationTemporality":1,"isMonotonic":true,"dataPoints":[{"attributes":[{"key":"k","value":
+        {"intValue":"-9"}},{"key":"l","value":{"arrayValue":{"values":[{"boolValue":false}]}}}],"asInt":-5,"exemplars":[],
+        "startTimeUnixNano":"1700000000000000000","timeUnixNano":2,"flags":0},{"asDouble":0.5}]}},{"histogram":{
+        "dataPoints":[{"count":"3","sum":120,"min":0.25,"bucketCounts":["1",2],"explicitBounds":[10]}]}}]}]}]}"#;
+
+    #[test]
+    fn what_senders_write_is_usual() {
+        for body in [BODY, " {} ", r#"{"resourceMetrics":[]}"#] {
+            assert!(is_usual(body.as_bytes(), &Reading::default()), "{body}");
+        }
+    }
+
+    /// Why a look in full does not say that the gateway reads a body as it is meant.
+    fn otherwise(body: &[u8]) -> Option<String> {
+        let document = match Document::parse(body) {
+            Ok(document) => document,
+            Err(fault) => return Some(fault.to_string()),
+        };
+        match from_json::is_read_as_it_is(&document, &Reading::default()) {
+            Ok(true) => None,
+            Ok(false) => Some("it is written anew".to_string()),
+            Err(refused) => Some(refused.to_string()),
+        }
+    }
+
+    #[test]
+    fn a_body_with_any_change_is_usual_only_where_a_look_in_full_says_so() {
+        let body = BODY.as_bytes();
+        let (mut tried, mut usual) = (0, 0);
+        let mut is_sound = |changed: Vec<u8>| {
+            tried += 1;
+            if is_usual(&changed, &Reading::default()) {
+                usual += 1;
+                assert_eq!(otherwise(&changed), None, "{}", String::from_utf8_lossy(&changed));
+            }
+        };
+        for at in 0..body.len() {
+            let (before, behind) = body.split_at(at);
+            is_sound(before.to_vec());
+            for byte in b"\"\\{}[]:,. 0123-+eEtfn_x\n\x01\x80\xe9" {
+                is_sound([before, &[*byte], &behind[1..]].concat());
+                is_sound([before, &[*byte], behind].concat());
+            }
+            for length in [1, 2, 5, 9, 20, 40] {
+                let (piece, rest) = behind.split_at(length.min(behind.len()));
+                is_sound([before, rest].concat());
+                is_sound([before, piece, piece, rest].concat());
+            }
+        }
+        assert!(usual > tried / 20, "{usual} of {tried} are usual");
+    }
+}
