@@ -13,6 +13,8 @@ pub const READ_AHEAD: usize = 64 << 10;
 /// More than most requests have, and less than is worth a read.
 const AT_ONCE: usize = 8 << 10;
 const LEAST: usize = 1 << 10;
+/// More than most heads have.
+const HEAD: usize = 512;
 /// What is left of an answer's or a long body's memory for the next one.
 const KEPT: usize = 16 << 10;
 /// How long a line before a chunk may be.
@@ -36,6 +38,8 @@ pub enum Body {
 pub struct Wire<S> {
     stream: S,
     pub input: BytesMut,
+    /// What the last request had, more or less: there is room for as much, so that the next one comes with one read.
+    expected: usize,
     body: Body,
     /// The sender waits until it is told to go on.
     waits: bool,
@@ -47,6 +51,7 @@ impl<S: AsyncRead + AsyncWrite + Unpin> Wire<S> {
         Wire {
             stream,
             input: BytesMut::new(),
+            expected: LEAST,
             body: Body::Whole,
             waits: false,
             output: Vec::new(),
@@ -57,7 +62,7 @@ impl<S: AsyncRead + AsyncWrite + Unpin> Wire<S> {
     pub async fn fill(&mut self) -> Result<usize> {
         let missing = match self.body {
             Body::Length(left) | Body::Chunk(left) => short(left).saturating_sub(self.input.len()),
-            _ => 0,
+            _ => self.expected.saturating_sub(self.input.len()),
         };
         if self.input.capacity() - self.input.len() < missing.max(LEAST) {
             self.input.reserve(missing.max(AT_ONCE));
@@ -71,6 +76,9 @@ impl<S: AsyncRead + AsyncWrite + Unpin> Wire<S> {
             Body::Length(0) => Body::Whole,
             other => other,
         };
+        if let Body::Length(length) = body {
+            self.expected = short(length) + HEAD;
+        }
         self.waits = waits && self.body != Body::Whole;
     }
 
