@@ -34,6 +34,7 @@ import signal
 import socket
 import subprocess
 import sys
+import threading
 import time
 
 ROOT = os.path.dirname(os.path.dirname(os.path.abspath(__file__)))
@@ -240,6 +241,11 @@ SINKS = {"own": OwnSinks, "one": OneSink}
 # What an operator does
 
 
+def flushed(service):
+    """Whether its sink has all that it took."""
+    return wait_until(lambda: service.order("/flush") == 200) and wait_until(service.is_drained)
+
+
 class Operator:
     """Does the lists of the page. `of` is the service that has a part, `wrong` what did not go as it should."""
 
@@ -332,12 +338,11 @@ class Operator:
         self.sinks.folders.discard(data)
         return copy
 
-    def let_repeat(self):
-        """Waits longer than each sender pauses between two attempts."""
-        before = [sender.ended for sender in self.senders]
-        # An attempt that was under way has ended then, and one behind it.
-        self.see("senders go on", wait_until(lambda: all(it.ended > ended + 1 for it, ended in zip(self.senders, before)), 60), before)
-        time.sleep(CALM)
+    def wait_for_senders(self, count, more):
+        """Until each has so many more `posts` that were answered, or attempts that `ended`."""
+        wanted = {sender: getattr(sender, count) + more for sender in self.senders}
+        go_on = wait_until(lambda: all(getattr(sender, count) >= least for sender, least in wanted.items()), 60)
+        self.see("all senders go on", go_on, [(sender.name, sender.posts, sender.ended) for sender in self.senders])
 
     def drain(self, service):
         """Ends a service that has no part any more, whose folder has nothing then."""
@@ -347,8 +352,7 @@ class Operator:
         status = service.status()
         self.see("nobody is quarantined, nothing is dead", status and not status["dead"] and
                  not any(slot["quarantined"] for slot in status["slots"]), status)
-        self.see("it is flushed", wait_until(lambda: service.order("/flush") == 200), service.last_lines())
-        self.see("nothing waits", wait_until(service.is_drained), service.status())
+        self.see("nothing waits", flushed(service), service.status())
         self.stop(service)
         check = subprocess.run([self.programs[0], "check", "--json", service.data], capture_output=True, text=True, timeout=60)
         found = json.loads(check.stdout or "{}")
@@ -360,8 +364,10 @@ class Operator:
         """A service starts on another machine, on its folder."""
         service = self.of[self.chance.choice(sorted(self.of))]
         held = [part for part in self.of if self.of[part] is service]
+        if how == "gone":
+            service.machine.plug("down")
+            time.sleep(self.chance.choice([0, 0.05, 0.3]))
         if how != "stopped":
-            service.machine.plug("down" if how == "gone" else "up")
             service.kill()
             time.sleep(self.chance.choice([0, 0.3, 1]))
         self.hold(held, how == "gone")
@@ -397,7 +403,9 @@ class Operator:
             self.hold([part])
             unanswered = self.proxy.unanswered(part)
             self.release([part], self.of[part])
-            self.let_repeat()
+            # Longer than each pauses: an attempt that was under way has ended, and one behind it.
+            self.wait_for_senders("ended", 2)
+            time.sleep(CALM)
             self.hold([part])
             if self.proxy.unanswered(part) == unanswered:
                 return
@@ -427,8 +435,7 @@ class Operator:
             acts[act]()
             self.done.append(f"{act} in {time.monotonic() - begun:.1f} s")
             self.disturb()
-            posts = [sender.posts for sender in self.senders]
-            self.see("all senders post again", wait_until(lambda: all(it.posts > before for it, before in zip(self.senders, posts)), 60), posts)
+            self.wait_for_senders("posts", 1)
 
 
 # --------------------------------------------------------------------------------------------------------------------
@@ -437,10 +444,10 @@ class Operator:
 
 def load(checks, what, operator, seconds):
     """The senders, behind all that the operator does."""
-    is_over, senders = [], operator.senders
-    threads = post_meanwhile(senders, lambda: is_over, lambda sender: time.sleep(operator.pause))
+    is_over, senders = threading.Event(), operator.senders
+    threads = post_meanwhile(senders, is_over.is_set, lambda sender: time.sleep(operator.pause))
     operator.work(time.monotonic() + seconds)
-    is_over.append(True)
+    is_over.set()
     for thread in threads:
         thread.join(60)
     checks.true(f"{what}: all posts are answered", not any(thread.is_alive() for thread in threads), threads)
@@ -458,10 +465,10 @@ def run(programs, checks, machines, kind, options):
         senders, services = operator.senders, operator.services()
         checks.same(f"{what}: no post was answered otherwise", [], [it for sender in senders for it in sender.surprises][:3])
         repeat_late(checks, f"{what}: late repeats are refused", senders)
-        checks.same(f"{what}: the services found nothing that must not be", [], [it for service in services for it in service.faults()])
-        drained = [wait_until(lambda: service.order("/flush") == 200) and wait_until(service.is_drained) for service in services]
-        checks.true(f"{what}: all is flushed and delivered", all(drained), [service.status() for service in services])
-        checks.same(f"{what}: the sinks refused nothing", [0] * len(services), [service.status()["dead"] for service in services])
+        faults = [fault for service in services for fault in service.faults()]
+        checks.same(f"{what}: the services found nothing that must not be", [], faults)
+        checks.true(f"{what}: all is flushed and delivered", all(map(flushed, services)), [service.status() for service in services])
+        checks.same(f"{what}: the sinks refused nothing", {0}, {service.status()["dead"] for service in services})
         compare(checks, what, operator.sinks, senders)
         checks.same(f"{what}: each step went as it should", [], operator.wrong[:3])
 
