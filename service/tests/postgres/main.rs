@@ -1,6 +1,9 @@
 //! The PostgreSQL sink against a server of its own. Without `initdb` nothing is tried, and a line says so.
 
+mod rivals;
 mod server;
+mod speed;
+mod versions;
 
 use server::{histogram, sum, sum_named, Server};
 use std::time::Duration;
@@ -131,10 +134,6 @@ async fn of_a_request_the_spans_that_overlap_alone_are_left() {
         "2"
     );
     refused(&*sink, 3, left, "overlaps").await;
-    // A database of the first version is brought up, and goes on.
-    server.ask("alter table totxegun.span add constraint span_request_fkey foreign key (request) references totxegun.request, add constraint span_series_fkey foreign key (series) references totxegun.series; update totxegun.version set version = 1");
-    taken(&*open(&server.by_socket("postgres")), 4, sum("a", 210, 220, 1)).await;
-    assert_eq!(server.ask("select version from totxegun.version"), "2");
 }
 
 /// The server's certificate is looked at, by the roots of the machine.
@@ -195,8 +194,8 @@ async fn what_is_told() {
         let error = sinks::open(&address).err().expect("it is refused").to_string();
         assert!(error.contains(part) && error.contains(database), "{error}");
     };
-    server.ask_of("d1", "update totxegun.version set version = 3");
-    refuses("d1", "schema 3; this one knows 2");
+    server.ask_of("d1", "update totxegun.version set version = 4");
+    refuses("d1", "schema 4; this one knows 3");
     again(&*lame, 2, body(), "version").await;
     again(&*lame, 2, body(), "later version").await;
     server.ask_of(
@@ -239,41 +238,4 @@ async fn what_is_lost_on_the_way() {
     taken(&*direct, 3, sum("a", 3, 4, 4)).await;
     taken(&*sink, 3, sum("a", 3, 4, 4)).await;
     assert_eq!(server.ask("select points, total from totxegun.totals"), "3|7");
-}
-
-/// 100 requests of 1,000 series, 10,000 series in all: by the clock, and by the processor time of this process and the
-/// server's, which is what a machine that does other work too can compare.
-#[tokio::test(flavor = "multi_thread")]
-#[ignore = "it measures: tools/cargo test --release --test postgres -- --ignored --nocapture"]
-async fn series_a_second() {
-    let Some(server) = Server::start() else { return };
-    let sink = open(&server.by_socket("postgres"));
-    for (part, turns) in [("new series", 0..1), ("known series", 1..10u64)] {
-        let count = (turns.end - turns.start) as f64 * 10_000.0;
-        let bodies: Vec<(u64, String)> = turns
-            .flat_map(|turn| (0..10).map(move |block| (turn, block)))
-            .map(|(turn, block)| {
-                (
-                    turn * 10 + block + 1,
-                    server::many(block * 1000, 1000, turn * 10 + 1),
-                )
-            })
-            .collect();
-        let began = std::time::Instant::now();
-        let (worked, worked_there) = (server::own_processor_time(), server.processor_time());
-        for (number, body) in bodies {
-            taken(&*sink, number, body).await;
-        }
-        let took = began.elapsed().as_secs_f64();
-        let (worked, there) = (
-            server::own_processor_time() - worked,
-            server.processor_time() - worked_there,
-        );
-        println!(
-            "{part}: {count} series, {:.0} a second; {:.0} a second of processor time, {:.0} of the server's alone",
-            count / took,
-            count / (worked + there),
-            count / there
-        );
-    }
 }

@@ -214,6 +214,20 @@ impl Server {
         String::from_utf8(output.stdout).unwrap().trim().into()
     }
 
+    /// Statements as a file has them.
+    pub fn run_file(&self, database: &str, text: &str) {
+        let file = self.folder.path().join("statements");
+        std::fs::write(&file, text).unwrap();
+        let output = self
+            .psql(database, "select 1")
+            .arg("-f")
+            .arg(file)
+            .output()
+            .unwrap();
+        let error = String::from_utf8_lossy(&output.stderr);
+        assert!(output.status.success(), "{error}");
+    }
+
     /// Goes on beside the test until it is dropped.
     pub fn hold(&self, query: &str) -> Held {
         let mut psql = self.psql("postgres", query);
@@ -339,13 +353,6 @@ pub fn sums(all: &[(&str, u64, u64, i64)]) -> String {
         sum_metric(name, &point("v", *start, *end, *counted))
     };
     metrics(&all.iter().map(of).collect::<Vec<String>>().join(","))
-}
-
-pub fn many(first: u64, count: u64, start: u64) -> String {
-    let points: Vec<String> = (first..first + count)
-        .map(|code| point(&code.to_string(), start, start + 10, 1))
-        .collect();
-    sum_of("requests", &points.join(","))
 }
 
 pub fn histogram(name: &str, start: u64, end: u64, sum: Option<u64>, buckets: [u64; 3]) -> String {

@@ -5,15 +5,18 @@
 
 mod address;
 mod fault;
+mod point_rows;
 mod repeat;
 mod rows;
 mod schema;
+mod series;
 mod series_rows;
 mod session;
 mod statements;
 mod store;
 mod tls;
 pub mod totals;
+mod values;
 
 pub use address::Server;
 pub use fault::PostgresFault;

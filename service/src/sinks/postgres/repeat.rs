@@ -2,7 +2,9 @@
 
 use super::fault::NotTaken;
 use super::rows::{shown, OfSeries};
-use super::store::{Known, Writing};
+use super::series::Known;
+use super::store::Writing;
+use super::values::Numeric;
 use crate::otlp::series::{self, ForwardedPoint, SeriesKey};
 use crate::sinks::part::Left;
 use crate::sinks::Forwarded;
@@ -83,7 +85,7 @@ impl Writing<'_> {
                 .flat_map(|series| series.points.iter().map(move |point| (&series.digest[..], point)))
         };
         let digests: Vec<&[u8]> = each().map(|(digest, _)| digest).collect();
-        let starts: Vec<String> = each().map(|(_, point)| point.start.to_string()).collect();
+        let starts: Vec<Numeric> = each().map(|(_, point)| point.start.into()).collect();
         let rows = self
             .rows(&self.statements.left, &[&row, &digests, &starts])
             .await?;

@@ -6,6 +6,7 @@ use sha2::{Digest, Sha256};
 use std::collections::BTreeMap;
 
 /// A series of a request with its points, by time.
+#[derive(Debug)]
 pub(super) struct OfSeries {
     pub(super) key: SeriesKey,
     pub(super) digest: Vec<u8>,
@@ -16,10 +17,10 @@ pub(super) struct OfSeries {
 #[derive(Default)]
 pub(super) struct Total {
     pub(super) total: i128,
-    pub(super) count: u128,
+    pub(super) count: i128,
     pub(super) without_sum: i64,
     /// Of a histogram.
-    pub(super) buckets: Option<Vec<u128>>,
+    pub(super) buckets: Option<Vec<i128>>,
 }
 
 /// The series of a request, in the order of their digests: so two writers make rows in one order.
@@ -28,8 +29,9 @@ pub(super) fn read(body: &[u8]) -> Result<Vec<OfSeries>, NotTaken> {
     for point in series::forwarded(body)? {
         all.entry(point.series.clone()).or_default().push(point);
     }
+    let mut digests = Digests::default();
     let of_series = |(key, points): (SeriesKey, _)| OfSeries {
-        digest: Sha256::digest(key.0.as_bytes()).to_vec(),
+        digest: digests.of(key.0.as_bytes()),
         key,
         points,
     };
@@ -37,6 +39,34 @@ pub(super) fn read(body: &[u8]) -> Result<Vec<OfSeries>, NotTaken> {
     all.sort_unstable_by(|one, other| one.digest.cmp(&other.digest));
     all.iter_mut().try_for_each(OfSeries::put_in_order)?;
     Ok(all)
+}
+
+/// Digests texts one after the other. Neighbours in an order mostly begin alike, and what they share is digested once.
+#[derive(Default)]
+struct Digests {
+    last: Vec<u8>,
+    /// Of so many bytes, with which the last one begins.
+    shared: Sha256,
+    length: usize,
+}
+
+/// SHA-256 takes so many bytes at once.
+const BLOCK: usize = 64;
+
+impl Digests {
+    fn of(&mut self, text: &[u8]) -> Vec<u8> {
+        let alike = self.last.iter().zip(text).take_while(|(one, other)| one == other);
+        let alike = alike.count() / BLOCK * BLOCK;
+        // One block more is not worth a beginning.
+        if alike < self.length || alike > self.length + BLOCK {
+            self.shared = Sha256::new_with_prefix(&text[..alike]);
+            self.length = alike;
+        }
+        self.last.clear();
+        self.last.extend_from_slice(text);
+        let rest = &text[self.length..];
+        self.shared.clone().chain_update(rest).finalize().to_vec()
+    }
 }
 
 impl OfSeries {
@@ -77,13 +107,13 @@ impl OfSeries {
             match &point.value {
                 Value::Sum(value) => all.total += i128::from(*value),
                 Value::Histogram { count, sum, buckets } => {
-                    all.count += u128::from(*count);
+                    all.count += i128::from(*count);
                     all.total += i128::from(sum.unwrap_or(0));
                     all.without_sum += i64::from(sum.is_none());
                     let to = all.buckets.get_or_insert_with(|| vec![0; buckets.len()]);
                     to.iter_mut()
                         .zip(buckets)
-                        .for_each(|(all, bucket)| *all += u128::from(*bucket));
+                        .for_each(|(all, bucket)| *all += i128::from(*bucket));
                 }
             }
         }
@@ -97,14 +127,36 @@ pub(super) fn overlaps(point: &ForwardedPoint, start: impl ToString, end: impl T
     format!("the span {shown} overlaps ({start}, {end}], which is there already")
 }
 
-/// Numbers as an array of PostgreSQL.
-pub(super) fn array(numbers: &[impl std::fmt::Display]) -> String {
-    let numbers: Vec<String> = numbers.iter().map(|number| number.to_string()).collect();
-    format!("{{{}}}", numbers.join(","))
-}
-
 /// A point for an error: its span, and its series as far as that is short.
 pub(super) fn shown(point: &ForwardedPoint) -> String {
     let series: String = point.series.0.chars().take(300).collect();
     format!("({}, {}] of {series}", point.start, point.end)
+}
+
+#[cfg(test)]
+mod tests {
+    use super::*;
+
+    #[test]
+    fn digests_are_those_of_whole_texts() {
+        let mut digests = Digests::default();
+        for (alike, other) in [
+            (0, 0),
+            (0, 500),
+            (300, 10),
+            (300, 200),
+            (320, 1),
+            (384, 9),
+            (63, 64),
+            (64, 0),
+            (900, 9),
+        ] {
+            let text: Vec<u8> = [vec![b'a'; alike], vec![b'b'; other]].concat();
+            assert_eq!(
+                digests.of(&text),
+                Sha256::digest(&text).to_vec(),
+                "{alike} {other}"
+            );
+        }
+    }
 }

@@ -4,7 +4,11 @@ use super::fault::PostgresFault;
 use tokio_postgres::{Client, GenericClient};
 
 /// Step N leads from version N to version N+1. A step that was released is never changed.
-const STEPS: &[&str] = &[include_str!("version1.sql"), include_str!("version2.sql")];
+const STEPS: &[&str] = &[
+    include_str!("version1.sql"),
+    include_str!("version2.sql"),
+    include_str!("version3.sql"),
+];
 
 /// The version that this program writes.
 pub(super) const KNOWN: i32 = STEPS.len() as i32;

@@ -1,75 +1,54 @@
-//! The rows of new series, as columns.
+//! The rows of new series.
 
 use super::fault::NotTaken;
-use super::rows::{array, OfSeries};
-use crate::otlp::series::Kind;
+use super::rows::OfSeries;
+use super::values::{has_rows, row, Jsonb, Written};
+use crate::otlp::series::{Kind, NotForwarded};
 use crate::sinks::attributes::object;
+use bytes::BytesMut;
 use serde_json::Value;
-use tokio_postgres::types::ToSql;
+use std::collections::HashMap;
+use tokio_postgres::types::{to_sql_checked, ToSql, Type};
 
 /// PostgreSQL's texts and jsonb hold each character but U+0000.
 const SHOWN_FOR_ZERO: &str = "\u{fffd}";
 
+/// Rows of `totxegun.new_series`, and the objects that they name.
 #[derive(Default)]
-pub(super) struct SeriesRows {
-    digest: Vec<Vec<u8>>,
-    identity: Vec<String>,
-    is_exact: Vec<bool>,
-    name: Vec<String>,
-    name_json: Vec<Option<String>>,
-    unit: Vec<String>,
-    kind: Vec<&'static str>,
-    bounds: Vec<Option<String>>,
-    attributes: Vec<String>,
-    resource: Vec<String>,
-    scope_name: Vec<String>,
-    scope_version: Vec<String>,
-    scope_attributes: Vec<String>,
-    buckets: Vec<Option<String>>,
+pub(super) struct SeriesRows<'a> {
+    pub(super) rows: Vec<SeriesRow<'a>>,
+    pub(super) objects: Vec<Jsonb>,
+    /// By the lists that they were made of: series of one request mostly have one resource and one scope.
+    places: HashMap<String, Place>,
 }
 
-impl SeriesRows {
-    pub(super) fn add(&mut self, series: &OfSeries) -> Result<(), NotTaken> {
-        let parts = series.key.parts()?;
-        let (kind, bounds) = match &parts.kind {
-            Kind::Sum => ("sum", None),
-            Kind::Monotonic => ("monotonic", None),
-            Kind::Histogram { bounds } => ("histogram", Some(bounds)),
-        };
-        let buckets = bounds.map(|bounds| bounds.len() + 1);
-        series.fits(buckets)?;
-        let mut is_exact = true;
-        let mut held = |text: &str| {
-            is_exact &= !text.contains('\0');
-            text.replace('\0', SHOWN_FOR_ZERO)
-        };
-        let has_zero = parts.name.contains('\0');
-        self.name_json
-            .push(has_zero.then(|| Value::from(parts.name.as_str()).to_string()));
-        self.name.push(held(&parts.name));
-        self.unit.push(held(&parts.unit));
-        self.scope_name.push(held(&parts.scope_name));
-        self.scope_version.push(held(&parts.scope_version));
-        let mut list = |list: &str| -> Result<String, NotTaken> {
-            let object = object(list)?.into_iter();
-            let object = object.map(|(key, value)| (held(&key), held_value(value, &mut held)));
-            Ok(Value::Object(object.collect()).to_string())
-        };
-        self.attributes.push(list(&parts.attributes)?);
-        self.resource.push(list(&parts.resource)?);
-        self.scope_attributes.push(list(&parts.scope_attributes)?);
-        self.is_exact.push(is_exact);
-        self.digest.push(series.digest.clone());
-        self.identity.push(series.key.0.to_string());
-        self.kind.push(kind);
-        self.bounds.push(bounds.map(|bounds| array(bounds)));
-        self.buckets.push(buckets.map(|count| array(&vec![0; count])));
-        Ok(())
-    }
+/// The number of an object, from 1.
+#[derive(Clone, Copy)]
+struct Place {
+    number: i32,
+    is_exact: bool,
+}
 
-    /// In the order of the statement.
-    pub(super) fn columns(&self) -> [&(dyn ToSql + Sync); 14] {
-        [
+#[derive(Debug)]
+pub(super) struct SeriesRow<'a> {
+    digest: &'a [u8],
+    identity: &'a str,
+    is_exact: bool,
+    name: String,
+    name_json: Option<String>,
+    unit: String,
+    kind: &'static str,
+    bounds: Option<Vec<i64>>,
+    attributes: Jsonb,
+    resource: i32,
+    scope_attributes: i32,
+    scope_name: String,
+    scope_version: String,
+}
+
+impl ToSql for SeriesRow<'_> {
+    fn to_sql(&self, of: &Type, out: &mut BytesMut) -> Written {
+        let values: [&dyn ToSql; 13] = [
             &self.digest,
             &self.identity,
             &self.is_exact,
@@ -80,18 +59,89 @@ impl SeriesRows {
             &self.bounds,
             &self.attributes,
             &self.resource,
+            &self.scope_attributes,
             &self.scope_name,
             &self.scope_version,
-            &self.scope_attributes,
-            &self.buckets,
-        ]
+        ];
+        row(&values, of, out)
+    }
+
+    fn accepts(of: &Type) -> bool {
+        has_rows(of)
+    }
+
+    to_sql_checked!();
+}
+
+impl<'a> SeriesRows<'a> {
+    pub(super) fn add(&mut self, series: &'a OfSeries) -> Result<(), NotTaken> {
+        let parts = series.key.parts()?;
+        let (kind, bounds) = match parts.kind {
+            Kind::Sum => ("sum", None),
+            Kind::Monotonic => ("monotonic", None),
+            Kind::Histogram { bounds } => ("histogram", Some(bounds)),
+        };
+        series.fits(bounds.as_ref().map(|bounds| bounds.len() + 1))?;
+        let (resource, scope) = (self.place(&parts.resource)?, self.place(&parts.scope_attributes)?);
+        let mut is_exact = resource.is_exact && scope.is_exact;
+        let has_zero = parts.name.contains('\0');
+        let name_json = has_zero.then(|| Value::from(parts.name.as_str()).to_string());
+        self.rows.push(SeriesRow {
+            digest: &series.digest,
+            identity: &series.key.0,
+            name: held(parts.name, &mut is_exact),
+            name_json,
+            unit: held(parts.unit, &mut is_exact),
+            kind,
+            bounds,
+            attributes: held_list(&parts.attributes, &mut is_exact)?,
+            resource: resource.number,
+            scope_attributes: scope.number,
+            scope_name: held(parts.scope_name, &mut is_exact),
+            scope_version: held(parts.scope_version, &mut is_exact),
+            is_exact,
+        });
+        Ok(())
+    }
+
+    /// Of an attribute list's object, which is added where it is new.
+    fn place(&mut self, list: &str) -> Result<Place, NotForwarded> {
+        if let Some(place) = self.places.get(list) {
+            return Ok(*place);
+        }
+        let mut is_exact = true;
+        self.objects.push(held_list(list, &mut is_exact)?);
+        let place = Place {
+            number: self.objects.len() as i32,
+            is_exact,
+        };
+        self.places.insert(list.into(), place);
+        Ok(place)
     }
 }
 
-fn held_value(value: Value, held: &mut impl FnMut(&str) -> String) -> Value {
+fn held_list(list: &str, is_exact: &mut bool) -> Result<Jsonb, NotForwarded> {
+    let object = object(list)?.into_iter();
+    let object = object.map(|(key, value)| (held(key, is_exact), held_value(value, is_exact)));
+    Ok(Jsonb(Value::Object(object.collect()).to_string()))
+}
+
+fn held_value(value: Value, is_exact: &mut bool) -> Value {
     match value {
-        Value::String(text) => Value::String(held(&text)),
-        Value::Array(values) => values.into_iter().map(|value| held_value(value, held)).collect(),
+        Value::String(text) => Value::String(held(text, is_exact)),
+        Value::Array(values) => {
+            let values = values.into_iter();
+            values.map(|value| held_value(value, is_exact)).collect()
+        }
         other => other,
     }
+}
+
+/// A text as PostgreSQL holds it.
+fn held(text: String, is_exact: &mut bool) -> String {
+    if !text.contains('\0') {
+        return text;
+    }
+    *is_exact = false;
+    text.replace('\0', SHOWN_FOR_ZERO)
 }

@@ -2,6 +2,7 @@
 
 use super::address::Server;
 use super::fault::PostgresFault;
+use super::series::Seen;
 use super::tls::Tls;
 use super::{schema, statements};
 use crate::sinks::roots;
@@ -17,9 +18,15 @@ const SETTINGS: &str =
     set timezone = 'UTC'; set client_min_messages = 'warning'; set jit = off;
     select set_config('synchronous_commit', 'on', false) where current_setting('synchronous_commit') = 'off'";
 
+/// A request's statements are planned once, and look each row up by an index. Planned for a long array, or for tables
+/// that were small then, they read whole tables.
+const PLANS: &str = "set plan_cache_mode = 'force_generic_plan'; set enable_seqscan = off;
+    set enable_hashjoin = off; set enable_mergejoin = off";
+
 pub(super) struct Session {
     pub(super) client: Client,
     pub(super) statements: Statements,
+    pub(super) seen: Seen,
     _connection: Driver,
 }
 
@@ -28,10 +35,12 @@ pub(super) struct Statements {
     pub(super) is_taken: Statement,
     pub(super) set_points: Statement,
     pub(super) left: Statement,
-    pub(super) find: Statement,
     pub(super) make: Statement,
+    pub(super) find: Statement,
+    pub(super) lock: Statement,
     pub(super) overlap: Statement,
     pub(super) spans: Statement,
+    pub(super) first_totals: Statement,
     pub(super) totals: Statement,
 }
 
@@ -40,11 +49,13 @@ impl Session {
         let name = server.to_string();
         let (mut client, connection) = connect(server).await?;
         schema::migrate(&mut client, &name).await?;
-        let statements = Statements::prepare(&client).await;
-        let statements = statements.map_err(|error| PostgresFault::of(&name, &error))?;
+        let fault = |error| PostgresFault::of(&name, &error);
+        client.batch_execute(PLANS).await.map_err(fault)?;
+        let statements = Statements::prepare(&client).await.map_err(fault)?;
         Ok(Session {
             client,
             statements,
+            seen: Seen::default(),
             _connection: connection,
         })
     }
@@ -96,10 +107,12 @@ impl Statements {
             is_taken: client.prepare(statements::IS_TAKEN).await?,
             set_points: client.prepare(statements::SET_POINTS).await?,
             left: client.prepare(statements::LEFT).await?,
-            find: client.prepare(statements::FIND).await?,
             make: client.prepare(statements::MAKE).await?,
+            find: client.prepare(statements::FIND).await?,
+            lock: client.prepare(statements::LOCK).await?,
             overlap: client.prepare(statements::OVERLAP).await?,
             spans: client.prepare(statements::SPANS).await?,
+            first_totals: client.prepare(statements::FIRST_TOTALS).await?,
             totals: client.prepare(statements::TOTALS).await?,
         })
     }

@@ -1,24 +1,18 @@
 //! One transaction a request, whole or not at all.
 
 use super::fault::{NotTaken, PostgresFault};
+use super::point_rows::{SpanRow, TotalRow};
 use super::repeat::{self, Refused};
-use super::rows::{array, overlaps, OfSeries};
+use super::rows::{overlaps, OfSeries};
 use super::schema::KNOWN;
-use super::series_rows::SeriesRows;
+use super::series::Known;
 use super::session::{Session, Statements};
-use crate::otlp::series::{ForwardedPoint, Value};
+use super::values::Numeric;
+use crate::otlp::series::ForwardedPoint;
 use crate::sinks::part::Left;
 use crate::sinks::Forwarded;
 use tokio_postgres::types::ToSql;
 use tokio_postgres::{Row, Statement, Transaction};
-
-/// What the server has of a series.
-#[derive(Clone)]
-pub(super) struct Known {
-    id: i64,
-    last_end: Option<u64>,
-    buckets: Option<usize>,
-}
 
 /// A request's key: new, or that of a request that was taken.
 enum Key {
@@ -45,14 +39,14 @@ pub(super) async fn take(
         Key::New(row) => row,
         Key::Taken { row, points } => return writing.left_of(row, points, request, &all).await,
     };
-    let known = writing.series(&all).await?;
+    let known = writing.series(&all, &session.seen).await?;
     let refused = writing.overlapping(&all, &known).await?;
     let (all, known) = repeat::without(all, known, &refused);
     if all.is_empty() && !refused.is_empty() {
         return Err(NotTaken::Refused(refused.reason));
     }
-    writing.spans(row, &all, &known).await?;
-    writing.totals(&all, &known).await?;
+    // The totals are written down here while the server has the spans.
+    tokio::try_join!(writing.spans(row, &all, &known), writing.totals(&all, &known))?;
     if !refused.is_empty() {
         let added = repeat::points(&all);
         writing
@@ -62,22 +56,21 @@ pub(super) async fn take(
     // No content can be at fault any more.
     let committed = writing.transaction.commit().await;
     committed.map_err(|error| PostgresFault::of(server, &error))?;
+    session.seen.add(&all);
     refused.left(request)
 }
 
 pub(super) struct Writing<'a> {
     transaction: Transaction<'a>,
     pub(super) statements: &'a Statements,
-    server: &'a str,
+    pub(super) server: &'a str,
 }
-
-type Columns<'c> = [&'c (dyn ToSql + Sync)];
 
 impl Writing<'_> {
     pub(super) async fn rows(
         &self,
         statement: &Statement,
-        columns: &Columns<'_>,
+        columns: &[&(dyn ToSql + Sync)],
     ) -> Result<Vec<Row>, NotTaken> {
         let rows = self.transaction.query(statement, columns).await;
         rows.map_err(|error| NotTaken::of(self.server, &error))
@@ -87,7 +80,7 @@ impl Writing<'_> {
     async fn write(
         &self,
         statement: &Statement,
-        columns: &Columns<'_>,
+        columns: &[&(dyn ToSql + Sync)],
         count: usize,
     ) -> Result<(), NotTaken> {
         let written = self.transaction.execute(statement, columns).await;
@@ -102,7 +95,7 @@ impl Writing<'_> {
 
     /// The number of the request's row, made where there is none.
     async fn key(&self, request: &Forwarded, all: &[OfSeries]) -> Result<Key, NotTaken> {
-        let (slot, number) = (i32::from(request.slot), request.number.to_string());
+        let (slot, number) = (i32::from(request.slot), Numeric::from(request.number));
         let points = repeat::points(all);
         let rows = self
             .rows(
@@ -125,46 +118,6 @@ impl Writing<'_> {
         Err(PostgresFault::told(self.server, "the schema's version has changed: it is read again").into())
     }
 
-    /// What is known of each series, made where it is new. Nobody else adds to them until the transaction ends.
-    async fn series(&self, all: &[OfSeries]) -> Result<Vec<Known>, NotTaken> {
-        let mut known = self.find(all).await?;
-        if known.iter().any(Option::is_none) {
-            let mut new = SeriesRows::default();
-            for (series, _) in all.iter().zip(&known).filter(|(_, known)| known.is_none()) {
-                new.add(series)?;
-            }
-            let made = self
-                .transaction
-                .execute(&self.statements.make, &new.columns())
-                .await;
-            made.map_err(|error| NotTaken::of(self.server, &error))?;
-            known = self.find(all).await?;
-        }
-        let mut found = Vec::with_capacity(all.len());
-        for (series, known) in all.iter().zip(known) {
-            let known = known
-                .ok_or_else(|| PostgresFault::told(self.server, "a series has no row in series_total"))?;
-            series.fits(known.buckets)?;
-            found.push(known);
-        }
-        Ok(found)
-    }
-
-    async fn find(&self, all: &[OfSeries]) -> Result<Vec<Option<Known>>, NotTaken> {
-        let digests: Vec<&[u8]> = all.iter().map(|series| &series.digest[..]).collect();
-        let mut known = vec![None; all.len()];
-        for row in self.rows(&self.statements.find, &[&digests]).await? {
-            let (place, buckets): (i64, Option<i32>) = (row.get(0), row.get(3));
-            let last_end: Option<&str> = row.get(2);
-            known[place as usize - 1] = Some(Known {
-                id: row.get(1),
-                last_end: last_end.and_then(|end| end.parse().ok()),
-                buckets: buckets.map(|count| count as usize),
-            });
-        }
-        Ok(known)
-    }
-
     /// A span that overlaps one that is there was counted before, at least in part. Behind all of a series' spans it
     /// overlaps none.
     async fn overlapping(&self, all: &[OfSeries], known: &[Known]) -> Result<Refused, NotTaken> {
@@ -177,8 +130,8 @@ impl Writing<'_> {
             return Ok(refused);
         }
         let series: Vec<i64> = before.iter().map(|(_, known)| known.id).collect();
-        let starts: Vec<String> = before.iter().map(|(point, _)| point.start.to_string()).collect();
-        let ends: Vec<String> = before.iter().map(|(point, _)| point.end.to_string()).collect();
+        let starts: Vec<Numeric> = before.iter().map(|(point, _)| point.start.into()).collect();
+        let ends: Vec<Numeric> = before.iter().map(|(point, _)| point.end.into()).collect();
         let rows = self
             .rows(&self.statements.overlap, &[&series, &starts, &ends])
             .await?;
@@ -191,59 +144,28 @@ impl Writing<'_> {
     }
 
     async fn spans(&self, request: i64, all: &[OfSeries], known: &[Known]) -> Result<(), NotTaken> {
-        let (mut series, mut starts, mut ends) = (Vec::new(), Vec::new(), Vec::new());
-        let (mut values, mut counts, mut sums, mut all_buckets) =
-            (Vec::new(), Vec::new(), Vec::new(), Vec::new());
-        for (point, known) in each(all, known) {
-            series.push(known.id);
-            starts.push(point.start.to_string());
-            ends.push(point.end.to_string());
-            let (value, count, sum, buckets) = match &point.value {
-                Value::Sum(value) => (Some(*value), None, None, None),
-                Value::Histogram { count, sum, buckets } => (
-                    None,
-                    Some(count.to_string()),
-                    sum.map(|sum| sum.to_string()),
-                    Some(array(buckets)),
-                ),
-            };
-            values.push(value);
-            counts.push(count);
-            sums.push(sum);
-            all_buckets.push(buckets);
-        }
-        let columns: [&(dyn ToSql + Sync); 8] = [
-            &series,
-            &request,
-            &starts,
-            &ends,
-            &values,
-            &counts,
-            &sums,
-            &all_buckets,
-        ];
-        self.write(&self.statements.spans, &columns, series.len()).await
+        let row = |(point, known): (_, &Known)| SpanRow {
+            series: known.id,
+            request,
+            point,
+        };
+        let rows: Vec<SpanRow> = each(all, known).map(row).collect();
+        self.write(&self.statements.spans, &[&rows], rows.len()).await
     }
 
     async fn totals(&self, all: &[OfSeries], known: &[Known]) -> Result<(), NotTaken> {
-        let ids: Vec<i64> = known.iter().map(|known| known.id).collect();
-        let points: Vec<i64> = all.iter().map(|series| series.points.len() as i64).collect();
-        let first = |series: &OfSeries| series.points.first().map(|point| point.start.to_string());
-        let firsts: Vec<Option<String>> = all.iter().map(first).collect();
-        let last = |series: &OfSeries| series.points.last().map(|point| point.end.to_string());
-        let lasts: Vec<Option<String>> = all.iter().map(last).collect();
-        let sums: Vec<_> = all.iter().map(OfSeries::total).collect();
-        let totals: Vec<String> = sums.iter().map(|sum| sum.total.to_string()).collect();
-        let counts: Vec<String> = sums.iter().map(|sum| sum.count.to_string()).collect();
-        let without: Vec<i64> = sums.iter().map(|sum| sum.without_sum).collect();
-        let buckets: Vec<Option<String>> = sums
-            .iter()
-            .map(|sum| sum.buckets.as_ref().map(|buckets| array(buckets)))
-            .collect();
-        let columns: [&(dyn ToSql + Sync); 8] = [
-            &ids, &points, &firsts, &lasts, &totals, &counts, &without, &buckets,
-        ];
-        self.write(&self.statements.totals, &columns, all.len()).await
+        let row = |(of, known): (_, &Known)| TotalRow { series: known.id, of };
+        let (first, more): (Vec<_>, Vec<_>) = all.iter().zip(known).partition(|(_, known)| known.is_new);
+        for (statement, part) in [
+            (&self.statements.first_totals, first),
+            (&self.statements.totals, more),
+        ] {
+            let rows: Vec<TotalRow> = part.into_iter().map(row).collect();
+            if !rows.is_empty() {
+                self.write(statement, &[&rows], rows.len()).await?;
+            }
+        }
+        Ok(())
     }
 }
 

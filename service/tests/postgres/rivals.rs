@@ -1,0 +1,170 @@
+//! Several services write the same series of one database; and what others do to its tables.
+
+use crate::server::{sum, sums, Server};
+use crate::{again, open, request, taken};
+use std::collections::BTreeSet;
+use std::time::Duration;
+use totxegun::sinks::Fate;
+
+const ROUNDS: u64 = 100;
+const SERVICES: u64 = 3;
+/// Of a request. A third of them is new in each round, and of every second one the others come with it.
+const SERIES: u64 = 60;
+
+/// The series of a service in a round. Each round has some of the round before, which are there or are just being made.
+fn series(round: u64, service: u64) -> BTreeSet<u64> {
+    let first = round * SERIES / 3;
+    (first..first + SERIES)
+        .filter(|one| !(one + service).is_multiple_of(3))
+        .collect()
+}
+
+/// Each service has its own part of each series' time.
+fn span(round: u64, service: u64) -> (u64, u64) {
+    let start = 1 + (round * SERVICES + service) * 10;
+    (start, start + 10)
+}
+
+fn body(round: u64, service: u64) -> String {
+    let (start, end) = span(round, service);
+    let names: Vec<String> = series(round, service)
+        .iter()
+        .map(|one| format!("n{one}"))
+        .collect();
+    let points: Vec<(&str, u64, u64, i64)> = names.iter().map(|name| (&name[..], start, end, 1)).collect();
+    sums(&points)
+}
+
+/// None waits for another that waits for it: each request is taken the first time.
+#[tokio::test(flavor = "multi_thread")]
+async fn services_that_make_the_same_series_never_deadlock() {
+    let Some(server) = Server::start() else { return };
+    let address = server.by_socket("postgres");
+    // The schema is there before all come at once.
+    drop(open(&address));
+    let services = (0..SERVICES).map(|service| {
+        let sink = open(&address);
+        tokio::spawn(async move {
+            for round in 0..ROUNDS {
+                let mut request = request(round, body(round, service));
+                request.slot = service as u16;
+                assert_eq!(
+                    sink.deliver(&request).await,
+                    Fate::Taken,
+                    "{service} in round {round}"
+                );
+            }
+        })
+    });
+    for service in services.collect::<Vec<_>>() {
+        service.await.expect("a service");
+    }
+    assert_eq!(
+        server.ask("select deadlocks from pg_stat_database where datname = 'postgres'"),
+        "0"
+    );
+    let all: Vec<u64> = (0..ROUNDS)
+        .flat_map(|round| (0..SERVICES).flat_map(move |service| series(round, service)))
+        .collect();
+    let distinct: BTreeSet<u64> = all.iter().copied().collect();
+    let counted = format!("{}|{}", distinct.len(), all.len());
+    assert_eq!(
+        server.ask("select count(*), sum(total) from totxegun.totals"),
+        counted
+    );
+    assert_eq!(
+        server.ask("select count(distinct series), count(*) from totxegun.span"),
+        counted
+    );
+}
+
+/// Names of series of `sums`, in the order of their digests, which are beside them.
+fn in_order(server: &Server) -> Vec<(String, String)> {
+    let query = r#"select name, digest from (select 'n' || i as name, sha256(convert_to(
+            '[[],"s","1",[],"n' || i || '","1","sum",[{"key":"k","value":{"stringValue":"v"}}]]', 'UTF8')) as digest
+        from generate_series(1, 3) as i) as names order by digest"#;
+    let both = |line: &str| {
+        line.split_once('|')
+            .map(|(name, digest)| (name.into(), digest.into()))
+    };
+    server.ask(query).lines().filter_map(both).collect()
+}
+
+async fn wait_until(server: &Server, query: &str, answer: &str) {
+    while server.ask(query) != answer {
+        tokio::time::sleep(Duration::from_millis(20)).await;
+    }
+}
+
+/// Who waits for a series that another makes has locked no total that the other wants then.
+#[tokio::test(flavor = "multi_thread")]
+async fn totals_are_locked_behind_new_series() {
+    let Some(server) = Server::start() else { return };
+    let address = server.by_socket("postgres");
+    let (one, other) = (open(&address), open(&address));
+    let names = in_order(&server);
+    let [first, second, third] = [0, 1, 2].map(|place| &names[place].0[..]);
+    let (waiting, sleeping) = (
+        "select count(*) from pg_locks where not granted",
+        "from pg_stat_activity where query = 'select pg_sleep(60)'",
+    );
+    // Somebody makes the second series: the other waits for that with the first one made, and has not come to the third.
+    let _held = server.hold(&format!(
+        "begin; insert into totxegun.series (digest, identity, is_exact, name, unit, kind, attributes, resource,
+            scope_name, scope_version, scope_attributes)
+        values ('{}', '', true, '', '', 'sum', '{{}}', '{{}}', '', '', '{{}}'); select pg_sleep(60)",
+        names[1].1
+    ));
+    wait_until(&server, &format!("select count(*) {sleeping}"), "1").await;
+    let of_all = sums(&[(first, 10, 11, 1), (second, 10, 11, 1), (third, 10, 11, 1)]);
+    let of_all = tokio::spawn(async move { other.deliver(&request(1, of_all)).await });
+    wait_until(&server, waiting, "1").await;
+    taken(&*one, 2, sums(&[(third, 1, 2, 1)])).await;
+    let of_two = sums(&[(first, 2, 3, 1), (third, 2, 3, 1)]);
+    let of_two = tokio::spawn(async move { one.deliver(&request(3, of_two)).await });
+    wait_until(&server, waiting, "2").await;
+    server.ask(&format!("select pg_terminate_backend(pid) {sleeping}"));
+    assert_eq!(of_all.await.expect("it ends"), Fate::Taken);
+    assert_eq!(of_two.await.expect("it ends"), Fate::Taken);
+    let counted = server.ask("select sum(points), sum(total) from totxegun.totals");
+    assert_eq!(counted, "6|6");
+}
+
+/// However many series are there and come at once, each is looked up by an index.
+#[tokio::test(flavor = "multi_thread")]
+async fn no_table_is_read_whole() {
+    let Some(server) = Server::start() else { return };
+    let sink = open(&server.by_socket("postgres"));
+    let names: Vec<String> = (0..4000).map(|one| format!("n{one}")).collect();
+    for number in 0..12 {
+        let (turn, block) = (number / 4, number as usize % 4);
+        let part = &names[1000 * block..][..1000];
+        let points: Vec<(&str, u64, u64, i64)> = part
+            .iter()
+            .map(|name| (&name[..], turn + 1, turn + 2, 1))
+            .collect();
+        taken(&*sink, number, sums(&points)).await;
+    }
+    // A session tells what it has read when it ends.
+    drop(sink);
+    wait_until(
+        &server,
+        "select count(*) from pg_stat_activity where application_name = 'totxegun'",
+        "0",
+    )
+    .await;
+    let read = "select relname, seq_tup_read from pg_stat_user_tables where relname <> 'version' and seq_tup_read > 0";
+    assert_eq!(server.ask(read), "");
+}
+
+/// A service goes on where somebody has emptied the tables.
+#[tokio::test(flavor = "multi_thread")]
+async fn series_that_are_gone_are_made_anew() {
+    let Some(server) = Server::start() else { return };
+    let sink = open(&server.by_socket("postgres"));
+    taken(&*sink, 1, sum("a", 1, 2, 1)).await;
+    server.ask("truncate totxegun.series, totxegun.series_total, totxegun.span");
+    again(&*sink, 2, sum("a", 2, 3, 2), "is gone").await;
+    taken(&*sink, 2, sum("a", 2, 3, 2)).await;
+    assert_eq!(server.ask("select points, total from totxegun.totals"), "1|2");
+}
