@@ -1,22 +1,25 @@
 #!/usr/bin/env python3
 """The service, interrupted at each of its calls on its files.
 
-    tests/service_interrupted.py TOTXEGUN GATEWAY [EVERY]
+    tests/service_interrupted.py TOTXEGUN GATEWAY [EVERY [WAY ..]]
 
 It needs gcc. A preloaded library (interrupt_files.c) counts the calls that write, sync, cut, rename, delete or make files
-of the service's folder. A run is three senders' posts with flushes, a quarantine, a renewal, a release, and an end by
-SIGTERM. For each call of such a run, or each EVERY-th, the run is made again, and interrupted there in one of these ways:
+of the service's folder. A run is four senders' posts with flushes, a quarantine, a renewal, a release, and an end by
+SIGTERM. For each call of such a run, or each EVERY-th, the run is made again, and interrupted there in each of these ways,
+or in those that are named:
   - before, middle, behind: the process is killed there; of what is written half is there, or all;
   - ENOSPC, EIO: the call fails; where it is a write or a sync the service has to end by it;
   - cut: the power is lost: of each file only what was synced is left, of each folder the names that were;
   - torn: the power is lost, and all names and half of each file's bytes that were not synced are there;
   - twice: the process is killed there, and again at one of the first calls of the next start;
   - late: it is killed there, and at a later call of the next start the power is lost: so what an earlier run wrote and
-    did not sync is gone, unless the start has synced it.
+    did not sync is gone, unless the start has synced it;
+  - held: the call is a sync of the journal, and is held back; meanwhile the service goes on up to a sync of another file,
+    behind which the power is lost. Where none comes it is lost five seconds later.
 A last run forgets what was synced, and has to fail: so a loss of power is seen.
 Then the service is started without the library, and the run goes on where it was: each sender repeats what was not
 answered, each order is given again. At the end the sink, a SQLite file, has each point once that a sender was told is
-taken, late repeats are refused, and the service has found nothing that must not be.
+taken, and refused none that it has already; late repeats are refused, and the service has found nothing that must not be.
 
 A line for each run that failed; the last line counts those that passed and failed, and the status is 0 where none failed.
 """
@@ -32,18 +35,19 @@ import time
 from service import OUT_OF_ORDER, Sender, Service, SqliteSink, add_points, ask, differences, overlaps, told_to_all, wait_until
 
 HERE = os.path.dirname(os.path.abspath(__file__))
-WAYS = ("before", "middle", "behind", "ENOSPC", "EIO", "cut", "torn", "twice", "late")
-POWER = ("cut", "torn", "late", "forgetful")
+WAYS = ("before", "middle", "behind", "ENOSPC", "EIO", "cut", "torn", "twice", "late", "held")
+POWER = ("cut", "torn", "late", "held", "forgetful")
 FAULTS = ("ENOSPC", "EIO")
-WRITES_AND_SYNCS = ("write", "pwrite", "writev", "fsync", "fdatasync")
+SYNCS = ("fsync", "fdatasync")
+WRITES_AND_SYNCS = ("write", "pwrite", "writev", *SYNCS)
 # How long a step may take: the service neither ends nor answers.
 SECONDS = 60
-SENDERS = "ABC"
-# A letter is a post of this sender.
-SCRIPT = ("A", "B", "A", "/flush", "B", "C", "/quarantine/sender-B", "A", "/flush", "C", "/renew", "A", "C",
+SENDERS = "ABCD"
+# A letter is a post of this sender. What is behind it is ordered once the post is answered or interrupted.
+SCRIPT = ("A", "B", "A", "D/flush", "B", "C", "/quarantine/sender-B", "A", "/flush", "C", "/renew", "A", "C",
           "/lift/sender-B", "B", "/flush", "A", "B", "C")
-# Of memory: what is durable is what the library has seen synced.
-FOLDERS = "/dev/shm" if os.access("/dev/shm", os.W_OK) else None
+# Of memory, where nothing else is said: what is durable is what the library has seen synced.
+FOLDERS = "/dev/shm" if os.access("/dev/shm", os.W_OK) and not os.environ.get("TMPDIR") else None
 
 
 class Failed(Exception):
@@ -138,6 +142,7 @@ class Run:
         second = {"twice": at % 12 + 1, "late": at * 7 % 40 + 1}
         self.stages = [at, second[way]] if way in second else [at]
         self.until = time.monotonic() + SECONDS
+        self.reviving = threading.Lock()
 
     def start(self):
         environment = {"LD_PRELOAD": self.library, "INTERRUPT_FOLDER": self.data, "INTERRUPT_LOG": self.log}
@@ -147,13 +152,17 @@ class Run:
             environment["INTERRUPT_FORGETS"] = "1"
         if self.stages:
             environment["INTERRUPT_AT"] = str(self.stages[0])
-            environment["INTERRUPT_HOW"] = self.way if self.way in ("middle", "behind", *FAULTS) else "before"
+            environment["INTERRUPT_HOW"] = self.way if self.way in ("middle", "behind", "held", *FAULTS) else "before"
         self.service.start(environment if self.stages else None)
 
     def revive(self):
         """Starts the service again where it has ended."""
         if time.monotonic() > self.until:
             raise Failed("no end in time")
+        with self.reviving:
+            self.start_until_it_runs()
+
+    def start_until_it_runs(self):
         while not self.service.is_running():
             if len(self.stages) == 1 and self.way in POWER:
                 lose_power(self.data, self.shadow, self.way == "torn")
@@ -166,11 +175,24 @@ class Run:
         """A post, or an order of the operator, until it is done."""
         self.until = time.monotonic() + SECONDS
         self.revive()
-        if step in self.senders:
-            sender = self.senders[step]
-            if not sender.post(sender.next_points(), self.revive):
-                raise Failed(f"a post was answered {sender.surprises[-1]}")
-            return
+        sender, order = self.senders.get(step[0]), step.lstrip(SENDERS)
+        with concurrent.futures.ThreadPoolExecutor(1) as pool:
+            posted = pool.submit(self.post, sender) if sender else None
+            if posted and order:
+                wait_until(lambda: posted.done() or self.is_interrupted(), SECONDS)
+            if order:
+                self.order(order)
+            if posted:
+                posted.result()
+
+    def is_interrupted(self):
+        return self.at > 0 and os.path.exists(self.log)
+
+    def post(self, sender):
+        if not sender.post(sender.next_points(), self.revive):
+            raise Failed(f"a post was answered {sender.surprises[-1]}")
+
+    def order(self, step):
         while True:
             status, text = ask(self.service.operate, "POST", step, seconds=10)
             if status == 200 or (status == 400 and b"quarantined" in text):
@@ -204,6 +226,7 @@ class Run:
         wrong = differences(told_to_all(self.senders.values()), found) or overlaps(points) or self.service.faults()
         repeats = [sender.late_repeat() for sender in self.senders.values()]
         wrong = wrong or [repeat for repeat in repeats if repeat[0] != 400 or OUT_OF_ORDER not in repeat[1]]
+        wrong = wrong or [f"the sink refused {letter}" for letter in os.listdir(f"{self.data}/dead")]
         if wrong:
             raise Failed(str(wrong))
 
@@ -264,14 +287,21 @@ class Runs:
                 print(f"failed: {way} call {', '.join(calls) if at else at}: {fault}", flush=True)
 
 
-def main(program, gateway, every=1):
+def places_of(calls, every, ways):
+    """Where a run is interrupted, and how."""
+    for at in range(1, len(calls) + 1, every):
+        _, call, path = calls[at - 1].split(" ")
+        is_of_journal = call in SYNCS and "/journal/" in path
+        yield from ((at, way) for way in ways if way != "held" or is_of_journal)
+
+
+def main(program, gateway, every=1, ways=WAYS):
     with tempfile.TemporaryDirectory(dir=FOLDERS, prefix="interrupted-") as folder:
         runs = Runs((program, gateway), build(folder), folder)
         calls = runs.one(0, "before")
         print(f"note: {len(calls)} calls in a run without interruption", flush=True)
         with concurrent.futures.ThreadPoolExecutor(os.cpu_count()) as pool:
-            places = [(at, way) for at in range(1, len(calls) + 1, every) for way in WAYS]
-            list(pool.map(lambda place: runs.one(*place), places))
+            list(pool.map(lambda place: runs.one(*place), places_of(calls, every, ways)))
         runs.forgetful(len(calls) * 3 // 4)
     print(f"note: {runs.interrupted} runs were interrupted")
     print(f"{runs.passed} passed, {runs.failed} failed", flush=True)
@@ -280,5 +310,5 @@ def main(program, gateway, every=1):
 
 if __name__ == "__main__":
     if len(sys.argv) < 3:
-        sys.exit(f"usage: {sys.argv[0]} TOTXEGUN GATEWAY [EVERY]")
-    sys.exit(main(*map(os.path.abspath, sys.argv[1:3]), *map(int, sys.argv[3:4])))
+        sys.exit(f"usage: {sys.argv[0]} TOTXEGUN GATEWAY [EVERY [WAY ..]]")
+    sys.exit(main(*map(os.path.abspath, sys.argv[1:3]), *map(int, sys.argv[3:4]), sys.argv[4:] or WAYS))

@@ -197,14 +197,19 @@ def load(checks, what, service, sink, seconds, seed, slots):
     return senders
 
 
+def letters(service):
+    """The keys of what the sink has refused, or nothing where the service does not say."""
+    status, body = ask(service.operate, "GET", "/dead")
+    return [letter["key"] for letter in json.loads(body)] if status == 200 else None
+
+
 def send_letters_again(service):
     """Whether what the sink had refused is taken."""
     def is_done():
-        status, body = ask(service.operate, "GET", "/dead")
-        letters = json.loads(body) if status == 200 else [None]
-        for letter in filter(None, letters):
-            service.order(f"/dead/{letter['key']}/resend")
-        return not letters
+        left = letters(service)
+        for key in left or ():
+            service.order(f"/dead/{key}/resend")
+        return left == []
     return wait_until(is_done)
 
 
@@ -229,6 +234,9 @@ def end(checks, what, service, sink, senders):
     repeat_late(checks, f"{what}: late repeats are refused again", senders)
     service.order("/flush")
     checks.true(f"{what}: all is delivered", wait_until(service.is_drained), service.status())
+    if isinstance(sink, SqliteSink):
+        # It refuses a span that it has: a point that was counted twice.
+        checks.same(f"{what}: the sink has refused nothing", [], letters(service))
     checks.true(f"{what}: what was refused is taken", send_letters_again(service), service.last_lines())
     compare(checks, what, sink, senders)
     service.end()

@@ -3,20 +3,24 @@
 
     tools/wrong.py GATEWAY [NAME ..]
 
-Each file service/wrong/NAME.edit breaks one rule. It names the test that has to find this, a script of tests/ or the words
-of `cargo test`, and has the form of an edit of a crate: lines `file:`, `old:`, `new:`, where the old text is in that file
-exactly once. All edits, or those that are named, are tried one after another: the copy is built in out/wrong, and the test
-is run on it, up to three times, until it fails by a check of what was taken, sent or refused. A copy that can't be built,
-or that does not start, was not found.
+Each file service/wrong/NAME.edit breaks one rule. It names the test that has to find this: a script of tests/ with the
+words behind its programs, or the words of `cargo test`. The rest has the form of an edit of a crate: lines `file:`, `old:`,
+`new:`, where the old text is in that file exactly once. All edits, or those that are named, are tried one after another: the
+copy is built in out/wrong, and the test is run on it, up to three times, until a check of what was taken, sent or refused
+fails; that ends the run. A copy that can't be built, or that does not start, was not found.
 
 A line for each edit; the last line counts those that were found and those that were not, and the status is 0 where all
 were. The logs are in out/logs.
 """
+import contextlib
 import os
 import re
 import shutil
+import signal
 import subprocess
 import sys
+import tempfile
+import threading
 import time
 
 from crates import OUT, ROOT, content
@@ -24,19 +28,22 @@ from steps import LOGS
 
 EDITS = f"{ROOT}/service/wrong"
 FOLDER = f"{OUT}/wrong"
-PROGRAM = f"{FOLDER}/service/target/release/totxegun"
+# As tests are compiled: quickly, and what one copy has built is for the next.
+PROGRAM = f"{FOLDER}/service/target/debug/totxegun"
 CARGO = f"{FOLDER}/tools/cargo"
 # What is copied of service/, and what its build reads beside it.
 PARTS = ("Cargo.toml", "Cargo.lock", "build.rs", "rustfmt.toml", "clippy.toml", "src", "tests")
 BESIDE = ("VERSION",)
-# By its name: the words behind the programs of a run, one list a run.
-TESTS = {
-    "service_load.py": [["60", str(seed)] for seed in (1, 2, 3)],
-    "service_interrupted.py": [["3"]],
-}
-# A check that fails so has seen the fault; one that only says that it does not start has not.
-SEEN = re.compile(r"failed: (?!.*: it (?:is ready|starts))|test .* FAILED$")
+# How often a test is run at most. The load has another seed each time, behind its seconds.
+RUNS = 3
+LOAD = "service_load.py"
+# How a check begins that has seen the fault: what was taken, sent or refused is wrong. One that only says that it does not
+# start, or is late, has not.
+SEEN = re.compile(r"failed: [^:]*: (?:no post was answered otherwise|late repeats|the service found nothing|no spans|a key brings"
+                  r"|the sink has|\[|it went on|a post was answered)|test .* FAILED$")
 LIMIT = 1200
+# For what a test keeps, where there is such a folder.
+MEMORY = "/dev/shm" if os.access("/dev/shm", os.W_OK) else None
 
 
 class BadEdit(Exception):
@@ -83,17 +90,39 @@ def apply(name):
 
 def runs(test, gateway):
     """The commands of a test, one a run."""
-    if test.startswith("cargo test "):
-        return [[CARGO, *test.split()[1:]]] * 3
-    if test not in TESTS:
-        raise BadEdit(f"no test of this name: {test}")
-    return [[f"{ROOT}/tests/{test}", PROGRAM, gateway, *words] for words in TESTS[test]]
+    script, *words = test.split()
+    if script == "cargo":
+        return [[CARGO, *words]] * RUNS
+    if not os.access(f"{ROOT}/tests/{script}", os.X_OK):
+        raise BadEdit(f"no test of this name: {script}")
+    command = [f"{ROOT}/tests/{script}", PROGRAM, gateway]
+    if script != LOAD:
+        return [[*command, *words]] * RUNS
+    return [[*command, words[0], str(seed), *words[1:]] for seed in range(1, RUNS + 1)]
 
 
-def run(command, log, gateway):
+def end(child):
+    """Ends a test with all that it has started."""
+    with contextlib.suppress(ProcessLookupError):
+        os.killpg(child.pid, signal.SIGKILL)
+
+
+def run(command, log, gateway, folder):
+    """Runs a command until it has ended or a check has seen the fault: its status, and what the check says."""
+    environment = dict(os.environ, TOTXEGUN_GATEWAY=gateway, TMPDIR=folder)
+    child = subprocess.Popen(command, stdout=subprocess.PIPE, stderr=subprocess.STDOUT, text=True, errors="replace",
+                             process_group=0, env=environment)
+    clock = threading.Timer(LIMIT, end, [child])
+    clock.start()
+    seen = None
     with open(log, "a", encoding="utf-8") as file:
-        return subprocess.run(command, stdout=file, stderr=file, check=False, timeout=LIMIT,
-                              env=dict(os.environ, TOTXEGUN_GATEWAY=gateway)).returncode
+        for line in child.stdout:
+            file.write(line)
+            if not seen and SEEN.match(line):
+                seen = line.strip().removeprefix("failed: ")
+                end(child)
+    clock.cancel()
+    return child.wait(), seen
 
 
 def check_that_finds(name, gateway):
@@ -101,14 +130,14 @@ def check_that_finds(name, gateway):
     log = f"{LOGS}/wrong-{name}.log"
     open(log, "w", encoding="utf-8").close()
     commands = runs(apply(name), gateway)
-    built = ["test", "--no-run"] if commands[0][0] == CARGO else ["build", "--release"]
-    if run([CARGO, *built, "--quiet"], log, gateway) != 0:
-        raise BadEdit(f"it can't be built: {log}")
-    for command in commands:
-        run(command, log, gateway)
-        for line in content(log).decode(errors="replace").splitlines():
-            if SEEN.match(line):
-                return line.removeprefix("failed: ")
+    built = [*commands[0][1:], "--no-run"] if commands[0][0] == CARGO else ["build"]
+    with tempfile.TemporaryDirectory(dir=MEMORY, prefix="wrong-", ignore_cleanup_errors=True) as folder:
+        if run([CARGO, *built, "--quiet"], log, gateway, folder)[0] != 0:
+            raise BadEdit(f"it can't be built: {log}")
+        for command in commands:
+            seen = run(command, log, gateway, folder)[1]
+            if seen:
+                return seen
     return None
 
 
@@ -121,7 +150,7 @@ def main(gateway, names):
         copy_service()
         try:
             check = check_that_finds(name, gateway)
-        except (BadEdit, OSError, subprocess.TimeoutExpired) as fault:
+        except (BadEdit, OSError) as fault:
             print(f"BAD EDIT {name}: {fault}", flush=True)
             continue
         found += check is not None

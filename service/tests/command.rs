@@ -83,6 +83,30 @@ fn a_faulty_line_has_status_2() {
     refused(&["dead"], 2, "Usage");
 }
 
+/// Connections on which nobody posts would else take the files that a journal and a gateway need.
+#[test]
+fn few_open_files_are_few_connections() {
+    let folder = tempfile::tempdir().unwrap();
+    let taken = std::net::TcpListener::bind("127.0.0.1:0").unwrap();
+    let line = format!(
+        "ulimit -n 1000; exec {} serve --data {} --gateway /bin/true --listen {}",
+        env!("CARGO_BIN_EXE_totxegun"),
+        folder.path().display(),
+        taken.local_addr().unwrap()
+    );
+    for (more, connections) in [
+        ("", 292),
+        (" --listen-grpc 127.0.0.1:0", 146),
+        (" --slots 9", 164),
+    ] {
+        let output = Command::new("sh").args(["-c", &format!("{line}{more}")]).output();
+        let text = String::from_utf8_lossy(&output.unwrap().stderr).into_owned();
+        let told =
+            format!("1000 open files, so senders may have {connections} connections at a time and not 1024");
+        assert!(text.contains(&told), "{more}: {text}");
+    }
+}
+
 #[test]
 fn what_is_not_possible_has_status_1_and_is_named() {
     let folder = tempfile::tempdir().unwrap();

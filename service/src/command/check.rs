@@ -213,18 +213,22 @@ fn in_the_original(failure: Failure, copy: &Path, data: &Path) -> Failure {
 fn text(found: &Found, data: &Path) -> String {
     let mut table = Table::new(&["folder".to_string(), data.display().to_string()]);
     let mut row = |name: &str, text: String| table.row(&[name, text.as_str()]);
-    let bytes = values::bytes_shown;
+    let (bytes, counted) = (values::bytes_shown, values::counted);
     row("slots", found.slots.to_string());
     row(
         "journal",
-        format!("{} segments, {}", found.segments, bytes(found.journal_bytes)),
+        format!(
+            "{}, {}",
+            counted(found.segments, "segment"),
+            bytes(found.journal_bytes)
+        ),
     );
     row(
-        "posts in no group",
+        "posts not flushed",
         format!(
-            "{} of {} senders, {}",
+            "{} of {}, {}",
             found.posts,
-            found.senders,
+            counted(found.senders as u64, "sender"),
             bytes(found.post_bytes)
         ),
     );
@@ -235,54 +239,16 @@ fn text(found: &Found, data: &Path) -> String {
     row(
         "series",
         format!(
-            "{}, of {} the owner is in the journal alone",
+            "{}; the sender of {} is in the journal alone",
             found.series, found.series_without_owner
         ),
     );
-    row(
-        "quarantined",
-        if found.quarantined.is_empty() {
-            "none".into()
-        } else {
-            found.quarantined.join(", ")
-        },
-    );
-    row("refused for good", format!("{} requests", found.dead));
+    row("quarantined", values::senders_shown(&found.quarantined));
+    row("refused for good", counted(found.dead, "request"));
     row("faults", "none".into());
     let posts = found.posts;
-    format!("{table}\nA start primes each slot's gateway with its series, gives it its posts ({posts} in all), and delivers the requests in order.\n")
+    format!("{table}\nA start tells each slot's gateway its series, gives it its posts ({posts} in all), and delivers the requests in order.\n")
 }
 
 #[cfg(test)]
-mod tests {
-    use super::*;
-
-    #[test]
-    fn what_is_no_folder_is_named() {
-        let folder = tempfile::tempdir().unwrap();
-        let error = format!("{:#}", lock(folder.path()).unwrap_err());
-        assert!(error.contains("no folder of totxegun"), "{error}");
-    }
-
-    #[test]
-    fn a_folder_in_use_is_not_read() {
-        let folder = tempfile::tempdir().unwrap();
-        let file = File::create(folder.path().join("lock")).unwrap();
-        flock(file.as_raw_fd(), FlockArg::LockExclusiveNonblock).unwrap();
-        let error = lock(folder.path()).unwrap_err().to_string();
-        assert!(error.contains("totxegun status"), "{error}");
-    }
-
-    #[test]
-    fn a_copy_has_what_a_start_reads_and_goes_away() {
-        let (data, temporary) = (tempfile::tempdir().unwrap(), tempfile::tempdir().unwrap());
-        std::fs::create_dir_all(data.path().join("slot-0/journal")).unwrap();
-        std::fs::write(data.path().join("slot-0/journal/1"), "a").unwrap();
-        std::fs::write(data.path().join("metrics.db"), "not copied").unwrap();
-        let copy = Copy::of(data.path(), temporary.path()).unwrap();
-        assert_eq!(std::fs::read(copy.0.join("slot-0/journal/1")).unwrap(), b"a");
-        assert!(!copy.0.join("metrics.db").exists());
-        drop(copy);
-        assert_eq!(std::fs::read_dir(temporary.path()).unwrap().count(), 0);
-    }
-}
+mod tests;

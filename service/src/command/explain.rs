@@ -2,6 +2,7 @@
 
 use super::reading::OfReading;
 use super::table::Table;
+use super::values::counted;
 use super::{Failure, Form};
 use crate::otlp::{self, Encoding, Explained, Reading, Refused, Rounding};
 use anyhow::{anyhow, Context};
@@ -20,9 +21,9 @@ pub struct Options {
     #[arg(value_name = "FILE")]
     file: PathBuf,
     #[command(flatten)]
-    reading: OfReading,
-    #[command(flatten)]
     form: Form,
+    #[command(flatten)]
+    reading: OfReading,
 }
 
 /// What was found.
@@ -146,8 +147,11 @@ fn unpacked(body: Vec<u8>) -> anyhow::Result<(bool, Vec<u8>)> {
 fn text(found: &Found) -> String {
     let packing = if found.packed { ", gzip" } else { "" };
     let mut text = format!(
-        "{}{packing}, {} bytes: {} points taken, {} foreign\n",
-        found.encoding, found.bytes, found.taken, found.foreign
+        "{}{packing}, {} bytes: {} taken, {} foreign\n",
+        found.encoding,
+        found.bytes,
+        counted(found.taken as u64, "point"),
+        found.foreign
     );
     if found.sender != otlp::NO_NAME {
         text.push_str(&format!(
@@ -189,7 +193,7 @@ mod tests {
         let found = found(BODY.into(), &Reading::default()).unwrap();
         let text = text(&found);
         assert!(
-            text.starts_with("JSON, ") && text.contains("1 points taken, 1 foreign"),
+            text.starts_with("JSON, ") && text.contains("1 point taken, 1 foreign"),
             "{text}"
         );
         let lines: Vec<&str> = text.lines().collect();

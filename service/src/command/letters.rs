@@ -18,18 +18,21 @@ pub enum Command {
     },
     /// Prints the body of one, in JSON
     Show {
+        /// As `totxegun dead list` shows it
         key: String,
         #[command(flatten)]
         at: Address,
     },
     /// Sends one again under its own key; it is kept unless the sink takes it
     Resend {
+        /// As `totxegun dead list` shows it
         key: String,
         #[command(flatten)]
         at: Address,
     },
     /// Throws one away: its points are lost
     Drop {
+        /// As `totxegun dead list` shows it
         key: String,
         #[command(flatten)]
         at: Address,

@@ -147,6 +147,32 @@ mod tests {
     }
 
     #[test]
+    fn each_option_stands_under_its_own_heading() {
+        let line = Line::command();
+        let heading = |command: &str, option: &str| {
+            let command = line.find_subcommand(command).unwrap();
+            let found = command.get_arguments().find(|it| it.get_long() == Some(option));
+            found.unwrap().get_help_heading().map(str::to_string)
+        };
+        for (command, option, wanted) in [
+            ("serve", "flush-every", None),
+            ("serve", "log-foreign", None),
+            ("serve", "slots", None),
+            ("serve", "sink-gzip", Some("Options of an OTLP sink")),
+            ("serve", "whole", Some("Options of reading")),
+            ("serve", "round", Some("Options of the gateway")),
+            ("explain", "json", None),
+            ("explain", "whole", Some("Options of reading")),
+        ] {
+            assert_eq!(
+                heading(command, option).as_deref(),
+                wanted,
+                "{command} --{option}"
+            );
+        }
+    }
+
+    #[test]
     fn faulty_lines_are_refused_by_name() {
         for (words, part) in [
             ("serve --data d --slots 0", "--slots"),

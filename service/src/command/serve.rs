@@ -19,6 +19,13 @@ const BACKGROUND: usize = 2;
 const LONG_WORK: usize = 16;
 const LONG_WORK_OF_A_SLOT: usize = 4;
 
+/// Open files: of a sender's connection, with its post to the gateway; of the service's own, with the operators'
+/// connections; of a slot, its files and its gateway; of a thread, sockets to gateways that it keeps.
+const FILES_OF_A_CONNECTION: u64 = 2;
+const OWN_FILES: u64 = 128;
+const FILES_OF_A_SLOT: u64 = 32;
+const FILES_OF_A_THREAD: u64 = 64;
+
 #[derive(Args)]
 pub struct Options {
     /// The folder of all files; it is made where there is none
@@ -32,7 +39,7 @@ pub struct Options {
         default_value = "127.0.0.1:4318"
     )]
     listen: String,
-    /// Where senders call OTLP/gRPC, if they may: 127.0.0.1:4317
+    /// Where senders call OTLP/gRPC, as 127.0.0.1:4317 [default: nowhere]
     #[arg(long, env = "TOTXEGUN_LISTEN_GRPC", value_name = "ADDRESS")]
     listen_grpc: Option<String>,
     /// Where operators ask: who reaches it can do all that this program can
@@ -46,8 +53,6 @@ pub struct Options {
     /// Where to deliver: sqlite:PATH, postgres://USER@HOST:PORT/DB, http://HOST:PORT/PATH or https://HOST/PATH [default: sqlite:DIR/metrics.db]
     #[arg(long, env = "TOTXEGUN_SINK", value_name = "ADDRESS", hide_env_values = true)]
     sink: Option<Address>,
-    #[command(flatten)]
-    of_sink: OfSink,
     /// How long between two flushes
     #[arg(long, env = "TOTXEGUN_FLUSH_EVERY", value_name = "TIME", default_value = "10s", value_parser = time)]
     flush_every: Duration,
@@ -69,8 +74,6 @@ pub struct Options {
     /// Writes the first N reasons why points are foreign to the log, for each sender
     #[arg(long, env = "TOTXEGUN_LOG_FOREIGN", value_name = "N", default_value_t = 0, value_parser = value_parser!(u32).range(..=1000))]
     log_foreign: u32,
-    #[command(flatten)]
-    of_reading: OfReading,
     /// The most memory that all posts may take until they are answered
     #[arg(long, env = "TOTXEGUN_MOST_BYTES", value_name = "BYTES", default_value = "256MiB", value_parser = size)]
     most_bytes: u64,
@@ -83,6 +86,11 @@ pub struct Options {
     /// How many gateways share the senders, each with files of its own
     #[arg(long, env = "TOTXEGUN_SLOTS", value_name = "N", default_value_t = 1, value_parser = value_parser!(u16).range(1..=i64::from(MOST_SLOTS)))]
     slots: u16,
+    // What is behind a group stands under its heading: so the groups come last.
+    #[command(flatten)]
+    of_sink: OfSink,
+    #[command(flatten)]
+    of_reading: OfReading,
     #[command(flatten)]
     of_gateway: OfGateway,
 }
@@ -159,7 +167,7 @@ impl Options {
             .with_writer(std::io::stderr)
             .with_target(false)
             .init();
-        raise_open_files();
+        let most_files = raise_open_files();
         tracing::info!("{}", Versions::of(self.gateway.as_deref()));
         init::take_signals().context("signals can't be received")?; // before there are threads
         let mut building = tokio::runtime::Builder::new_multi_thread();
@@ -168,12 +176,30 @@ impl Options {
             .max_blocking_threads(LONG_WORK + LONG_WORK_OF_A_SLOT * (usize::from(self.slots) - 1))
             .enable_all();
         let runtime = building.build().context("no threads could be started")?;
-        let ended = runtime.block_on(service::run(self.settings()?));
+        let ended = runtime.block_on(service::run(self.settings(most_files)?));
         runtime.shutdown_background(); // who still waits for a disk or a sender is not waited for
         Ok(ended?)
     }
 
-    fn settings(self) -> Result<Settings, Failure> {
+    /// How many connections senders may have, where this process may have so many open files. One that nobody posts on
+    /// would else take the file that a journal or a gateway needs.
+    fn connections(&self, most_files: u64) -> usize {
+        let threads = u64::from(self.threads) + BACKGROUND as u64;
+        let own = OWN_FILES + FILES_OF_A_SLOT * u64::from(self.slots) + FILES_OF_A_THREAD * threads;
+        let addresses = 1 + u64::from(self.listen_grpc.is_some());
+        let most = (most_files.saturating_sub(own) / FILES_OF_A_CONNECTION / addresses).max(1);
+        let wanted = u64::from(self.most_connections);
+        if most < wanted {
+            tracing::warn!(
+                "this process may have {most_files} open files, so senders may have {most} connections at a time and not \
+                 {wanted}: raise its limit (`LimitNOFILE` of systemd, `ulimit -Hn`), or lower --most-connections"
+            );
+        }
+        most.min(wanted) as usize
+    }
+
+    fn settings(self, most_files: u64) -> Result<Settings, Failure> {
+        let most_connections = self.connections(most_files);
         let program = gateway::find_program(self.gateway.as_deref()).map_err(anyhow::Error::from)?;
         let allocator = gateway::allocator::library(self.of_gateway.allocator.as_deref());
         let allocator = allocator.map_err(anyhow::Error::from)?;
@@ -207,7 +233,7 @@ impl Options {
             reading: self.of_reading.reading()?,
             log_foreign: self.log_foreign as usize,
             most_bytes: usize::try_from(self.most_bytes).unwrap_or(usize::MAX),
-            most_connections: self.most_connections as usize,
+            most_connections,
             threads: usize::from(self.threads),
             slots: self.slots,
         })
@@ -219,12 +245,14 @@ fn absolute(path: &Path) -> anyhow::Result<PathBuf> {
     std::path::absolute(path).with_context(|| format!("{} is no path", path.display()))
 }
 
-/// As many open files as this process may have: each connection is one. Where it may not, there are fewer connections.
-fn raise_open_files() {
+/// As many open files as this process may have: how many these are.
+fn raise_open_files() -> u64 {
     use nix::sys::resource::{getrlimit, setrlimit, Resource::RLIMIT_NOFILE};
-    if let Ok((soft, hard)) = getrlimit(RLIMIT_NOFILE) {
-        if soft < hard && setrlimit(RLIMIT_NOFILE, hard, hard).is_err() {
-            tracing::warn!("the limit of open files stays at {soft}");
-        }
+    let Ok((soft, hard)) = getrlimit(RLIMIT_NOFILE) else {
+        return u64::MAX;
+    };
+    match soft < hard && setrlimit(RLIMIT_NOFILE, hard, hard).is_ok() {
+        true => hard,
+        false => soft,
     }
 }

@@ -2,6 +2,7 @@
 
 use super::{ask::Shown, client, table::Table, values};
 use crate::operate::{RoundedStatus, SlotStatus, Status, Stock};
+use crate::slot::NO_ROOM;
 use anyhow::{Context, Result};
 
 pub fn run(shown: &Shown) -> Result<()> {
@@ -10,31 +11,29 @@ pub fn run(shown: &Shown) -> Result<()> {
         println!("{}", String::from_utf8_lossy(&body));
         return Ok(());
     }
-    let status: Status = serde_json::from_slice(&body).context("this service is of another version")?;
+    let status: Status = serde_json::from_slice(&body)
+        .context("the running service is of another version: ask it by its own totxegun")?;
     print!("{}", text(&status));
     Ok(())
 }
 
 fn text(status: &Status) -> String {
-    let how = if status.ready {
-        "ready"
-    } else {
-        "recovering: posts are answered 503"
-    };
+    let how = if status.ready { "ready" } else { "not ready" };
     let up = values::seconds_shown(status.uptime_seconds);
     let mut lines = Table::new(&[
         format!("totxegun {}", status.version),
         format!("{how}, up {up}, process {}", status.pid),
     ]);
+    if let Some(why) = unavailable(status) {
+        lines.row(&["posts get 503", &why]);
+    }
     lines.row(&["senders post to", status.listen.as_str()]);
     lines.row(&["data", status.data.as_str()]);
     lines.row(&["sink", status.sink.as_str()]);
+    let dead = values::counted(status.dead, "request");
     match status.dead {
-        0 => lines.row(&["refused for good", "0 requests"]),
-        dead => lines.row(&[
-            "refused for good",
-            &format!("{dead} requests: see `totxegun dead list`"),
-        ]),
+        0 => lines.row(&["refused for good", &dead]),
+        _ => lines.row(&["refused for good", &format!("{dead}: see `totxegun dead list`")]),
     }
     for rounded in &status.rounded {
         lines.row(&["rounded", &rounding(rounded)]);
@@ -57,10 +56,30 @@ fn text(status: &Status) -> String {
     format!("{lines}\n{slots}{rounded}{troubles}")
 }
 
+/// Why posts are answered 503, and of which slots where not of all.
+fn unavailable(status: &Status) -> Option<String> {
+    let why = |slot: &SlotStatus| {
+        let why = slot.unavailable.as_deref()?;
+        Some(match why {
+            NO_ROOM => format!("{why}: make room on the disk of {}", status.data),
+            why => why.to_string(),
+        })
+    };
+    let of_each: Vec<Option<String>> = status.slots.iter().map(why).collect();
+    let one = of_each.iter().flatten().next()?;
+    if of_each.iter().all(|why| why.as_ref() == Some(one)) {
+        return Some(one.clone());
+    }
+    let named = status.slots.iter().zip(&of_each);
+    let named = named.filter_map(|(slot, why)| Some(format!("slot {}: {}", slot.slot, why.as_ref()?)));
+    Some(named.collect::<Vec<_>>().join("; "))
+}
+
 fn rounding(of: &RoundedStatus) -> String {
-    let (values, series, rule) = (of.values, of.series, &of.rule);
+    let (series, rule) = (of.series, &of.rule);
+    let values = values::counted(of.values, "value");
     let together = units(of, of.together);
-    format!("{values} values of {series} series by {rule}, together by at most {together}")
+    format!("{values} of {series} series by {rule}, together by at most {together}")
 }
 
 /// The series that were rounded by most, of each rule, where there are some.
@@ -103,10 +122,6 @@ fn row(slot: &SlotStatus) -> [String; 8] {
     let memory = gateway
         .and_then(|gateway| gateway.resident_bytes)
         .map(values::bytes_shown);
-    let quarantined = match slot.quarantined.as_slice() {
-        [] => "-".to_string(),
-        names => names.join(", "),
-    };
     [
         slot.slot.to_string(),
         gateway.map_or_else(
@@ -116,9 +131,9 @@ fn row(slot: &SlotStatus) -> [String; 8] {
         memory.unwrap_or_else(|| "-".to_string()),
         slot.series.to_string(),
         stock(&slot.journal),
-        format!("{} requests", slot.waiting),
+        values::counted(slot.waiting, "request"),
         stock(&slot.outbox),
-        quarantined,
+        values::senders_shown(&slot.quarantined),
     ]
 }
 
@@ -133,8 +148,9 @@ fn stock(stock: &Stock) -> String {
 fn trouble(slot: &SlotStatus) -> Option<String> {
     let why = slot.trouble.as_ref()?;
     Some(format!(
-        "\nthe sink has not taken a request of slot {} in {} tries: {why}\n",
-        slot.slot, slot.tries
+        "\nthe sink has not taken a request of slot {} in {}: {why}\n",
+        slot.slot,
+        values::counted(slot.tries, "attempt")
     ))
 }
 
@@ -142,6 +158,75 @@ fn trouble(slot: &SlotStatus) -> Option<String> {
 mod tests {
     use super::*;
     use crate::operate::RoundedSeriesStatus;
+
+    fn status(quarantined: &[&str]) -> Status {
+        let stock = || Stock {
+            bytes: 0,
+            age_seconds: None,
+        };
+        let slot = SlotStatus {
+            slot: 0,
+            unavailable: None,
+            series: 0,
+            quarantined: quarantined.iter().map(ToString::to_string).collect(),
+            gateway: None,
+            journal: stock(),
+            waiting: 0,
+            outbox: stock(),
+            tries: 0,
+            trouble: None,
+        };
+        Status {
+            version: "0".into(),
+            pid: 1,
+            uptime_seconds: 2,
+            ready: true,
+            listen: "127.0.0.1:4318".into(),
+            data: "/data".into(),
+            sink: "/data/metrics.db".into(),
+            dead: 0,
+            slots: vec![slot],
+            rounded: Vec::new(),
+        }
+    }
+
+    #[test]
+    fn the_first_lines_say_why_posts_are_refused() {
+        let begins = |status: &Status, wanted: &str| {
+            let text = text(status);
+            assert!(text.starts_with(wanted), "{text}");
+        };
+        let mut told = status(&[]);
+        begins(
+            &told,
+            "totxegun 0        ready, up 2 s, process 1\nsenders post to",
+        );
+        told.ready = false;
+        told.slots[0].unavailable = Some(NO_ROOM.into());
+        begins(
+            &told,
+            "totxegun 0        not ready, up 2 s, process 1\n\
+             posts get 503     no room for the journal: make room on the disk of /data\n",
+        );
+        told.slots.extend(status(&[]).slots);
+        told.slots[1].slot = 1;
+        told.slots[0].unavailable = Some("recovering".into());
+        begins(
+            &told,
+            "totxegun 0        not ready, up 2 s, process 1\nposts get 503     slot 0: recovering\n",
+        );
+    }
+
+    #[test]
+    fn who_is_quarantined_is_shown() {
+        let line = |quarantined: &[&str]| text(&status(quarantined)).lines().last().map(str::to_string);
+        let slot = "0     none     -       0       0 B      0 requests  0 B     ";
+        assert_eq!(line(&[]).unwrap(), format!("{slot}none"));
+        assert_eq!(
+            line(&["-"]).unwrap(),
+            format!("{slot}1 sender: - (who names none)")
+        );
+    }
 
     fn rounded(rule: &str, greatest: Vec<RoundedSeriesStatus>) -> RoundedStatus {
         RoundedStatus {

@@ -72,7 +72,8 @@ impl Options {
             None => {}
         }
         let body = client::ask(&self.at.operate, "GET", "/status")?;
-        let status: Status = serde_json::from_slice(&body).context("this service is of another version")?;
+        let status: Status = serde_json::from_slice(&body)
+            .context("the running service is of another version: ask it by its own totxegun")?;
         if status.sink.starts_with("postgres ") {
             bail!(IN_POSTGRES);
         }

@@ -56,6 +56,29 @@ fn scaled(text: &str, units: &[(&str, u64)]) -> Option<u64> {
     number.parse::<u64>().ok()?.checked_mul(*scale)
 }
 
+/// `1 request`, `2 requests`.
+pub fn counted(number: u64, what: &str) -> String {
+    match number {
+        1 => format!("1 {what}"),
+        _ => format!("{number} {what}s"),
+    }
+}
+
+/// Senders by their names, with how many there are: so `-` is not read as nobody.
+pub fn senders_shown(names: &[String]) -> String {
+    let shown = |name: &String| match name.as_str() {
+        "-" => "- (who names none)".to_string(),
+        name => name.to_string(),
+    };
+    match names {
+        [] => "none".to_string(),
+        names => {
+            let all: Vec<String> = names.iter().map(shown).collect();
+            format!("{}: {}", counted(names.len() as u64, "sender"), all.join(", "))
+        }
+    }
+}
+
 /// Bytes as people read them.
 pub fn bytes_shown(bytes: u64) -> String {
     let shown = bytes as f64;
@@ -113,6 +136,16 @@ mod tests {
         for text in ["", "MiB", "1.5M", "1T", "-1", "18446744073709551615G"] {
             assert!(size(text).is_err(), "{text}");
         }
+    }
+
+    #[test]
+    fn who_names_none_is_not_nobody() {
+        let shown =
+            |names: &[&str]| senders_shown(&names.iter().map(ToString::to_string).collect::<Vec<_>>());
+        assert_eq!(shown(&[]), "none");
+        assert_eq!(shown(&["-"]), "1 sender: - (who names none)");
+        assert_eq!(shown(&["none"]), "1 sender: none");
+        assert_eq!(shown(&["-", "shop-1"]), "2 senders: - (who names none), shop-1");
     }
 
     #[test]

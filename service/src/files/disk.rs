@@ -1,8 +1,12 @@
 //! Calls that change the disk. A test may let each of them fail.
 
 use super::Fault;
+use nix::errno::Errno;
+use nix::fcntl::{fallocate, FallocateFlags};
+use nix::sys::uio::pwritev;
 use std::fs::{DirBuilder, File, OpenOptions};
-use std::io;
+use std::io::{self, IoSlice};
+use std::os::fd::AsRawFd;
 use std::os::unix::fs::{DirBuilderExt, FileExt, OpenOptionsExt};
 use std::path::Path;
 use std::sync::Arc;
@@ -94,6 +98,23 @@ impl Disk {
         })
     }
 
+    /// The same, with a name that is durable, as those of the folders above that are made with it.
+    pub fn make_lasting_folder(&self, path: &Path) -> Result<(), Fault> {
+        let made = path.ancestors().take_while(|folder| !folder.exists()).count();
+        self.make_folder(path)?;
+        let above: Vec<&Path> = path.ancestors().skip(1).collect();
+        match made {
+            // An earlier start may have ended behind making it. Of a folder that others made it may not be allowed.
+            0 => above
+                .first()
+                .map_or(Ok(()), |folder| self.sync_folder(folder).or(Ok(()))),
+            _ => above
+                .iter()
+                .take(made)
+                .try_for_each(|folder| self.sync_folder(folder)),
+        }
+    }
+
     /// Makes a file that is not there yet.
     pub fn create(&self, path: &Path) -> Result<File, Fault> {
         let mut options = OpenOptions::new();
@@ -107,8 +128,18 @@ impl Disk {
         })
     }
 
-    pub fn write_at(&self, file: &File, path: &Path, bytes: &[u8], at: u64) -> Result<(), Fault> {
-        self.call(Call::Write, path, || file.write_all_at(bytes, at))
+    /// Writes parts one behind the other, as a rule by one call.
+    pub fn write_at(&self, file: &File, path: &Path, parts: &[&[u8]], at: u64) -> Result<(), Fault> {
+        self.call(Call::Write, path, || match parts {
+            [bytes] => file.write_all_at(bytes, at),
+            parts => write_parts_at(file, parts, at),
+        })
+    }
+
+    /// Takes blocks for what will be written there, and leaves the file's length. Where there are none, the writes say so.
+    pub fn take_blocks(&self, file: &File, at: u64, length: u64) {
+        let keep_size = FallocateFlags::FALLOC_FL_KEEP_SIZE;
+        let _ = fallocate(file.as_raw_fd(), keep_size, at as i64, length as i64);
     }
 
     pub fn sync(&self, file: &File, path: &Path) -> Result<(), Fault> {
@@ -138,9 +169,21 @@ impl Disk {
             self.remove(&draft)?;
         }
         let file = self.create(&draft)?;
-        self.write_at(&file, &draft, bytes, 0)?;
+        self.write_at(&file, &draft, &[bytes], 0)?;
         self.sync(&file, &draft)?;
         self.rename(&draft, path)?;
         path.parent().map_or(Ok(()), |folder| self.sync_folder(folder))
+    }
+}
+
+fn write_parts_at(file: &File, parts: &[&[u8]], at: u64) -> io::Result<()> {
+    let slices: Vec<IoSlice> = parts.iter().map(|part| IoSlice::new(part)).collect();
+    let written = match pwritev(file.as_raw_fd(), &slices, at as i64) {
+        Err(Errno::EINTR) => 0,
+        other => other?,
+    };
+    match parts.iter().map(|part| part.len()).sum::<usize>() == written {
+        true => Ok(()),
+        false => file.write_all_at(&parts.concat()[written..], at + written as u64),
     }
 }

@@ -3,17 +3,18 @@
 //! | file | what it is |
 //! |---|---|
 //! | `lock` | locked by the service that has the folder |
-//! | `version` | lines: `totxegun 1`, the format's version; `epoch`, 16 hexadecimal digits; `lock`, the inode of the lock's file; of version 2 also `slots`, how many there are |
+//! | `version` | lines: `totxegun 1`, the format's version; `epoch`, 16 hexadecimal digits; `lock`, the inode of the lock's file; of version 2 `slots`, how many there are; `born`, when the lock's file was made, in nanoseconds since 1970, where the file system knows it |
 //! | `slot-N/journal`, `slot-N/outbox` | segments. Where N is no slot any more, its outbox has what the sink has not taken |
 //! | `dead/` | one file a request that was refused for good |
 //!
-//! A folder that was copied, or put back from a copy, has a lock of another inode. Then a new epoch is drawn: what is
-//! forwarded from then on has other keys than what the first folder forwarded. What waits in the outbox keeps its
-//! keys, for it has the same bytes. A copy of the whole disk looks as the first one: there `renew_epoch` is for the operator.
+//! A folder that was copied, or put back from a copy, has a lock of another inode, or of the same inode and another
+//! birth. Then a new epoch is drawn: what is forwarded from then on has other keys than what the first folder forwarded.
+//! What waits in the outbox keeps its keys, for it has the same bytes. A copy of the whole disk looks as the first one:
+//! there `renew_epoch` is for the operator.
 
 use super::disk::{io_fault, Disk};
 use super::room::Room;
-use super::{lock, Dead, Durability, Fault, Journal, Outbox};
+use super::{lock, segment, Dead, Durability, Fault, Journal, Outbox};
 use nix::errno::Errno;
 use nix::fcntl::{flock, FlockArg};
 use std::fs::{File, OpenOptions};
@@ -22,7 +23,7 @@ use std::os::fd::AsRawFd;
 use std::os::unix::fs::{MetadataExt, OpenOptionsExt};
 use std::path::{Path, PathBuf};
 use std::sync::{Arc, Mutex};
-use std::time::{Duration, Instant};
+use std::time::{Duration, Instant, UNIX_EPOCH};
 
 /// Of the folder: which files there are, and where. A folder is of the second once it had another number of slots than 1.
 const VERSION: u32 = 2;
@@ -46,17 +47,49 @@ pub struct Folder {
     durability: Durability,
     room: Arc<Room>,
     version: Mutex<Version>,
+    /// It was made by this start.
+    is_new: bool,
     /// Locked as long as it is open.
     lock: File,
+    /// The folder itself, locked too: somebody may delete the file, and a second service would make another.
+    _itself: File,
 }
 
 /// What the file `version` says.
 #[derive(Clone)]
 struct Version {
     epoch: String,
-    inode: u64,
+    lock: Identity,
     /// None in a folder of version 1, which has one.
     slots: Option<u16>,
+}
+
+/// By which a file is told from its copies.
+#[derive(Clone, Copy, Default)]
+struct Identity {
+    inode: u64,
+    /// In nanoseconds since 1970. No copy of a file gets it. None where the file system does not know it, or an earlier
+    /// totxegun wrote `version`.
+    born: Option<u128>,
+}
+
+impl Identity {
+    fn of(file: &File) -> std::io::Result<Identity> {
+        let about = file.metadata()?;
+        let born = about
+            .created()
+            .ok()
+            .and_then(|at| at.duration_since(UNIX_EPOCH).ok());
+        Ok(Identity {
+            inode: about.ino(),
+            born: born.map(|since| since.as_nanos()),
+        })
+    }
+
+    fn may_be(self, other: Identity) -> bool {
+        let born_apart = self.born.zip(other.born).is_some_and(|(one, other)| one != other);
+        self.inode == other.inode && !born_apart
+    }
 }
 
 impl Folder {
@@ -66,8 +99,8 @@ impl Folder {
     }
 
     pub(crate) fn open_on(disk: Disk, path: &Path, durability: Durability) -> Result<Folder, FolderFault> {
-        disk.make_folder(path)?;
-        let lock = locked(path)?;
+        disk.make_lasting_folder(path)?;
+        let (lock, itself) = locked(path)?;
         let room = Arc::new(Room::new(path)?);
         let known = Version::read(path)?;
         if known.is_none() {
@@ -80,13 +113,22 @@ impl Folder {
             room,
             version: Mutex::new(Version {
                 epoch: String::new(),
-                inode: 0,
+                lock: Identity::default(),
                 slots: known.as_ref().and_then(|known| known.slots),
             }),
+            is_new: known.is_none(),
             lock,
+            _itself: itself,
         };
+        let found = folder.identity()?;
         match known {
-            Some(known) if known.inode == folder.inode()? => *super::lock(&folder.version) = known,
+            Some(known) if known.lock.may_be(found) => {
+                let is_older = known.lock.born.is_none() && found.born.is_some();
+                *super::lock(&folder.version) = known;
+                if is_older {
+                    folder.change(|version| version.lock = found)?;
+                }
+            }
             known => {
                 let epoch = folder.renew_epoch()?;
                 if known.is_some() {
@@ -109,8 +151,8 @@ impl Folder {
             .and_then(|mut file| file.read_exact(&mut random))
             .map_err(io_fault(source))?;
         let epoch = format!("{:016x}", u64::from_le_bytes(random));
-        let inode = self.inode()?;
-        self.change(|version| (version.epoch, version.inode) = (epoch.clone(), inode))?;
+        let lock = self.identity()?;
+        self.change(|version| (version.epoch, version.lock) = (epoch.clone(), lock))?;
         Ok(epoch)
     }
 
@@ -134,11 +176,8 @@ impl Folder {
         Ok(())
     }
 
-    fn inode(&self) -> Result<u64, Fault> {
-        self.lock
-            .metadata()
-            .map(|about| about.ino())
-            .map_err(io_fault(&self.path.join("lock")))
+    fn identity(&self) -> Result<Identity, Fault> {
+        Identity::of(&self.lock).map_err(io_fault(&self.path.join("lock")))
     }
 
     /// Whether a post may be taken: room for commits is kept behind it.
@@ -168,7 +207,11 @@ impl Folder {
         }
         self.disk.sync_folder(&slot)?;
         self.disk.sync_folder(&self.path)?;
-        let epoch = lock(&self.version).epoch.clone();
+        let epoch = match self.is_new || !segment::numbers(&outbox)?.is_empty() {
+            true => lock(&self.version).epoch.clone(),
+            // It counts from 1 again, and an outbox that was there and is gone has used these keys.
+            false => self.renew_epoch()?,
+        };
         Outbox::open(&self.disk, &outbox, &epoch, self.room.clone())
     }
 
@@ -197,9 +240,9 @@ impl Folder {
     }
 }
 
-/// The kernel gives the lock back when the process ends, in whatever way. A started gateway does not get it: files
+/// The kernel gives the locks back when the process ends, in whatever way. A started gateway does not get them: files
 /// of the standard library are closed where another program is started.
-fn locked(folder: &Path) -> Result<File, FolderFault> {
+fn locked(folder: &Path) -> Result<(File, File), FolderFault> {
     let path = folder.join("lock");
     let mut options = OpenOptions::new();
     let file = options
@@ -210,14 +253,26 @@ fn locked(folder: &Path) -> Result<File, FolderFault> {
         .mode(0o600)
         .open(&path)
         .map_err(io_fault(&path))?;
+    match take_lock(&file) {
+        Ok(()) => {}
+        Err(Errno::EWOULDBLOCK) => return Err(FolderFault::InUse(folder.into())),
+        Err(error) => return Err(io_fault(&path)(error.into()).into()),
+    }
+    let itself = File::open(folder).map_err(io_fault(folder))?;
+    match take_lock(&itself) {
+        Err(Errno::EWOULDBLOCK) => Err(FolderFault::InUse(folder.into())),
+        // Not every file system locks folders.
+        Ok(()) | Err(_) => Ok((file, itself)),
+    }
+}
+
+fn take_lock(file: &File) -> Result<(), Errno> {
     // A process that is just being started has the file open for a moment, though who started it has ended.
     let began = Instant::now();
     loop {
         match flock(file.as_raw_fd(), FlockArg::LockExclusiveNonblock) {
-            Ok(()) => return Ok(file),
             Err(Errno::EWOULDBLOCK) if began.elapsed() < PATIENCE => std::thread::sleep(PATIENCE / 50),
-            Err(Errno::EWOULDBLOCK) => return Err(FolderFault::InUse(folder.into())),
-            Err(error) => return Err(io_fault(&path)(error.into()).into()),
+            tried => return tried,
         }
     }
 }
@@ -243,11 +298,15 @@ fn check_new(folder: &Path) -> Result<(), Fault> {
 
 impl Version {
     fn text(&self) -> String {
-        let Version { epoch, inode, slots } = self;
-        match slots {
+        let Version { epoch, lock, slots } = self;
+        let inode = lock.inode;
+        let text = match slots {
             None => format!("totxegun 1\nepoch {epoch}\nlock {inode}\n"),
             Some(slots) => format!("totxegun {VERSION}\nepoch {epoch}\nlock {inode}\nslots {slots}\n"),
-        }
+        };
+        // The last line: an earlier totxegun passes over it.
+        let born = lock.born.map(|born| format!("born {born}\n"));
+        text + &born.unwrap_or_default()
     }
 
     fn read(folder: &Path) -> Result<Option<Version>, Fault> {
@@ -292,8 +351,13 @@ impl Version {
                 .filter(|slots| (1..=MOST_SLOTS).contains(slots))
                 .map(Some),
         };
+        let born = value("born").and_then(|born| born.parse().ok());
         match (epoch, inode, slots) {
-            (Some(epoch), Some(inode), Some(slots)) => Ok(Some(Version { epoch, inode, slots })),
+            (Some(epoch), Some(inode), Some(slots)) => Ok(Some(Version {
+                epoch,
+                lock: Identity { inode, born },
+                slots,
+            })),
             _ => damaged(
                 "has no epoch, no inode of the lock, or no number of slots: put a copy of this file in its place"
                     .into(),

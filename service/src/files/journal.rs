@@ -13,7 +13,7 @@ mod sync;
 use super::disk::Disk;
 use super::records::{self, Next, Reader, Which};
 use super::room::Room;
-use super::segment::{self, Segment};
+use super::segment::{self, Ahead, Segment};
 use super::{lock, seconds, Durability, Fault};
 use bytes::Bytes;
 use std::fs::File;
@@ -24,6 +24,8 @@ use sync::Waiters;
 
 const POST: u8 = records::OWN;
 const COPY: u8 = records::OWN + 1;
+/// The most bytes that stand before a body: three numbers and a name.
+const FRONT: usize = 3 * 8 + 64;
 
 /// A post that the gateway took.
 #[derive(Clone, Debug, PartialEq, Eq)]
@@ -90,15 +92,19 @@ impl Journal {
 
     fn put(&self, kind: u8, post: &Post) -> Ticket {
         let shared = &*self.shared;
-        let (now, record) = (seconds(), &mut Vec::new());
+        let now = seconds();
         let name = post.sender.as_bytes();
-        let numbers = [now, post.foreign, name.len() as u64]
-            .map(u64::to_le_bytes)
-            .concat();
-        records::put(record, kind, &[&numbers, name, &post.body]);
-        shared.room.use_up(record.len() as u64);
+        let mut front = Vec::with_capacity(FRONT);
+        for number in [now, post.foreign, name.len() as u64] {
+            front.extend_from_slice(&number.to_le_bytes());
+        }
+        front.extend_from_slice(name);
+        let head = records::head(kind, &[&front, &post.body]);
+        let length = (head.len() + front.len() + post.body.len()) as u64;
+        shared.room.use_up(length);
         let mut place = lock(&shared.place);
-        if let Err(fault) = place.segment.put(record) {
+        // In parts: a copy of a long body costs as much as a part of its write.
+        if let Err(fault) = place.segment.put(&[&head, &front, &post.body]) {
             shared.disk.end(&fault);
         }
         place.ticket += 1;
@@ -106,7 +112,7 @@ impl Journal {
             place.kept = place.ticket;
         }
         if let Some(size) = place.sizes.last_mut() {
-            size.bytes += record.len() as u64;
+            size.bytes += length;
             size.first.get_or_insert(now);
         }
         Ticket(place.ticket)
@@ -167,16 +173,20 @@ impl Journal {
         }
     }
 
+    /// Makes the last copies durable, whatever was asked for posts: what they are copies of may be so for long.
+    pub fn settle_copies(&self) -> Result<(), Fault> {
+        let kept = lock(&self.shared.place).kept;
+        match self.shared.durable.load(SeqCst) < kept {
+            true => self.shared.sync(),
+            false => Ok(()),
+        }
+    }
+
     /// Deletes the segments before this, once what was copied out of them is durable.
     pub fn forget(&self, before: u64) -> Result<(), Fault> {
         let shared = &*self.shared;
-        let (last, kept) = {
-            let place = lock(&shared.place);
-            (place.segment.number, place.kept)
-        };
-        if shared.durable.load(SeqCst) < kept {
-            shared.sync()?;
-        }
+        let last = lock(&shared.place).segment.number;
+        self.settle_copies()?;
         for number in segment::numbers(&shared.folder)? {
             if number < before && number < last {
                 shared.disk.remove(&segment::path(&shared.folder, number))?;
@@ -200,13 +210,7 @@ impl Shared {
     fn begin(&self, place: &mut Place, number: u64) -> Result<(), Fault> {
         place.segment.end()?;
         let path = segment::path(&self.folder, number);
-        let next = Segment::create(
-            &self.disk,
-            path,
-            Which::Journal,
-            number,
-            self.durability == Durability::Disk,
-        )?;
+        let next = Segment::create(&self.disk, path, Which::Journal, number, ahead(self.durability))?;
         let ended = std::mem::replace(&mut place.segment, next);
         place.ended.push((ended.file, ended.path));
         place.named = false;
@@ -255,6 +259,14 @@ impl Shared {
             }
             next = reader.next()?;
         }
+    }
+}
+
+/// What a segment has ahead.
+fn ahead(durability: Durability) -> Ahead {
+    match durability {
+        Durability::Disk => Ahead::Zeros(0),
+        Durability::Process => Ahead::Blocks(0),
     }
 }
 

@@ -12,7 +12,7 @@ mod state;
 use super::disk::{io_fault, Disk};
 use super::records::Which;
 use super::room::Room;
-use super::segment::{self, Segment};
+use super::segment::{self, Ahead, Segment};
 use super::{lock, seconds, Fault};
 use crate::otlp::series::{self, NotForwarded, SeriesKey};
 use changes::{Change, Group};
@@ -284,7 +284,7 @@ impl Outbox {
     ) -> Result<(), Fault> {
         writer.begin()?;
         self.room.use_up(bytes.len() as u64);
-        let begin = writer.segment.put(bytes)?;
+        let begin = writer.segment.put(&[bytes])?;
         if sync {
             writer.segment.sync()?;
         }
@@ -335,8 +335,8 @@ fn begin(disk: &Disk, folder: &Path, number: u64, snapshot: &Snapshot) -> Result
     if draft.exists() {
         disk.remove(&draft)?;
     }
-    let mut segment = Segment::create(disk, draft.clone(), Which::Outbox, number, false)?;
-    segment.put(&snapshot.record())?;
+    let mut segment = Segment::create(disk, draft.clone(), Which::Outbox, number, Ahead::Nothing)?;
+    segment.put(&[&snapshot.record()])?;
     segment.sync()?;
     disk.rename(&draft, &path)?;
     disk.sync_folder(folder)?;

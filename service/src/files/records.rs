@@ -40,15 +40,20 @@ pub enum Which {
 
 /// Appends a record made of parts.
 pub fn put(out: &mut Vec<u8>, kind: u8, parts: &[&[u8]]) {
+    out.extend_from_slice(&head(kind, parts));
+    parts.iter().for_each(|part| out.extend_from_slice(part));
+}
+
+/// What goes before a record's parts: its length, checksum and kind.
+pub fn head(kind: u8, parts: &[&[u8]]) -> [u8; HEAD] {
     let length = 1 + parts.iter().map(|part| part.len()).sum::<usize>();
     let mut sum = crc32fast::Hasher::new();
     sum.update(&[kind]);
     parts.iter().for_each(|part| sum.update(part));
-    out.reserve(8 + length);
-    out.extend_from_slice(&(length as u32).to_le_bytes());
-    out.extend_from_slice(&sum.finalize().to_le_bytes());
-    out.push(kind);
-    parts.iter().for_each(|part| out.extend_from_slice(part));
+    let mut head = [kind; HEAD];
+    head[..4].copy_from_slice(&(length as u32).to_le_bytes());
+    head[4..8].copy_from_slice(&sum.finalize().to_le_bytes());
+    head
 }
 
 pub fn header(which: Which, number: u64) -> Vec<u8> {

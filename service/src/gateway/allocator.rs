@@ -17,7 +17,7 @@ const NONE: &str = "none";
 const ROOMY: u64 = 1 << 30;
 
 #[derive(Debug, thiserror::Error)]
-#[error("--allocator {}: there is no such file", .0.display())]
+#[error("--allocator {}: there is no such file; `none` is the C library's own", .0.display())]
 pub struct NoLibrary(PathBuf);
 
 /// The library to preload: the one that is named, else tcmalloc where it is installed.
@@ -51,7 +51,7 @@ mod tests {
         let fault = library(Some(Path::new("/nowhere.so"))).unwrap_err();
         assert_eq!(
             fault.to_string(),
-            "--allocator /nowhere.so: there is no such file"
+            "--allocator /nowhere.so: there is no such file; `none` is the C library's own"
         );
         assert!(library(None).unwrap().is_none_or(|found| found.is_file()));
     }

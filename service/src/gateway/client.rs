@@ -3,7 +3,7 @@
 use super::message::read_answer;
 use super::socket::Line;
 use super::Answer;
-use std::io::{ErrorKind, Result};
+use std::io::{ErrorKind, Result, Write};
 use std::net::SocketAddr;
 use std::time::Duration;
 
@@ -21,19 +21,31 @@ pub(super) struct Request<'a> {
     pub body: &'a [u8],
 }
 
-impl Request<'_> {
-    fn head(&self) -> String {
-        let Request {
-            method,
-            path,
-            sender,
-            body,
-        } = self;
-        format!(
-            "{method} {path} HTTP/1.1\r\nHost: gateway\r\nContent-Type: application/json\r\n\
-             x-sender: {sender}\r\nContent-Length: {}\r\n\r\n",
-            body.len()
-        )
+/// To copy a body that is no longer costs less than to send two buffers.
+const COPIED: usize = 4 << 10;
+/// More than the head of a post has.
+const HEAD: usize = 256;
+
+impl<'a> Request<'a> {
+    /// The head with a short body behind it, and a longer body.
+    fn message(&self) -> (Vec<u8>, &'a [u8]) {
+        let body = self.body;
+        let (near, far) = body.split_at(if body.len() <= COPIED { body.len() } else { 0 });
+        let mut out = Vec::with_capacity(HEAD + near.len());
+        let parts = [
+            self.method,
+            " ",
+            self.path,
+            " HTTP/1.1\r\nHost: gateway\r\nContent-Type: application/json\r\nx-sender: ",
+            self.sender,
+            "\r\nContent-Length: ",
+        ];
+        parts
+            .iter()
+            .for_each(|part| out.extend_from_slice(part.as_bytes()));
+        let _ = write!(out, "{}\r\n\r\n", body.len()); // into memory it never fails
+        out.extend_from_slice(near);
+        (out, far)
     }
 }
 
@@ -53,8 +65,8 @@ pub(super) async fn exchange(
 }
 
 async fn asked(address: SocketAddr, request: &Request<'_>) -> Result<Answer> {
-    let head = request.head();
-    let (mut line, sent) = open(address, head.as_bytes(), request.body).await?;
+    let (head, body) = request.message();
+    let (mut line, sent) = open(address, &head, body).await?;
     // An answer may come before all is sent: a refusal by the head. What counts is whether there is one.
     match (read_answer(&mut line).await, sent) {
         (Ok((status, body)), sent) => {
@@ -102,6 +114,26 @@ mod tests {
         }
     }
 
+    fn length_of(request: &Request<'_>) -> usize {
+        let (head, body) = request.message();
+        head.len() + body.len()
+    }
+
+    #[test]
+    fn a_message_is_head_and_body() {
+        for length in [0, 2, COPIED, COPIED + 1] {
+            let body = vec![b'x'; length];
+            let (head, rest) = post(&body).message();
+            let text = String::from_utf8([&head[..], rest].concat()).unwrap();
+            let expected = format!(
+                "POST /v1/metrics HTTP/1.1\r\nHost: gateway\r\nContent-Type: application/json\r\n\
+                 x-sender: A\r\nContent-Length: {length}\r\n\r\n{}",
+                "x".repeat(length)
+            );
+            assert_eq!(text, expected);
+        }
+    }
+
     /// A listener that reads `length` bytes of one connection, writes `answer`, and closes after `rest`.
     async fn listener(
         length: usize,
@@ -124,7 +156,7 @@ mod tests {
     #[tokio::test]
     async fn an_exchange_is_one_request_and_one_answer() {
         let request = post(b"{}");
-        let length = request.head().len() + 2;
+        let length = length_of(&request);
         let (address, task) = listener(
             length,
             b"HTTP/1.1 200 OK\r\nContent-Length: 2\r\n\r\n{}",
@@ -155,7 +187,7 @@ mod tests {
     async fn large_bodies_go_whole() {
         let body = vec![b'x'; 4 << 20];
         let request = post(&body);
-        let length = request.head().len() + body.len();
+        let length = length_of(&request);
         let (address, task) = listener(
             length,
             b"HTTP/1.1 200 OK\r\nContent-Length: 0\r\n\r\n",
@@ -180,7 +212,7 @@ mod tests {
     #[tokio::test]
     async fn what_can_go_wrong_is_a_fault() {
         let request = post(b"{}");
-        let length = request.head().len() + 2;
+        let length = length_of(&request);
         for cut in [
             &b""[..],
             b"HTTP/1.1 200 OK\r\nContent-Len",
@@ -210,7 +242,7 @@ mod tests {
         tokio::spawn(async move {
             for (number, answers) in connections.iter().enumerate() {
                 let (mut stream, _) = listener.accept().await.unwrap();
-                let mut bytes = vec![0; post(b"{}").head().len() + 2];
+                let mut bytes = vec![0; length_of(&post(b"{}"))];
                 stream.read_exact(&mut bytes).await.unwrap();
                 if *answers {
                     let text = format!("HTTP/1.1 200 OK\r\nContent-Length: 1\r\n\r\n{number}and more");

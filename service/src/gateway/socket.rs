@@ -16,7 +16,6 @@ use tokio::io::{AsyncRead, Interest, ReadBuf};
 
 /// How many sockets a thread keeps; each is a file descriptor.
 const SPARE: usize = 64;
-const SHORT: usize = 4 << 10;
 
 thread_local! {
     static SPARES: RefCell<Vec<TcpStream>> = const { RefCell::new(Vec::new()) };
@@ -124,12 +123,11 @@ fn fresh() -> Result<TcpStream> {
     Ok(socket.into())
 }
 
-/// Writes head and body behind `from` by one call. Where they are short, to copy them costs less than two buffers.
+/// Writes head and body behind `from` by one call.
 fn write(mut stream: &TcpStream, head: &[u8], body: &[u8], from: usize) -> Result<usize> {
     match from.checked_sub(head.len()) {
         Some(behind) => stream.write(&body[behind..]),
         None if body.is_empty() => stream.write(&head[from..]),
-        None if body.len() <= SHORT => stream.write(&[&head[from..], body].concat()),
         None => stream.write_vectored(&[IoSlice::new(&head[from..]), IoSlice::new(body)]),
     }
 }

@@ -249,7 +249,11 @@ async fn what_is_no_call_of_the_method_is_refused() {
     assert!(served.kept.posts.lock().unwrap().is_empty());
     served.nothing_is_held().await;
     let narrow = Served::with(Some(Outcome::taken(0)), 1000).await;
-    assert_eq!(narrow.export(&[], frame(0, &[0; 900])).await.code(), 14);
+    let long = narrow.export(&[], frame(0, &[0; 900])).await;
+    assert_eq!(long.code(), 8, "there is never so much");
+    let mut others = narrow.budget.hold();
+    others.set(990).unwrap();
+    assert_eq!(narrow.export(&[], frame(0, &[0; 20])).await.code(), 14);
 }
 
 #[tokio::test]

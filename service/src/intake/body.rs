@@ -158,7 +158,12 @@ mod tests {
     fn a_bomb_takes_no_more_than_the_limit() {
         let plain = gunzip(&gzip(&vec![0; MOST])).unwrap();
         assert!(plain.capacity() <= MOST, "{}", plain.capacity());
-        assert_eq!(unpacked(gzip(b"{}"), MOST), Err(503));
+        let budget = Budget::new(2 * MOST);
+        let mut others = budget.hold();
+        others.set(MOST).unwrap();
+        let refused = unpack(gzip(b"{}"), Packing::Gzip, &mut budget.hold()).unwrap_err();
+        assert_eq!(refused.status(), 503, "others may give it back");
+        assert_eq!(unpacked(gzip(b"{}"), MOST), Err(413), "there is never so much");
     }
 
     /// What is received of a body that comes in parts, and is broken off behind them.
@@ -199,7 +204,7 @@ mod tests {
             received(Framing::Length(MOST as u64 + 1), &[], most).await,
             Err(413)
         );
-        assert_eq!(received(Framing::Length(100), &[&[0; 100]], 100).await, Err(503));
+        assert_eq!(received(Framing::Length(100), &[&[0; 100]], 100).await, Err(413));
         let long = vec![7; MOST];
         assert_eq!(
             received(Framing::Length(MOST as u64), &[&long], most).await,

@@ -28,6 +28,9 @@ pub enum Refusal {
     BadGzip,
     #[error("body too long")]
     TooLong,
+    /// It would be refused again, since all posts together may not have what it takes to read it.
+    #[error("body too long for the memory that posts may take: --most-bytes")]
+    TooLongForMemory,
     /// It can be sent again: what others sent takes all memory that posts may have.
     #[error("too many bytes in flight")]
     TooManyBytes,
@@ -43,7 +46,7 @@ impl Refusal {
             Refusal::ContentType | Refusal::ContentEncoding => 415,
             Refusal::Late => 408,
             Refusal::BadSender | Refusal::Malformed | Refusal::BadGzip | Refusal::Unreadable(_) => 400,
-            Refusal::TooLong => 413,
+            Refusal::TooLong | Refusal::TooLongForMemory => 413,
             Refusal::HeadTooLong => 431,
             Refusal::TooManyBytes => 503,
         }
@@ -56,8 +59,11 @@ impl Refusal {
 }
 
 impl From<super::weight::Full> for Refusal {
-    fn from(_: super::weight::Full) -> Refusal {
-        Refusal::TooManyBytes
+    fn from(full: super::weight::Full) -> Refusal {
+        match full {
+            super::weight::Full::Now => Refusal::TooManyBytes,
+            super::weight::Full::Ever => Refusal::TooLongForMemory,
+        }
     }
 }
 

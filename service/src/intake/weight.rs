@@ -9,9 +9,14 @@ pub struct Budget {
     used: AtomicUsize,
 }
 
-/// There is no room for so many bytes more.
+/// Why there is no room.
 #[derive(Debug, PartialEq, Eq)]
-pub struct Full;
+pub enum Full {
+    /// Others have taken it, and give it back.
+    Now,
+    /// There is never so much.
+    Ever,
+}
 
 impl Budget {
     pub fn new(most: usize) -> Arc<Budget> {
@@ -38,7 +43,7 @@ impl Budget {
         self.used
             .fetch_update(Relaxed, Relaxed, room)
             .map(|_| ())
-            .map_err(|_| Full)
+            .map_err(|_| Full::Now)
     }
 }
 
@@ -51,6 +56,9 @@ pub struct Hold {
 impl Hold {
     /// Takes this many bytes in the place of those of before. Where there is no room, those of before stay.
     pub fn set(&mut self, bytes: usize) -> Result<(), Full> {
+        if bytes > self.budget.most {
+            return Err(Full::Ever);
+        }
         if bytes > self.bytes {
             self.budget.take(bytes - self.bytes)?;
         } else {
@@ -76,10 +84,11 @@ mod tests {
         let budget = Budget::new(100);
         let (mut first, mut second) = (budget.hold(), budget.hold());
         assert_eq!(first.set(60), Ok(()));
-        assert_eq!(second.set(41), Err(Full));
+        assert_eq!(second.set(41), Err(Full::Now));
         assert_eq!(budget.used(), 60);
         assert_eq!(second.set(40), Ok(()));
-        assert_eq!(second.set(usize::MAX), Err(Full));
+        assert_eq!(second.set(101), Err(Full::Ever));
+        assert_eq!(second.set(usize::MAX), Err(Full::Ever));
         assert_eq!(budget.used(), 100);
     }
 

@@ -10,16 +10,14 @@ use super::work::{blocking, seconds_before_now};
 use super::{Keeper, Trouble};
 use crate::files::{Fault, Ticket};
 use crate::gateway::{Doubt, Gateway};
+use crate::slot::Barrier;
 use std::collections::{BTreeSet, HashSet};
 use std::sync::Arc;
 use std::time::Instant;
-use tokio::sync::{watch, RwLockWriteGuard};
+use tokio::sync::watch;
 
 /// How often a checkpoint is tried, each time with another gateway, before it is said that it failed.
 const TRIES: usize = 3;
-
-/// The gate, held alone.
-type Barrier<'a> = RwLockWriteGuard<'a, Option<Arc<Gateway>>>;
 
 /// What a barrier brought: all posts of the segments before `next` that are in no group yet.
 struct Flushed {
@@ -79,7 +77,7 @@ impl Keeper {
     async fn replace(&mut self, doubt: Doubt, stop: &mut watch::Receiver<bool>) -> Result<Recovered, Fault> {
         self.slot.metrics.checkpoints.with_label_values(&["failed"]).inc();
         tracing::warn!(
-            "slot {}: a checkpoint failed, and the gateway is replaced: {doubt}",
+            "slot {}: a flush failed, and the gateway is replaced: {doubt}",
             self.slot.number()
         );
         self.recover(stop).await
@@ -108,7 +106,7 @@ impl Keeper {
         if let Some(old) = self.gateway.replace(fresh.clone()) {
             old.kill();
         }
-        *barrier = Some(fresh);
+        barrier.put(Some(fresh));
         drop(barrier);
         slot.metrics.renewals.inc();
         slot.metrics
@@ -121,7 +119,7 @@ impl Keeper {
     async fn flush(&mut self, barrier: &Barrier<'_>) -> Result<Flushed, Trouble> {
         self.last_checkpoint = Instant::now();
         let gateway = barrier
-            .as_ref()
+            .gateway()
             .ok_or(Doubt::NoAnswer("there is no gateway".into()))?;
         let fresh = gateway.flush_all().await?;
         let mut bodies = std::mem::take(&mut self.carried);
@@ -150,8 +148,7 @@ impl Keeper {
         self.slot.journal.durable(turned).await;
         let held = self.slot.outbox.quarantined();
         if !held.is_empty() {
-            let copied = self.copy_posts_of(held, first, next).await?;
-            self.slot.journal.durable(copied).await;
+            self.copy_posts_of(held, first, next).await?;
         }
         let outbox = self.slot.outbox.clone();
         blocking(move || outbox.commit(&bodies, next)).await?;
@@ -163,8 +160,9 @@ impl Keeper {
     }
 
     /// Points of quarantined senders outlive a checkpoint: their posts are copied into the new segment. These senders
-    /// post nothing meanwhile, so their order is kept although other posts go on.
-    async fn copy_posts_of(&self, held: BTreeSet<String>, first: u64, next: u64) -> Result<Ticket, Fault> {
+    /// post nothing meanwhile, so their order is kept although other posts go on. The copies are durable when this
+    /// returns: behind the commit the first ones count no more.
+    async fn copy_posts_of(&self, held: BTreeSet<String>, first: u64, next: u64) -> Result<(), Fault> {
         let journal = self.slot.journal.clone();
         blocking(move || {
             let mut kept = Vec::new();
@@ -177,7 +175,7 @@ impl Keeper {
             for post in &kept {
                 journal.append_copy(post);
             }
-            Ok(journal.now())
+            journal.settle_copies()
         })
         .await
     }

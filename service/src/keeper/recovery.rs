@@ -38,7 +38,7 @@ impl Keeper {
             doubted.kill();
         }
         // Who is still inside asks a gateway that is dead.
-        *slot.gate.shut().await = None;
+        slot.gate.shut().await.put(None);
         // What is read of the journal has to be there.
         slot.journal.durable(slot.journal.now()).await;
         slot.own.recoveries.inc();
@@ -77,7 +77,7 @@ impl Keeper {
             .recovery_seconds
             .observe(began.elapsed().as_secs_f64());
         tracing::info!(
-            "slot {}: gateway {} goes on after {:?}, with {} series and {replayed} posts of the journal",
+            "slot {}: gateway {} goes on after {:?}; series: {}, posts of the journal: {replayed}",
             self.slot.number(),
             gateway.pid(),
             began.elapsed(),
@@ -87,7 +87,7 @@ impl Keeper {
     }
 
     async fn put_in(&mut self, gateway: Arc<Gateway>) {
-        *self.slot.gate.shut().await = Some(gateway.clone());
+        self.slot.gate.shut().await.put(Some(gateway.clone()));
         self.slot.show_gateway(&gateway);
         self.gateway = Some(gateway);
         self.slot.gate.open();

@@ -48,7 +48,7 @@ impl Keeper {
         if let Some(gateway) = self.gateway.take() {
             gateway.kill();
         }
-        *self.slot.gate.shut().await = None;
+        self.slot.gate.shut().await.put(None);
     }
 
     async fn serve(&mut self, stop: &mut watch::Receiver<bool>) -> Result<(), Fault> {
@@ -166,8 +166,8 @@ impl Keeper {
         self.slot.gate.stop();
         if let (_, None) = self.checkpoint(stop).await? {
             tracing::warn!(
-                "slot {}: the last checkpoint did not come to its end. Nothing is lost: the journal has {} posts, \
-                 which the next start puts in",
+                "slot {}: the last flush did not come to its end. Nothing is lost: the next start puts in what the \
+                 journal has (posts: {})",
                 self.slot.number(),
                 self.slot.ungrouped()
             );

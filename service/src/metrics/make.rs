@@ -90,7 +90,10 @@ pub fn metrics() -> Result<Metrics> {
 
 fn levels(maker: &Maker) -> Result<Levels> {
     Ok(Levels {
-        ready: maker.gauge("ready", "1 where each slot has a gateway with all accepted posts")?,
+        ready: maker.gauge(
+            "ready",
+            "1 while each slot takes posts, 0 while one answers them 503",
+        )?,
         post_bytes_in_flight: maker.gauge(
             "post_bytes_in_flight",
             "Memory that posts hold until they are answered",

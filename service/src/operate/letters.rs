@@ -30,7 +30,7 @@ impl Desk {
     pub(super) fn letter(&self, key: &str) -> Response<Body> {
         match self.dead.body(key) {
             Ok(Some(body)) => reply(200, JSON, body),
-            Ok(None) => message(404, "no such letter"),
+            Ok(None) => message(404, "no such request"),
             Err(fault) => faulty(&fault),
         }
     }
@@ -38,7 +38,7 @@ impl Desk {
     pub(super) fn drop_letter(&self, key: &str) -> Response<Body> {
         match self.dead.drop_letter(key) {
             Ok(true) => reply(200, JSON, "{}"),
-            Ok(false) => message(404, "no such letter"),
+            Ok(false) => message(404, "no such request"),
             Err(fault) => faulty(&fault),
         }
     }
@@ -47,7 +47,7 @@ impl Desk {
         let _one = self.resending.lock().await;
         let body = match self.dead.body(key) {
             Ok(Some(body)) => body,
-            Ok(None) => return message(404, "no such letter"),
+            Ok(None) => return message(404, "no such request"),
             Err(fault) => return faulty(&fault),
         };
         let Some(request) = forwarded(key, body) else {
@@ -129,7 +129,7 @@ fn forwarded(key: &str, body: Vec<u8>) -> Option<Forwarded> {
 
 /// Nothing but `dead/` is concerned, so the service goes on.
 fn faulty(fault: &Fault) -> Response<Body> {
-    tracing::warn!("the folder of dead letters: {fault}");
+    tracing::warn!("dead/: {fault}");
     message(500, &fault.to_string())
 }
 

@@ -132,8 +132,10 @@ impl Desk {
             }
             Route::Totals => self.totals().await,
             Route::Health => reply(200, TEXT, "ok\n"),
-            Route::Ready if self.is_ready() => reply(200, TEXT, "ready\n"),
-            Route::Ready => message(503, "recovering"),
+            Route::Ready => match self.unavailable() {
+                None => reply(200, TEXT, "ready\n"),
+                Some(why) => message(503, why),
+            },
             Route::Status => match serde_json::to_vec(&self.status()) {
                 Ok(status) => reply(200, JSON, status),
                 Err(error) => message(500, &error.to_string()),

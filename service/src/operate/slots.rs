@@ -11,8 +11,9 @@ use tokio::task::JoinSet;
 const END: &[u8] = b"end\n";
 
 impl Desk {
-    pub(super) fn is_ready(&self) -> bool {
-        self.slots.iter().all(|of| of.slot.is_ready())
+    /// Why a slot answers each post 503.
+    pub(super) fn unavailable(&self) -> Option<&'static str> {
+        self.slots.iter().find_map(|of| of.slot.unavailable())
     }
 
     /// A quarantine or its end is for the sender's slot, all else for each.
@@ -26,7 +27,7 @@ impl Desk {
         let number = slot_of(sender, self.slots.len() as u16);
         match self.slots.get(usize::from(number)) {
             Some(of) => answer(of.orders.order(order).await),
-            None => message(503, "ending"),
+            None => message(503, "stopping"),
         }
     }
 
@@ -63,7 +64,7 @@ impl Desk {
 /// None came where the service is ending.
 fn answer(done: Option<Done>) -> Response<Body> {
     match done {
-        None => message(503, "ending"),
+        None => message(503, "stopping"),
         Some(Done::Flushed { requests }) => reply(200, JSON, json!({ "requests": requests }).to_string()),
         Some(Done::Answered(outcome)) => answered(&outcome),
     }

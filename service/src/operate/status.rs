@@ -13,7 +13,7 @@ pub struct Status {
     pub version: String,
     pub pid: u32,
     pub uptime_seconds: u64,
-    /// Whether a gateway has all accepted posts.
+    /// Whether each slot takes posts.
     pub ready: bool,
     pub listen: String,
     pub data: String,
@@ -66,6 +66,9 @@ impl From<RoundedSeries> for RoundedSeriesStatus {
 #[derive(Debug, Serialize, Deserialize)]
 pub struct SlotStatus {
     pub slot: u16,
+    /// Why its posts are answered 503, in that answer's words.
+    #[serde(default)]
+    pub unavailable: Option<String>,
     pub series: usize,
     pub quarantined: Vec<String>,
     pub gateway: Option<GatewayStatus>,
@@ -104,16 +107,17 @@ impl Stock {
 
 impl Desk {
     pub(super) fn status(&self) -> Status {
+        let slots = self.slot_statuses();
         Status {
             version: env!("CARGO_PKG_VERSION").into(),
             pid: std::process::id(),
             uptime_seconds: self.begun.elapsed().as_secs(),
-            ready: self.is_ready(),
+            ready: slots.iter().all(|slot| slot.unavailable.is_none()),
             listen: self.listen.clone(),
             data: self.data.clone(),
             sink: self.sink.name(),
             dead: self.dead.count(),
-            slots: self.slot_statuses(),
+            slots,
             rounded: self.rounded_status(),
         }
     }
@@ -142,6 +146,7 @@ impl Desk {
         let at_work = self.slots.iter().map(|of| {
             let (journal, since) = of.slot.journal_size();
             SlotStatus {
+                unavailable: of.slot.unavailable().map(String::from),
                 gateway: gateway_status(&of.slot),
                 journal: Stock::new(journal, since),
                 ..SlotStatus::of(&of.left)
@@ -160,7 +165,7 @@ impl Desk {
             ages.max().unwrap_or(0) as i64
         };
         let levels = &self.metrics.levels;
-        levels.ready.set(i64::from(self.is_ready()));
+        levels.ready.set(i64::from(self.unavailable().is_none()));
         levels.post_bytes_in_flight.set(self.budget.used() as i64);
         levels.journal_bytes.set(sum(|slot| slot.journal.bytes));
         levels.journal_age_seconds.set(oldest(|slot| &slot.journal));
@@ -194,6 +199,7 @@ impl SlotStatus {
             .clone(); // a copy is sound
         SlotStatus {
             slot: left.number,
+            unavailable: None,
             series: outbox.series_count(),
             quarantined: outbox.quarantined().into_iter().collect(),
             gateway: None,

@@ -4,9 +4,10 @@
 //! its table. So the memory is that of the JSON, however many small messages the bytes are.
 
 use super::output::{Output, Written};
-use super::schema::{Field, Kind, Message, Wire, EXEMPLAR, KEY_VALUE, KEY_VALUE_LIST, REQUEST};
+use super::schema::{Field, Kind, Message, Wire, EXEMPLAR, KEY_VALUE, KEY_VALUE_LIST, NUMBER_POINT, REQUEST};
 use super::wire::{Fields, Malformed, Payload};
 use super::{Reading, Refused};
+use std::ops::Range;
 
 /// Messages may be nested as deep as protobuf's own readers allow.
 const MAX_DEPTH: usize = 100;
@@ -15,6 +16,7 @@ pub fn written(body: &[u8], reading: &Reading) -> Result<Written, Refused> {
     let mut writer = Writer {
         out: Output::new(body.len() * 3 + 64, reading),
         found: Vec::new(),
+        last: Vec::new(),
     };
     writer.message(&REQUEST, body, 0)?;
     writer.out.written()
@@ -28,6 +30,8 @@ struct Writer<'a, 'r> {
     out: Output<'r>,
     /// Of the messages that are under way, each behind the one around it.
     found: Vec<Found<'a>>,
+    /// Of the last plain point each attribute, and where it is written.
+    last: Vec<(&'a [u8], Range<usize>)>,
 }
 
 /// What a message has of one field.
@@ -257,12 +261,14 @@ impl<'a> Writer<'a, '_> {
         self.out.text.push(b'[');
         let inside = self.out.text.len();
         let are_attributes = std::ptr::eq(of, &KEY_VALUE) && depth + 2 < MAX_DEPTH;
+        let are_points = std::ptr::eq(of, &NUMBER_POINT);
         for payload in found.all(field.number) {
             let from = self.out.text.len();
             self.out.separate(inside);
             let bytes = bytes_of(payload);
             match are_attributes.then(|| key_and_value(bytes)).flatten() {
                 Some((key, value)) => self.attribute(key, value),
+                None if are_points && self.plain_point(bytes) => {}
                 None => self.message(of, bytes, depth + 1)?,
             }
             if let Kind::ResourceAttributes = field.kind {
@@ -271,6 +277,64 @@ impl<'a> Writer<'a, '_> {
         }
         self.out.text.push(b']');
         Ok(())
+    }
+
+    /// Writes a point of a sum as `message` does, if it has what nearly all have and no more, in the order of its table:
+    /// two times, a whole number, attributes with a text or a whole number. Of another nothing is written.
+    fn plain_point(&mut self, point: &'a [u8]) -> bool {
+        let from = self.out.text.len();
+        let is_plain = self.put_plain_point(point).is_some();
+        if !is_plain {
+            self.out.text.truncate(from);
+            self.last.clear(); // it may be of what is gone
+        }
+        is_plain
+    }
+
+    fn put_plain_point(&mut self, point: &'a [u8]) -> Option<()> {
+        let mut fields = Fields::of(point);
+        let (
+            Ok((2, Payload::Fixed64(start))),
+            Ok((3, Payload::Fixed64(end))),
+            Ok((6, Payload::Fixed64(bits))),
+        ) = (fields.next()?, fields.next()?, fields.next()?)
+        else {
+            return None;
+        };
+        self.out.push("{\"startTimeUnixNano\":");
+        self.out.whole(whole(Wire::Fixed64, start));
+        self.out.push(",\"timeUnixNano\":");
+        self.out.whole(whole(Wire::Fixed64, end));
+        self.out.push(",\"asInt\":");
+        self.out.whole(whole(Wire::Sfixed64, bits));
+        let mut ends = ("}", ",\"attributes\":[");
+        for (place, field) in fields.enumerate() {
+            let Ok((7, Payload::Bytes(attribute))) = field else {
+                return None;
+            };
+            self.out.push(ends.1);
+            self.attribute_of_point(place, attribute)?;
+            ends = ("]}", ",");
+        }
+        self.out.push(ends.0);
+        Some(())
+    }
+
+    /// Most points have most attributes as the point before has them.
+    fn attribute_of_point(&mut self, place: usize, attribute: &'a [u8]) -> Option<()> {
+        match self.last.get(place) {
+            Some((same, written)) if *same == attribute => {
+                self.out.text.extend_from_within(written.clone());
+                return Some(());
+            }
+            Some(_) => {}
+            None => self.last.push((&[], 0..0)),
+        }
+        let (key, value) = key_and_value(attribute)?;
+        let from = self.out.text.len();
+        self.attribute(key, value);
+        self.last[place] = (attribute, from..self.out.text.len());
+        Some(())
     }
 
     /// What `message` writes of an attribute with a text or a whole number.

@@ -213,6 +213,7 @@ pub fn write_text(out: &mut String, text: &str) {
 
 /// The same of the bytes of a text.
 pub fn put_text(out: &mut Vec<u8>, text: &[u8]) {
+    out.reserve(text.len() + 2);
     out.push(b'"');
     let mut rest = text;
     loop {
@@ -244,26 +245,63 @@ fn put_escaped(out: &mut Vec<u8>, byte: u8) {
     out.extend([b'\\', short]);
 }
 
+/// This in each byte of a word.
+const EACH: u64 = u64::MAX / 255;
+
 /// How many bytes are before the first `"`, `\` or byte below 32: those that stand for themselves in a text. It looks at
 /// eight bytes at once; the lowest bit that a subtraction leaves is of a byte that is looked for, those above may not be.
 pub fn plain_length(bytes: &[u8]) -> usize {
-    const EACH: u64 = u64::MAX / 255;
     let below = |word: u64, limit: u8| word.wrapping_sub(EACH * u64::from(limit)) & !word;
-    let mut at = 0;
-    while let Some(eight) = bytes[at..].first_chunk() {
-        let word = u64::from_le_bytes(*eight);
+    let first = |word: u64| {
         let quotes = below(word ^ (EACH * u64::from(b'"')), 1);
         let slashes = below(word ^ (EACH * u64::from(b'\\')), 1);
-        let found = (quotes | slashes | below(word, 32)) & (EACH << 7);
-        if found != 0 {
-            return at + found.trailing_zeros() as usize / 8;
+        first_marked(quotes | slashes | below(word, 32))
+    };
+    first_of_words(bytes, first, |byte| byte < 32 || byte == b'"' || byte == b'\\')
+}
+
+/// How many digits are before the first byte that is none.
+pub fn digits_length(bytes: &[u8]) -> usize {
+    let first = |word: u64| {
+        let digits = word ^ (EACH * u64::from(b'0'));
+        first_marked(digits | ((digits & !(EACH << 7)) + EACH * (127 - 9))) // over 9 it carries into the highest bit
+    };
+    first_of_words(bytes, first, |byte| !byte.is_ascii_digit())
+}
+
+/// The place of the lowest byte whose highest bit is set.
+fn first_marked(word: u64) -> Option<usize> {
+    match word & (EACH << 7) {
+        0 => None,
+        marks => Some(marks.trailing_zeros() as usize / 8),
+    }
+}
+
+/// The place of the first byte that is looked for, or their number: `first` has it in eight of them.
+#[inline(always)]
+fn first_of_words(
+    bytes: &[u8],
+    first: impl Fn(u64) -> Option<usize>,
+    is_looked_for: impl Fn(u8) -> bool,
+) -> usize {
+    let mut at = 0;
+    while let Some(eight) = bytes[at..].first_chunk() {
+        if let Some(place) = first(u64::from_le_bytes(*eight)) {
+            return at + place;
         }
         at += 8;
     }
-    let mut last = bytes[at..].iter();
-    at + last
-        .position(|byte| *byte < 32 || *byte == b'"' || *byte == b'\\')
-        .unwrap_or(bytes.len() - at)
+    match bytes.last_chunk() {
+        // The last eight, of which some were looked at.
+        Some(eight) => match first(u64::from_le_bytes(*eight)) {
+            Some(place) => bytes.len() - 8 + place,
+            None => bytes.len(),
+        },
+        None => bytes
+            .iter()
+            .position(|byte| is_looked_for(*byte))
+            .unwrap_or(bytes.len()),
+    }
 }
 
 #[cfg(test)]

@@ -39,6 +39,7 @@ impl<'r> Output<'r> {
         }
     }
 
+    #[inline]
     pub fn push(&mut self, text: &str) {
         self.text.extend_from_slice(text.as_bytes());
     }

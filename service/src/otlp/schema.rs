@@ -236,7 +236,7 @@ static SUM: Message = Message {
     refused: &[],
 };
 
-static NUMBER_POINT: Message = Message {
+pub static NUMBER_POINT: Message = Message {
     name: "NumberDataPoint",
     fields: &[
         field!(

@@ -5,6 +5,7 @@ use prost::Message;
 
 mod explain;
 mod mapping;
+mod points;
 mod random;
 mod refused;
 mod speed;

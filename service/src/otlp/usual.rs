@@ -3,7 +3,7 @@
 //! Here is known what needs no thought: names as the gateway has them, each once, plain texts, short numbers. Of any
 //! other body nothing is said, and `from_json` looks at it.
 
-use super::json::plain_length;
+use super::json::{digits_length, plain_length};
 use super::schema::{Field, Kind, Message, KEY_VALUE, REQUEST};
 use super::Reading;
 
@@ -77,8 +77,7 @@ impl<'a> Look<'a> {
     }
 
     fn digits(&mut self, most: usize) -> Option<&'a [u8]> {
-        let digits = self.rest.iter().take_while(|byte| byte.is_ascii_digit());
-        let (digits, behind) = self.rest.split_at(digits.count());
+        let (digits, behind) = self.rest.split_at(digits_length(self.rest));
         self.rest = behind;
         (1..=most).contains(&digits.len()).then_some(digits)
     }
@@ -148,15 +147,13 @@ impl<'a> Look<'a> {
         }
         let mut found: u32 = 0;
         loop {
-            let name = self.text()?;
-            self.take(b':')?;
-            match of.fields.iter().position(|field| field.name.as_bytes() == name) {
+            match self.field(of)? {
                 Some(place) if found & (1 << place) == 0 => {
                     found |= 1 << place;
                     self.member(&of.fields[place], depth + 1)?;
                 }
-                None if says_nothing(of, name) => self.scalar()?,
-                _ => return None,
+                Some(_) => return None,
+                None => self.scalar()?,
             }
             if !self.goes_on(b'}')? {
                 return Some(());
@@ -164,11 +161,56 @@ impl<'a> Look<'a> {
         }
     }
 
+    /// Passes a name and its colon: the place of its field; no place of a name that says nothing.
+    fn field(&mut self, of: &'static Message) -> Option<Option<usize>> {
+        let rest = self.rest;
+        let is_next = |field: &Field| {
+            let written = field.written.as_bytes();
+            written.get(1) == rest.get(1) && rest.starts_with(written) // most names begin otherwise
+        };
+        if let Some(place) = of.fields.iter().position(is_next) {
+            self.rest = &rest[of.fields[place].written.len()..];
+            return Some(Some(place));
+        }
+        let name = self.text()?;
+        self.take(b':')?;
+        match of.fields.iter().position(|field| field.name.as_bytes() == name) {
+            None if !says_nothing(of, name) => None,
+            place => Some(place),
+        }
+    }
+
+    /// An attribute; where it is a text or a whole number without blanks, as nearly all are, by its words.
+    fn attribute(&mut self, depth: usize) -> Option<()> {
+        let begin = self.rest;
+        let plain = self.plain_attribute();
+        if plain.is_none() {
+            self.rest = begin;
+            return self.message(&KEY_VALUE, depth);
+        }
+        plain
+    }
+
+    fn plain_attribute(&mut self) -> Option<()> {
+        self.word(b"{\"key\":")?;
+        self.text()?;
+        self.word(b",\"value\":{")?;
+        match self.word(b"\"stringValue\":") {
+            Some(()) => self.text().map(|_| ())?,
+            None => {
+                self.word(b"\"intValue\":")?;
+                self.whole()?;
+            }
+        }
+        self.word(b"}}")
+    }
+
     fn member(&mut self, field: &Field, depth: usize) -> Option<()> {
         match field.kind {
             Kind::Message(inner) | Kind::Part(inner) => self.message(inner, depth),
+            Kind::Parts(inner) if std::ptr::eq(inner, &KEY_VALUE) => self.list(|look| look.attribute(depth)),
             Kind::Messages(inner) | Kind::Parts(inner) => self.list(|look| look.message(inner, depth)),
-            Kind::ResourceAttributes => self.list(|look| look.message(&KEY_VALUE, depth)),
+            Kind::ResourceAttributes => self.list(|look| look.attribute(depth)),
             Kind::Text | Kind::Bytes => self.text().map(|_| ()),
             Kind::Unit => {
                 let unit = std::str::from_utf8(self.text()?).ok()?;

@@ -29,9 +29,12 @@ pub(super) async fn slots(folder: &Arc<Folder>, wanted: u16, settings: &Settings
     if now == wanted {
         return Ok(());
     }
+    if folder.slots_with_files()?.is_empty() {
+        return Ok(folder.set_slots(wanted)?);
+    }
     let outboxes = at_rest(folder, now, wanted, settings).await?;
     let moved = adopt(folder, outboxes, now, wanted)?;
-    tracing::info!("the folder had {now} slots and has {wanted}; {moved} series have another slot");
+    tracing::info!("the number of slots was {now} and is {wanted}; series with another slot: {moved}");
     Ok(())
 }
 
@@ -70,7 +73,7 @@ async fn at_rest(
     if !held.is_empty() {
         let names = held.join(", ");
         return Err(refused(format!(
-            "--slots {wanted}: the folder has {now} slots, and their number can't change while senders are \
+            "--slots {wanted}: the folder's number of slots is {now}, and can't change while senders are \
              quarantined ({names}): start with --slots {now}, lift them, and end it"
         )));
     }
@@ -97,7 +100,7 @@ async fn drain(keepers: Vec<Keeper>) -> Result<(), Ended> {
         let drained = ended.map_err(|error| refused(format!("a keeper failed ({error})")))??;
         if !drained {
             return Err(refused(
-                "the number of slots is as it was, since a checkpoint did not come to its end: the lines above say why"
+                "the number of slots is as it was, since a flush did not come to its end: the lines above say why"
                     .into(),
             ));
         }

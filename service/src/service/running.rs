@@ -63,7 +63,7 @@ impl Running {
                 Ok(Some(end)) => ended = ended.and(Err(cause("a keeper", end))),
                 Err(_) => {
                     tracing::warn!(
-                        "ended without a last checkpoint: what was taken is in the journal for the next start"
+                        "ended without a last flush: what was taken is in the journal for the next start"
                     );
                     return ended;
                 }

@@ -185,7 +185,7 @@ impl<S: Store> Run<S> {
         let mut state = self.state.lock().unwrap_or_else(PoisonError::into_inner);
         if state.trouble.is_some() {
             tracing::info!(
-                "{} answers again, after {} tries that failed",
+                "{} answers again; attempts that failed: {}",
                 self.sink.name(),
                 state.tries
             );

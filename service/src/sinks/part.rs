@@ -4,6 +4,12 @@ use super::Fate;
 use serde_json::Value;
 use std::collections::BTreeSet;
 
+/// Why a request is refused whose key is that of another one. No folder gives a key twice, but for one that was put
+/// back over itself, or a copy of a disk.
+pub(super) const OTHER_REQUEST: &str =
+    "its key is that of another request, which was taken: the folder was put back \
+    over itself, or runs twice";
+
 /// What of a request was not added although the rest was.
 #[derive(Debug, Default, PartialEq, Eq)]
 pub(super) struct Left {

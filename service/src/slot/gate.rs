@@ -4,7 +4,7 @@
 //! alone. So what a checkpoint flushes is exactly what the journal has before its turn.
 
 use crate::gateway::Gateway;
-use std::sync::Arc;
+use std::sync::{Arc, Mutex, PoisonError};
 use tokio::sync::{watch, RwLock, RwLockReadGuard, RwLockWriteGuard};
 
 /// What is said at the door, without waiting for the gate.
@@ -19,13 +19,34 @@ pub(crate) enum Phase {
 
 pub(crate) struct Gate {
     gateway: RwLock<Option<Arc<Gateway>>>,
+    /// The process id of the same, for who only wants to see it: a checkpoint holds the gate for long.
+    pid: Mutex<Option<u32>>,
     phase: watch::Sender<Phase>,
+}
+
+/// The gate, held alone: no post is on its way until this is dropped.
+pub(crate) struct Barrier<'a> {
+    gateway: RwLockWriteGuard<'a, Option<Arc<Gateway>>>,
+    pid: &'a Mutex<Option<u32>>,
+}
+
+impl Barrier<'_> {
+    pub fn gateway(&self) -> Option<&Arc<Gateway>> {
+        self.gateway.as_ref()
+    }
+
+    /// From then on this one is asked, or nobody.
+    pub fn put(&mut self, gateway: Option<Arc<Gateway>>) {
+        *self.pid.lock().unwrap_or_else(PoisonError::into_inner) = gateway.as_ref().map(|it| it.pid());
+        *self.gateway = gateway;
+    }
 }
 
 impl Gate {
     pub fn new() -> Gate {
         Gate {
             gateway: RwLock::new(None),
+            pid: Mutex::new(None),
             phase: watch::channel(Phase::Recovering).0,
         }
     }
@@ -39,14 +60,17 @@ impl Gate {
         self.gateway.read().await
     }
 
-    /// For a checkpoint: no post is on its way until this is dropped.
-    pub async fn shut(&self) -> RwLockWriteGuard<'_, Option<Arc<Gateway>>> {
-        self.gateway.write().await
+    /// For a checkpoint.
+    pub async fn shut(&self) -> Barrier<'_> {
+        Barrier {
+            gateway: self.gateway.write().await,
+            pid: &self.pid,
+        }
     }
 
-    /// The gateway, where nobody holds the gate alone.
-    pub fn gateway_now(&self) -> Option<Arc<Gateway>> {
-        self.gateway.try_read().ok()?.clone()
+    /// The process id of the gateway, without waiting for the gate.
+    pub fn pid(&self) -> Option<u32> {
+        *self.pid.lock().unwrap_or_else(PoisonError::into_inner)
     }
 
     /// Refuses posts until there is another gateway. Whether they were taken until now.

@@ -13,7 +13,7 @@ mod verdict;
 mod whole;
 
 pub use claims::Claims;
-pub(crate) use gate::Phase;
+pub(crate) use gate::{Barrier, Phase};
 pub use slots::{slot_of, Slots};
 pub(crate) use verdict::{foreign_of, message_of};
 pub(crate) use whole::Whole;
@@ -29,6 +29,9 @@ use std::sync::atomic::{AtomicU64, Ordering};
 use std::sync::Arc;
 use tokio::sync::Notify;
 use turns::Turns;
+
+/// What is kept free of the disk is all that is left of it.
+pub const NO_ROOM: &str = "no room for the journal";
 
 /// Shared by the intake, which posts, and the keeper, who replaces the gateway.
 pub struct Slot {
@@ -99,6 +102,16 @@ impl Slot {
         Whole::new(async move { slot.request(&sender, &bodies).await }).await
     }
 
+    /// Why each post is answered 503 now, in that answer's words.
+    pub fn unavailable(&self) -> Option<&'static str> {
+        match self.gate.phase() {
+            Phase::Recovering => Some("recovering"),
+            Phase::Stopping => Some("stopping"),
+            Phase::Serving if self.folder.has_room() => None,
+            Phase::Serving => Some(NO_ROOM),
+        }
+    }
+
     /// Whether there is a gateway that has all accepted posts.
     pub fn is_ready(&self) -> bool {
         self.gate.phase() == Phase::Serving
@@ -123,9 +136,9 @@ impl Slot {
         self.journal.size()
     }
 
-    /// The process id of the gateway, where there is one and nobody waits for it.
+    /// The process id of the gateway, where there is one: also while a checkpoint holds it.
     pub fn gateway(&self) -> Option<u32> {
-        self.gate.gateway_now().map(|gateway| gateway.pid())
+        self.gate.pid()
     }
 
     /// How many connections the gateway has had.

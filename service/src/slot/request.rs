@@ -112,12 +112,7 @@ impl Slot {
 
     /// What is said without waiting for anything.
     fn at_the_door(&self) -> Option<Refusal> {
-        match self.gate.phase() {
-            Phase::Recovering => Some(Refusal::unavailable("recovering")),
-            Phase::Stopping => Some(Refusal::unavailable("stopping")),
-            Phase::Serving if self.folder.has_room() => None,
-            Phase::Serving => Some(Refusal::unavailable("no room for the journal")),
-        }
+        self.unavailable().map(Refusal::unavailable)
     }
 
     /// Puts a body to the gateway and into the journal, and says what became of it.

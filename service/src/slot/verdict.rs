@@ -203,10 +203,12 @@ mod tests {
             tokio::spawn(async move { one.durable(&journal).await })
         });
         tokio::time::sleep(Duration::from_millis(50)).await;
-        assert!(answers.iter().all(|answer| !answer.is_finished()));
+        let both_wait = answers.iter().all(|answer| !answer.is_finished());
+        // Before a check that may fail: the journal's end waits for the disk.
         open.store(true, SeqCst);
         for answer in answers {
             answer.await.unwrap();
         }
+        assert!(both_wait);
     }
 }

@@ -72,13 +72,27 @@ async fn a_cut_body_is_no_post() {
 #[tokio::test]
 async fn what_is_over_the_bytes_in_flight_may_be_sent_again() {
     let served = Served::with(Outcome::taken(0), 1000, 8).await;
-    let answer = served.ask(&json(&[b' '; 900])).await;
+    let mut others = served.budget.hold();
+    others.set(990).unwrap();
+    let answer = served.ask(&json(BODY.as_bytes())).await;
     assert_eq!(
         (answer.status, answer.message().as_str()),
         (503, "too many bytes in flight")
     );
     assert!(answer.has("retry-after: 1"), "{}", answer.head);
+    drop(others);
     assert_eq!(served.ask(&json(BODY.as_bytes())).await.status, 200);
+}
+
+/// A sender that was told to send it again would do so for ever.
+#[tokio::test]
+async fn what_is_over_the_bytes_of_all_posts_is_refused_for_good() {
+    let served = Served::with(Outcome::taken(0), 1000, 8).await;
+    for length in [200, 900] {
+        let answer = served.ask(&json(&vec![b' '; length])).await;
+        assert_eq!(answer.status, 413);
+        assert!(answer.message().contains("--most-bytes"), "{}", answer.message());
+    }
 }
 
 #[tokio::test]

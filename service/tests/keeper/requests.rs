@@ -1,7 +1,9 @@
 //! The way of a request: one of a sender at a time, whole, and in several bodies.
 
 use crate::support::{all, message, point, sums, Place};
+use nix::sys::signal::Signal;
 use std::time::Duration;
+use totxegun::keeper::{Done, Order};
 use totxegun::otlp::Outcome;
 
 #[tokio::test(flavor = "multi_thread")]
@@ -9,10 +11,7 @@ async fn posts_of_a_sender_take_turns() {
     let place = Place::of_fake();
     let run = place.run().await;
     place.tell("post-slow", 2);
-    let first = tokio::spawn({
-        let slot = run.slot.clone();
-        async move { slot.post("A".into(), vec![point("a", 10, 20, 1)]).await }
-    });
+    let first = run.begin_post("A", vec![point("a", 10, 20, 1)]);
     tokio::time::sleep(Duration::from_millis(100)).await;
     let second = run.post("A", point("a", 20, 30, 1)).await;
     assert_eq!((first.await.unwrap(), second), (all(), all()));
@@ -24,6 +23,26 @@ async fn posts_of_a_sender_take_turns() {
         "the second was put before the first was answered"
     );
     run.stop().await;
+}
+
+#[tokio::test(flavor = "multi_thread")]
+async fn a_checkpoint_waits_for_the_posts_under_way() {
+    let place = Place::of_fake();
+    let run = place.run().await;
+    place.tell("post-slow", 1);
+    let under_way = run.begin_post("A", vec![point("a", 10, 20, 5)]);
+    while place.log("took").is_empty() {
+        tokio::time::sleep(Duration::from_millis(2)).await;
+    }
+    assert_eq!(run.checkpoint().await, 1);
+    assert_eq!(under_way.await.unwrap(), all());
+    assert!(run.kill_gateway());
+    run.post_until_answered("B", point("b", 10, 20, 1)).await;
+    assert_eq!(
+        sums(&run.stop().await),
+        [("a", 5), ("b", 1)],
+        "the group has it, so the journal's later segments have not"
+    );
 }
 
 #[tokio::test(flavor = "multi_thread")]
@@ -48,16 +67,40 @@ async fn a_sender_that_goes_away_strands_nothing() {
 }
 
 #[tokio::test(flavor = "multi_thread")]
+async fn a_gateway_is_shown_also_while_a_checkpoint_holds_it() {
+    let place = Place::of_fake();
+    let run = place.run().await;
+    let shown = run.slot.gateway();
+    assert_eq!(run.post("A", point("a", 10, 20, 1)).await, all());
+    assert!(run.signal_gateway(Signal::SIGSTOP));
+    let orders = run.orders.clone();
+    let flush = tokio::spawn(async move { orders.order(Order::Checkpoint).await });
+    for _ in 0..30 {
+        tokio::time::sleep(Duration::from_millis(10)).await;
+        assert_eq!((run.slot.is_ready(), run.slot.gateway()), (true, shown));
+    }
+    assert!(!flush.is_finished(), "it waits for the gateway");
+    assert!(run.signal_gateway(Signal::SIGCONT));
+    assert_eq!(flush.await.unwrap(), Some(Done::Flushed { requests: 1 }));
+    assert!(run.kill_gateway());
+    run.post_until_answered("A", point("a", 20, 30, 1)).await;
+    assert!(
+        run.slot.gateway().is_some_and(|pid| Some(pid) != shown),
+        "another is shown"
+    );
+    let slot = run.slot.clone();
+    run.stop().await;
+    assert_eq!(slot.gateway(), None, "none is left");
+}
+
+#[tokio::test(flavor = "multi_thread")]
 async fn nothing_is_taken_once_it_stops() {
     let place = Place::of_fake();
     let run = place.run().await;
     let slot = run.slot.clone();
     assert_eq!(run.post("A", point("a", 10, 20, 5)).await, all());
     place.tell("post-slow", 1);
-    let on_its_way = tokio::spawn({
-        let slot = slot.clone();
-        async move { slot.post("A".into(), vec![point("a", 20, 30, 6)]).await }
-    });
+    let on_its_way = run.begin_post("A", vec![point("a", 20, 30, 6)]);
     tokio::time::sleep(Duration::from_millis(100)).await;
     let taken = run.stop().await;
     assert_eq!(on_its_way.await.unwrap(), all());
@@ -110,10 +153,7 @@ async fn a_doubt_behind_a_body_that_was_taken_is_waited_out() {
         .map(|number| point(&format!("m{number}"), 10, 20, 1))
         .collect();
     place.tell("post-slow", 8);
-    let posting = tokio::spawn({
-        let (slot, many) = (run.slot.clone(), many.clone());
-        async move { slot.post("A".into(), many).await }
-    });
+    let posting = run.begin_post("A", many.clone());
     tokio::time::sleep(Duration::from_millis(500)).await;
     assert!(run.kill_gateway());
     let mut outcome = posting.await.unwrap();

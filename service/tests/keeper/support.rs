@@ -1,6 +1,7 @@
 //! A slot with its keeper over a folder, and what its outbox has.
 
 use bytes::Bytes;
+use nix::sys::signal::Signal;
 use std::collections::BTreeMap;
 use std::path::{Path, PathBuf};
 use std::sync::Arc;
@@ -134,6 +135,12 @@ impl Run {
         self.slot.post(sender.into(), vec![body]).await
     }
 
+    /// A post whose answer is waited for later.
+    pub fn begin_post(&self, sender: &str, bodies: Vec<Bytes>) -> JoinHandle<Outcome> {
+        let (slot, sender) = (self.slot.clone(), sender.to_owned());
+        tokio::spawn(async move { slot.post(sender, bodies).await })
+    }
+
     /// Repeats what is answered 503, as a sender does.
     pub async fn post_until_answered(&self, sender: &str, body: Bytes) -> Outcome {
         let begun = Instant::now();
@@ -165,14 +172,14 @@ impl Run {
 
     /// Kills the gateway from outside.
     pub fn kill_gateway(&self) -> bool {
+        self.signal_gateway(Signal::SIGKILL)
+    }
+
+    pub fn signal_gateway(&self, signal: Signal) -> bool {
         let Some(pid) = self.slot.gateway() else {
             return false;
         };
-        nix::sys::signal::kill(
-            nix::unistd::Pid::from_raw(pid as i32),
-            nix::sys::signal::Signal::SIGKILL,
-        )
-        .is_ok()
+        nix::sys::signal::kill(nix::unistd::Pid::from_raw(pid as i32), signal).is_ok()
     }
 
     pub async fn stop(self) -> Taken {

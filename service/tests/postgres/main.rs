@@ -69,6 +69,9 @@ async fn what_is_taken() {
         "a|3|-1\nb|18|18"
     );
     let most = u64::MAX;
+    for (number, body) in [(31, sum("a", 300, 400, 1)), (31, sum("c", 200, 300, -7))] {
+        refused(&*sink, number, body, "key is that of another request").await;
+    }
     for number in 40..43 {
         let (start, end) = (most - 50 + number, most - 49 + number);
         taken(

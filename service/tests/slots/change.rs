@@ -91,14 +91,19 @@ fn a_quarantine_keeps_the_number() {
     assert_eq!(refused.status_of_end(), Some(1));
     let log = place.log();
     assert!(
-        log.contains("--slots 3: the folder has 2 slots") && log.contains("(A)"),
+        log.contains("--slots 3: the folder's number of slots is 2") && log.contains("(A)"),
         "{log}"
     );
+    assert!(!log.contains("the number of slots was"), "it was fresh: {log}");
     let service = place.serve(2);
     assert_eq!(service.post("A", &points(&["a"], 110, 5)).unwrap().0, 403);
     assert_eq!(service.order("/lift/A").0, 200);
     assert_eq!(service.end(), Some(0));
     let service = place.serve(3);
+    assert!(
+        place.log().contains("the number of slots was 2 and is 3"),
+        "{log}"
+    );
     assert_eq!(service.post("A", &points(&["a"], 110, 5)).unwrap().0, 200);
     service.drain();
     assert_eq!(service.end(), Some(0));

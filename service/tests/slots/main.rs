@@ -2,6 +2,7 @@
 
 mod change;
 mod support;
+mod told;
 
 use std::time::Duration;
 use support::{points, signal, until, Load, Place};

@@ -9,6 +9,7 @@ use std::sync::atomic::{AtomicBool, Ordering::Relaxed};
 use std::sync::{Arc, RwLock};
 use std::time::{Duration, Instant};
 
+pub const PROGRAM: &str = env!("CARGO_BIN_EXE_totxegun");
 const PATIENCE: Duration = Duration::from_secs(120);
 /// Nobody listens there.
 pub const NO_SINK: &str = "http://127.0.0.1:9/v1/metrics";
@@ -45,13 +46,18 @@ impl Place {
 
     /// A service that may not be ready yet.
     pub fn begin(&self, words: &[&str]) -> Service {
+        self.begin_by(Command::new(PROGRAM), words)
+    }
+
+    /// By a command that starts the program in its own place.
+    pub fn begin_by(&self, mut command: Command, words: &[&str]) -> Service {
         let (listen, operate) = (free_address(), free_address());
         let log = std::fs::File::options()
             .create(true)
             .append(true)
             .open(self.folder.path().join("log.txt"))
             .unwrap();
-        let child = Command::new(env!("CARGO_BIN_EXE_totxegun"))
+        let child = command
             .args([
                 "serve",
                 "--flush-every",
@@ -89,7 +95,7 @@ impl Place {
 
     /// By the metric's name, its total, as the program's own command shows it.
     pub fn totals(&self) -> BTreeMap<String, i64> {
-        let output = Command::new(env!("CARGO_BIN_EXE_totxegun"))
+        let output = Command::new(PROGRAM)
             .args(["totals", "--json", "--sink", &self.sink()])
             .output()
             .unwrap();
@@ -153,7 +159,26 @@ impl Service {
     }
 
     pub fn is_ready(&self) -> bool {
-        matches!(asked(&self.operate, "GET", "/ready", "-", ""), Some((200, _)))
+        matches!(self.asked_for("/ready"), Some((200, _)))
+    }
+
+    pub fn asked_for(&self, path: &str) -> Option<(u16, String)> {
+        asked(&self.operate, "GET", path, "-", "")
+    }
+
+    /// What a command of the program says, on either stream.
+    pub fn said(&self, words: &[&str]) -> String {
+        let output = Command::new(PROGRAM)
+            .args(words)
+            .args(["--operate", &self.operate])
+            .output()
+            .unwrap();
+        String::from_utf8([output.stdout, output.stderr].concat()).unwrap()
+    }
+
+    /// The root of its files.
+    pub fn root(&self) -> PathBuf {
+        format!("/proc/{}/root", self.child.id()).into()
     }
 
     pub fn status(&self) -> serde_json::Value {

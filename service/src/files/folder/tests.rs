@@ -39,6 +39,11 @@ fn a_second_service_is_refused_by_name_until_the_first_has_ended() {
     ]);
     let other = this.env("TOTXEGUN_TEST_FOLDER", place.path()).output().unwrap();
     assert!(other.status.success() && String::from_utf8_lossy(&other.stdout).contains("refused"));
+    std::fs::remove_file(place.path().join("lock")).unwrap();
+    assert!(
+        matches!(open(place.path()), Err(FolderFault::InUse(_))),
+        "its lock was deleted"
+    );
     drop(first);
     open(place.path()).unwrap();
 }
@@ -105,6 +110,73 @@ fn the_epoch_stays_until_the_folder_is_copied_or_it_is_renewed() {
     assert_ne!(renewed, drawn);
     drop(folder);
     assert_eq!(epoch(&open(&first).unwrap()), renewed);
+}
+
+/// The lock's inode is free once the first folder is deleted, and another file system has the same numbers.
+#[test]
+fn a_copy_whose_lock_has_the_same_inode_is_told_too() {
+    let place = tempfile::tempdir().unwrap();
+    let version = place.path().join("version");
+    let text = || std::fs::read_to_string(&version).unwrap();
+    let folder = open(place.path()).unwrap();
+    let drawn = epoch(&folder);
+    let Some(born) = folder.identity().unwrap().born else {
+        return; // this file system does not know it
+    };
+    folder.set_slots(2).unwrap();
+    drop(folder);
+    let born = format!("born {born}\n");
+    assert!(text().ends_with(&born), "{}", text());
+    // As an earlier totxegun writes it.
+    std::fs::write(&version, text().replace(&born, "")).unwrap();
+    assert_eq!(epoch(&open(place.path()).unwrap()), drawn);
+    assert!(text().ends_with(&format!("slots 2\n{born}")), "{}", text());
+    std::fs::write(&version, text().replace(&born, "born 5\n")).unwrap();
+    let copy = open(place.path()).unwrap();
+    assert_ne!(epoch(&copy), drawn);
+    assert_eq!((copy.slots(), text().ends_with(&born)), (2, true));
+    // Most file systems give this one's inode to the next file.
+    let drawn = epoch(&copy);
+    drop(copy);
+    std::fs::remove_file(place.path().join("lock")).unwrap();
+    assert_ne!(epoch(&open(place.path()).unwrap()), drawn);
+}
+
+#[test]
+fn a_folder_that_is_made_has_a_name_that_lasts() {
+    use crate::files::disk::Call;
+    let place = tempfile::tempdir().unwrap();
+    let synced = Arc::new(Mutex::new(Vec::new()));
+    let seen = synced.clone();
+    let disk = Disk::failing(move |call, path: &Path| {
+        if call == Call::SyncFolder {
+            super::super::lock(&seen).push(path.to_path_buf());
+        }
+        Ok(())
+    });
+    let path = place.path().join("new/folder");
+    for _ in 0..2 {
+        drop(Folder::open_on(disk.clone(), &path, Durability::Disk).unwrap());
+        let synced = std::mem::take(&mut *super::super::lock(&synced));
+        assert!(synced.contains(&place.path().join("new")), "{synced:?}");
+        assert_eq!(synced.contains(&place.path().into()), synced.contains(&path));
+    }
+}
+
+#[test]
+fn an_outbox_that_begins_anew_in_an_old_folder_has_keys_of_its_own() {
+    let place = tempfile::tempdir().unwrap();
+    let folder = open(place.path()).unwrap();
+    let drawn = epoch(&folder);
+    assert_eq!(folder.slot(0).unwrap().1.epoch(), drawn);
+    drop(folder);
+    std::fs::remove_dir_all(place.path().join("slot-0")).unwrap();
+    let folder = open(place.path()).unwrap();
+    let anew = folder.slot(0).unwrap().1.epoch();
+    assert_ne!(anew, drawn);
+    drop(folder);
+    let folder = open(place.path()).unwrap();
+    assert_eq!(folder.slot(0).unwrap().1.epoch(), anew, "it stays from then on");
 }
 
 #[test]
@@ -174,7 +246,7 @@ fn the_number_of_slots_stays_and_one_slot_is_of_version_1() {
     folder.set_slots(1).unwrap();
     assert_eq!(folder.slots(), 1);
     assert!(
-        text().starts_with("totxegun 2\n") && text().ends_with("slots 1\n"),
+        text().starts_with("totxegun 2\n") && text().contains("\nslots 1\n"),
         "files of other slots are left: {}",
         text()
     );

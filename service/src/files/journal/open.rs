@@ -30,11 +30,11 @@ impl Journal {
         reach: u64,
     ) -> Result<Journal, Fault> {
         disk.make_folder(folder)?;
-        segment::settle(disk, folder)?;
+        segment::settle(disk, folder, reach)?;
         let mut sizes = close(disk, folder, reach)?;
         let number = sizes.last().map_or(1, |last| last.number + 1).max(reach);
         let path = segment::path(folder, number);
-        let segment = Segment::create(disk, path, Which::Journal, number, durability == Durability::Disk)?;
+        let segment = Segment::create(disk, path, Which::Journal, number, super::ahead(durability))?;
         sizes.push(Size {
             number,
             bytes: 0,
@@ -88,9 +88,15 @@ fn close(disk: &Disk, folder: &Path, reach: u64) -> Result<Vec<Size>, Fault> {
     for number in numbers {
         found.push(find(folder, number)?);
     }
-    let Some(torn) = found.iter().position(|one| !one.closed) else {
-        return Ok(found.into_iter().map(|one| one.size).collect());
-    };
+    if let Some(torn) = found.iter().position(|one| !one.closed) {
+        cut(disk, folder, &mut found, torn)?;
+    }
+    drop_empty(disk, folder, &mut found)?;
+    Ok(found.into_iter().map(|one| one.size).collect())
+}
+
+/// Cuts the segment at this place, with what follows it.
+fn cut(disk: &Disk, folder: &Path, found: &mut Vec<Found>, torn: usize) -> Result<(), Fault> {
     let (path, end) = (segment::path(folder, found[torn].size.number), found[torn].end);
     is_torn(&path, end)?;
     if found[torn + 1..].iter().any(|later| later.has_marks) {
@@ -113,8 +119,15 @@ fn close(disk: &Disk, folder: &Path, reach: u64) -> Result<Vec<Size>, Fault> {
     } else {
         segment::close_at(disk, &path, end)?;
     }
-    disk.sync_folder(folder)?;
-    Ok(found.into_iter().map(|one| one.size).collect())
+    disk.sync_folder(folder)
+}
+
+/// Deletes the last segments that have no post. Starts that end at once would leave one each.
+fn drop_empty(disk: &Disk, folder: &Path, found: &mut Vec<Found>) -> Result<(), Fault> {
+    while let Some(last) = found.pop_if(|last| last.size.bytes == 0) {
+        disk.remove(&segment::path(folder, last.size.number))?;
+    }
+    Ok(())
 }
 
 fn find(folder: &Path, number: u64) -> Result<Found, Fault> {

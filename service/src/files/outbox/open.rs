@@ -38,12 +38,14 @@ impl Outbox {
         longest: u64,
     ) -> Result<Outbox, Fault> {
         disk.make_folder(folder)?;
-        segment::settle(disk, folder)?;
         let numbers = segment::numbers(folder)?;
         segment::check_row(folder, &numbers)?;
-        let mut state = read_all(disk, folder, &numbers, epoch)?;
+        // Each is begun once the one before it is durable.
+        segment::settle(disk, folder, numbers.last().copied().unwrap_or(0))?;
+        let (mut state, has_requests) = read_all(disk, folder, &numbers, epoch)?;
         state.next_epoch = epoch.into();
-        let number = numbers.last().map_or(1, |last| last + 1);
+        // A segment without a request is replaced: starts that end at once would leave one each.
+        let number = numbers.last().map_or(1, |last| last + u64::from(has_requests));
         let segment = begin(disk, folder, number, &state.snapshot())?;
         let outbox = Outbox {
             disk: disk.clone(),
@@ -63,10 +65,10 @@ impl Outbox {
     }
 }
 
-/// Reads the segments, and closes the last of them.
-fn read_all(disk: &Disk, folder: &Path, numbers: &[u64], epoch: &str) -> Result<State, Fault> {
+/// Reads the segments, and closes the last of them. Whether that one has requests, taken or not.
+fn read_all(disk: &Disk, folder: &Path, numbers: &[u64], epoch: &str) -> Result<(State, bool), Fault> {
     let Some((last, earlier)) = numbers.split_last() else {
-        return Ok(State::new(epoch));
+        return Ok((State::new(epoch), false));
     };
     let mut batches = Vec::new();
     for number in earlier {
@@ -77,6 +79,7 @@ fn read_all(disk: &Disk, folder: &Path, numbers: &[u64], epoch: &str) -> Result<
     if let Some(end) = end {
         segment::close_at(disk, &reading.reader.path, end)?;
     }
+    let has_requests = !state.batches.is_empty();
     batches.extend(std::mem::take(&mut state.batches));
     state.bytes = 0;
     let mut next = None;
@@ -100,7 +103,7 @@ fn read_all(disk: &Disk, folder: &Path, numbers: &[u64], epoch: &str) -> Result<
             "a request is missing that the sink does not have: put all of its folder back",
         ));
     }
-    Ok(state)
+    Ok((state, has_requests))
 }
 
 /// What of a batch still waits.

@@ -131,6 +131,32 @@ async fn groups_come_back_with_their_numbers_bytes_and_series() {
 }
 
 #[tokio::test]
+async fn starts_that_end_at_once_leave_one_segment() {
+    let folder = tempfile::tempdir().unwrap();
+    let outbox = open(folder.path());
+    let first = body(&[("a", 1)], "first");
+    outbox.commit(std::slice::from_ref(&first), 2).unwrap();
+    outbox.quarantine("s").unwrap();
+    let before = view(&outbox);
+    drop(outbox);
+    for _ in 0..3 {
+        drop(open(folder.path()));
+        kill(open(folder.path()));
+    }
+    assert_eq!(segment::numbers(folder.path()).unwrap(), [1, 2]);
+    let outbox = open(folder.path());
+    assert_eq!(view(&outbox), before);
+    assert_eq!(take(&outbox).await, (1, first));
+    kill(outbox);
+    drop(open(folder.path()));
+    let outbox = open(folder.path());
+    assert_eq!(
+        (outbox.waiting().0, segment::numbers(folder.path()).unwrap().len()),
+        (0, 1)
+    );
+}
+
+#[tokio::test]
 async fn what_waits_keeps_its_epoch() {
     let folder = tempfile::tempdir().unwrap();
     let outbox = open(folder.path());

@@ -160,3 +160,26 @@ fn numbers_near_the_range_are_known() {
         );
     }
 }
+
+#[test]
+fn the_ends_of_texts_and_digits_are_those_that_a_look_at_each_byte_finds() {
+    let is_plain = |byte: &u8| *byte >= 32 && *byte != b'"' && *byte != b'\\';
+    for length in 0..=26 {
+        for place in 0..length {
+            for byte in 0..=255u8 {
+                let mut bytes = vec![b'7'; length];
+                bytes[place] = byte;
+                if let Some(next) = bytes.get_mut(place + 1) {
+                    *next = byte.wrapping_add(1);
+                }
+                let plain = bytes.iter().take_while(|byte| is_plain(byte)).count();
+                let digits = bytes.iter().take_while(|byte| byte.is_ascii_digit()).count();
+                assert_eq!(
+                    (plain_length(&bytes), digits_length(&bytes)),
+                    (plain, digits),
+                    "{bytes:?}"
+                );
+            }
+        }
+    }
+}

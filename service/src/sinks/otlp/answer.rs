@@ -31,9 +31,10 @@ struct Taken {
 #[serde(default, rename_all = "camelCase")]
 struct PartialSuccess {
     #[prost(int64, tag = "1")]
-    #[serde(deserialize_with = "whole")]
+    #[serde(alias = "rejected_data_points", deserialize_with = "whole")]
     rejected_data_points: i64,
     #[prost(string, tag = "2")]
+    #[serde(alias = "error_message", deserialize_with = "text")]
     error_message: String,
 }
 
@@ -136,9 +137,12 @@ fn taken(body: Read, encoding: Encoding) -> Fate {
     }
 }
 
+/// By either name of a field, as the mapping has them; null is nothing.
 fn partial_of_json(bytes: &[u8]) -> Option<PartialSuccess> {
     let mut answer: serde_json::Value = serde_json::from_slice(bytes).ok()?;
-    serde_json::from_value(answer.get_mut("partialSuccess")?.take()).ok()
+    let mut named = |name| answer.get_mut(name).map(serde_json::Value::take);
+    let partial = named("partialSuccess").or_else(|| named("partial_success"))?;
+    serde_json::from_value(partial).ok()
 }
 
 /// A 64-bit number of OTLP/JSON: a string, or a number all the same.
@@ -150,9 +154,15 @@ fn whole<'de, D: serde::Deserializer<'de>>(deserializer: D) -> Result<i64, D::Er
         Text(String),
     }
     match serde::Deserialize::deserialize(deserializer)? {
-        Whole::Number(number) => Ok(number),
-        Whole::Text(text) => text.parse().map_err(serde::de::Error::custom),
+        None => Ok(0),
+        Some(Whole::Number(number)) => Ok(number),
+        Some(Whole::Text(text)) => text.parse().map_err(serde::de::Error::custom),
     }
+}
+
+fn text<'de, D: serde::Deserializer<'de>>(deserializer: D) -> Result<String, D::Error> {
+    let text: Option<String> = serde::Deserialize::deserialize(deserializer)?;
+    Ok(text.unwrap_or_default())
 }
 
 /// What the sink says is wrong.

@@ -51,6 +51,7 @@ async fn rejected_points_are_told() {
     for body in [
         r#"{"partialSuccess":{"rejectedDataPoints":"3","errorMessage":"too old"}}"#,
         r#"{"partialSuccess":{"rejectedDataPoints":3,"errorMessage":"too old","more":1}}"#,
+        r#"{"partial_success":{"rejected_data_points":"3","error_message":"too old"}}"#,
     ] {
         assert_eq!(
             fate_of("200 OK", "content-type: application/json\r\n", body).await,
@@ -58,6 +59,13 @@ async fn rejected_points_are_told() {
             "{body}"
         );
     }
+    let without_reason = Fate::TakenPartly {
+        rejected: 3,
+        reason: String::new(),
+        left: None,
+    };
+    let json = r#"{"partialSuccess":{"rejectedDataPoints":"3","errorMessage":null}}"#;
+    assert_eq!(fate_of("200 OK", "", json).await, without_reason);
 }
 
 /// The answer's own kind decides, not that of the request.

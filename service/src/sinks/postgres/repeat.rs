@@ -6,7 +6,7 @@ use super::series::Known;
 use super::store::Writing;
 use super::values::Numeric;
 use crate::otlp::series::{self, ForwardedPoint, SeriesKey};
-use crate::sinks::part::Left;
+use crate::sinks::part::{Left, OTHER_REQUEST};
 use crate::sinks::Forwarded;
 use std::collections::HashSet;
 
@@ -77,9 +77,6 @@ impl Writing<'_> {
         request: &Forwarded,
         all: &[OfSeries],
     ) -> Result<Option<Left>, NotTaken> {
-        if added == points(all) {
-            return Ok(None);
-        }
         let each = || {
             all.iter()
                 .flat_map(|series| series.points.iter().map(move |point| (&series.digest[..], point)))
@@ -89,6 +86,9 @@ impl Writing<'_> {
         let rows = self
             .rows(&self.statements.left, &[&row, &digests, &starts])
             .await?;
+        if rows.len() as i64 != points(all) - added {
+            return Err(NotTaken::Refused(OTHER_REQUEST.into()));
+        }
         let points: Vec<&ForwardedPoint> = each().map(|(_, point)| point).collect();
         let mut refused = Refused::default();
         for row in rows {

@@ -137,6 +137,13 @@ fn not_taken(path: &Path, error: rusqlite::Error) -> NotTaken {
     }
 }
 
+/// The earliest start and the latest end.
+fn time_of(points: &[ForwardedPoint]) -> (u64, u64) {
+    let first = points.iter().map(|point| point.start).min().unwrap_or(0);
+    let last = points.iter().map(|point| point.end).max().unwrap_or(0);
+    (first, last)
+}
+
 /// A transaction while a request is written.
 struct Writing<'a> {
     transaction: Transaction<'a>,
@@ -153,8 +160,7 @@ impl Writing<'_> {
 
     /// What is left, where it is not all: a request of which nothing can be added is refused as it is.
     fn request(&mut self, request: &Forwarded, points: &[ForwardedPoint]) -> Result<Option<Left>, NotTaken> {
-        let first = points.iter().map(|point| point.start).min().unwrap_or(0);
-        let last = points.iter().map(|point| point.end).max().unwrap_or(0);
+        let (first, last) = time_of(points);
         let row = self.of(|transaction| {
             transaction
                 .prepare_cached(

@@ -67,6 +67,53 @@ async fn who_goes_away_leaves_nobody_waiting() {
     }
 }
 
+/// Behind a sync that failed the system takes for written what it has in memory alone.
+#[test]
+fn what_an_earlier_run_wrote_is_written_anew_before_it_is_believed() {
+    let folder = tempfile::tempdir().unwrap();
+    for text in ["a", "b", "c"] {
+        append(&open(folder.path()), text);
+    }
+    let before = |number| std::fs::read(segment::path(folder.path(), number)).unwrap();
+    let written = [before(1), before(2), before(3)];
+    let calls = Arc::new(Mutex::new(Vec::new()));
+    let seen = calls.clone();
+    let disk = Disk::failing(move |call, path: &Path| {
+        lock(&seen).push((call, path.to_path_buf()));
+        Ok(())
+    });
+    let journal = open_from(&disk, folder.path(), Durability::Disk, 2).unwrap();
+    for (number, wanted) in [
+        (1, &[Call::Sync][..]),
+        (2, &[Call::Write, Call::Sync]),
+        (3, &[Call::Write, Call::Sync]),
+    ] {
+        let path = segment::path(folder.path(), number);
+        let of_it: Vec<Call> = lock(&calls)
+            .iter()
+            .filter(|one| one.1 == path)
+            .map(|one| one.0)
+            .collect();
+        assert_eq!(of_it, wanted, "{number}");
+    }
+    assert_eq!([before(1), before(2), before(3)], written);
+    assert_eq!(texts(&journal, 2), ["b", "c"]);
+}
+
+/// The posts that they are copies of may be durable for long.
+#[test]
+fn copies_are_durable_before_they_count_where_posts_are_only_written() {
+    let folder = tempfile::tempdir().unwrap();
+    let journal = open(folder.path());
+    let durable = || journal.shared.durable.load(SeqCst);
+    let ticket = journal.append(&post("a"));
+    journal.turn();
+    let copied = journal.append_copy(&post("a"));
+    assert!(durable() < ticket.0);
+    journal.settle_copies().unwrap();
+    assert!(durable() >= copied.0);
+}
+
 #[test]
 fn a_process_only_journal_waits_for_nothing() {
     let folder = tempfile::tempdir().unwrap();
@@ -165,4 +212,28 @@ fn what_was_copied_is_durable_before_its_first_place_is_deleted() {
     };
     assert!(position(Call::Sync, 2).unwrap() < position(Call::Remove, 1).unwrap());
     assert!(position(Call::Write, 2).unwrap() < position(Call::Sync, 2).unwrap());
+}
+
+#[test]
+fn what_an_earlier_run_wrote_is_synced_before_it_is_believed() {
+    let folder = tempfile::tempdir().unwrap();
+    let earlier = open(folder.path());
+    append(&earlier, "a");
+    earlier.turn();
+    append(&earlier, "b");
+    kill(earlier);
+    let synced = Arc::new(Mutex::new(Vec::new()));
+    let seen = synced.clone();
+    let disk = Disk::failing(move |call, path| {
+        if call == Call::Sync {
+            seen.lock().unwrap().push(path.to_path_buf());
+        }
+        Ok(())
+    });
+    let journal = open_on(&disk, folder.path(), Durability::Process).unwrap();
+    assert_eq!(texts(&journal, 1), ["a", "b"]);
+    for number in [1, 2] {
+        let path = segment::path(folder.path(), number);
+        assert!(synced.lock().unwrap().contains(&path), "{path:?}");
+    }
 }

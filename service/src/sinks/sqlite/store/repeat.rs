@@ -1,8 +1,8 @@
 //! A request whose key is taken: what was left of it then is left again.
 
-use super::{Whole, Writing};
+use super::{time_of, Whole, Writing};
 use crate::otlp::series::ForwardedPoint;
-use crate::sinks::part::Left;
+use crate::sinks::part::{Left, OTHER_REQUEST};
 use crate::sinks::sqlite::fault::NotTaken;
 use crate::sinks::Forwarded;
 use rusqlite::{params, OptionalExtension, Transaction};
@@ -12,17 +12,23 @@ pub(super) struct Taken {
     row: i64,
     /// How many of its points were added.
     points: usize,
+    /// Of all its points.
+    time: (u64, u64),
 }
 
 pub(super) fn find(transaction: &Transaction, request: &Forwarded) -> rusqlite::Result<Option<Taken>> {
     transaction
-        .prepare_cached("select id, points from request where slot = ?1 and epoch = ?2 and number = ?3")?
+        .prepare_cached(
+            "select id, points, first_start_ns, last_end_ns from request
+             where slot = ?1 and epoch = ?2 and number = ?3",
+        )?
         .query_row(
             params![request.slot, request.epoch, Whole(request.number)],
             |row| {
                 Ok(Taken {
                     row: row.get(0)?,
                     points: row.get::<_, i64>(1)? as usize,
+                    time: (row.get::<_, Whole>(2)?.0, row.get::<_, Whole>(3)?.0),
                 })
             },
         )
@@ -44,6 +50,9 @@ impl Writing<'_> {
         taken: &Taken,
         points: &[ForwardedPoint],
     ) -> Result<Option<Left>, NotTaken> {
+        if taken.time != time_of(points) || taken.points > points.len() {
+            return Err(NotTaken::Refused(OTHER_REQUEST.into()));
+        }
         if taken.points == points.len() {
             return Ok(None);
         }

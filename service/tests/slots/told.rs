@@ -1,0 +1,97 @@
+//! What an operator is told.
+
+use crate::support::{points, until, Place, PROGRAM};
+use std::process::Command;
+
+#[test]
+fn a_quarantined_sender_that_names_none_is_shown() {
+    let place = Place::new();
+    let service = place.serve(1);
+    let shown = || service.said(&["status"]).lines().last().unwrap().to_string();
+    assert!(shown().ends_with("none"), "{}", shown());
+    assert_eq!(service.order("/quarantine/-").0, 200);
+    assert!(shown().ends_with("1 sender: - (who names none)"), "{}", shown());
+    assert_eq!(service.end(), Some(0));
+    let checked = Command::new(PROGRAM)
+        .arg("check")
+        .arg(place.data())
+        .output()
+        .unwrap();
+    let text = String::from_utf8(checked.stdout).unwrap();
+    assert!(text.contains("1 sender: - (who names none)"), "{text}");
+}
+
+#[test]
+fn a_wrong_key_is_that_of_no_request() {
+    let place = Place::new();
+    let service = place.serve(1);
+    for what in ["show", "resend", "drop"] {
+        let said = service.said(&["dead", what, "0-a-1"]);
+        assert!(said.contains("no such request"), "{what}: {said}");
+    }
+}
+
+/// A start of the program with a small disk of its own in the place of the folder.
+fn on_a_small_disk(place: &Place) -> Command {
+    std::fs::create_dir(place.data()).unwrap();
+    let mut command = Command::new("unshare");
+    let script = "mount -t tmpfs -o size=80m tmpfs \"$1\" && shift && exec \"$@\"";
+    command
+        .args(["--mount", "sh", "-c", script, "sh"])
+        .arg(place.data())
+        .arg(PROGRAM);
+    command
+}
+
+fn may_mount() -> bool {
+    let tried = Command::new("unshare")
+        .args(["--mount", "mount", "-t", "tmpfs", "tmpfs", "/mnt"])
+        .status();
+    tried.is_ok_and(|status| status.success())
+}
+
+#[test]
+fn a_disk_without_room_is_told() {
+    if !may_mount() {
+        eprintln!("skipped: no right to mount");
+        return;
+    }
+    let place = Place::new();
+    let sink = format!("sqlite:{}", place.folder.path().join("sink.db").display());
+    let service = place.begin_by(on_a_small_disk(&place), &["--sink", &sink]);
+    until("it is ready", || service.is_ready());
+    assert_eq!(service.post("A", &points(&["a"], 100, 5)).unwrap().0, 200);
+    assert!(service.metrics().contains("totxegun_ready 1"));
+    let disk = place.data();
+    let filling = service
+        .root()
+        .join(disk.strip_prefix("/").unwrap())
+        .join("filling");
+    std::fs::write(&filling, vec![0; 20 << 20]).unwrap();
+    until("posts are refused", || {
+        service.post("A", &points(&["a"], 110, 5)).unwrap().0 == 503
+    });
+    let (status, text) = service.asked_for("/ready").unwrap();
+    assert!(
+        status == 503 && text.contains("no room for the journal"),
+        "{text}"
+    );
+    assert!(service.metrics().contains("totxegun_ready 0"));
+    let said = service.said(&["status"]);
+    let lines: Vec<&str> = said.lines().collect();
+    assert!(lines[0].contains("not ready"), "{said}");
+    let why = format!(
+        "no room for the journal: make room on the disk of {}",
+        disk.display()
+    );
+    assert!(
+        lines[1].starts_with("posts get 503") && lines[1].ends_with(&why),
+        "{said}"
+    );
+    std::fs::remove_file(&filling).unwrap();
+    until("it is ready again", || service.is_ready());
+    let answer = service.post_until_answered("A", &points(&["a"], 120, 5));
+    assert_eq!(answer.0, 200, "{answer:?}");
+    service.drain();
+    assert_eq!(service.end(), Some(0));
+}
