@@ -44,7 +44,7 @@ edits: ## tries all wrong code
 	@tools/toolchain
 	@tools/edits.py $(NAME)
 
-# A few minutes each: a test has to find what is wrong with each.
+# A minute or two each: a test has to find what is wrong with each.
 wrong: ## tries wrong copies of the service
 	@tools/wrong.py bin/gateway $(NAME)
 

@@ -116,7 +116,7 @@ def replay(arguments):
             with serving(arguments, *BY_ORDER, "--durable", arguments.durable) as one:
                 posted_all(Senders(one.listen, CLIENTS, Posts("sum", points, SERIES, "json", "kept")), posts)
                 counted, answered = killed(one, 0)
-                replayed = re.findall(r"and (\d+) posts of the journal", one.last_lines())[-1]
+                replayed = re.findall(r"posts of the journal: (\d+)", one.last_lines())[-1]
                 print(f"{posts:,} posts of {points} points: {int(replayed):,} replayed in {counted:.2f} s; a post is answered"
                       f" {answered:.2f} s behind the kill", flush=True)
 

@@ -6,6 +6,8 @@
  *                 middle      half of what is to be written is, and the process is killed; else as behind
  *                 behind      the call is made, and the process is killed
  *                 ENOSPC|EIO  the call is not made and fails so; the process goes on
+ *                 held        a sync is not made and does not return; others go on, and the process is killed behind
+ *                             the next sync that is made, or after five seconds
  *   INTERRUPT_SHADOW=DIR      for a loss of power, what a sync made durable is kept here:
  *                               file-INODE      the bytes of a file as they were when it was synced
  *                               folder-INODE    a line `INODE NAME` for each entry of a folder when that was synced
@@ -33,14 +35,14 @@
 #include <sys/uio.h>
 #include <unistd.h>
 
-enum how { BEFORE, MIDDLE, BEHIND, FAIL };
+enum how { BEFORE, MIDDLE, BEHIND, FAIL, HELD };
 
 static char folder[PATH_MAX], shadow[PATH_MAX];
 static size_t folder_length;
 static const char *log_path;
 static long at, calls;
 static enum how how;
-static int fault, forgets;
+static int fault, forgets, is_held;
 static pthread_mutex_t one_at_a_time = PTHREAD_MUTEX_INITIALIZER;
 
 __attribute__((constructor)) static void read_orders(void)
@@ -54,7 +56,8 @@ __attribute__((constructor)) static void read_orders(void)
     forgets = getenv("INTERRUPT_FORGETS") != NULL;
     if (kept)
         snprintf(shadow, sizeof shadow, "%s", kept);
-    how = !text || !strcmp(text, "before") ? BEFORE : !strcmp(text, "middle") ? MIDDLE : !strcmp(text, "behind") ? BEHIND : FAIL;
+    how = !text || !strcmp(text, "before") ? BEFORE : !strcmp(text, "middle") ? MIDDLE : !strcmp(text, "behind") ? BEHIND
+        : !strcmp(text, "held") ? HELD : FAIL;
     fault = text && !strcmp(text, "EIO") ? EIO : ENOSPC;
 }
 
@@ -226,6 +229,15 @@ ssize_t writev(int file, const struct iovec *pieces, int count)
     return done;
 }
 
+/* Leaves the lock to others, which end the process behind the next sync. */
+static void hold_back(void)
+{
+    is_held = 1;
+    pthread_mutex_unlock(&one_at_a_time);
+    sleep(5);
+    end();
+}
+
 static int synced(const char *name, long number, int file)
 {
     char path[PATH_MAX];
@@ -234,10 +246,12 @@ static int synced(const char *name, long number, int file)
     pthread_mutex_lock(&one_at_a_time);
     int interrupted = begins(name, path);
     long done = -1;
+    if (interrupted && how == HELD)
+        hold_back();
     if (!fails(interrupted)) {
         done = syscall(number, file);
         keep(file, path);
-        ends(interrupted, done);
+        ends(interrupted || is_held, done);
     }
     pthread_mutex_unlock(&one_at_a_time);
     return (int)done;

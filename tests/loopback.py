@@ -126,6 +126,7 @@ class BackEnd:
 
     def __init__(self, answers=()):
         self.answers = list(answers)
+        self.requests = []
         self.bodies = []
         self.listener = socket.create_server(("127.0.0.1", 0))
         self.port = self.listener.getsockname()[1]
@@ -153,6 +154,7 @@ class BackEnd:
         connection.settimeout(SECONDS)
         request = request_of(connection)
         if is_whole(request):
+            self.requests.append(request)
             answer = self.answer_to(request.partition(b"\r\n\r\n")[2])
             if answer is not None:
                 connection.sendall(answered(answer))

@@ -20,21 +20,21 @@ from steps import Failed, Step, Steps, end_of, end_of_lines, locked, shown
 
 PLAY = "crates/play/out/play"
 GATEWAY = "crates/gateway/out/gateway"
-GROWTHS = "crates/growths/out/growths"
+ALLOC_FAILURES = "crates/alloc_failures/out/alloc_failures"
 
 # Each is a script of tests/, the program that it runs, about how many seconds it takes, and whether it
 # measures time, so that nothing may run beside it. Those that take longest come first.
 STEPS = (
     ("slow_parties.py", GATEWAY, 70, False),
-    ("gateway_serves.sh", GATEWAY, 60, False),
-    ("refused_growths.py", PLAY, 20, False),
+    ("gateway_serves.py", GATEWAY, 5, False),
+    ("alloc_failures_play.py", PLAY, 20, False),
     ("protobuf_bodies.py", GATEWAY, 10, False),
-    ("refused_gateway.py", GATEWAY, 10, False),
-    ("refused_libraries.py", GROWTHS, 5, False),
-    ("gateway_rehearses.sh", GATEWAY, 5, False),
+    ("alloc_failures_gateway.py", GATEWAY, 10, False),
+    ("alloc_failures_libraries.py", ALLOC_FAILURES, 5, False),
+    ("gateway_rehearses.py", GATEWAY, 5, False),
     ("hostile_input.py", GATEWAY, 5, False),
     ("sizes.py", PLAY, 3, False),
-    ("play_ends.sh", PLAY, 1, False),
+    ("play_ends.py", PLAY, 1, False),
     ("readme_examples.py", PLAY, 1, False),
     ("gateway_load.py", GATEWAY, 5, True),
 )
@@ -63,6 +63,7 @@ SERVICE_STEPS = (
     ("sdk_go.py", ["8"], 60),
     ("grpc_calls.py", [], 30),
     ("clients.py", [], 30),
+    ("unit_tasks.py", [], 5),
     ("package_installs.py", [PLAY], 15),
 )
 STEP_LIMIT = 600

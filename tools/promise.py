@@ -3,8 +3,8 @@
 
     tools/promise.py                    the number of each top contract, and of all together
     tools/promise.py CRATE FUNCTION     the reading list of one: what to read, lowest first, with lines
-    tools/promise.py --inner            the definitions that no public contract needs, by file
-    tools/promise.py --check            whether docs/PROOFS.md has the number of all: a step of the gate
+    tools/promise.py --check            whether docs/PROOFS.md has the number of all, and whether just that stands in
+                                        specs/inner which no public contract needs: a step of the gate
 
 It goes by names and imports, and reads no type: what a trait's function means, and the fields of types of src/, are not
 followed. What the toolchain's libraries define is not counted.
@@ -20,12 +20,14 @@ from crates import ROOT, read_crates
 TOP = (
     ("delta_book", ["specs/Calls"]),
     ("play_script", ["play"]),
-    ("gate_workers", ["serve_with", "serve_book", "flush_turn"]),
+    ("gate_workers", ["serve_with", "serve_book", "flush_turn", "book_turn"]),
     ("shared_book", ["finish"]),
     ("gateway_serve", ["serve_bound"]),
     ("metric_events", ["striking", "closing", "recovery", "priming", "lasting"]),
 )
 PROOFS = f"{ROOT}/docs/PROOFS.md"
+# In the name of each module that stands apart from what the promise says.
+INNER = ".specs.inner."
 NUMBERED = "stands on {definitions:,} definitions, {lines:,} lines in {files} files"
 
 IMPORT = re.compile(r"^\s*(?:ghost |pub )*use Rattle\.([\w.]+)(?:\.\{([^}]*)\}| as (\w+))?;?$", re.MULTILINE)
@@ -97,6 +99,7 @@ class Specs:
         self.module = f"{crate}.specs.{os.path.relpath(path, f'{ROOT}/crates/{crate}/specs')[:-5].replace('/', '.')}"
         text = read(path)
         self.names = Names(text)
+        self.imports = {module for module, _, _ in IMPORT.findall(text)}
         self.definitions = {}
         line = 1
         for block in text.split("\n\n"):
@@ -270,20 +273,27 @@ def public(promise):
     return promise.below(found)
 
 
-def show_inner(promise):
+def misplaced(promise):
+    """What stands on the wrong side of specs/inner, a line each."""
     needed = public(promise)
-    for file in promise.files.values():
-        inner = sorted({it for it in file.definitions.values() if it not in needed}, key=lambda it: it.line)
-        if inner:
-            whole = len(inner) == len(set(file.definitions.values()))
-            print(f"{os.path.relpath(file.path, ROOT)}: {'all' if whole else ' '.join(it.name for it in inner)}")
+    for module, file in promise.files.items():
+        path, is_inner = os.path.relpath(file.path, ROOT), INNER in module
+        for it in sorted(set(file.definitions.values()), key=lambda it: it.line):
+            if (it in needed) == is_inner:
+                yield f"{path}: {it.name} is {'needed by a public contract' if is_inner else 'inner: no public contract needs it'}"
+        for imported in sorted(file.imports):
+            if INNER in imported and not is_inner:
+                yield f"{path}: imports {imported}"
 
 
 def check(promise):
     wanted = NUMBERED.format(**number(all_of(promise)))
     if wanted not in read(PROOFS):
         return f"docs/PROOFS.md has to say that the promise {wanted}"
-    print(f"the promise {wanted}, as docs/PROOFS.md says")
+    wrong = list(misplaced(promise))
+    if wrong:
+        return "\n".join(wrong)
+    print(f"the promise {wanted}, as docs/PROOFS.md says; specs/inner has what no public contract needs")
     return None
 
 
@@ -291,8 +301,6 @@ def main():
     promise, words = Promise(), sys.argv[1:]
     if not words:
         return show_tops(promise)
-    if words == ["--inner"]:
-        return show_inner(promise)
     if words == ["--check"]:
         return check(promise)
     if len(words) == 2 and words[0] in promise.crates:

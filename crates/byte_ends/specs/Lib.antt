@@ -3,3 +3,4 @@ pub mod Drained
 pub mod Ends
 pub mod Parts
 pub mod Steps
+pub mod inner

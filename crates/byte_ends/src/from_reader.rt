@@ -30,7 +30,8 @@ impl<R: Read> FromReader<R> {
 }
 
 impl<R: Read> Source for FromReader<R> {
-    ghost use Rattle.byte_ends.specs.Counts.{next_count, next_count-differs};
+    ghost use Rattle.byte_ends.specs.Counts.{next_count};
+    ghost use Rattle.byte_ends.specs.inner.Counts.{next_count-differs};
 
     ghost remaining = { λ s. R.remaining s.reader };
 

@@ -41,7 +41,8 @@ impl Source for Script<'_> {
     ghost use Rattle.std.specs.Prelude.{◌≤◌, min, drop, length, IfOk, is_err};
     ghost use Rattle.std.specs.Option.{option_map};
     ghost use Rattle.std.specs.Result.{result_ok, result_unwrap_or};
-    ghost use Rattle.byte_ends.specs.Counts.{counted, next_count, next_count-differs};
+    ghost use Rattle.byte_ends.specs.Counts.{counted, next_count};
+    ghost use Rattle.byte_ends.specs.inner.Counts.{next_count-differs};
     ghost use Rattle.byte_ends.specs.Ends.{Gave};
     ghost use Rattle.byte_ends.specs.Parts.{script_bytes, script_steps};
     ghost use Rattle.byte_ends.specs.Steps.{read_limit};

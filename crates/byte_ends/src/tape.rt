@@ -38,7 +38,8 @@ impl<'a> Tape<'a> {
 
 impl Sink for Tape<'_> {
     ghost use Rattle.std.specs.Prelude.{◌≤◌, ◌<◌, drop, length, IfOk, is_err};
-    ghost use Rattle.byte_ends.specs.Counts.{counted, next_count, next_count-differs};
+    ghost use Rattle.byte_ends.specs.Counts.{counted, next_count};
+    ghost use Rattle.byte_ends.specs.inner.Counts.{next_count-differs};
     ghost use Rattle.byte_ends.specs.Ends.{Took};
     ghost use Rattle.byte_ends.specs.Parts.{tape_steps};
     ghost use Rattle.byte_ends.specs.Steps.{write_limit};

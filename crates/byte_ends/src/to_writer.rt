@@ -36,7 +36,8 @@ impl<W: Write> ToWriter<W> {
 }
 
 impl<W: Write> Sink for ToWriter<W> {
-    ghost use Rattle.byte_ends.specs.Counts.{next_count, next_count-differs};
+    ghost use Rattle.byte_ends.specs.Counts.{next_count};
+    ghost use Rattle.byte_ends.specs.inner.Counts.{next_count-differs};
 
     ghost contents = { λ s. W.contents s.writer };
 

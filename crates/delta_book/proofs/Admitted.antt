@@ -10,8 +10,8 @@ use Rattle.metric_events.specs.declared.event.Event.TheVariants.{Admit}
 use Rattle.delta_book.specs.Journal.{Journal, history, admits, IsNumbered}
 use Rattle.delta_book.specs.Refusals.{batch_fault, door_refusal, first_of}
 use Rattle.delta_book.proofs.Admitting.{may_admit_now}
-use Rattle.delta_book.specs.Tables.{AreOpen, At}
-use Rattle.delta_book.specs.declared.open.Open.{Open}
+use Rattle.delta_book.specs.inner.Tables.{AreOpen, At}
+use Rattle.delta_book.specs.declared.open.JournalRef.{JournalRef}
 use Rattle.delta_book.proofs.Entries.{at_last}
 use Rattle.delta_book.proofs.Opened.{open_more, open_push}
 
@@ -23,7 +23,7 @@ may_be_put xs view n body ps v m numbered some made door p none =
     (ap (λ o. first_of o (batch_fault (points (history xs)) body.sender body.points)) (ap (λ ys. door_refusal (history ys) body.sender) v ∙ sym door)
     ∙ (ap (λ (ys : List DataPoint). batch_fault (points (history xs)) body.sender ys) (sym p) ∙ none)))
 
-pub opened_push : (xs ys : List Entry) (x : Entry) (os rs os' : List Open) (bs : List ℕ) (b n : ℕ) (body : Batch) → AreOpen xs os bs → ys ≡ xs ++ x ∷ [] → x.event ≡ Admit b body → n ≡ length xs → rs ≡ os → os' ≡ rs ++ record { number = b; entry = n } ∷ [] → AreOpen ys os' (bs ++ b ∷ [])
+pub opened_push : (xs ys : List Entry) (x : Entry) (os rs os' : List JournalRef) (bs : List ℕ) (b n : ℕ) (body : Batch) → AreOpen xs os bs → ys ≡ xs ++ x ∷ [] → x.event ≡ Admit b body → n ≡ length xs → rs ≡ os → os' ≡ rs ++ record { number = b; entry = n } ∷ [] → AreOpen ys os' (bs ++ b ∷ [])
 opened_push xs ys x os rs os' bs b n body h e v l r o =
     subst (λ zs. AreOpen zs os' (bs ++ b ∷ [])) (sym e)
     (subst (λ ps. AreOpen (xs ++ x ∷ []) ps (bs ++ b ∷ [])) (sym (o ∙ ap (λ ps. ps ++ record { number = b; entry = n } ∷ []) r))

@@ -9,7 +9,7 @@ use Rattle.metric_events.specs.Points.{admitted}
 use Rattle.metric_events.specs.Series.{is_of, series_count, row_sum, sum_of}
 use Rattle.metric_events.specs.Legal.{is_over, is_too_large, is_clear, is_in_order}
 use Rattle.metric_events.specs.declared.accepted.Accepted.{Accepted}
-use Rattle.delta_book.specs.Batches.{is_point_of}
+use Rattle.delta_book.specs.inner.Batches.{is_point_of}
 use Rattle.delta_book.proofs.CountedSeries.{count_accepted, count_new}
 
 -- as many series

@@ -12,7 +12,8 @@ use Rattle.metric_events.proofs.Lists.{any_none, filter_none}
 use Rattle.metric_events.proofs.SeriesOnce.{among_in_order}
 use Rattle.series_cell.specs.Cells.{CellView, AllOwn, end_of}
 use Rattle.series_cell.proofs.Reading.{frontier_is}
-use Rattle.delta_book.specs.Tables.{AreCells, IdAt, id_of}
+use Rattle.delta_book.specs.Tables.{AreCells, id_of}
+use Rattle.delta_book.specs.inner.Tables.{IdAt}
 use Rattle.delta_book.specs.Refusals.{has_other_writer}
 use Rattle.delta_book.proofs.Tables.{stands_at, at_id}
 use Rattle.delta_book.proofs.CellTotals.{point_at, frontier_of}

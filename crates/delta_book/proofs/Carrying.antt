@@ -27,15 +27,16 @@ use Rattle.metric_events.proofs.Closing.{home_row}
 use Rattle.series_cell.specs.Cells.{CellView, Stands, HandsOn, end_of, opened_with}
 use Rattle.series_cell.proofs.Reading.{tells}
 use Rattle.delta_book.specs.Carries.{Carries, AllCarry, AllHandOn, BeginsWith, AllOpened}
-use Rattle.delta_book.specs.Tables.{AreCells, AllStand, HasPoint, AreOpen, AreFlights, id_of}
+use Rattle.delta_book.specs.Tables.{AreCells, AllStand, id_of}
+use Rattle.delta_book.specs.inner.Tables.{HasPoint, AreOpen, AreFlights}
 use Rattle.delta_book.specs.declared.book.Book.TheInside.{Inside}
-use Rattle.delta_book.specs.Stored.{IsStored, journal_in, history_in}
+use Rattle.delta_book.specs.inner.Stored.{IsStored, journal_in, history_in}
 use Rattle.metric_events.specs.Legal.{IsLegal}
 use Rattle.std.specs.Prelude.{vec_capacity}
-use Rattle.delta_book.specs.Tables.{are_full}
+use Rattle.delta_book.specs.inner.Tables.{are_full}
 use Rattle.delta_book.specs.Rounds.{round_refusal}
 use Rattle.delta_book.specs.Journal.{Journal, journal_of, history, admits, takes, IsNumbered}
-use Rattle.delta_book.specs.declared.open.Open.{Open}
+use Rattle.delta_book.specs.declared.open.JournalRef.{JournalRef}
 use Rattle.series_cell.proofs.ByPlace.{written_back}
 use Rattle.delta_book.proofs.Choosing.{AreTied}
 use Rattle.delta_book.proofs.Closes.{may_close, next_opened}
@@ -183,11 +184,11 @@ carried_cells cs ds new j O len h ok e d k n m =
 
 -- the book of the next round
 
-open_none : (es fs : List Entry) (os : List Open) → AreOpen es os [] → AreOpen fs os []
+open_none : (es fs : List Entry) (os : List JournalRef) → AreOpen es os [] → AreOpen fs os []
 open_none es fs [] h = tt
 open_none es fs (o ∷ os) h = absurd h
 
-flights_none : (es fs : List Entry) (os : List Open) → AreFlights es os [] → AreFlights fs os []
+flights_none : (es fs : List Entry) (os : List JournalRef) → AreFlights es os [] → AreFlights fs os []
 flights_none es fs [] h = tt
 flights_none es fs (o ∷ os) h = absurd h
 

@@ -18,7 +18,8 @@ use Rattle.metric_events.proofs.SeriesOnce.{among_in_order}
 use Rattle.metric_events.proofs.Sums.{add_rows-zeros, add_rows-comm, row_sum_long}
 use Rattle.series_cell.specs.Cells.{CellView, Stands, AllOwn, end_of, home_hull, flight_hull}
 use Rattle.series_cell.proofs.Reading.{tells}
-use Rattle.delta_book.specs.Tables.{AreCells, AllStand, HasPoint, id_of}
+use Rattle.delta_book.specs.Tables.{AreCells, AllStand, id_of}
+use Rattle.delta_book.specs.inner.Tables.{HasPoint}
 use Rattle.std.proofs.lemmas.List.{map_more}
 use Rattle.delta_book.specs.Totals.{totals_of}
 use Rattle.delta_book.specs.declared.totals.SeriesTotals.{SeriesTotals}

@@ -24,9 +24,11 @@ use Rattle.metric_events.proofs.Lists.{all_filter, any_none, filter_none, any_we
 use Rattle.metric_events.proofs.Moves.{rides, rides_at, rides-in_live}
 use Rattle.series_cell.specs.Cells.{CellView, Stands, AllOwn}
 use Rattle.series_cell.proofs.Reading.{flying_is, stored_is}
-use Rattle.delta_book.specs.Tables.{AreCells, AllStand, id_of, is_full, are_full}
+use Rattle.delta_book.specs.Tables.{AreCells, AllStand, id_of}
+use Rattle.delta_book.specs.inner.Tables.{is_full, are_full}
 use Rattle.delta_book.proofs.Picking.{some_filtered}
-use Rattle.delta_book.specs.Ready.{is_ready, ready_ids, first_ready}
+use Rattle.delta_book.specs.Ready.{is_ready}
+use Rattle.delta_book.specs.inner.Ready.{ready_ids, first_ready}
 
 -- two ascending lists of the same series are one
 

@@ -20,7 +20,7 @@ use Rattle.metric_events.proofs.SeriesOnce.{among_in_order, in_order_few}
 use Rattle.metric_events.proofs.Lists.{all_weaker, all_both, any_none, any_filter_same, length_without}
 use Rattle.metric_events.proofs.WithinLimits.{few_series}
 use Rattle.series_cell.specs.Cells.{CellView}
-use Rattle.delta_book.specs.Batches.{is_point_of}
+use Rattle.delta_book.specs.inner.Batches.{is_point_of}
 use Rattle.delta_book.specs.Tables.{AreCells, AreBooked, id_of}
 use Rattle.delta_book.proofs.CountedSeries.{listed-admitted}
 

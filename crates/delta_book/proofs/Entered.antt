@@ -23,8 +23,9 @@ use Rattle.metric_events.proofs.Opened.{opened_of_no_batch}
 use Rattle.metric_events.proofs.Identities.{same_of}
 use Rattle.series_cell.specs.Cells.{CellView, Stands, AreTogether, is_of_batch}
 use Rattle.series_cell.proofs.Points.{MovesOnly, moves_landed}
-use Rattle.delta_book.specs.Batches.{is_point_of}
-use Rattle.delta_book.specs.Tables.{AreCells, IdAt, IsEntered, RemovesAll, id_of}
+use Rattle.delta_book.specs.inner.Batches.{is_point_of}
+use Rattle.delta_book.specs.Tables.{AreCells, id_of}
+use Rattle.delta_book.specs.inner.Tables.{IdAt, IsEntered, HasPending}
 use Rattle.delta_book.proofs.Tables.{stands_at, at_id}
 use Rattle.delta_book.proofs.Asked.{none_of}
 use Rattle.delta_book.proofs.CountedSeries.{listed-admitted}
@@ -255,7 +256,7 @@ rest_is qs b body w =
     ∙ (ap (λ rs. rs ++ filter (is_of_other_batch b) w.after) (filter_none (is_of_other_batch b) w.its (all_weaker (is_of_batch b) (λ a. not (is_of_other_batch b a)) (λ a e. ap (λ v. not (not v)) e) w.its w.of_it))
     ∙ filter_keeps (is_of_other_batch b) w.after w.none_after))))
 
-pub removes_all : (cs : List CellView) (qs : List Accepted) (b : ℕ) (body : Batch) → AreCells cs qs → (w : Whole qs b body) → is_batch_home b qs ≡ true → RemovesAll cs b body.points
+pub removes_all : (cs : List CellView) (qs : List Accepted) (b : ℕ) (body : Batch) → AreCells cs qs → (w : Whole qs b body) → is_batch_home b qs ≡ true → HasPending cs b body.points
 removes_all cs qs b body h w k = (body.sender, (w.before, (w.after, subst (AreCells cs) (parts_at_home qs b body w k) h)))
 
 -- the series of a point of the batch has a point of it

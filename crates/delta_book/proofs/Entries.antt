@@ -25,8 +25,10 @@ use Rattle.metric_events.proofs.Lists.{all_append, all_filter, all_map, all_weak
 use Rattle.metric_events.proofs.Moves.{is_out_of}
 use Rattle.metric_events.proofs.Invariants.{new_flights}
 use Rattle.delta_book.specs.Journal.{Journal, history, and_then}
-use Rattle.delta_book.specs.Tables.{At, AreFlights, entry_of, series_named, series_of_event, points_named, points_of_event, is_other_open, is_full, are_full}
-use Rattle.delta_book.specs.declared.open.Open.{Open}
+use Rattle.delta_book.specs.inner.Tables.{At, AreFlights, entry_of, series_named, series_of_event}
+use Rattle.delta_book.specs.inner.Tables.{points_named, points_of_event, is_other_open, is_full}
+use Rattle.delta_book.specs.inner.Tables.{are_full}
+use Rattle.delta_book.specs.declared.open.JournalRef.{JournalRef}
 use Rattle.delta_book.proofs.Tables.{is_in_or_out}
 
 -- a Take of the history
@@ -228,7 +230,7 @@ pub record FlightAt (es : List Entry) (ls : List Flight) (f i : ℕ) : Type 0 wh
   pub one : (t : Flight → Bool) → list_all t ls ≡ true → t flight ≡ true
   pub live : is_live f ls ≡ true
 
-pub flight_at : (es : List Entry) (os : List Open) (ls : List Flight) (f i : ℕ) → AreFlights es os ls → entry_of f os ≡ Some i → FlightAt es ls f i
+pub flight_at : (es : List Entry) (os : List JournalRef) (ls : List Flight) (f i : ℕ) → AreFlights es os ls → entry_of f os ≡ Some i → FlightAt es ls f i
 flight_at es [] [] f i h e = absurd (none-some i e)
 flight_at es [] (l ∷ ls) f i h e = absurd h
 flight_at es (o ∷ os) [] f i h e = absurd h
@@ -255,7 +257,7 @@ flight_at es (o ∷ os) (l ∷ ls) f i h e = both (o.number == f) refl (flight_a
           live = or_right (l.number == f) (is_live f ls) s.live;
         }
 
-pub no_flight : (es : List Entry) (os : List Open) (ls : List Flight) (f : ℕ) → AreFlights es os ls → entry_of f os ≡ None → is_live f ls ≡ false
+pub no_flight : (es : List Entry) (os : List JournalRef) (ls : List Flight) (f : ℕ) → AreFlights es os ls → entry_of f os ≡ None → is_live f ls ≡ false
 no_flight es [] [] f h e = refl
 no_flight es [] (l ∷ ls) f h e = absurd h
 no_flight es (o ∷ os) [] f h e = absurd h
@@ -276,19 +278,19 @@ pub at_last : (xs : List Entry) (x : Entry) → At (xs ++ x ∷ []) (length xs) 
 at_last [] x = refl
 at_last (y ∷ xs) x = at_last xs x
 
-pub flights_more : (es fs : List Entry) (os : List Open) (ls : List Flight) → AreFlights es os ls → AreFlights (es ++ fs) os ls
+pub flights_more : (es fs : List Entry) (os : List JournalRef) (ls : List Flight) → AreFlights es os ls → AreFlights (es ++ fs) os ls
 flights_more es fs [] [] h = tt
 flights_more es fs [] (l ∷ ls) h = absurd h
 flights_more es fs (o ∷ os) [] h = absurd h
 flights_more es fs (o ∷ os) (l ∷ ls) h = (h.0, at_more es fs o.entry (Take l.number l.series) h.1, flights_more es fs os ls h.2)
 
-pub flights_push : (es : List Entry) (os : List Open) (ls : List Flight) (o : Open) (l : Flight) → AreFlights es os ls → o.number ≡ l.number → At es o.entry (Take l.number l.series) → AreFlights es (os ++ o ∷ []) (ls ++ l ∷ [])
+pub flights_push : (es : List Entry) (os : List JournalRef) (ls : List Flight) (o : JournalRef) (l : Flight) → AreFlights es os ls → o.number ≡ l.number → At es o.entry (Take l.number l.series) → AreFlights es (os ++ o ∷ []) (ls ++ l ∷ [])
 flights_push es [] [] o l h n a = (n, a, tt)
 flights_push es [] (m ∷ ls) o l h n a = absurd h
 flights_push es (p ∷ os) [] o l h n a = absurd h
 flights_push es (p ∷ os) (m ∷ ls) o l h n a = (h.0, h.1, flights_push es os ls o l h.2 n a)
 
-pub flights_closed : (es : List Entry) (os : List Open) (ls : List Flight) (f : ℕ) → AreFlights es os ls → AreFlights es (filter (is_other_open f) os) (filter (is_other_flight f) ls)
+pub flights_closed : (es : List Entry) (os : List JournalRef) (ls : List Flight) (f : ℕ) → AreFlights es os ls → AreFlights es (filter (is_other_open f) os) (filter (is_other_flight f) ls)
 flights_closed es [] [] f h = tt
 flights_closed es [] (l ∷ ls) f h = absurd h
 flights_closed es (o ∷ os) [] f h = absurd h
@@ -298,7 +300,7 @@ flights_closed es (o ∷ os) (l ∷ ls) f h = both (o.number == f) refl (flights
     both true e r = let m : (l.number == f) ≡ true = subst (λ k. (k == f) ≡ true) h.0 e in rw (e, m) r
     both false e r = let m : (l.number == f) ≡ false = subst (λ k. (k == f) ≡ false) h.0 e in rw (e, m) (h.0, h.1, r)
 
-pub flights_length : (es : List Entry) (os : List Open) (ls : List Flight) → AreFlights es os ls → length os ≡ length ls
+pub flights_length : (es : List Entry) (os : List JournalRef) (ls : List Flight) → AreFlights es os ls → length os ≡ length ls
 flights_length es [] [] h = refl
 flights_length es [] (l ∷ ls) h = absurd h
 flights_length es (o ∷ os) [] h = absurd h

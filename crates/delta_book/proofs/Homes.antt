@@ -1,24 +1,20 @@
 -- What is at home of a cell, as a flush sends it.
-use Rattle.std.proofs.Common.{◌≡◌, ℕ, false, List, [], ◌∷◌, filter, map, refl, ap, sym, ◌∙◌, subst, Some, None}
-use Rattle.std.specs.List.{list_any}
-use Rattle.std.proofs.lemmas.Bool.{or_parts}
+use Rattle.std.proofs.Common.{◌≡◌, ℕ, List, filter, ap, sym, ◌∙◌, subst, Some, None}
 use Rattle.series_id.specs.Identity.{Identity, row_length}
 use Rattle.metric_events.specs.Interval.{Interval}
 use Rattle.metric_events.specs.DataPoint.{IsMerged}
 use Rattle.metric_events.specs.History.{History}
-use Rattle.metric_events.specs.Points.{points, is_home, is_among}
-use Rattle.metric_events.specs.Series.{is_of, of_series, hull, row_sum, merged}
+use Rattle.metric_events.specs.Points.{points, is_home}
+use Rattle.metric_events.specs.Series.{of_series, hull, row_sum}
 use Rattle.metric_events.specs.Standing.{stands}
 use Rattle.metric_events.specs.Legal.{IsLegal}
 use Rattle.metric_events.specs.declared.accepted.Accepted.{Accepted}
 use Rattle.metric_events.proofs.Fits.{merged_is, chosen_fit, made_of, made_of_filter, made_points}
 use Rattle.series_cell.specs.Cells.{CellView, Stands, home_hull}
 use Rattle.series_cell.proofs.Reading.{tells}
-use Rattle.delta_book.specs.AtHome.{home_point, home_points}
-use Rattle.delta_book.specs.Tables.{AreCells, id_of}
+use Rattle.delta_book.specs.inner.AtHome.{home_point, home_points}
 use Rattle.delta_book.proofs.Adding.{home_points_are}
 use Rattle.delta_book.proofs.Sending.{merged_some, merged_none}
-use Rattle.delta_book.proofs.Asked.{none_of}
 
 own_hull : (c : CellView) (qs : List Accepted) → Stands c (of_series c.id qs) → home_hull c ≡ hull (home_points c.id qs)
 own_hull c qs h = (tells c (of_series c.id qs) h).home_span ∙ ap hull (sym (home_points_are c.id qs))
@@ -38,10 +34,3 @@ home_point_is c E span row x l h e r s =
     let p = merged_is c.id (filter (stands is_home) (of_series c.id (points E))) span (made_of_filter c.id (stands is_home) (of_series c.id (points E)) (made_of c.id (points E) (made_points E l))) (sym k.home_span ∙ e) (chosen_fit E l c.id (stands is_home)) in
     subst (λ (y : Identity). IsMerged (record { series = y; span = span; row = row })) (sym s)
     (subst (λ w. IsMerged (record { series = c.id; span = span; row = w })) (sym (r ∙ k.stored)) p)
-
-none_left : (x : Identity) (qs : List Accepted) → list_any (is_of x) qs ≡ false → home_points x qs ≡ []
-none_left x [] h = refl
-none_left x (a ∷ qs) h = let p = or_parts (is_of x a) (list_any (is_of x) qs) h in rw p.0 (none_left x qs p.1)
-
-pub home_absent : (cs : List CellView) (qs : List Accepted) (x : Identity) → AreCells cs qs → is_among x (map id_of cs) ≡ false → home_point qs x ≡ None
-home_absent cs qs x h n = ap (merged x) (none_left x qs (none_of cs qs x h n))

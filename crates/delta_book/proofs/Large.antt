@@ -15,7 +15,7 @@ use Rattle.metric_events.proofs.Fits.{fits_le}
 use Rattle.metric_events.proofs.Identities.{same_of}
 use Rattle.metric_events.proofs.Sums.{RowLe, row_sum_first_le}
 use Rattle.series_cell.proofs.Points.{row_sum_push}
-use Rattle.delta_book.specs.Puts.{fits_with}
+use Rattle.delta_book.specs.inner.Puts.{fits_with}
 use Rattle.delta_book.proofs.Counting.{take_more}
 use Rattle.delta_book.proofs.PutIn.{of_more, of_own}
 

@@ -14,9 +14,11 @@ use Rattle.metric_events.specs.declared.event.Event.TheVariants.{Admit, Undo, Co
 use Rattle.series_cell.specs.Cells.{CellView}
 use Rattle.delta_book.specs.Journal.{history, and_then}
 use Rattle.delta_book.specs.declared.book.Book.TheInside.{Inside}
-use Rattle.delta_book.specs.Stored.{IsStored, journal_in, history_in}
-use Rattle.delta_book.specs.Tables.{AreCells, At, RemovesAll, IsEntered, entry_of, points_named, points_of_event}
-use Rattle.delta_book.specs.declared.open.Open.{Open}
+use Rattle.delta_book.specs.inner.Stored.{IsStored, journal_in, history_in}
+use Rattle.delta_book.specs.Tables.{AreCells}
+use Rattle.delta_book.specs.inner.Tables.{At, HasPending, IsEntered, entry_of, points_named}
+use Rattle.delta_book.specs.inner.Tables.{points_of_event}
+use Rattle.delta_book.specs.declared.open.JournalRef.{JournalRef}
 use Rattle.delta_book.proofs.Batch.{AdmitIn, Whole, whole, admitted_above}
 use Rattle.delta_book.proofs.Opened.{open_at}
 use Rattle.delta_book.proofs.Entered.{entered, parts_at_home, rest_is, removes_all}
@@ -54,7 +56,7 @@ pub record Leaving (E : History) (b : ℕ) (ps : List DataPoint) : Type 0 where
   pub are : ps ≡ body.points
   pub entered : IsEntered (points E) b ps
 
-pub leaving : (kept : Inside) (es : List Entry) (b i : ℕ) (ds : List Open) (ps : List DataPoint) → IsStored kept → ds ≡ kept.opened.items → es ≡ kept.entries.items → Some i ≡ entry_of b ds → ps ≡ points_named es i → Leaving (history_in kept) b ps
+pub leaving : (kept : Inside) (es : List Entry) (b i : ℕ) (ds : List JournalRef) (ps : List DataPoint) → IsStored kept → ds ≡ kept.opened.items → es ≡ kept.entries.items → Some i ≡ entry_of b ds → ps ≡ points_named es i → Leaving (history_in kept) b ps
 leaving kept es b i ds ps h d s e p =
     let xs = journal_in kept in
     let o = open_at xs.entries kept.opened.items (open_batches (history xs)) b i h.opened (ap (entry_of b) (sym d) ∙ sym e) in
@@ -72,9 +74,9 @@ leaving kept es b i ds ps h d s e p =
 pub home_of : (cs ds : List CellView) (E : History) (b : ℕ) (ps : List DataPoint) (v w : Bool) → AreCells cs (points E) → ds ≡ cs → Leaving E b ps → ((qs : List Accepted) → AreCells ds qs → IsEntered qs b ps → v ≡ is_batch_home b qs) → v ≡ w → is_batch_home b (points E) ≡ w
 home_of cs ds E b ps v w h d l k e = sym (k (points E) (subst (λ ks. AreCells ks (points E)) (sym d) h) l.entered) ∙ e
 
-pub may_remove : (cs ds : List CellView) (E : History) (b : ℕ) (ps rs : List DataPoint) → AreCells cs (points E) → ds ≡ cs → Leaving E b ps → is_batch_home b (points E) ≡ true → rs ≡ ps → RemovesAll ds b rs
+pub may_remove : (cs ds : List CellView) (E : History) (b : ℕ) (ps rs : List DataPoint) → AreCells cs (points E) → ds ≡ cs → Leaving E b ps → is_batch_home b (points E) ≡ true → rs ≡ ps → HasPending ds b rs
 may_remove cs ds E b ps rs h d l k e =
-    subst (RemovesAll ds b) (sym (e ∙ l.are)) (removes_all ds (points E) b l.body (subst (λ ks. AreCells ks (points E)) (sym d) h) l.stands k)
+    subst (HasPending ds b) (sym (e ∙ l.are)) (removes_all ds (points E) b l.body (subst (λ ks. AreCells ks (points E)) (sym d) h) l.stands k)
 
 pub left_cells : (cs ds new : List CellView) (E : History) (b : ℕ) (ps rs : List DataPoint) → AreCells cs (points E) → ds ≡ cs → Leaving E b ps → is_batch_home b (points E) ≡ true → rs ≡ ps → ((s : List ℕ) (before after : List Accepted) → AreCells ds (before ++ (map (admitted b s) rs ++ after)) → AreCells new (before ++ after)) → AreCells new (filter (is_of_other_batch b) (points E))
 left_cells cs ds new E b ps rs h d l k e f =

@@ -14,7 +14,7 @@ use Rattle.metric_events.proofs.Identities.{same_of, same_series-turned}
 use Rattle.metric_events.proofs.Lists.{all_append, all_weaker, any_append_left, any_append_right, any_none, filter_none}
 use Rattle.series_cell.specs.Cells.{CellView, Stands, end_of}
 use Rattle.series_cell.proofs.Standing.{end_is}
-use Rattle.delta_book.specs.Puts.{IsGap, next_fault}
+use Rattle.delta_book.specs.inner.Puts.{IsGap, next_fault}
 use Rattle.delta_book.specs.Tables.{AreCells, AllStand, id_of}
 use Rattle.delta_book.proofs.Asked.{none_of, writer_none, end_none, sum_none}
 use Rattle.delta_book.proofs.PutIn.{cells_of_table, of_more, of_own}

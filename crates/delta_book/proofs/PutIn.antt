@@ -21,12 +21,13 @@ use Rattle.metric_events.proofs.Lists.{all_append, any_append_left}
 use Rattle.metric_events.proofs.Senders.{same_sender-exact}
 use Rattle.series_cell.specs.Cells.{CellView, Stands, IsOfSame, end_of}
 use Rattle.series_cell.proofs.Sizes.{sized}
-use Rattle.delta_book.specs.Tables.{AreCells, AreSome, IsTable, IdAt, id_of}
-use Rattle.delta_book.specs.Puts.{StopsAt, StopsPart, fault_at, fits_with, next_fault}
+use Rattle.delta_book.specs.Tables.{AreCells, id_of}
+use Rattle.delta_book.specs.inner.Tables.{AreSome, IsTable, IdAt}
+use Rattle.delta_book.specs.inner.Puts.{RejectsAt, RejectsPart, fault_at, fits_with, next_fault}
 use Rattle.delta_book.specs.declared.faults.AdmitFault.TheVariants.{OtherWriter, OutOfOrder}
-use Rattle.delta_book.specs.declared.put.Stop.{Stop}
-use Rattle.delta_book.specs.declared.put.Stop.TheVariants.{Fault, TooLarge, NoMemory}
-use Rattle.delta_book.specs.declared.cells.Part.{Part}
+use Rattle.delta_book.specs.declared.put.Rejection.{Rejection}
+use Rattle.delta_book.specs.declared.put.Rejection.TheVariants.{Fault, TooLarge, NoMemory}
+use Rattle.delta_book.specs.declared.cells.Fill.{Fill}
 use Rattle.delta_book.proofs.Asked.{cell_of}
 use Rattle.delta_book.proofs.Choosing.{same_ascending}
 use Rattle.delta_book.proofs.Refused.{none_then}
@@ -81,11 +82,11 @@ row_long cs i c l e h = (sized c _ (stands_at cs h.0 i c l e h.1.stand)).accepte
 pub fits_at : (c : CellView) (qs : List Accepted) (p : DataPoint) → c.accepted ≡ sum_of p.series qs → fits p.series.kind (add_rows c.accepted p.row) ≡ fits_with qs p
 fits_at c qs p e = ap (λ r. fits p.series.kind (add_rows r p.row)) e
 
--- what stops a part in its cell stops it after the cells' points
-pub stops_at : (e : Stop) (part : Part) (v : Bool) (qs : List Accepted) (s : List ℕ) (n : ℕ) (p : DataPoint) → v ≡ fits_with qs p → StopsPart e part v → StopsAt e part qs s n p
-stops_at (Fault f) part v qs s n p k h = absurd h
-stops_at TooLarge part v qs s n p k h = (h.0, sym k ∙ h.1)
-stops_at NoMemory part v qs s n p k h = tt
+-- what refuses a part in its cell refuses it after the cells' points
+pub rejects_at : (e : Rejection) (fill : Fill) (v : Bool) (qs : List Accepted) (s : List ℕ) (n : ℕ) (p : DataPoint) → v ≡ fits_with qs p → RejectsPart e fill v → RejectsAt e fill qs s n p
+rejects_at (Fault f) fill v qs s n p k h = absurd h
+rejects_at TooLarge fill v qs s n p k h = (h.0, sym k ∙ h.1)
+rejects_at NoMemory fill v qs s n p k h = tt
 
 -- afterwards
 
@@ -142,9 +143,9 @@ pub then_err : {T E : Type 0} (r : Result T E) (P Q : Type 0) → (P → Q) → 
 then_err (Ok x) P Q f h = tt
 then_err (Err e) P Q f h = f h
 
-pub then_stop : {T E : Type 0} (r : Result T E) (P Q : E → Type 0) → ((e : E) → P e → Q e) → IfErr r P → IfErr r Q
-then_stop (Ok x) P Q f h = tt
-then_stop (Err e) P Q f h = f e h
+pub then_rejection : {T E : Type 0} (r : Result T E) (P Q : E → Type 0) → ((e : E) → P e → Q e) → IfErr r P → IfErr r Q
+then_rejection (Ok x) P Q f h = tt
+then_rejection (Err e) P Q f h = f e h
 
 pub any_ok : {T E : Type 0} (r : Result T E) (P : Type 0) → P → OnOk r P
 any_ok (Ok x) P h = h

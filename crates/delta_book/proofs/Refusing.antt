@@ -8,12 +8,12 @@ use Rattle.metric_events.specs.Legal.{is_held}
 use Rattle.metric_events.specs.declared.limits.TheConstants.{MAX_OPEN}
 use Rattle.metric_events.specs.declared.entry.Entry.{Entry}
 use Rattle.delta_book.specs.Refusals.{door_refusal, has_room}
-use Rattle.delta_book.specs.Tables.{AreOpen}
-use Rattle.delta_book.specs.declared.open.Open.{Open}
+use Rattle.delta_book.specs.inner.Tables.{AreOpen}
+use Rattle.delta_book.specs.declared.open.JournalRef.{JournalRef}
 use Rattle.delta_book.specs.declared.faults.AdmitFault.TheVariants.{Full}
 use Rattle.delta_book.proofs.Opened.{open_length}
 
-pub full_refusal : (E : History) (s : List ℕ) (es : List Entry) (os : List Open) → AreOpen es os (open_batches E) → is_held s (held_senders E) ≡ false → (MAX_OPEN ≤ length os) ⊎ (has_room E ≡ false) → Some Full ≡ door_refusal E s
+pub full_refusal : (E : History) (s : List ℕ) (es : List Entry) (os : List JournalRef) → AreOpen es os (open_batches E) → is_held s (held_senders E) ≡ false → (MAX_OPEN ≤ length os) ⊎ (has_room E ≡ false) → Some Full ≡ door_refusal E s
 full_refusal E s es os h free (inl m) =
     let o : nat_lt (length (open_batches E)) MAX_OPEN ≡ false = le-ltb (length (open_batches E)) MAX_OPEN (omega (arith, m, open_length es os (open_batches E) h)) in
     rw (free, o) refl
@@ -23,7 +23,7 @@ full_refusal E s es os h free (inr m) = rw (free, m) (ends (nat_lt (length (open
     ends true = refl
     ends false = refl
 
-pub no_refusal : (E : History) (s : List ℕ) (es : List Entry) (os : List Open) → AreOpen es os (open_batches E) → is_held s (held_senders E) ≡ false → length os < MAX_OPEN → has_room E ≡ true → None ≡ door_refusal E s
+pub no_refusal : (E : History) (s : List ℕ) (es : List Entry) (os : List JournalRef) → AreOpen es os (open_batches E) → is_held s (held_senders E) ≡ false → length os < MAX_OPEN → has_room E ≡ true → None ≡ door_refusal E s
 no_refusal E s es os h free few room =
     let o : nat_lt (length (open_batches E)) MAX_OPEN ≡ true = lt-ltb (length (open_batches E)) MAX_OPEN (omega (arith, few, open_length es os (open_batches E) h)) in
     rw (free, o, room) refl

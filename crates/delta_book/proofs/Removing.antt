@@ -17,10 +17,11 @@ use Rattle.metric_events.proofs.SeriesOnce.{among_in_order}
 use Rattle.metric_events.proofs.Lists.{all_append, all_first, all_last}
 use Rattle.series_cell.specs.Cells.{CellView, Stands, AllOwn, HasHome, end_of}
 use Rattle.series_cell.proofs.Points.{all_own_last}
-use Rattle.delta_book.specs.Parts.{part_of, parts_of}
-use Rattle.delta_book.specs.declared.cells.Part.{Part}
-use Rattle.delta_book.specs.declared.cells.Part.TheVariants.{Whole}
-use Rattle.delta_book.specs.Tables.{AreCells, AllStand, IsTable, IdAt, RemovesFrom, id_of}
+use Rattle.delta_book.specs.inner.Parts.{part_of, parts_of}
+use Rattle.delta_book.specs.declared.cells.Fill.{Fill}
+use Rattle.delta_book.specs.declared.cells.Fill.TheVariants.{Point}
+use Rattle.delta_book.specs.Tables.{AreCells, AllStand, id_of}
+use Rattle.delta_book.specs.inner.Tables.{HasPending, IsTable, IdAt}
 use Rattle.delta_book.proofs.Sweeping.{is_some_cell, empty_cell, none_of_empty, swept}
 use Rattle.delta_book.proofs.Tables.{stands_at, at_id, set_ids, set_stand}
 use Rattle.delta_book.proofs.Parts.{whole_parts, parts_more}
@@ -61,7 +62,7 @@ has_at cs i c b s p before after l e a h =
     let own : s ≡ c.owner = own_of c.owner c.id (of_series p.series before) (of_series p.series after) (admitted b s p) parts.own in
     record { owner = own; stands = subst (λ t. Stands c (of_series p.series before ++ admitted b t p ∷ of_series p.series after)) own parts }
 
-pub has_home : (cs : List CellView) (i : ℕ) (c : CellView) (b : ℕ) (p : DataPoint) → i < length cs → c ≡ get_or cs i c → IdAt cs i p.series → RemovesFrom cs b p → HasHome c b p
+pub has_home : (cs : List CellView) (i : ℕ) (c : CellView) (b : ℕ) (p : DataPoint) → i < length cs → c ≡ get_or cs i c → IdAt cs i p.series → HasPending cs b (p ∷ []) → HasHome c b p
 has_home cs i c b p l e a r = (of_series p.series r.1.0, (of_series p.series r.1.1.0, (has_at cs i c b r.0 p r.1.0 r.1.1.0 l e a (table_of cs (r.1.0 ++ admitted b r.0 p ∷ r.1.1.0) r.1.1.1)).stands))
 
 pub removed : (cs : List CellView) (i : ℕ) (c d : CellView) (b : ℕ) (s : List ℕ) (p : DataPoint) (before after : List Accepted) → i < length cs → c ≡ get_or cs i c → IdAt cs i p.series → d.id ≡ c.id → ((xs ys : List Accepted) → Stands c (xs ++ admitted b c.owner p ∷ ys) → Stands d (xs ++ ys)) → IsTable cs (before ++ admitted b s p ∷ after) → IsTable (set cs i d) (before ++ after)
@@ -160,20 +161,20 @@ taken_out cs i c d b s p before after v m l e a same k h = both v m
     both false n = subst (λ ks. AreCells ks (before ++ after)) (left_set is_some_cell cs i d some n l) left
 
 -- the last point that is left of a batch
-pub last_out : (part : Part) (b : ℕ) (s : List ℕ) (before after : List Accepted) (ps : List DataPoint) (k : ℕ) (p : DataPoint) → k < length ps → p ≡ get_or ps (length ps - 1 - k) p → before ++ (map (admitted b s) (parts_of part (take (length ps - k) ps)) ++ after) ≡ (before ++ map (admitted b s) (parts_of part (take (length ps - (k + 1)) ps))) ++ admitted b s (part_of part p) ∷ after
-last_out part b s before after ps k p l e =
+pub last_out : (fill : Fill) (b : ℕ) (s : List ℕ) (before after : List Accepted) (ps : List DataPoint) (k : ℕ) (p : DataPoint) → k < length ps → p ≡ get_or ps (length ps - 1 - k) p → before ++ (map (admitted b s) (parts_of fill (take (length ps - k) ps)) ++ after) ≡ (before ++ map (admitted b s) (parts_of fill (take (length ps - (k + 1)) ps))) ++ admitted b s (part_of fill p) ∷ after
+last_out fill b s before after ps k p l e =
     let f = admitted b s in
     let j = length ps - 1 - k in
-    let q = part_of part p in
+    let q = part_of fill p in
     let here : length ps - k ≡ j + 1 = omega (arith, l) in
     let next : length ps - (k + 1) ≡ j = omega (arith, l) in
-    ap (λ n. before ++ (map f (parts_of part (take n ps)) ++ after)) here
-    ∙ (ap (λ ys. before ++ (map f ys ++ after)) (parts_more part j ps p (omega (arith, l)) e)
-    ∙ (ap (λ ys. before ++ (ys ++ after)) (map-append f (parts_of part (take j ps)) (q ∷ []))
-    ∙ (ap (λ ys. before ++ ys) (append_assoc (map f (parts_of part (take j ps))) (f q ∷ []) after)
-    ∙ (sym (append_assoc before (map f (parts_of part (take j ps))) (f q ∷ after))
-    ∙ ap (λ n. (before ++ map f (parts_of part (take n ps))) ++ f q ∷ after) (sym next)))))
+    ap (λ n. before ++ (map f (parts_of fill (take n ps)) ++ after)) here
+    ∙ (ap (λ ys. before ++ (map f ys ++ after)) (parts_more fill j ps p (omega (arith, l)) e)
+    ∙ (ap (λ ys. before ++ (ys ++ after)) (map-append f (parts_of fill (take j ps)) (q ∷ []))
+    ∙ (ap (λ ys. before ++ ys) (append_assoc (map f (parts_of fill (take j ps))) (f q ∷ []) after)
+    ∙ (sym (append_assoc before (map f (parts_of fill (take j ps))) (f q ∷ after))
+    ∙ ap (λ n. (before ++ map f (parts_of fill (take n ps))) ++ f q ∷ after) (sym next)))))
 
 -- all of each point is the point
-pub whole_batch : (cs : List CellView) (b : ℕ) (s : List ℕ) (before after : List Accepted) (ps : List DataPoint) → AreCells cs (before ++ (map (admitted b s) ps ++ after)) → AreCells cs (before ++ (map (admitted b s) (parts_of Whole ps) ++ after))
+pub whole_batch : (cs : List CellView) (b : ℕ) (s : List ℕ) (before after : List Accepted) (ps : List DataPoint) → AreCells cs (before ++ (map (admitted b s) ps ++ after)) → AreCells cs (before ++ (map (admitted b s) (parts_of Point ps) ++ after))
 whole_batch cs b s before after ps h = subst (λ (xs : List DataPoint). AreCells cs (before ++ (map (admitted b s) xs ++ after))) (sym (whole_parts ps)) h

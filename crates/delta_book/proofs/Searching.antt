@@ -3,8 +3,10 @@ use Rattle.std.proofs.Common.{◌≡◌, ℕ, ◌+◌, ◌-◌, ◌/◌, ◌<◌
 use Rattle.std.specs.List.{list_all}
 use Rattle.std.proofs.lemmas.Bool.{and_parts, and_from}
 use Rattle.series_id.specs.Identity.{Identity, row_length}
-use Rattle.series_id.specs.Order.{series_before, same_series}
-use Rattle.series_id.proofs.Order.{before-transitive, before-apart, before-irreflexive, same_series-refl, same_series-exact}
+use Rattle.std.specs.Ordering.{is_eq, is_lt}
+use Rattle.std.specs.declared.cmp.Ordering.TheVariants.{Less, Equal, Greater}
+use Rattle.series_id.specs.Order.{series_before, series_cmp, same_series}
+use Rattle.series_id.proofs.Order.{before-transitive, before-apart, before-irreflexive, before-or-after, same_series-refl, same_series-exact}
 use Rattle.metric_events.specs.declared.accepted.Accepted.{Accepted}
 use Rattle.series_cell.specs.Cells.{CellView}
 use Rattle.metric_events.specs.Rows.{zeros}
@@ -13,7 +15,7 @@ use Rattle.metric_events.specs.Close.{past}
 use Rattle.metric_events.specs.declared.opened_series.OpenedSeries.{OpenedSeries}
 use Rattle.metric_events.specs.Series.{is_ascending}
 use Rattle.delta_book.specs.Tables.{AreCells, id_of}
-use Rattle.delta_book.specs.Puts.{IsGap}
+use Rattle.delta_book.specs.inner.Puts.{IsGap}
 use Rattle.delta_book.proofs.Removing.{table_of}
 
 pub cells_ascend : (cs : List CellView) (qs : List Accepted) → AreCells cs qs → is_ascending (map id_of cs) ≡ true
@@ -55,6 +57,19 @@ gap_between x (c ∷ cs) zero l h k = (and_parts (series_before x c.id) (list_al
 gap_between x (c ∷ cs) (suc i) l h k =
     let p = and_parts (series_before c.id x) (list_all (λ d. series_before d.id x) (take i cs)) h in
     (p.0, gap_between x cs i (omega (arith, l)) p.1 k)
+
+-- what a comparison of two series says
+pub when_equal : (x y : Identity) → series_cmp x y ≡ Equal → x ≡ y
+unfolding same_series
+when_equal x y e = same_series-exact x y (ap is_eq e)
+
+pub when_less : (x y : Identity) → series_cmp x y ≡ Less → series_before x y ≡ true
+unfolding series_before
+when_less x y e = ap is_lt e
+
+pub when_greater : (x y : Identity) → series_cmp x y ≡ Greater → series_before y x ≡ true
+unfolding same_series series_before
+when_greater x y e = before-or-after x y (ap is_eq e) (ap is_lt e)
 
 pub same_at : {X : Type 0} (cs : List X) (i : ℕ) (c d : X) → i < length cs → c ≡ get_or cs i c → d ≡ get_or cs i d → c ≡ d
 same_at [] i c d l e f = absurd (omega (arith, l))

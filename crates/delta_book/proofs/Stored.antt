@@ -13,7 +13,7 @@ use Rattle.metric_events.specs.declared.place.Place.{Place}
 use Rattle.metric_events.specs.declared.place.Place.TheVariants.{Home, InFlight, Acknowledged, Dropped}
 use Rattle.metric_events.specs.declared.event.Event.{Event}
 use Rattle.metric_events.specs.declared.event.Event.TheVariants.{Settle, Drop, GiveBack}
-use Rattle.delta_book.specs.Flushes.{EndsFlush}
+use Rattle.delta_book.specs.inner.Flushes.{EndsFlush}
 use Rattle.metric_events.specs.declared.limits.TheConstants.{MAX_ENTRIES, MAX_OPEN, MAX_LIVE}
 use Rattle.metric_events.specs.declared.accepted.Accepted.{Accepted}
 use Rattle.metric_events.specs.declared.flight.Flight.{Flight}
@@ -25,15 +25,17 @@ use Rattle.series_cell.specs.Cells.{CellView}
 use Rattle.delta_book.specs.Journal.{Journal, appended, history, admits, takes, IsNumbered}
 use Rattle.delta_book.specs.declared.book.Book.TheInside.{Inside}
 use Rattle.delta_book.specs.declared.opening.TheConstants.{LAST_ROUND}
-use Rattle.delta_book.specs.Stored.{IsStored, journal_in, history_in}
+use Rattle.delta_book.specs.inner.Stored.{IsStored, journal_in, history_in}
 use Rattle.std.specs.Prelude.{vec_capacity}
 use Rattle.metric_events.specs.Opening.{IsOpening}
 use Rattle.metric_events.specs.declared.opening.Opening.{Opening}
 use Rattle.metric_events.proofs.Room.{kept_room}
 use Rattle.metric_events.proofs.Numbers.{admits-le, takes-le}
 use Rattle.metric_events.proofs.Closing.{opening_is}
-use Rattle.delta_book.specs.Tables.{AreCells, AreBooked, AreOpen, AreFlights, are_full, is_full, series_named, entry_of, on_series, is_other_open}
-use Rattle.delta_book.specs.declared.open.Open.{Open}
+use Rattle.delta_book.specs.Tables.{AreCells, AreBooked}
+use Rattle.delta_book.specs.inner.Tables.{AreOpen, AreFlights, are_full, is_full, series_named}
+use Rattle.delta_book.specs.inner.Tables.{entry_of, on_series, is_other_open}
+use Rattle.delta_book.specs.declared.open.JournalRef.{JournalRef}
 use Rattle.delta_book.proofs.Journaled.{after_push, legal_push, entries-history, opening-history}
 use Rattle.delta_book.proofs.Opened.{open_length, open_more, open_closed}
 use Rattle.metric_events.specs.Running.{owed}
@@ -82,7 +84,7 @@ cargo_flies f x (a ∷ qs) h = both (is_of x a) refl (or_cases (is_cargo f x a) 
     both true e c r = rw e (elim c [ inl m ↦ or_left (is_in_flight f a.place) (list_any (stands (is_in_flight f)) (of_series x qs)) (and_parts (is_in_flight f a.place) (is_of x a) m).0 | inr m ↦ or_right (is_in_flight f a.place) (list_any (stands (is_in_flight f)) (of_series x qs)) (r m) ])
     both false e c r = rw e (elim c [ inl m ↦ absurd (let q : true ≡ false = sym (and_parts (is_in_flight f a.place) (is_of x a) m).1 ∙ e in cc) | inr m ↦ r m ])
 
-pub landing : (b : Inside) (es : List Entry) (f i : ℕ) (ds : List Open) → IsStored b → ds ≡ b.live.items → es ≡ b.entries.items → entry_of f ds ≡ Some i → Landing b.cells.items (history_in b) f (series_named es i)
+pub landing : (b : Inside) (es : List Entry) (f i : ℕ) (ds : List JournalRef) → IsStored b → ds ≡ b.live.items → es ≡ b.entries.items → entry_of f ds ≡ Some i → Landing b.cells.items (history_in b) f (series_named es i)
 landing b es f i ds h d s e =
     let xs = journal_in b in
     let l = flight_at b.entries.items b.live.items (live_flushes (history xs)) f i h.live (ap (entry_of f) (sym d) ∙ e) in
@@ -124,22 +126,22 @@ landed_cells cs ds new E f q named series len h d s l p k n m =
     subst (λ ks. AreCells ks (map (landed f q) (points E))) (sym (written_back cs new len (n ∙ ap length d) m))
     (subst (AreCells new) (l2.whole q) (k f (points E) (subst (λ ks. AreCells ks (points E)) (sym d) h) l2.distinct l2.flying p))
 
-pub not_live : (os ds : List Open) (es : List Entry) (ls : List Flight) (f : ℕ) → AreFlights es os ls → ds ≡ os → None ≡ entry_of f ds → is_live f ls ≡ false
+pub not_live : (os ds : List JournalRef) (es : List Entry) (ls : List Flight) (f : ℕ) → AreFlights es os ls → ds ≡ os → None ≡ entry_of f ds → is_live f ls ≡ false
 not_live os ds es ls f h d e = no_flight es os ls f h (ap (entry_of f) (sym d) ∙ sym e)
 
 -- what a flush was, closed
-pub flights_after : (xs ys : List Entry) (x : Entry) (os os' : List Open) (ls : List Flight) (f : ℕ) → AreFlights xs os ls → ys ≡ xs ++ x ∷ [] → os' ≡ filter (is_other_open f) os → AreFlights ys os' (filter (is_other_flight f) ls)
+pub flights_after : (xs ys : List Entry) (x : Entry) (os os' : List JournalRef) (ls : List Flight) (f : ℕ) → AreFlights xs os ls → ys ≡ xs ++ x ∷ [] → os' ≡ filter (is_other_open f) os → AreFlights ys os' (filter (is_other_flight f) ls)
 flights_after xs ys x os os' ls f h e o =
     subst (λ zs. AreFlights zs os' (filter (is_other_flight f) ls)) (sym e)
     (subst (λ ps. AreFlights (xs ++ x ∷ []) ps (filter (is_other_flight f) ls)) (sym o) (flights_closed (xs ++ x ∷ []) os ls f (flights_more xs (x ∷ []) os ls h)))
 
-pub open_after_push : (xs ys : List Entry) (x : Entry) (os : List Open) (bs : List ℕ) → AreOpen xs os bs → ys ≡ xs ++ x ∷ [] → AreOpen ys os bs
+pub open_after_push : (xs ys : List Entry) (x : Entry) (os : List JournalRef) (bs : List ℕ) → AreOpen xs os bs → ys ≡ xs ++ x ∷ [] → AreOpen ys os bs
 open_after_push xs ys x os bs h e = subst (λ zs. AreOpen zs os bs) (sym e) (open_more xs (x ∷ []) os bs h)
 
-pub flights_after_push : (xs ys : List Entry) (x : Entry) (os : List Open) (ls : List Flight) → AreFlights xs os ls → ys ≡ xs ++ x ∷ [] → AreFlights ys os ls
+pub flights_after_push : (xs ys : List Entry) (x : Entry) (os : List JournalRef) (ls : List Flight) → AreFlights xs os ls → ys ≡ xs ++ x ∷ [] → AreFlights ys os ls
 flights_after_push xs ys x os ls h e = subst (λ zs. AreFlights zs os ls) (sym e) (flights_more xs (x ∷ []) os ls h)
 
-pub opened_after : (xs ys : List Entry) (x : Entry) (os os' : List Open) (bs : List ℕ) (b : ℕ) → AreOpen xs os bs → ys ≡ xs ++ x ∷ [] → os' ≡ filter (is_other_open b) os → AreOpen ys os' (filter (is_another b) bs)
+pub opened_after : (xs ys : List Entry) (x : Entry) (os os' : List JournalRef) (bs : List ℕ) (b : ℕ) → AreOpen xs os bs → ys ≡ xs ++ x ∷ [] → os' ≡ filter (is_other_open b) os → AreOpen ys os' (filter (is_another b) bs)
 opened_after xs ys x os os' bs b h e o =
     subst (λ zs. AreOpen zs os' (filter (is_another b) bs)) (sym e)
     (subst (λ ps. AreOpen (xs ++ x ∷ []) ps (filter (is_another b) bs)) (sym o) (open_closed (xs ++ x ∷ []) os bs b (open_more xs (x ∷ []) os bs h)))

@@ -13,7 +13,8 @@ use Rattle.metric_events.proofs.SeriesOnce.{among_in_order}
 use Rattle.series_cell.specs.Cells.{CellView, Stands, IsOwn, greatest_end, end_of}
 use Rattle.metric_events.proofs.Intervals.{ends_after}
 use Rattle.series_cell.proofs.Standing.{end_is}
-use Rattle.delta_book.specs.Tables.{AreCells, IsTable, AllStand, id_of}
+use Rattle.delta_book.specs.Tables.{AreCells, AllStand, id_of}
+use Rattle.delta_book.specs.inner.Tables.{IsTable}
 use Rattle.delta_book.proofs.Choosing.{same_ascending}
 
 -- the cell has a frontier

@@ -22,10 +22,12 @@ use Rattle.series_cell.specs.Cells.{CellView, lifted}
 use Rattle.delta_book.specs.Journal.{Journal, history, takes}
 use Rattle.delta_book.specs.Refusals.{has_room}
 use Rattle.delta_book.specs.declared.book.Book.TheInside.{Inside}
-use Rattle.delta_book.specs.Stored.{IsStored, journal_in, history_in}
-use Rattle.delta_book.specs.Tables.{AreCells, AreFlights, At, on_series}
-use Rattle.delta_book.specs.Ready.{is_ready, first_ready}
-use Rattle.delta_book.specs.declared.open.Open.{Open}
+use Rattle.delta_book.specs.inner.Stored.{IsStored, journal_in, history_in}
+use Rattle.delta_book.specs.Tables.{AreCells}
+use Rattle.delta_book.specs.inner.Tables.{AreFlights, At, on_series}
+use Rattle.delta_book.specs.Ready.{is_ready}
+use Rattle.delta_book.specs.inner.Ready.{first_ready}
+use Rattle.delta_book.specs.declared.open.JournalRef.{JournalRef}
 use Rattle.series_cell.proofs.ByPlace.{written_back}
 use Rattle.delta_book.proofs.Tables.{taken-on}
 use Rattle.delta_book.proofs.Entries.{is_home_of, flights_push, flights_more}
@@ -90,7 +92,7 @@ taken_cells cs ds new E f series named len h t may d s k n m =
     (subst (λ xs. AreCells new (map (taken f xs) (points E))) s
     (subst (AreCells new) (taken-on f series (points E)) (k (points E) (subst (λ ks. AreCells ks (points E)) (sym d) h) may2.distinct free)))
 
-pub flights_taken : (xs ys : List Entry) (x : Entry) (os os' : List Open) (ls : List Flight) (f i : ℕ) (series : List Identity) → AreFlights xs os ls → ys ≡ xs ++ x ∷ [] → x.event ≡ Take f series → i ≡ length xs → os' ≡ os ++ record { number = f; entry = i } ∷ [] → AreFlights ys os' (ls ++ record { number = f; series = series } ∷ [])
+pub flights_taken : (xs ys : List Entry) (x : Entry) (os os' : List JournalRef) (ls : List Flight) (f i : ℕ) (series : List Identity) → AreFlights xs os ls → ys ≡ xs ++ x ∷ [] → x.event ≡ Take f series → i ≡ length xs → os' ≡ os ++ record { number = f; entry = i } ∷ [] → AreFlights ys os' (ls ++ record { number = f; series = series } ∷ [])
 flights_taken xs ys x os os' ls f i series h e v m o =
     subst (λ zs. AreFlights zs os' (ls ++ record { number = f; series = series } ∷ [])) (sym e)
     (subst (λ ps. AreFlights (xs ++ x ∷ []) ps (ls ++ record { number = f; series = series } ∷ [])) (sym (o ∙ ap (λ j. os ++ record { number = f; entry = j } ∷ []) m))

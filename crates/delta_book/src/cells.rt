@@ -9,23 +9,26 @@ ghost use Rattle.metric_events.specs.Legal.{are_distinct, is_batch_home};
 ghost use Rattle.metric_events.specs.declared.accepted.Accepted.{Accepted};
 ghost use Rattle.series_cell.specs.Cells.{Stands, IsOfSame, AreTogether, HasHome, is_of_batch};
 ghost use Rattle.series_cell.specs.Cells.{lifted};
-ghost use Rattle.delta_book.specs.Tables.{AreCells, IsEntered, RemovesFrom, RemovesAll, IdAt};
-ghost use Rattle.delta_book.specs.Tables.{id_of, on_series};
-ghost use Rattle.delta_book.specs.Parts.{part_of, parts_of};
-ghost use Rattle.delta_book.specs.Puts.{IsGap};
+ghost use Rattle.delta_book.specs.Tables.{AreCells};
+ghost use Rattle.delta_book.specs.Tables.{id_of};
+ghost use Rattle.delta_book.specs.inner.Tables.{ForPoints, HasPending, IdAt, IsEntered, Removes};
+ghost use Rattle.delta_book.specs.inner.Tables.{on_series};
+ghost use Rattle.delta_book.specs.inner.Parts.{part_of, parts_of};
+ghost use Rattle.delta_book.specs.inner.Puts.{IsGap};
 
 use metric_events::place::Place;
 use metric_events::point::Point;
 use series_cell::cell::Cell;
 use series_id::{SeriesId, SharedId};
+use std::cmp::Ordering;
 
-/// What a cell has of a point.
+/// What a cell gets of a point.
 #[derive(Clone, Copy)]
-pub enum Part {
+pub enum Fill {
     /// The point with its words.
-    Whole,
+    Point,
     /// Its span alone: the sums of its series lack its words.
-    Span,
+    SpanOnly,
 }
 
 /// The position of a series' cell, or the position where it belongs, by binary search.
@@ -38,13 +41,10 @@ fn search_place(cells: &[Cell], series: &SeriesId) -> Result<usize, usize>
     let mut high = cells.len();
     while low < high {
         let middle = low + (high - low) / 2;
-        if series.is_same(cells[middle].id()) {
-            return Ok(middle);
-        }
-        if series.is_before(cells[middle].id()) {
-            high = middle;
-        } else {
-            low = middle + 1;
+        match series.cmp(cells[middle].id()) {
+            Ordering::Equal => return Ok(middle),
+            Ordering::Less => high = middle,
+            Ordering::Greater => low = middle + 1,
         }
     }
     Err(low)
@@ -91,9 +91,9 @@ fn lift_one(cell: &mut Cell, flush: u64)
 }
 
 fn lift_series(cells: &mut [Cell], flush: u64, series: &SharedId)
-    ensures { (qs : List Accepted) → AreCells cells.old qs
-        → list_any (stands is_flying) (of_series series.now qs) ≡ false
-        → AreCells cells.new (map (on_series (lifted flush) (series.now ∷ [])) qs) }
+    ensures { ForPoints cells.old (λ qs.
+        list_any (stands is_flying) (of_series series.now qs) ≡ false
+        → AreCells cells.new (map (on_series (lifted flush) (series.now ∷ [])) qs)) }
 {
     if let Some(i) = find_cell(cells, series) {
         lift_one(&mut cells[i], flush);
@@ -101,10 +101,10 @@ fn lift_series(cells: &mut [Cell], flush: u64, series: &SharedId)
 }
 
 /// The pending points of these series are in flight with the flush.
-pub fn take_off(cells: &mut [Cell], flush: u64, series: &[SharedId])
-    ensures { (qs : List Accepted) → AreCells cells.old qs → are_distinct series.now ≡ true
+pub fn mark_in_flight(cells: &mut [Cell], flush: u64, series: &[SharedId])
+    ensures { ForPoints cells.old (λ qs. are_distinct series.now ≡ true
         → list_all (λ x. not (list_any (stands is_flying) (of_series x qs))) series.now ≡ true
-        → AreCells cells.new (map (on_series (lifted flush) series.now) qs) }
+        → AreCells cells.new (map (on_series (lifted flush) series.now) qs)) }
 {
     for x in series {
         lift_series(cells, flush, x);
@@ -126,10 +126,10 @@ fn land_one(cell: &mut Cell, place: Place)
 }
 
 fn land_series(cells: &mut [Cell], place: Place, series: &SharedId)
-    ensures { (f : ℕ) (qs : List Accepted) → AreCells cells.old qs
-        → list_any (stands (is_in_flight f)) (of_series series.now qs) ≡ true
+    ensures { (f : ℕ) → ForPoints cells.old (λ qs.
+        list_any (stands (is_in_flight f)) (of_series series.now qs) ≡ true
         → is_flying place ≡ false
-        → AreCells cells.new (map (on_series (landed f place) (series.now ∷ [])) qs) }
+        → AreCells cells.new (map (on_series (landed f place) (series.now ∷ [])) qs)) }
 {
     if let Some(i) = find_cell(cells, series) {
         land_one(&mut cells[i], place);
@@ -137,11 +137,11 @@ fn land_series(cells: &mut [Cell], place: Place, series: &SharedId)
 }
 
 /// What is in flight of these series gets this state.
-pub fn land(cells: &mut [Cell], place: Place, series: &[SharedId])
-    ensures { (f : ℕ) (qs : List Accepted) → AreCells cells.old qs → are_distinct series.now ≡ true
+pub fn end_in_cells(cells: &mut [Cell], place: Place, series: &[SharedId])
+    ensures { (f : ℕ) → ForPoints cells.old (λ qs. are_distinct series.now ≡ true
         → list_all (λ x. list_any (stands (is_in_flight f)) (of_series x qs)) series.now ≡ true
         → is_flying place ≡ false
-        → AreCells cells.new (map (on_series (landed f place) series.now) qs) }
+        → AreCells cells.new (map (on_series (landed f place) series.now) qs)) }
 {
     for x in series {
         land_series(cells, place, x);
@@ -149,10 +149,10 @@ pub fn land(cells: &mut [Cell], place: Place, series: &[SharedId])
 }
 
 fn is_home_in(cells: &[Cell], series: &SharedId, number: u64) -> bool
-    ensures { (qs : List Accepted) → AreCells cells.now qs
-        → list_any (is_of_batch number) (of_series series.now qs) ≡ true
+    ensures { ForPoints cells.now (λ qs.
+        list_any (is_of_batch number) (of_series series.now qs) ≡ true
         → AreTogether number (of_series series.now qs)
-        → result ≡ is_batch_home number (of_series series.now qs) }
+        → result ≡ is_batch_home number (of_series series.now qs)) }
 {
     match find_cell(cells, series) {
         Some(i) => cells[i].can_remove(number),
@@ -162,8 +162,8 @@ fn is_home_in(cells: &[Cell], series: &SharedId, number: u64) -> bool
 
 /// Each point of the batch is pending.
 pub fn is_all_home(cells: &[Cell], batch: &[Point], number: u64) -> bool
-    ensures { (qs : List Accepted) → AreCells cells.now qs → IsEntered qs number batch.now
-        → result ≡ is_batch_home number qs }
+    ensures { ForPoints cells.now (λ qs. IsEntered qs number batch.now
+        → result ≡ is_batch_home number qs) }
 {
     for p in batch {
         if !is_home_in(cells, p.shared_series(), number) {
@@ -174,29 +174,27 @@ pub fn is_all_home(cells: &[Cell], batch: &[Point], number: u64) -> bool
 }
 
 /// Removes what a cell has of a point.
-fn remove_part(cell: &mut Cell, point: &Point, part: Part, number: u64)
-    requires { HasHome cell.old number (part_of part point.now) }
+fn remove_part(cell: &mut Cell, point: &Point, fill: Fill, number: u64)
+    requires { HasHome cell.old number (part_of fill point.now) }
     ensures stands { (before after : List Accepted)
         → Stands cell.old (before
-        ++ admitted number cell.old.owner (part_of part point.now) ∷ after)
+        ++ admitted number cell.old.owner (part_of fill point.now) ∷ after)
         → Stands cell.new (before ++ after) }
     ensures same { IsOfSame cell.old cell.new }
 {
-    match part {
-        Part::Whole => cell.remove(number, point),
-        Part::Span => cell.remove_span(number, point),
+    match fill {
+        Fill::Point => cell.remove(number, point),
+        Fill::SpanOnly => cell.remove_span(number, point),
     }
 }
 
 /// Removes what there is of a point, and its cell with the cell's last point.
-fn remove_one(cells: &mut Vec<Cell>, point: &Point, part: Part, number: u64)
-    requires { RemovesFrom cells.old.items number (part_of part point.now) }
-    ensures { (s : List ℕ) (before after : List Accepted)
-        → AreCells cells.old.items (before ++ admitted number s (part_of part point.now) ∷ after)
-        → AreCells cells.new.items (before ++ after) }
+fn remove_one(cells: &mut Vec<Cell>, point: &Point, fill: Fill, number: u64)
+    requires { HasPending cells.old.items number (part_of fill point.now ∷ []) }
+    ensures { Removes cells.old.items cells.new.items number (part_of fill point.now ∷ []) }
 {
     if let Some(i) = find_cell(cells, point.shared_series()) {
-        remove_part(&mut cells[i], point, part, number);
+        remove_part(&mut cells[i], point, fill, number);
         if cells[i].frontier() == 0 {
             cells.remove(i);
         }
@@ -205,25 +203,20 @@ fn remove_one(cells: &mut Vec<Cell>, point: &Point, part: Part, number: u64)
 
 /// Removes this part of the points of a batch. The last one goes first: new cells that came in
 /// series order then go from the end, and move no other.
-pub fn remove_points(cells: &mut Vec<Cell>, batch: &[Point], part: Part, number: u64)
-    requires { RemovesAll cells.old.items number (parts_of part batch.now) }
-    ensures { (s : List ℕ) (before after : List Accepted)
-        → AreCells cells.old.items (before
-        ++ (map (admitted number s) (parts_of part batch.now) ++ after))
-        → AreCells cells.new.items (before ++ after) }
+pub fn remove_points(cells: &mut Vec<Cell>, batch: &[Point], fill: Fill, number: u64)
+    requires { HasPending cells.old.items number (parts_of fill batch.now) }
+    ensures { Removes cells.old.items cells.new.items number (parts_of fill batch.now) }
 {
     for k in 0..batch.len() {
         let i = batch.len() - 1 - k;
-        remove_one(cells, &batch[i], part, number);
+        remove_one(cells, &batch[i], fill, number);
     }
 }
 
 /// Removes the points of a batch, each with its words.
 pub fn remove_batch(cells: &mut Vec<Cell>, batch: &[Point], number: u64)
-    requires { RemovesAll cells.old.items number batch.now }
-    ensures { (s : List ℕ) (before after : List Accepted)
-        → AreCells cells.old.items (before ++ (map (admitted number s) batch.now ++ after))
-        → AreCells cells.new.items (before ++ after) }
+    requires { HasPending cells.old.items number batch.now }
+    ensures { Removes cells.old.items cells.new.items number batch.now }
 {
-    remove_points(cells, batch, Part::Whole, number);
+    remove_points(cells, batch, Fill::Point, number);
 }

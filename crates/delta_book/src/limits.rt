@@ -14,19 +14,18 @@ ghost use Rattle.metric_events.specs.Series.{series_count, sum_of};
 ghost use Rattle.metric_events.specs.Legal.{is_too_large};
 ghost use Rattle.metric_events.specs.declared.limits.TheConstants.{MAX_SERIES, MAX_BUCKET};
 ghost use Rattle.metric_events.specs.declared.limits.TheConstants.{MAX_COUNT};
-ghost use Rattle.metric_events.specs.declared.accepted.Accepted.{Accepted};
 ghost use Rattle.delta_book.specs.declared.faults.AdmitFault.TheVariants.{TooManySeries, TooLarge};
-ghost use Rattle.delta_book.specs.Batches.{word_in, sum_with};
+ghost use Rattle.delta_book.specs.inner.Batches.{word_in, sum_with};
 ghost use Rattle.delta_book.specs.Refusals.{limit_fault};
-ghost use Rattle.delta_book.specs.Tables.{AreCells, AreBooked};
+ghost use Rattle.delta_book.specs.Tables.{AreBooked};
+ghost use Rattle.delta_book.specs.inner.Tables.{ForAccepted, ForPoints};
 ghost use Rattle.series_id.specs.Identity.{row_length};
 ghost use Rattle.metric_events.specs.DataPoint.{IsPoint};
-ghost use Rattle.delta_book.specs.AtHome.{AreAccepted};
 
 use crate::cells::find_cell;
 use crate::faults::AdmitFault;
 use crate::lists::word_at;
-use crate::slow::count_series;
+use crate::without_alloc::count_series;
 use bucket_lanes::{fits, total};
 use metric_events::limits::{MAX_AMOUNT, MAX_BUCKET, MAX_COUNT, MAX_POINTS, MAX_SERIES, MAX_SUM};
 use metric_events::point::Point;
@@ -105,19 +104,18 @@ pub fn is_within(kind: &Kind, row: &[u64], more: &[u64]) -> bool
 }
 
 /// There are more series than there may be.
-pub fn has_many(cells: &[Cell]) -> bool
-    ensures { (qs : List Accepted) → AreCells cells.now qs
-        → result ≡ nat_lt MAX_SERIES (series_count qs) }
+pub fn exceeds_max_series(cells: &[Cell]) -> bool
+    ensures { ForPoints cells.now (λ qs. result ≡ nat_lt MAX_SERIES (series_count qs)) }
 {
     cells.len() > MAX_SERIES
 }
 
 /// The first limit that is exceeded, the spans of a batch with a too large sum being in the cells.
 pub fn limit_of_large(cells: &[Cell]) -> AdmitFault
-    ensures { (qs : List Accepted) → AreCells cells.now qs
-        → result ≡ (if nat_lt MAX_SERIES (series_count qs) then TooManySeries else TooLarge) }
+    ensures { ForPoints cells.now (λ qs.
+        result ≡ (if nat_lt MAX_SERIES (series_count qs) then TooManySeries else TooLarge)) }
 {
-    if has_many(cells) {
+    if exceeds_max_series(cells) {
         AdmitFault::TooManySeries
     } else {
         AdmitFault::TooLarge
@@ -125,8 +123,7 @@ pub fn limit_of_large(cells: &[Cell]) -> AdmitFault
 }
 
 fn accepted_word(cells: &[Cell], series: &SharedId, k: usize) -> u128
-    ensures value { (qs : List Accepted) → AreCells cells.now qs
-        → result ≡ slice_index (sum_of series.now qs) k }
+    ensures value { ForPoints cells.now (λ qs. result ≡ slice_index (sum_of series.now qs) k) }
     ensures few { result < 2 ^ 64 }
 {
     match find_cell(cells, series) {
@@ -150,8 +147,8 @@ fn batch_word(batch: &[Point], series: &SharedId, k: usize) -> u128
 
 /// Word `k` of the sum of a series with the batch's points.
 fn word_total(cells: &[Cell], batch: &[Point], series: &SharedId, k: usize) -> u128
-    ensures value { (b : ℕ) (s : List ℕ) (qs : List Accepted) → AreCells cells.now qs
-        → result ≡ slice_index (sum_with b s series.now qs batch.now) k }
+    ensures value { (b : ℕ) (s : List ℕ) → ForPoints cells.now (λ qs.
+        result ≡ slice_index (sum_with b s series.now qs batch.now) k) }
     ensures few { result ≤ (1 + length batch.now) * 2 ^ 64 }
 {
     accepted_word(cells, series, k) + batch_word(batch, series, k)
@@ -159,19 +156,19 @@ fn word_total(cells: &[Cell], batch: &[Point], series: &SharedId, k: usize) -> u
 
 /// Word `k` of the sum is over its limit.
 fn is_word_large(cells: &[Cell], batch: &[Point], series: &SharedId, k: usize) -> bool
-    ensures { (b : ℕ) (s : List ℕ) (qs : List Accepted) → AreCells cells.now qs
-        → result ≡ nat_lt (rows.word_limit series.now.kind k)
-        (slice_index (sum_with b s series.now qs batch.now) k) }
+    ensures { (b : ℕ) (s : List ℕ) → ForPoints cells.now (λ qs.
+        result ≡ nat_lt (rows.word_limit series.now.kind k)
+        (slice_index (sum_with b s series.now qs batch.now) k)) }
 {
     u128::from(word_limit(series.as_series().kind(), k)) < word_total(cells, batch, series, k)
 }
 
 /// One of the `n` words of the sum is over its limit.
 fn has_large_word(cells: &[Cell], batch: &[Point], series: &SharedId, n: usize) -> bool
-    ensures { (b : ℕ) (s : List ℕ) (qs : List Accepted) → AreCells cells.now qs
-        → length (sum_with b s series.now qs batch.now) ≡ n
+    ensures { (b : ℕ) (s : List ℕ) → ForPoints cells.now (λ qs.
+        length (sum_with b s series.now qs batch.now) ≡ n
         → result ≡ not (rows.are_within (rows.word_limit series.now.kind)
-        (sum_with b s series.now qs batch.now)) }
+        (sum_with b s series.now qs batch.now))) }
 {
     for k in 0..n {
         if is_word_large(cells, batch, series, k) {
@@ -184,9 +181,10 @@ fn has_large_word(cells: &[Cell], batch: &[Point], series: &SharedId, n: usize) 
 /// The buckets among the `n` words of the sum are over their limit together.
 fn has_many_counts(cells: &[Cell], batch: &[Point], series: &SharedId, n: usize) -> bool
     requires { 3 ≤ n }
-    ensures { (b : ℕ) (s : List ℕ) (qs : List Accepted) → AreCells cells.now qs
-        → length (sum_with b s series.now qs batch.now) ≡ n
-        → result ≡ nat_lt MAX_COUNT (sum (rows.buckets_of (sum_with b s series.now qs batch.now))) }
+    ensures { (b : ℕ) (s : List ℕ) → ForPoints cells.now (λ qs.
+        length (sum_with b s series.now qs batch.now) ≡ n
+        → result ≡ nat_lt MAX_COUNT
+        (sum (rows.buckets_of (sum_with b s series.now qs batch.now)))) }
 {
     let mut total = 0;
     for k in 3..n {
@@ -200,9 +198,9 @@ fn has_many_counts(cells: &[Cell], batch: &[Point], series: &SharedId, n: usize)
 
 /// The sum of a series with the batch's points is over a limit.
 fn is_series_over(cells: &[Cell], batch: &[Point], series: &SharedId) -> bool
-    ensures { (b : ℕ) (s : List ℕ) (qs : List Accepted) → AreCells cells.now qs
-        → length (sum_with b s series.now qs batch.now) ≡ row_length series.now.kind
-        → result ≡ not (rows.fits series.now.kind (sum_with b s series.now qs batch.now)) }
+    ensures { (b : ℕ) (s : List ℕ) → ForPoints cells.now (λ qs.
+        length (sum_with b s series.now qs batch.now) ≡ row_length series.now.kind
+        → result ≡ not (rows.fits series.now.kind (sum_with b s series.now qs batch.now))) }
 {
     let n = series.as_series().row_len();
     match series.as_series().kind() {
@@ -216,8 +214,8 @@ fn is_series_over(cells: &[Cell], batch: &[Point], series: &SharedId) -> bool
 fn is_large(cells: &[Cell], batch: &[Point]) -> bool
     requires accepted { AreBooked cells.now }
     requires made { All IsPoint batch.now }
-    ensures { (b : ℕ) (s : List ℕ) (qs : List Accepted) → AreAccepted qs → AreCells cells.now qs
-        → result ≡ is_too_large (qs ++ map (admitted b s) batch.now) batch.now }
+    ensures { (b : ℕ) (s : List ℕ) → ForAccepted cells.now (λ qs.
+        result ≡ is_too_large (qs ++ map (admitted b s) batch.now) batch.now) }
 {
     for p in batch {
         if is_series_over(cells, batch, p.shared_series()) {
@@ -228,12 +226,12 @@ fn is_large(cells: &[Cell], batch: &[Point]) -> bool
 }
 
 /// The first limit that the batch would exceed.
-pub fn slow_limit(cells: &[Cell], batch: &[Point]) -> Option<AdmitFault>
+pub fn limit_without_alloc(cells: &[Cell], batch: &[Point]) -> Option<AdmitFault>
     requires few { length cells.now ≤ MAX_SERIES }
     requires accepted { AreBooked cells.now }
     requires made { All IsPoint batch.now }
-    ensures { (b : ℕ) (s : List ℕ) (qs : List Accepted) → AreAccepted qs → AreCells cells.now qs
-        → result ≡ limit_fault (qs ++ map (admitted b s) batch.now) batch.now }
+    ensures { (b : ℕ) (s : List ℕ) → ForAccepted cells.now (λ qs.
+        result ≡ limit_fault (qs ++ map (admitted b s) batch.now) batch.now) }
 {
     if count_series(cells, batch) > MAX_SERIES {
         return Some(AdmitFault::TooManySeries);

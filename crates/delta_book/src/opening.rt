@@ -15,10 +15,11 @@ ghost use Rattle.metric_events.specs.declared.accepted.Accepted.{Accepted};
 ghost use Rattle.metric_events.specs.declared.opened_series.OpenedSeries.{OpenedSeries};
 ghost use Rattle.series_cell.specs.Cells.{Stands};
 ghost use Rattle.delta_book.specs.declared.opening.TheConstants.{LAST_ROUND};
-ghost use Rattle.delta_book.specs.Tables.{AreCells, AreBooked, HasPoint};
-ghost use Rattle.delta_book.specs.Ready.{IsBookedCell};
+ghost use Rattle.delta_book.specs.Tables.{AreCells, AreBooked};
+ghost use Rattle.delta_book.specs.inner.Tables.{HasPoint};
+ghost use Rattle.delta_book.specs.inner.Ready.{IsBookedCell};
 ghost use Rattle.delta_book.specs.Carries.{AllCarry, AllHandOn, AllOpened};
-ghost use Rattle.delta_book.specs.Pasts.{HasPast, HasNoPast, AddsPast};
+ghost use Rattle.delta_book.specs.inner.Pasts.{HasPast, HasNoPast, AddsPast};
 
 use crate::totals::row_of;
 use metric_events::opened_list::OpenedList;
@@ -30,6 +31,7 @@ use metric_events::wide_row::WideRow;
 use series_cell::cell::Cell;
 use series_id::SeriesId;
 use std::alloc::{AllocError, Global};
+use std::cmp::Ordering;
 
 /// The last round that a book may have.
 pub const LAST_ROUND: u64 = 4_294_967_295;
@@ -70,14 +72,10 @@ fn find_past<'a>(before: &'a Opening, series: &SeriesId) -> Option<&'a OpenedSer
     while low < high {
         let middle = low + (high - low) / 2;
         let found = &opened[middle];
-        let its = found.series.as_series();
-        if series.is_same(its) {
-            return Some(found);
-        }
-        if series.is_before(its) {
-            high = middle;
-        } else {
-            low = middle + 1;
+        match series.cmp(found.series.as_series()) {
+            Ordering::Equal => return Some(found),
+            Ordering::Less => high = middle,
+            Ordering::Greater => low = middle + 1,
         }
     }
     None

@@ -4,32 +4,30 @@
 //! are removed, which allocates nothing. So a batch needs no search among its own points. Where a
 //! sum gets over its limits, a second pass puts the spans alone, to find which refusal comes first;
 //! then they are removed too.
-ghost use Rattle.std.specs.Prelude.{◌≡◌, ℕ, ◌<◌, ◌≤◌, ◌++◌, ◌∷◌, [], List, length, map, true};
-ghost use Rattle.std.specs.Prelude.{false, OnOk, OnErr, IfOk, IfErr, None, unwrap_or};
+ghost use Rattle.std.specs.Prelude.{◌≡◌, ℕ, ◌<◌, ◌≤◌, ◌++◌, ◌∷◌, [], length, map, true, false};
+ghost use Rattle.std.specs.Prelude.{OnOk, OnErr, IfOk, IfErr, None, unwrap_or};
+ghost use Rattle.std.specs.List.{All};
 ghost use Rattle.series_id.specs.Identity.{row_length};
+ghost use Rattle.metric_events.specs.DataPoint.{IsPoint};
 ghost use Rattle.metric_events.specs.Points.{admitted};
-ghost use Rattle.metric_events.specs.Rows as rows;
-ghost use Rattle.metric_events.specs.Rows.{add_rows};
 ghost use Rattle.metric_events.specs.Series.{is_ascending};
 ghost use Rattle.metric_events.specs.Legal.{is_too_large};
-ghost use Rattle.metric_events.specs.declared.accepted.Accepted.{Accepted};
+ghost use Rattle.metric_events.specs.declared.limits.TheConstants.{MAX_SERIES};
 ghost use Rattle.series_cell.specs.Cells.{Stands, IsOfSame, end_of};
 ghost use Rattle.delta_book.specs.Refusals.{point_fault, batch_fault};
-ghost use Rattle.delta_book.specs.Tables.{AreCells, AreSome, IdAt, id_of, AreBooked};
-ghost use Rattle.delta_book.specs.Parts.{part_of, parts_of};
-ghost use Rattle.delta_book.specs.Puts.{IsGap, Stops, StopsAt, StopsPart, fault_at, fits_with};
-ghost use Rattle.delta_book.specs.Puts.{next_fault};
-ghost use Rattle.std.specs.List.{All};
-ghost use Rattle.metric_events.specs.DataPoint.{IsPoint};
-ghost use Rattle.metric_events.specs.declared.limits.TheConstants.{MAX_SERIES};
+ghost use Rattle.delta_book.specs.Tables.{id_of, AreBooked};
 ghost use Rattle.delta_book.specs.declared.faults.AdmitFault.TheVariants.{NoMemory};
-ghost use Rattle.delta_book.specs.AtHome.{AreAccepted};
+ghost use Rattle.delta_book.specs.inner.Tables.{AreSome, ForAccepted, ForPoints, IdAt, Keeps, Puts};
+ghost use Rattle.delta_book.specs.inner.Parts.{part_of, parts_of};
+ghost use Rattle.delta_book.specs.inner.Puts.{AddsPoint, FitsWith, IsGap, KeepsPoints, MayFollow};
+ghost use Rattle.delta_book.specs.inner.Puts.{Rejects, RejectsBatch, RejectsNext, RejectsPart};
+ghost use Rattle.delta_book.specs.inner.Puts.{fault_at, fits_in};
 
-use crate::cells::{Part, find_place, remove_batch, remove_points};
+use crate::cells::{Fill, find_place, remove_batch, remove_points};
 use crate::faults::AdmitFault;
-use crate::limits::{has_many, is_within, limit_of_large, slow_limit};
+use crate::limits::{exceeds_max_series, is_within, limit_of_large, limit_without_alloc};
 use crate::lists::points_to;
-use crate::slow::slow_fault;
+use crate::without_alloc::fault_without_alloc;
 use metric_events::point::Point;
 use metric_events::sender_name::SenderName;
 use series_cell::cell::Cell;
@@ -37,7 +35,7 @@ use std::alloc::{AllocError, Global};
 
 /// Why the points of a batch could not all be put.
 #[derive(Clone, Copy)]
-pub enum Stop {
+pub enum Rejection {
     /// This is what refuses the batch.
     Fault(AdmitFault),
     /// The sum of a series would be over its limits.
@@ -46,62 +44,55 @@ pub enum Stop {
 }
 
 /// Puts a point into the cell of its series, after all that is there.
-fn put_whole(cell: &mut Cell, point: &Point, number: u64) -> Result<(), Stop>
+fn put_point(cell: &mut Cell, point: &Point, number: u64) -> Result<(), Rejection>
     requires series { point.now.series ≡ cell.old.id }
     requires order { end_of cell.old ≤ point.now.span.start }
     requires long { length cell.old.accepted ≡ row_length cell.old.id.kind }
-    ensures put { OnOk result ((qs : List Accepted) → Stands cell.old qs
-        → Stands cell.new (qs ++ admitted number cell.old.owner point.now ∷ [])) }
-    ensures within { OnOk result (rows.fits point.now.series.kind
-        (add_rows cell.old.accepted point.now.row) ≡ true) }
-    ensures kept { OnErr result ((qs : List Accepted) → Stands cell.old qs → Stands cell.new qs) }
+    ensures put { OnOk result (AddsPoint cell.old cell.new number point.now) }
+    ensures within { OnOk result (fits_in cell.old point.now ≡ true) }
+    ensures kept { OnErr result (KeepsPoints cell.old cell.new) }
     ensures same { IsOfSame cell.old cell.new }
-    ensures stop { IfErr result (λ e. StopsPart e Part.Whole
-        (rows.fits point.now.series.kind (add_rows cell.old.accepted point.now.row))) }
+    ensures rejection { IfErr result (λ e. RejectsPart e Fill.Point (fits_in cell.old point.now)) }
 {
     if !is_within(point.series().kind(), cell.accepted(), point.row()) {
-        return Err(Stop::TooLarge);
+        return Err(Rejection::TooLarge);
     }
     if cell.put(point, number).is_err() {
-        return Err(Stop::NoMemory);
+        return Err(Rejection::NoMemory);
     }
     Ok(())
 }
 
 /// Puts the span of a point into the cell of its series, after all that is there.
-fn put_span(cell: &mut Cell, point: &Point, number: u64) -> Result<(), Stop>
+fn put_span(cell: &mut Cell, point: &Point, number: u64) -> Result<(), Rejection>
     requires series { point.now.series ≡ cell.old.id }
     requires order { end_of cell.old ≤ point.now.span.start }
-    ensures put { OnOk result ((qs : List Accepted) → Stands cell.old qs
-        → Stands cell.new (qs ++ admitted number cell.old.owner
-        (part_of Part.Span point.now) ∷ [])) }
-    ensures kept { OnErr result ((qs : List Accepted) → Stands cell.old qs → Stands cell.new qs) }
+    ensures put { OnOk result (AddsPoint cell.old cell.new number
+        (part_of Fill.SpanOnly point.now)) }
+    ensures kept { OnErr result (KeepsPoints cell.old cell.new) }
     ensures same { IsOfSame cell.old cell.new }
-    ensures stop { IfErr result (λ e. e ≡ Stop.NoMemory) }
+    ensures rejection { IfErr result (λ e. e ≡ Rejection.NoMemory) }
 {
     if cell.put_span(point, number).is_err() {
-        return Err(Stop::NoMemory);
+        return Err(Rejection::NoMemory);
     }
     Ok(())
 }
 
 /// Puts this part of a point into the cell of its series, after all that is there.
-fn put_part(cell: &mut Cell, point: &Point, part: Part, number: u64) -> Result<(), Stop>
+fn put_part(cell: &mut Cell, point: &Point, fill: Fill, number: u64) -> Result<(), Rejection>
     requires series { point.now.series ≡ cell.old.id }
     requires order { end_of cell.old ≤ point.now.span.start }
     requires long { length cell.old.accepted ≡ row_length cell.old.id.kind }
-    ensures put { OnOk result ((qs : List Accepted) → Stands cell.old qs
-        → Stands cell.new (qs ++ admitted number cell.old.owner (part_of part point.now) ∷ [])) }
-    ensures within { OnOk result (part ≡ Part.Whole
-        → rows.fits point.now.series.kind (add_rows cell.old.accepted point.now.row) ≡ true) }
-    ensures kept { OnErr result ((qs : List Accepted) → Stands cell.old qs → Stands cell.new qs) }
+    ensures put { OnOk result (AddsPoint cell.old cell.new number (part_of fill point.now)) }
+    ensures within { OnOk result (fill ≡ Fill.Point → fits_in cell.old point.now ≡ true) }
+    ensures kept { OnErr result (KeepsPoints cell.old cell.new) }
     ensures same { IsOfSame cell.old cell.new }
-    ensures stop { IfErr result (λ e. StopsPart e part (rows.fits point.now.series.kind
-        (add_rows cell.old.accepted point.now.row))) }
+    ensures rejection { IfErr result (λ e. RejectsPart e fill (fits_in cell.old point.now)) }
 {
-    match part {
-        Part::Whole => put_whole(cell, point, number),
-        Part::Span => put_span(cell, point, number),
+    match fill {
+        Fill::Point => put_point(cell, point, number),
+        Fill::SpanOnly => put_span(cell, point, number),
     }
 }
 
@@ -126,27 +117,24 @@ fn put_at(
     sender: &SenderName,
     point: &Point,
     place: usize,
-    part: Part,
+    fill: Fill,
     number: u64,
-) -> Result<(), Stop>
+) -> Result<(), Rejection>
     requires inside { i < length cells.old }
     requires there { IdAt cells.old i point.now.series }
     requires some { AreSome cells.old }
-    ensures put { OnOk result ((qs : List Accepted) → AreCells cells.old qs
-        → AreCells cells.new (qs ++ admitted number sender.now (part_of part point.now) ∷ [])) }
-    ensures within { OnOk result (part ≡ Part.Whole → (qs : List Accepted) → AreCells cells.old qs
-        → fits_with qs point.now ≡ true) }
-    ensures kept { OnErr result ((qs : List Accepted) → AreCells cells.old qs
-        → AreCells cells.new qs) }
-    ensures next { OnOk result ((qs : List Accepted) → AreCells cells.old qs
-        → next_fault qs sender.now place point.now ≡ None) }
-    ensures stop { IfErr result (λ e. (qs : List Accepted) → AreCells cells.old qs
-        → StopsAt e part qs sender.now place point.now) }
+    ensures put { OnOk result (Puts cells.old cells.new number sender.now
+        (part_of fill point.now ∷ [])) }
+    ensures within { OnOk result (FitsWith fill cells.old point.now) }
+    ensures kept { OnErr result (Keeps cells.old cells.new) }
+    ensures next { OnOk result (MayFollow cells.old sender.now place point.now) }
+    ensures rejection { IfErr result (λ e. RejectsNext e fill cells.old sender.now place
+        point.now) }
 {
     if let Some(fault) = find_at(&cells[i], sender, point, place) {
-        return Err(Stop::Fault(fault));
+        return Err(Rejection::Fault(fault));
     }
-    put_part(&mut cells[i], point, part, number)
+    put_part(&mut cells[i], point, fill, number)
 }
 
 /// A cell without a point, which shares this point's identity.
@@ -165,32 +153,29 @@ fn open_at(
     i: usize,
     sender: &SenderName,
     point: &Point,
-    part: Part,
+    fill: Fill,
     number: u64,
-) -> Result<(), Stop>
+) -> Result<(), Rejection>
     requires inside { i ≤ length cells.old.items }
     requires gap { is_ascending (map id_of cells.old.items) ≡ true
         → IsGap cells.old.items i point.now.series }
-    ensures put { OnOk result ((qs : List Accepted) → AreCells cells.old.items qs
-        → AreCells cells.new.items (qs
-        ++ admitted number sender.now (part_of part point.now) ∷ [])) }
-    ensures within { OnOk result (part ≡ Part.Whole → (qs : List Accepted)
-        → AreCells cells.old.items qs → fits_with qs point.now ≡ true) }
-    ensures kept { OnErr result ((qs : List Accepted) → AreCells cells.old.items qs
-        → AreCells cells.new.items qs) }
-    ensures next { OnOk result ((place : ℕ) (qs : List Accepted) → AreCells cells.old.items qs
-        → next_fault qs sender.now place point.now ≡ None) }
-    ensures stop { IfErr result (λ e. (place : ℕ) (qs : List Accepted) → AreCells cells.old.items qs
-        → StopsAt e part qs sender.now place point.now) }
+    ensures put { OnOk result (Puts cells.old.items cells.new.items number sender.now
+        (part_of fill point.now ∷ [])) }
+    ensures within { OnOk result (FitsWith fill cells.old.items point.now) }
+    ensures kept { OnErr result (Keeps cells.old.items cells.new.items) }
+    ensures next { OnOk result ((place : ℕ) → MayFollow cells.old.items sender.now place
+        point.now) }
+    ensures rejection { IfErr result (λ e. (place : ℕ) → RejectsNext e fill cells.old.items
+        sender.now place point.now) }
 {
     let Ok(mut cell) = new_cell(alloc, sender, point) else {
-        return Err(Stop::NoMemory);
+        return Err(Rejection::NoMemory);
     };
-    if let Err(stop) = put_part(&mut cell, point, part, number) {
-        return Err(stop);
+    if let Err(rejection) = put_part(&mut cell, point, fill, number) {
+        return Err(rejection);
     }
     let Ok(()) = cells.insert(i, cell) else {
-        return Err(Stop::NoMemory);
+        return Err(Rejection::NoMemory);
     };
     Ok(())
 }
@@ -202,25 +187,21 @@ fn put_next(
     sender: &SenderName,
     point: &Point,
     place: usize,
-    part: Part,
+    fill: Fill,
     number: u64,
-) -> Result<(), Stop>
+) -> Result<(), Rejection>
     requires { AreSome cells.old.items }
-    ensures put { OnOk result ((qs : List Accepted) → AreCells cells.old.items qs
-        → AreCells cells.new.items (qs
-        ++ admitted number sender.now (part_of part point.now) ∷ [])) }
-    ensures within { OnOk result (part ≡ Part.Whole → (qs : List Accepted)
-        → AreCells cells.old.items qs → fits_with qs point.now ≡ true) }
-    ensures kept { OnErr result ((qs : List Accepted) → AreCells cells.old.items qs
-        → AreCells cells.new.items qs) }
-    ensures next { OnOk result ((qs : List Accepted) → AreCells cells.old.items qs
-        → next_fault qs sender.now place point.now ≡ None) }
-    ensures stop { IfErr result (λ e. (qs : List Accepted) → AreCells cells.old.items qs
-        → StopsAt e part qs sender.now place point.now) }
+    ensures put { OnOk result (Puts cells.old.items cells.new.items number sender.now
+        (part_of fill point.now ∷ [])) }
+    ensures within { OnOk result (FitsWith fill cells.old.items point.now) }
+    ensures kept { OnErr result (Keeps cells.old.items cells.new.items) }
+    ensures next { OnOk result (MayFollow cells.old.items sender.now place point.now) }
+    ensures rejection { IfErr result (λ e. RejectsNext e fill cells.old.items sender.now place
+        point.now) }
 {
     match find_place(cells, point.shared_series()) {
-        Ok(i) => put_at(cells, i, sender, point, place, part, number),
-        Err(i) => open_at(alloc, cells, i, sender, point, part, number),
+        Ok(i) => put_at(cells, i, sender, point, place, fill, number),
+        Err(i) => open_at(alloc, cells, i, sender, point, fill, number),
     }
 }
 
@@ -231,73 +212,68 @@ fn put_points(
     cells: &mut Vec<Cell>,
     sender: &SenderName,
     batch: &[Point],
-    part: Part,
+    fill: Fill,
     number: u64,
-) -> Result<(), Stop>
+) -> Result<(), Rejection>
     requires { AreSome cells.old.items }
-    ensures put { OnOk result ((qs : List Accepted) → AreCells cells.old.items qs
-        → AreCells cells.new.items (qs
-        ++ map (admitted number sender.now) (parts_of part batch.now))) }
-    ensures none { OnOk result ((qs : List Accepted) → AreCells cells.old.items qs
-        → point_fault qs sender.now 0 batch.now ≡ None) }
-    ensures within { OnOk result (part ≡ Part.Whole → (qs : List Accepted)
-        → AreCells cells.old.items qs
-        → is_too_large (qs ++ map (admitted number sender.now) batch.now) batch.now ≡ false) }
-    ensures kept { OnErr result ((qs : List Accepted) → AreCells cells.old.items qs
-        → AreCells cells.new.items qs) }
-    ensures stop { IfErr result (λ e. (qs : List Accepted) → AreCells cells.old.items qs
-        → Stops e qs sender.now batch.now) }
+    ensures put { OnOk result (Puts cells.old.items cells.new.items number sender.now
+        (parts_of fill batch.now)) }
+    ensures none { OnOk result (ForPoints cells.old.items (λ qs.
+        point_fault qs sender.now 0 batch.now ≡ None)) }
+    ensures within { OnOk result (fill ≡ Fill.Point → ForPoints cells.old.items (λ qs.
+        is_too_large (qs ++ map (admitted number sender.now) batch.now) batch.now ≡ false)) }
+    ensures kept { OnErr result (Keeps cells.old.items cells.new.items) }
+    ensures rejection { IfErr result (λ e. RejectsBatch e cells.old.items sender.now batch.now) }
 {
     for (i, point) in batch.iter().enumerate() {
-        if let Err(stop) = put_next(alloc, cells, sender, point, i, part, number) {
-            remove_points(cells, points_to(batch, i), part, number);
-            return Err(stop);
+        if let Err(rejection) = put_next(alloc, cells, sender, point, i, fill, number) {
+            remove_points(cells, points_to(batch, i), fill, number);
+            return Err(rejection);
         }
     }
     Ok(())
 }
 
-/// What stops a batch with a too large sum: a point, else the count of series, else the sum. The
+/// What refuses a batch with a too large sum: a point, else the count of series, else the sum. The
 /// spans of the batch are put to find out, and removed.
-fn stop_of_large(
+fn rejection_of_overflow(
     alloc: Global,
     cells: &mut Vec<Cell>,
     sender: &SenderName,
     batch: &[Point],
     number: u64,
-) -> Stop
+) -> Rejection
     requires { AreSome cells.old.items }
-    ensures kept { (qs : List Accepted) → AreCells cells.old.items qs
-        → AreCells cells.new.items qs }
-    ensures stop { (qs : List Accepted) → AreCells cells.old.items qs
-        → Stops Stop.TooLarge qs sender.now batch.now → Stops result qs sender.now batch.now }
+    ensures kept { Keeps cells.old.items cells.new.items }
+    ensures rejection { ForPoints cells.old.items (λ qs.
+        Rejects Rejection.TooLarge qs sender.now batch.now
+        → Rejects result qs sender.now batch.now) }
 {
-    if let Err(stop) = put_points(alloc, cells, sender, batch, Part::Span, number) {
-        return stop;
+    if let Err(rejection) = put_points(alloc, cells, sender, batch, Fill::SpanOnly, number) {
+        return rejection;
     }
     let fault = limit_of_large(cells);
-    remove_points(cells, batch, Part::Span, number);
-    Stop::Fault(fault)
+    remove_points(cells, batch, Fill::SpanOnly, number);
+    Rejection::Fault(fault)
 }
 
-/// What stops a batch first, of which nothing is in the cells.
-fn first_stop(
+/// What refuses a batch first, of which nothing is in the cells.
+fn first_rejection(
     alloc: Global,
     cells: &mut Vec<Cell>,
     sender: &SenderName,
     batch: &[Point],
     number: u64,
-    stop: Stop,
-) -> Stop
+    rejection: Rejection,
+) -> Rejection
     requires { AreSome cells.old.items }
-    ensures kept { (qs : List Accepted) → AreCells cells.old.items qs
-        → AreCells cells.new.items qs }
-    ensures stop { (qs : List Accepted) → AreCells cells.old.items qs
-        → Stops stop qs sender.now batch.now → Stops result qs sender.now batch.now }
+    ensures kept { Keeps cells.old.items cells.new.items }
+    ensures rejection { ForPoints cells.old.items (λ qs.
+        Rejects rejection qs sender.now batch.now → Rejects result qs sender.now batch.now) }
 {
-    match stop {
-        Stop::TooLarge => stop_of_large(alloc, cells, sender, batch, number),
-        Stop::Fault(_) | Stop::NoMemory => stop,
+    match rejection {
+        Rejection::TooLarge => rejection_of_overflow(alloc, cells, sender, batch, number),
+        Rejection::Fault(_) | Rejection::NoMemory => rejection,
     }
 }
 
@@ -308,54 +284,49 @@ fn put_all(
     sender: &SenderName,
     batch: &[Point],
     number: u64,
-) -> Result<(), Stop>
+) -> Result<(), Rejection>
     requires { AreSome cells.old.items }
-    ensures put { OnOk result ((qs : List Accepted) → AreCells cells.old.items qs
-        → AreCells cells.new.items (qs ++ map (admitted number sender.now) batch.now)) }
-    ensures none { OnOk result ((qs : List Accepted) → AreCells cells.old.items qs
-        → batch_fault qs sender.now batch.now ≡ None) }
-    ensures kept { OnErr result ((qs : List Accepted) → AreCells cells.old.items qs
-        → AreCells cells.new.items qs) }
-    ensures stop { IfErr result (λ e. (qs : List Accepted) → AreCells cells.old.items qs
-        → Stops e qs sender.now batch.now) }
+    ensures put { OnOk result (Puts cells.old.items cells.new.items number sender.now batch.now) }
+    ensures none { OnOk result (ForPoints cells.old.items (λ qs.
+        batch_fault qs sender.now batch.now ≡ None)) }
+    ensures kept { OnErr result (Keeps cells.old.items cells.new.items) }
+    ensures rejection { IfErr result (λ e. RejectsBatch e cells.old.items sender.now batch.now) }
 {
-    if let Err(stop) = put_points(alloc, cells, sender, batch, Part::Whole, number) {
-        return Err(first_stop(alloc, cells, sender, batch, number, stop));
+    if let Err(rejection) = put_points(alloc, cells, sender, batch, Fill::Point, number) {
+        return Err(first_rejection(alloc, cells, sender, batch, number, rejection));
     }
-    if has_many(cells) {
+    if exceeds_max_series(cells) {
         remove_batch(cells, batch, number);
-        return Err(Stop::Fault(AdmitFault::TooManySeries));
+        return Err(Rejection::Fault(AdmitFault::TooManySeries));
     }
     Ok(())
 }
 
 /// The refusal of a batch, found without putting any of it. Allocates nothing.
-fn slow_refusal(cells: &[Cell], sender: &SenderName, batch: &[Point]) -> Option<AdmitFault>
+fn refusal_without_alloc(cells: &[Cell], sender: &SenderName, batch: &[Point]) -> Option<AdmitFault>
     requires few { length cells.now ≤ MAX_SERIES }
     requires accepted { AreBooked cells.now }
     requires made { All IsPoint batch.now }
-    ensures { (qs : List Accepted) → AreAccepted qs → AreCells cells.now qs
-        → result ≡ batch_fault qs sender.now batch.now }
+    ensures { ForAccepted cells.now (λ qs. result ≡ batch_fault qs sender.now batch.now) }
 {
-    match slow_fault(cells, sender, batch) {
+    match fault_without_alloc(cells, sender, batch) {
         Some(fault) => Some(fault),
-        None => slow_limit(cells, batch),
+        None => limit_without_alloc(cells, batch),
     }
 }
 
-/// The refusal of a batch that was stopped and of which nothing is in the cells.
-fn refusal(cells: &[Cell], sender: &SenderName, batch: &[Point], stop: Stop) -> AdmitFault
+/// The refusal of a batch that could not be put and of which nothing is in the cells.
+fn refusal(cells: &[Cell], sender: &SenderName, batch: &[Point], rejection: Rejection) -> AdmitFault
     requires few { length cells.now ≤ MAX_SERIES }
     requires accepted { AreBooked cells.now }
     requires made { All IsPoint batch.now }
-    ensures { (qs : List Accepted) → AreAccepted qs → AreCells cells.now qs
-        → Stops stop qs sender.now batch.now
-        → result ≡ unwrap_or (batch_fault qs sender.now batch.now) NoMemory }
+    ensures { ForAccepted cells.now (λ qs. Rejects rejection qs sender.now batch.now
+        → result ≡ unwrap_or (batch_fault qs sender.now batch.now) NoMemory) }
 {
-    match stop {
-        Stop::Fault(fault) => fault,
-        Stop::TooLarge | Stop::NoMemory => {
-            slow_refusal(cells, sender, batch).unwrap_or(AdmitFault::NoMemory)
+    match rejection {
+        Rejection::Fault(fault) => fault,
+        Rejection::TooLarge | Rejection::NoMemory => {
+            refusal_without_alloc(cells, sender, batch).unwrap_or(AdmitFault::NoMemory)
         }
     }
 }
@@ -371,18 +342,15 @@ pub fn put_batch(
 ) -> Result<(), AdmitFault>
     requires accepted { AreBooked cells.old.items }
     requires made { All IsPoint batch.now }
-    ensures put { OnOk result ((qs : List Accepted) → AreCells cells.old.items qs
-        → AreCells cells.new.items (qs ++ map (admitted number sender.now) batch.now)) }
-    ensures none { OnOk result ((qs : List Accepted) → AreCells cells.old.items qs
-        → batch_fault qs sender.now batch.now ≡ None) }
-    ensures kept { OnErr result ((qs : List Accepted) → AreCells cells.old.items qs
-        → AreCells cells.new.items qs) }
-    ensures fault { IfErr result (λ e. (qs : List Accepted) → AreAccepted qs
-        → AreCells cells.old.items qs
-        → e ≡ unwrap_or (batch_fault qs sender.now batch.now) NoMemory) }
+    ensures put { OnOk result (Puts cells.old.items cells.new.items number sender.now batch.now) }
+    ensures none { OnOk result (ForPoints cells.old.items (λ qs.
+        batch_fault qs sender.now batch.now ≡ None)) }
+    ensures kept { OnErr result (Keeps cells.old.items cells.new.items) }
+    ensures fault { IfErr result (λ e. ForAccepted cells.old.items
+        (λ qs. e ≡ unwrap_or (batch_fault qs sender.now batch.now) NoMemory)) }
 {
     match put_all(alloc, cells, sender, batch, number) {
         Ok(()) => Ok(()),
-        Err(stop) => Err(refusal(cells, sender, batch, stop)),
+        Err(rejection) => Err(refusal(cells, sender, batch, rejection)),
     }
 }

@@ -21,17 +21,17 @@ use Rattle.delta_book.specs.declared.flush.Flush.{Flush}
 use Rattle.delta_book.specs.declared.faults.NotLive.{NotLive}
 use Rattle.delta_book.specs.declared.faults.TakeFault.{TakeFault}
 use Rattle.delta_book.specs.declared.faults.TakeFault.TheVariants as fault
-use Rattle.gate_workers.specs.declared.book_keeper.Desk.{Desk}
+use Rattle.gate_workers.specs.declared.book_keeper.SeatedBook.{SeatedBook}
 use Rattle.gate_workers.specs.declared.flush.Turn.{Turn}
 use Rattle.gate_workers.specs.declared.flush.Turn.TheVariants.{Idle, Full, NoMemory, Done}
-use Rattle.gate_workers.specs.Calls.{Call, take}
+use Rattle.gate_workers.specs.Calls.{Call, on_book}
 use Rattle.gate_workers.specs.Turns.{IsTurn, IsIdleTurn, IsUnsent, IsClosing, closing, Want, Nowhere, ForFlush, ForText, Made, sending, taking, turn_by, turn_of, without_events}
 use Rattle.delta_book.specs.Outcomes as book
 use Rattle.gate_workers.specs.BookCalls.{BookGives, Adds, AreSent, IsMade, entry_of}
 use Rattle.out_texts.specs.Request.{request_text}
 
-abbrev pub DeskGives : Desk → Call → Desk → Type 0
-DeskGives k c w = (w.seat ≡ k.seat) × BookGives k.seat k.book c w.book
+abbrev pub SeatedGives : SeatedBook → Call → SeatedBook → Type 0
+SeatedGives k c w = (w.seat ≡ k.seat) × BookGives k.seat k.book c w.book
 
 -- a turn over a journal, where it is that one
 made : {U : Type 0} (sends : U → List ℕ → Answer → U → Type 0) (seat max : ℕ) (J J' : Journal) (u u' : U) (t : Turn) (answer : Answer) (want : Want) (m : Made)
@@ -143,40 +143,40 @@ sent_turn {U} sends seat max J M J' u u' flush answer r h sent e =
     (both_added seat max J M J' flush (book.event_of (act_of answer)) r h e)
     (u', subst P (sent_points seat max J M flush h) sent, refl)
 
--- the closing call of a desk
-closed : (k k' : Desk) (act : Act) (flush : ℕ) → IsClosing DeskGives act flush k k' → (k'.seat ≡ k.seat) × ((r : Result (Unit {0}) NotLive) × Ends k.seat k.book k'.book flush (book.event_of act flush) r)
+-- the closing call of a seated book
+closed : (k k' : SeatedBook) (act : Act) (flush : ℕ) → IsClosing SeatedGives act flush k k' → (k'.seat ≡ k.seat) × ((r : Result (Unit {0}) NotLive) × Ends k.seat k.book k'.book flush (book.event_of act flush) r)
 closed k k' act flush h = (h.1.0, (h.0, ends_by k.seat k.book k'.book act flush h.0 h.1.1))
 
--- a turn of a desk: its seat stays, and the turn is that of its journal
-abbrev pub IsDeskTurn : {U : Type 0} → (U → List ℕ → Answer → U → Type 0) → ℕ → Desk → Desk → U → U → Turn → Type 0
-IsDeskTurn sends max k k' u u' t = (k'.seat ≡ k.seat) × IsMade sends k.seat max k.book k'.book u u' t
+-- a turn of a seated book: its seat stays, and the turn is that of its journal
+abbrev pub IsSeatedTurn : {U : Type 0} → (U → List ℕ → Answer → U → Type 0) → ℕ → SeatedBook → SeatedBook → U → U → Turn → Type 0
+IsSeatedTurn sends max k k' u u' t = (k'.seat ≡ k.seat) × IsMade sends k.seat max k.book k'.book u u' t
 
 at_seat : (s seat : ℕ) (J J' : Journal) (flush : ℕ) (event : Event) (r : Result (Unit {0}) NotLive) → s ≡ seat → Ends s J J' flush event r → Ends seat J J' flush event r
 at_seat s seat J J' flush event r same h = let P : ℕ → Type 0 = λ n. Ends n J J' flush event r in subst P same h
 
-unsent : {U : Type 0} (sends : U → List ℕ → Answer → U → Type 0) (max : ℕ) (k m k' : Desk) (u u' : U) (t : Turn) (r : Result (Option Flush) TakeFault)
-    → DeskGives k (take max r) m → IsUnsent DeskGives max r m k' t → u ≡ u' → IsDeskTurn sends max k k' u u' t
+unsent : {U : Type 0} (sends : U → List ℕ → Answer → U → Type 0) (max : ℕ) (k m k' : SeatedBook) (u u' : U) (t : Turn) (r : Result (Option Flush) TakeFault)
+    → SeatedGives k (on_book (call.take max r)) m → IsUnsent SeatedGives max r m k' t → u ≡ u' → IsSeatedTurn sends max k k' u u' t
 unsent sends max k m k' u u' t (Ok None) h e same_uplink =
-    let book : k'.book ≡ k.book = ap (λ (x : Desk). x.book) (sym e.0) ∙ h.1.journal in
-    (ap (λ (x : Desk). x.seat) (sym e.0) ∙ h.0, rw e.1 (idle_turn sends k.seat max k.book k'.book u u' h.1.answers book (sym same_uplink)))
+    let book : k'.book ≡ k.book = ap (λ (x : SeatedBook). x.book) (sym e.0) ∙ h.1.journal in
+    (ap (λ (x : SeatedBook). x.seat) (sym e.0) ∙ h.0, rw e.1 (idle_turn sends k.seat max k.book k'.book u u' h.1.answers book (sym same_uplink)))
 unsent sends max k m k' u u' t (Ok (Some flush)) h e same_uplink =
     let c = closed m k' GiveBack flush.number e.0 in
     (c.0 ∙ h.0, rw e.1 (returned_turn sends k.seat max k.book m.book k'.book u u' flush c.1.0 h.1 (at_seat m.seat k.seat m.book k'.book flush.number (GivenBack flush.number) c.1.0 h.0 c.1.1) (sym same_uplink)))
 unsent sends max k m k' u u' t (Err fault.Full) h e same_uplink =
-    let book : k'.book ≡ k.book = ap (λ (x : Desk). x.book) (sym e.0) ∙ h.1.journal in
-    (ap (λ (x : Desk). x.seat) (sym e.0) ∙ h.0, rw e.1 (refused_turn sends k.seat max k.book k'.book u u' fault.Full (is_full (history k.book)) refl h.1.answers.1 h.1.answers.0 book (sym same_uplink)))
+    let book : k'.book ≡ k.book = ap (λ (x : SeatedBook). x.book) (sym e.0) ∙ h.1.journal in
+    (ap (λ (x : SeatedBook). x.seat) (sym e.0) ∙ h.0, rw e.1 (refused_turn sends k.seat max k.book k'.book u u' fault.Full (is_full (history k.book)) refl h.1.answers.1 h.1.answers.0 book (sym same_uplink)))
 unsent sends max k m k' u u' t (Err fault.NoMemory) h e same_uplink =
-    let book : k'.book ≡ k.book = ap (λ (x : Desk). x.book) (sym e.0) ∙ h.1.journal in
-    (ap (λ (x : Desk). x.seat) (sym e.0) ∙ h.0, rw e.1 (refused_turn sends k.seat max k.book k'.book u u' fault.NoMemory (is_full (history k.book)) refl h.1.answers.1 h.1.answers.0 book (sym same_uplink)))
+    let book : k'.book ≡ k.book = ap (λ (x : SeatedBook). x.book) (sym e.0) ∙ h.1.journal in
+    (ap (λ (x : SeatedBook). x.seat) (sym e.0) ∙ h.0, rw e.1 (refused_turn sends k.seat max k.book k'.book u u' fault.NoMemory (is_full (history k.book)) refl h.1.answers.1 h.1.answers.0 book (sym same_uplink)))
 
-idle : {U : Type 0} (sends : U → List ℕ → Answer → U → Type 0) (max : ℕ) (k k' : Desk) (u u' : U) (t : Turn) → IsIdleTurn DeskGives max k k' t → u ≡ u' → IsDeskTurn sends max k k' u u' t
+idle : {U : Type 0} (sends : U → List ℕ → Answer → U → Type 0) (max : ℕ) (k k' : SeatedBook) (u u' : U) (t : Turn) → IsIdleTurn SeatedGives max k k' t → u ≡ u' → IsSeatedTurn sends max k k' u u' t
 idle sends max k k' u u' t h same_uplink = unsent sends max k h.1 k' u u' t h.0 h.2 h.3 same_uplink
 
-pub desk_turn : {U : Type 0} (sends : U → List ℕ → Answer → U → Type 0) (max : ℕ) (k k' : Desk) (u u' : U) (t : Turn) → IsTurn DeskGives sends max k k' u u' t → IsDeskTurn sends max k k' u u' t
-desk_turn sends max k k' u u' Idle h = idle sends max k k' u u' Idle h.0 h.1
-desk_turn sends max k k' u u' Full h = idle sends max k k' u u' Full h.0 h.1
-desk_turn sends max k k' u u' NoMemory h = idle sends max k k' u u' NoMemory h.0 h.1
-desk_turn sends max k k' u u' (Done number points answer act) h =
+pub seated_turn : {U : Type 0} (sends : U → List ℕ → Answer → U → Type 0) (max : ℕ) (k k' : SeatedBook) (u u' : U) (t : Turn) → IsTurn SeatedGives sends max k k' u u' t → IsSeatedTurn sends max k k' u u' t
+seated_turn sends max k k' u u' Idle h = idle sends max k k' u u' Idle h.0 h.1
+seated_turn sends max k k' u u' Full h = idle sends max k k' u u' Full h.0 h.1
+seated_turn sends max k k' u u' NoMemory h = idle sends max k k' u u' NoMemory h.0 h.1
+seated_turn sends max k k' u u' (Done number points answer act) h =
     let c = closed h.1 k' (act_of answer) h.0.number h.4 in (
       c.0 ∙ h.2.0,
       rw (h.5, h.6, h.7) (sent_turn sends k.seat max k.book h.1.book k'.book u u' h.0 answer c.1.0 h.2.1 h.3 (at_seat h.1.seat k.seat h.1.book k'.book h.0.number (book.event_of (act_of answer) h.0.number) c.1.0 h.2.0 c.1.1)),

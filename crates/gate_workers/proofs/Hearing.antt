@@ -2,15 +2,16 @@
 use Rattle.std.proofs.Common.{◌≡◌, ℕ, List, Option, Some, None, refl, inl, inr}
 use Rattle.std.specs.Prelude.{IfSome}
 use Rattle.http_edge.proofs.AnswerLemmas.{message_has_bytes, size_has_bytes}
-use Rattle.http_edge.specs.Delivery.{SaysFault, IsMalformed}
+use Rattle.http_edge.specs.Delivery.{IsMalformed}
+use Rattle.http_edge.specs.inner.Delivery.{SaysFault}
 use Rattle.http_edge.specs.Message.{Message}
 use Rattle.http_edge.specs.Reading.{BeginsWith}
 use Rattle.http_edge.specs.declared.fault.HttpFault.{HttpFault}
 use Rattle.http_edge.specs.declared.fault.HttpFault.TheVariants as http
 use Rattle.gate_workers.specs.declared.refusal.Refusal.TheVariants.{Malformed, BodyTooLong, NoMemory}
-use Rattle.gate_workers.specs.Asked.{Asked, Refused, asked}
+use Rattle.gate_workers.specs.Requested.{Requested, Refused, asked}
 use Rattle.gate_workers.specs.Asks.{IsHeard}
-use Rattle.gate_workers.specs.Heard.{Hears, heard_of}
+use Rattle.gate_workers.specs.inner.Heard.{Hears, heard_of}
 
 malformed : (e : HttpFault) (input : Option (List ℕ)) → ((bytes : List ℕ) → SaysFault e bytes → IsMalformed bytes) → IfSome input (λ bytes. SaysFault e bytes) → IsHeard input (Refused Malformed)
 malformed e None is h = tt
@@ -41,7 +42,7 @@ heard_fault input http.BadLength h = malformed http.BadLength input (λ bytes s.
 heard_fault input http.BadChunk h = malformed http.BadChunk input (λ bytes s. s.0) h
 heard_fault input http.Truncated h = malformed http.Truncated input (λ bytes s. s.0) h
 
-pub heard_message : (input : Option (List ℕ)) (m : Message) (a : Asked) → IfSome input (λ bytes. BeginsWith bytes m) → a ≡ asked m → IsHeard input a
+pub heard_message : (input : Option (List ℕ)) (m : Message) (a : Requested) → IfSome input (λ bytes. BeginsWith bytes m) → a ≡ asked m → IsHeard input a
 heard_message None m a h is = tt
 heard_message (Some bytes) m a h is = (message_has_bytes bytes m h, inr (inl (m, h, is)))
 

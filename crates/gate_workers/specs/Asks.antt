@@ -5,17 +5,17 @@ use Rattle.http_edge.specs.Reading.{BeginsWith, IsTooLong}
 use Rattle.http_edge.specs.Delivery.{IsMalformed}
 use Rattle.gate_workers.specs.declared.refusal.Refusal.TheVariants.{Malformed, BodyTooLong}
 use Rattle.gate_workers.specs.declared.refusal.Refusal.TheVariants.{NoMemory}
-use Rattle.gate_workers.specs.Asked.{Asked, Refused, asked}
+use Rattle.gate_workers.specs.Requested.{Requested, Refused, asked}
 
 -- what bytes ask for: what their message asks, or they are refused
-abbrev pub Asks : List ℕ → Asked → Type 0
+abbrev pub Asks : List ℕ → Requested → Type 0
 Asks bytes a =
     ((m : Message) × BeginsWith bytes m × (a ≡ asked m))
     ⊎ ((IsTooLong bytes × (a ≡ Refused BodyTooLong))
     ⊎ (IsMalformed bytes × (a ≡ Refused Malformed)))
 
 -- where the bytes are known: there is one, and they ask for that, or it was out of memory
-abbrev pub IsHeard : Option (List ℕ) → Asked → Type 0
+abbrev pub IsHeard : Option (List ℕ) → Requested → Type 0
 IsHeard None a = ⊤
 IsHeard (Some bytes) a = (bytes ≢ []) × ((a ≡ Refused NoMemory) ⊎ Asks bytes a)
 

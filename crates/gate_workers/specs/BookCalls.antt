@@ -6,7 +6,7 @@ use Rattle.delta_book.specs.Journal.{Journal, journal_of, history}
 use Rattle.delta_book.specs.Calls.{IsCall}
 use Rattle.back_answers.specs.declared.answer.Answer.{Answer}
 use Rattle.gate_workers.specs.declared.flush.Turn.{Turn}
-use Rattle.gate_workers.specs.Calls.{Call, OnBook, order}
+use Rattle.gate_workers.specs.Calls.{Call, on_book, order}
 use Rattle.gate_workers.specs.Turns.{Want, turn_of}
 
 abbrev pub entry_of : ℕ → Event → Entry
@@ -18,7 +18,8 @@ Adds seat old new events = new ≡ journal_of old.opening (old.entries ++ map (e
 
 -- how a call with its answer changes a journal: as the book's call does; a book takes no orders
 abbrev pub BookGives : ℕ → Journal → Call → Journal → Type 0
-BookGives seat J c J' = OnBook (IsCall seat J J') ⊥ c
+BookGives seat J (on_book c) J' = IsCall seat J J' c
+BookGives seat J (order r) J' = ⊥
 
 -- what was sent, one after another
 abbrev pub AreSent : {U : Type 0} → (U → List ℕ → Answer → U → Type 0) → Answer → U → List (List ℕ)
@@ -37,6 +38,6 @@ IsMade sends seat max J J' u u' t =
 -- how a call changes a keeper with a book, of this seat, and of so many series a flush
 abbrev pub KeeperGives : {U : Type 0} → (U → List ℕ → Answer → U → Type 0) → ℕ → ℕ → Journal → U
     → Call → Journal → U → Type 0
+KeeperGives sends seat max J u (on_book c) J' u' = (u' ≡ u) × IsCall seat J J' c
 KeeperGives sends seat max J u (order (Ok t)) J' u' = IsMade sends seat max J J' u u' t
 KeeperGives sends seat max J u (order (Err e)) J' u' = ⊥
-KeeperGives sends seat max J u c J' u' = (u' ≡ u) × BookGives seat J c J'

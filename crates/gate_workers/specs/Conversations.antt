@@ -3,6 +3,7 @@
 use Rattle.std.specs.Prelude.{◌≡◌, ℕ, List, [], ◌∷◌, Option, Some, None, Result, Ok, Err, codes}
 use Rattle.metric_events.specs.DataPoint.{DataPoint}
 use Rattle.metric_events.specs.declared.batch.Batch.{Batch}
+use Rattle.delta_book.specs.Calls as book
 use Rattle.delta_book.specs.declared.totals.SeriesTotals.{SeriesTotals}
 use Rattle.delta_book.specs.declared.faults.AdmitFault.{AdmitFault}
 use Rattle.delta_book.specs.declared.faults.UndoFault.{UndoFault}
@@ -16,11 +17,11 @@ use Rattle.gate_workers.specs.declared.order.OrderFault.{OrderFault}
 use Rattle.gate_workers.specs.declared.flush.Turn.{Turn}
 use Rattle.gate_workers.specs.declared.service.End.{End}
 use Rattle.gate_workers.specs.declared.service.End.TheVariants.{NoBatch, Confirmed, Undone}
-use Rattle.gate_workers.specs.Calls.{Call, admit, undo, confirm, quarantine, lift, totals, order}
+use Rattle.gate_workers.specs.Calls.{Call, on_book, order}
 use Rattle.gate_workers.specs.Refusals.{of_admit, of_quarantine, of_lift}
 use Rattle.gate_workers.specs.Responses.{Response, json_response, refusal_response}
 use Rattle.gate_workers.specs.Responses.{IsThatOrNoMemory, order_response, report_response}
-use Rattle.gate_workers.specs.Asked.{Asked, Metrics, Quarantine, Lift, FlushNow, Report, Refused}
+use Rattle.gate_workers.specs.Requested.{Requested, Metrics, Quarantine, Lift, FlushNow, Report, Refused}
 
 -- how a call with its answer changes a keeper
 abbrev pub Giving : Type 0 → Type 1
@@ -28,7 +29,7 @@ Giving K = K → Call → K → Type 0
 
 abbrev pub IsConfirmed : {K : Type 0} → Giving K → ℕ → K → K → End → Type 0
 IsConfirmed gives batch k k' end =
-    (r : Result (Unit {0}) NotOpen) × gives k (confirm batch r) k' × (end ≡ Confirmed)
+    (r : Result (Unit {0}) NotOpen) × gives k (on_book (book.confirm batch r)) k' × (end ≡ Confirmed)
 
 -- after the answer to an undo: Taken is followed by the Confirm
 abbrev pub IsUndone : {K : Type 0} → Giving K → ℕ → Result (Unit {0}) UndoFault → K → K → End
@@ -40,7 +41,7 @@ IsUndone gives batch (Ok u) k k' end = (k ≡ k') × (end ≡ Undone)
 -- an admitted batch is closed by how much of the response was written
 abbrev pub IsClosed : {K : Type 0} → Giving K → ℕ → Written → K → K → End → Type 0
 IsClosed {K} gives batch None_ k k' end =
-    (r : Result (Unit {0}) UndoFault) × (m : K) × gives k (undo batch r) m
+    (r : Result (Unit {0}) UndoFault) × (m : K) × gives k (on_book (book.undo batch r)) m
     × IsUndone gives batch r m k' end
 IsClosed {K} gives batch All k k' end = IsConfirmed gives batch k k' end
 IsClosed {K} gives batch (Part n) k k' end = IsConfirmed gives batch k k' end
@@ -64,7 +65,7 @@ IsPosted {K} gives sender [] text k k' response batch =
     (k ≡ k') × (response ≡ json_response text) × (batch ≡ None)
 IsPosted {K} gives sender (p ∷ ps) text k k' response batch =
     (r : Result ℕ (AdmitFault × Batch))
-    × gives k (admit (record { sender = sender; points = p ∷ ps }) r) k'
+    × gives k (on_book (book.admit (record { sender = sender; points = p ∷ ps }) r)) k'
     × SaysAdmission text r response batch
 
 -- one call, and the response to its answer
@@ -88,22 +89,23 @@ abbrev pub SaysReport : Option (List SeriesTotals) → Response → Type 0
 SaysReport rows response = IsThatOrNoMemory (report_response rows) response
 
 -- the calls before the response is written: the response, and the batch that is open until then
-abbrev pub IsHandled : {K : Type 0} → Giving K → Asked → K → K → Response → Option ℕ → Type 0
+abbrev pub IsHandled : {K : Type 0} → Giving K → Requested → K → K → Response → Option ℕ → Type 0
 IsHandled gives (Metrics body text) k k' response batch =
     IsPosted gives body.sender body.points text k k' response batch
 IsHandled gives (Quarantine sender) k k' response batch =
-    IsOneCall gives (quarantine sender) SaysQuarantine k k' response × (batch ≡ None)
+    IsOneCall gives (λ r. on_book (book.quarantine sender r)) SaysQuarantine k k' response
+    × (batch ≡ None)
 IsHandled gives (Lift sender) k k' response batch =
-    IsOneCall gives (lift sender) SaysLift k k' response × (batch ≡ None)
+    IsOneCall gives (λ r. on_book (book.lift sender r)) SaysLift k k' response × (batch ≡ None)
 IsHandled gives FlushNow k k' response batch =
     IsOneCall gives order SaysOrder k k' response × (batch ≡ None)
 IsHandled gives Report k k' response batch =
-    IsOneCall gives totals SaysReport k k' response × (batch ≡ None)
+    IsOneCall gives (λ rows. on_book (book.totals rows)) SaysReport k k' response × (batch ≡ None)
 IsHandled gives (Refused why) k k' response batch =
     (k ≡ k') × IsThatOrNoMemory (refusal_response why) response × (batch ≡ None)
 
 -- the calls of a request: those before its response, and those that close its batch
-abbrev pub IsConversation : {K : Type 0} → Giving K → Asked → K → K → Response → Written → End
+abbrev pub IsConversation : {K : Type 0} → Giving K → Requested → K → K → Response → Written → End
     → Type 0
 IsConversation {K} gives asked k k' response written end =
     (m : K) × (batch : Option ℕ) × IsHandled gives asked k m response batch

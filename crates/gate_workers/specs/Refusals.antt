@@ -68,23 +68,7 @@ allowed_name Get = codes "GET"
 -- a wrong method names the one that is allowed
 abbrev pub refusal_allow : Refusal → Option (List ℕ)
 refusal_allow (WrongMethod allowed) = Some (allowed_name allowed)
-refusal_allow Malformed = None
-refusal_allow BodyTooLong = None
-refusal_allow NoSuchPath = None
-refusal_allow BadSender = None
-refusal_allow BadContent = None
-refusal_allow NotJson = None
-refusal_allow WrongShape = None
-refusal_allow Quarantined = None
-refusal_allow (OtherWriter i) = None
-refusal_allow (OutOfOrder i f) = None
-refusal_allow Full = None
-refusal_allow TooManySeries = None
-refusal_allow TooLarge = None
-refusal_allow Already = None
-refusal_allow NotQuarantined = None
-refusal_allow NoFlusher = None
-refusal_allow NoMemory = None
+refusal_allow why = None
 
 abbrev pub of_admit : AdmitFault → Refusal
 of_admit admit.Quarantined = Quarantined

@@ -3,7 +3,7 @@ use Rattle.std.specs.Prelude.{◌≡◌, ℕ, List, Option}
 use Rattle.http_edge.specs.Sent.{Failed}
 use Rattle.gate_workers.specs.declared.service.Served.{Served}
 use Rattle.gate_workers.specs.declared.service.Served.TheVariants.{Closed, Broken, Replied}
-use Rattle.gate_workers.specs.Asked.{Asked}
+use Rattle.gate_workers.specs.Requested.{Requested}
 use Rattle.gate_workers.specs.Asks.{IsHeard, IsEmpty}
 use Rattle.gate_workers.specs.Responses.{Response, IsSaid}
 use Rattle.gate_workers.specs.Conversations.{Giving, IsConversation}
@@ -14,7 +14,7 @@ abbrev pub IsServed : {K : Type 0} → Giving K → Option (List ℕ) → K → 
 IsServed gives input k k' old new Closed = IsEmpty input × (k ≡ k') × (old ≡ new)
 IsServed gives input k k' old new Broken = (k ≡ k') × (old ≡ new)
 IsServed gives input k k' old new (Replied status written end) =
-    (asked : Asked) × (response : Response) × IsHeard input asked
+    (asked : Requested) × (response : Response) × IsHeard input asked
     × IsConversation gives asked k k' response written end × IsSaid old new response status written
 
 -- the reader's count of failed calls, before and after: one more at Broken

@@ -19,8 +19,8 @@ use Rattle.gate_workers.specs.declared.refusal.Refusal.TheVariants.{NoMemory}
 use Rattle.gate_workers.specs.declared.service.Served.{Served}
 use Rattle.gate_workers.specs.declared.service.Served.TheVariants.{Closed, Broken, Replied}
 use Rattle.gate_workers.specs.Refusals.{of_admit, of_quarantine, of_lift}
-use Rattle.gate_workers.specs.Asked as ask
-use Rattle.gate_workers.specs.Asked.{Asked}
+use Rattle.gate_workers.specs.Requested as ask
+use Rattle.gate_workers.specs.Requested.{Requested}
 use Rattle.gate_workers.specs.Asks.{IsHeard, IsEmpty}
 use Rattle.gate_workers.specs.Responses.{Response, json_response, refusal_response, or_no_memory}
 use Rattle.gate_workers.specs.Responses.{turn_response, report_response, IsSaid}
@@ -94,7 +94,7 @@ unless_marked false o = o
 
 -- the effects of a request: by what it asks, the history, the most series of a flush, the back
 -- end's answer, how much of the response was written, and where it was out of memory
-abbrev pub served : Asked → History → ℕ → Answer → Written → Bool → Want → Effects
+abbrev pub served : Requested → History → ℕ → Answer → Written → Bool → Want → Effects
 served (ask.Metrics body text) E max answer written mark want =
     unless_marked mark (post_effects E body.sender body.points text written)
 served (ask.Quarantine s) E max answer written mark want =
@@ -116,7 +116,7 @@ pub record HasEffects {U : Type 0} (sends : U → List ℕ → Answer → U → 
   pub adds : Adds seat J J' o.events
   pub sent : AreSent sends answer u o.sent u'
 
-abbrev pub IsOneOf : {U : Type 0} → (U → List ℕ → Answer → U → Type 0) → ℕ → ℕ → Asked → Written
+abbrev pub IsOneOf : {U : Type 0} → (U → List ℕ → Answer → U → Type 0) → ℕ → ℕ → Requested → Written
     → Journal → Journal → U → U → Response → End → Type 0
 IsOneOf sends seat max asked written J J' u u' response end =
     (answer : Answer) × (mark : Bool) × (want : Want)
@@ -131,6 +131,6 @@ IsServedBook sends seat max input J J' u u' old new Closed =
     IsEmpty input × (J' ≡ J) × (u' ≡ u) × (new ≡ old)
 IsServedBook sends seat max input J J' u u' old new Broken = (J' ≡ J) × (u' ≡ u) × (new ≡ old)
 IsServedBook sends seat max input J J' u u' old new (Replied status written end) =
-    (asked : Asked) × (response : Response) × IsHeard input asked
+    (asked : Requested) × (response : Response) × IsHeard input asked
     × IsOneOf sends seat max asked written J J' u u' response end
     × IsSaid old new response status written

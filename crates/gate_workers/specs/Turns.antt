@@ -10,6 +10,7 @@ use Rattle.back_answers.specs.declared.answer.Answer.{Answer}
 use Rattle.back_answers.specs.declared.answer.Act.{Act}
 use Rattle.back_answers.specs.declared.answer.Act.TheVariants.{Settle, GiveBack, DropFlush}
 use Rattle.delta_book.specs.Journal.{takes}
+use Rattle.delta_book.specs.Calls as call
 use Rattle.delta_book.specs.Outcomes as book
 use Rattle.delta_book.specs.declared.flush.Flush.{Flush}
 use Rattle.delta_book.specs.declared.faults.NotLive.{NotLive}
@@ -18,13 +19,13 @@ use Rattle.delta_book.specs.declared.faults.TakeFault.TheVariants as fault
 use Rattle.out_texts.specs.Request.{request_text}
 use Rattle.gate_workers.specs.declared.flush.Turn.{Turn}
 use Rattle.gate_workers.specs.declared.flush.Turn.TheVariants.{Idle, Full, NoMemory, Done}
-use Rattle.gate_workers.specs.Calls.{Call, take, settle, drop_flush, give_back}
+use Rattle.gate_workers.specs.Calls.{Call, on_book}
 
 -- the closing call of a flush
 abbrev pub closing : Act → ℕ → Result (Unit {0}) NotLive → Call
-closing Settle flush r = settle flush r
-closing GiveBack flush r = give_back flush r
-closing DropFlush flush r = drop_flush flush r
+closing Settle flush r = on_book (call.settle flush r)
+closing GiveBack flush r = on_book (call.give_back flush r)
+closing DropFlush flush r = on_book (call.drop_flush flush r)
 
 abbrev pub IsClosing : {K : Type 0} → (K → Call → K → Type 0) → Act → ℕ → K → K → Type 0
 IsClosing gives act flush k k' = (r : Result (Unit {0}) NotLive) × gives k (closing act flush r) k'
@@ -41,7 +42,7 @@ IsUnsent gives max (Err fault.NoMemory) m k' t = (m ≡ k') × (t ≡ NoMemory)
 -- the calls of a turn in which nothing was sent
 abbrev pub IsIdleTurn : {K : Type 0} → (K → Call → K → Type 0) → ℕ → K → K → Turn → Type 0
 IsIdleTurn {K} gives max k k' t =
-    (r : Result (Option Flush) TakeFault) × (m : K) × gives k (take max r) m
+    (r : Result (Option Flush) TakeFault) × (m : K) × gives k (on_book (call.take max r)) m
     × IsUnsent gives max r m k' t
 
 -- the calls of a turn and what was sent
@@ -51,7 +52,7 @@ IsTurn gives sends max k k' u u' Idle = IsIdleTurn gives max k k' Idle × (u ≡
 IsTurn gives sends max k k' u u' Full = IsIdleTurn gives max k k' Full × (u ≡ u')
 IsTurn gives sends max k k' u u' NoMemory = IsIdleTurn gives max k k' NoMemory × (u ≡ u')
 IsTurn {K} {U} gives sends max k k' u u' (Done number points answer act) =
-    (flush : Flush) × (m : K) × gives k (take max (Ok (Some flush))) m
+    (flush : Flush) × (m : K) × gives k (on_book (call.take max (Ok (Some flush)))) m
     × sends u (request_text flush.points) answer u'
     × IsClosing gives (act_of answer) flush.number m k'
     × (number ≡ flush.number) × (points ≡ length flush.points) × (act ≡ act_of answer)

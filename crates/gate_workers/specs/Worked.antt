@@ -15,11 +15,11 @@ IsServedOnce gives k k' served =
 
 -- so many connections were given and each was served once, one after another, and nothing else was
 -- done; the latest comes first
-abbrev pub AreServed : {S C K : Type 0} → (S → Option C → S → Type 0) → Giving K → List Served → S
+abbrev pub AreConnectionsServed : {S C K : Type 0} → (S → Option C → S → Type 0) → Giving K → List Served → S
     → S → K → K → Type 0
-AreServed given gives [] s t k k' = (s ≡ t) × (k ≡ k')
-AreServed {S} {C} {K} given gives (x ∷ xs) s t k k' =
-    (u : S) × (m : K) × AreServed given gives xs s u k m × (c : C) × given u (Some c) t
+AreConnectionsServed given gives [] s t k k' = (s ≡ t) × (k ≡ k')
+AreConnectionsServed {S} {C} {K} given gives (x ∷ xs) s t k k' =
+    (u : S) × (m : K) × AreConnectionsServed given gives xs s u k m × (c : C) × given u (Some c) t
     × IsServedOnce gives m k' x
 
 -- so many turns were made one after another, and nothing else was done or sent; the latest comes

@@ -2,6 +2,7 @@
 ghost use Rattle.std.specs.Prelude.{◌≤◌, ◌≡◌};
 ghost use Rattle.metric_events.specs.declared.limits.TheConstants.{MAX_TAKEN};
 ghost use Rattle.gate_workers.specs.BookCalls.{BookGives, KeeperGives, IsMade};
+ghost use Rattle.gate_workers.specs.Paced.{IsTurnPaced};
 
 use crate::flush::{Turn, Uplink, flush_turn};
 use crate::order::OrderFault;
@@ -20,7 +21,7 @@ use std::alloc::{AllocError, Global};
 
 /// A book, and the seat of its entries.
 #[derive(Drop)]
-pub struct Desk {
+pub struct SeatedBook {
     pub book: Book,
     pub seat: u16,
 }
@@ -28,14 +29,14 @@ pub struct Desk {
 /// A keeper with a book and an uplink of its own. It waits for no other thread.
 #[derive(Drop)]
 pub struct BookKeeper<U> {
-    desk: Desk,
+    seated: SeatedBook,
     uplink: U,
     max: usize,
     alloc: Global,
     ghost few: { (1 ≤ max) × (max ≤ MAX_TAKEN) },
 }
 
-impl Store for Desk {
+impl Store for SeatedBook {
     ghost gives = { λ k c w. (w.seat ≡ k.seat) × BookGives k.seat k.book c w.book };
 
     fn admit(&mut self, body: Batch) -> Result<u64, (AdmitFault, Batch)> {
@@ -82,18 +83,19 @@ impl Store for Desk {
 /// A flush turn of a book.
 pub fn book_turn<U: Uplink, P: Pace>(
     alloc: Global,
-    desk: &mut Desk,
+    seated: &mut SeatedBook,
     uplink: &mut U,
     pace: &mut P,
     max: usize,
 ) -> Turn
     requires low { 1 ≤ max }
     requires high { max ≤ MAX_TAKEN }
-    ensures seat { desk.new.seat ≡ desk.old.seat }
-    ensures made { IsMade U.sends desk.old.seat max desk.old.book desk.new.book uplink.old
+    ensures seat { seated.new.seat ≡ seated.old.seat }
+    ensures made { IsMade U.sends seated.old.seat max seated.old.book seated.new.book uplink.old
         uplink.new result }
+    ensures paced { IsTurnPaced P.reaches pace.old pace.new result }
 {
-    flush_turn(alloc, desk, uplink, pace, max)
+    flush_turn(alloc, seated, uplink, pace, max)
 }
 
 impl<U: Uplink + Drop> BookKeeper<U> {
@@ -109,7 +111,7 @@ impl<U: Uplink + Drop> BookKeeper<U> {
         ensures max { max_of result ≡ max }
     {
         BookKeeper {
-            desk: Desk { book, seat },
+            seated: SeatedBook { book, seat },
             uplink,
             max,
             alloc,
@@ -120,54 +122,54 @@ impl<U: Uplink + Drop> BookKeeper<U> {
     pub fn into_book(self) -> Book
         ensures { result ≡ book_of self }
     {
-        let BookKeeper { desk, .. } = self;
-        let Desk { book, .. } = desk;
+        let BookKeeper { seated, .. } = self;
+        let SeatedBook { book, .. } = seated;
         book
     }
 }
 
 impl<U: Uplink + Drop> Store for BookKeeper<U> {
-    ghost gives = { λ k c w. (w.desk.seat ≡ k.desk.seat) × (w.max ≡ k.max)
-        × KeeperGives U.sends k.desk.seat k.max k.desk.book k.uplink c w.desk.book w.uplink };
+    ghost gives = { λ k c w. (w.seated.seat ≡ k.seated.seat) × (w.max ≡ k.max)
+        × KeeperGives U.sends k.seated.seat k.max k.seated.book k.uplink c w.seated.book w.uplink };
 
     fn admit(&mut self, body: Batch) -> Result<u64, (AdmitFault, Batch)> {
-        self.desk.admit(body)
+        self.seated.admit(body)
     }
 
     fn undo(&mut self, batch: u64) -> Result<(), UndoFault> {
-        self.desk.undo(batch)
+        self.seated.undo(batch)
     }
 
     fn confirm(&mut self, batch: u64) -> Result<(), NotOpen> {
-        self.desk.confirm(batch)
+        self.seated.confirm(batch)
     }
 
     fn take(&mut self, max: usize) -> Result<Option<Flush>, TakeFault> {
-        self.desk.take(max)
+        self.seated.take(max)
     }
 
     fn settle(&mut self, flush: u64) -> Result<(), NotLive> {
-        self.desk.settle(flush)
+        self.seated.settle(flush)
     }
 
     fn drop_flush(&mut self, flush: u64) -> Result<(), NotLive> {
-        self.desk.drop_flush(flush)
+        self.seated.drop_flush(flush)
     }
 
     fn give_back(&mut self, flush: u64) -> Result<(), NotLive> {
-        self.desk.give_back(flush)
+        self.seated.give_back(flush)
     }
 
     fn quarantine(&mut self, sender: SenderName) -> Result<(), QuarantineFault> {
-        self.desk.quarantine(sender)
+        self.seated.quarantine(sender)
     }
 
     fn lift(&mut self, sender: &SenderName) -> Result<(), NotQuarantined> {
-        self.desk.lift(sender)
+        self.seated.lift(sender)
     }
 
     fn totals(&mut self) -> Result<Vec<SeriesTotals>, AllocError> {
-        self.desk.totals()
+        self.seated.totals()
     }
 }
 
@@ -175,7 +177,7 @@ impl<U: Uplink + Drop> Keeper for BookKeeper<U> {
     fn order(&mut self) -> Result<Turn, OrderFault> {
         Ok(book_turn(
             self.alloc,
-            &mut self.desk,
+            &mut self.seated,
             &mut self.uplink,
             &mut NoPace,
             self.max,

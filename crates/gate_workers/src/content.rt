@@ -1,6 +1,6 @@
 //! Whether a request's body is plain JSON, by its headers.
 ghost use Rattle.std.specs.Prelude.{◌≡◌, ◌==◌, position, take, drop, codes};
-ghost use Rattle.gate_workers.specs.Asked as spec;
+ghost use Rattle.gate_workers.specs.Requested as spec;
 ghost use Rattle.std.specs.Str.{str_eq_ignore_ascii_case};
 ghost use Rattle.std.specs.List.{list_all};
 ghost use Rattle.http_edge.specs.Framing.{is_named, values_of};
@@ -24,7 +24,7 @@ fn front(bytes: &[u8], n: usize) -> &[u8]
 }
 
 /// The bytes before the first one of this value, or all.
-#[tactic(auto, unfolding(crate::specs::Asked::before))]
+#[tactic(auto, unfolding(crate::specs::Requested::before))]
 pub fn before(mark: u8, bytes: &[u8]) -> &[u8]
     ensures { result.now ≡ spec.before mark bytes.now }
 {

@@ -2,6 +2,7 @@
 ghost use Rattle.std.specs.Prelude.{ℕ, List, ◌≡◌, ◌≤◌, length, ◌<◌, ◌^◌};
 ghost use Rattle.back_answers.specs.declared.answer.Answer.{Answer};
 ghost use Rattle.gate_workers.specs.Turns.{IsTurn, IsClosing};
+ghost use Rattle.gate_workers.specs.Paced.{IsTurnPaced};
 ghost use Rattle.http_edge.specs.Sent.{Sent, Failed};
 ghost use Rattle.http_edge.specs.Texts.{post_text};
 ghost use Rattle.http_edge.specs.declared.written.Written.{Written};
@@ -73,7 +74,8 @@ pub fn flush_turn<K: Store, U: Uplink, P: Pace>(
 ) -> Turn
     requires low { 1 ≤ max }
     requires high { max ≤ MAX_TAKEN }
-    ensures { IsTurn K.gives U.sends max keeper.old keeper.new uplink.old uplink.new result }
+    ensures turn { IsTurn K.gives U.sends max keeper.old keeper.new uplink.old uplink.new result }
+    ensures paced { IsTurnPaced P.reaches pace.old pace.new result }
 {
     let flush = match keeper.take(max) {
         Ok(None) => return Turn::Idle,

@@ -1,9 +1,10 @@
 //! Handles a request: calls the store and builds the response.
 ghost use Rattle.std.specs.Prelude.{◌≡◌, None};
+ghost use Rattle.delta_book.specs.Calls as book;
 ghost use Rattle.gate_workers.specs.Calls as call;
 ghost use Rattle.gate_workers.specs.Conversations.{IsHandled, IsPosted, IsOneCall};
 ghost use Rattle.gate_workers.specs.Conversations.{SaysQuarantine, SaysLift, SaysOrder, SaysReport};
-ghost use Rattle.gate_workers.specs.Shown.{shown};
+ghost use Rattle.gate_workers.specs.inner.Shown.{shown};
 
 use crate::refusal::Refusal;
 use crate::request::Ask;
@@ -49,7 +50,7 @@ fn post<K: Store>(alloc: Global, keeper: &mut K, body: Batch, text: Vec<u8>) -> 
 }
 
 fn quarantine<K: Store>(alloc: Global, keeper: &mut K, sender: SenderName) -> Response
-    ensures { IsOneCall K.gives (call.quarantine sender) SaysQuarantine keeper.old keeper.new
+    ensures { IsOneCall K.gives (λ r. call.on_book (book.quarantine sender r)) SaysQuarantine keeper.old keeper.new
         result }
 {
     match keeper.quarantine(sender) {
@@ -59,7 +60,7 @@ fn quarantine<K: Store>(alloc: Global, keeper: &mut K, sender: SenderName) -> Re
 }
 
 fn lift<K: Store>(alloc: Global, keeper: &mut K, sender: SenderName) -> Response
-    ensures { IsOneCall K.gives (call.lift sender) SaysLift keeper.old keeper.new result }
+    ensures { IsOneCall K.gives (λ r. call.on_book (book.lift sender r)) SaysLift keeper.old keeper.new result }
 {
     match keeper.lift(&sender) {
         Ok(()) => Response::empty(),
@@ -75,7 +76,7 @@ fn flush<K: Keeper>(alloc: Global, keeper: &mut K) -> Response
 }
 
 fn report<K: Store>(alloc: Global, keeper: &mut K) -> Response
-    ensures { IsOneCall K.gives call.totals SaysReport keeper.old keeper.new result }
+    ensures { IsOneCall K.gives (λ rows. call.on_book (book.totals rows)) SaysReport keeper.old keeper.new result }
 {
     match keeper.totals() {
         Err(_) => Response::no_memory(),

@@ -22,7 +22,7 @@ mod shared_keeper;
 mod store;
 mod worker;
 
-pub use book_keeper::{BookKeeper, Desk, book_turn};
+pub use book_keeper::{BookKeeper, SeatedBook, book_turn};
 pub use flush::{Turn, Uplink, exchange, flush_turn};
 pub use laws::one_request;
 pub use order::{CHANNEL_PLACES, Order, OrderFault};

@@ -1,6 +1,6 @@
 //! Orders for flush turns.
 ghost use Rattle.std.specs.Prelude.{◌≡◌, Ok, Err};
-ghost use Rattle.gate_workers.specs.Orders.{turn_or_gone};
+ghost use Rattle.gate_workers.specs.inner.Orders.{turn_or_gone};
 
 use crate::flush::Turn;
 use crossbeam_channel::{RecvError, Sender, bounded};

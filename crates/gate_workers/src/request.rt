@@ -1,9 +1,9 @@
 //! The routes: what a request asks for.
 ghost use Rattle.std.specs.Prelude.{◌≡◌, codes, IfOk};
 ghost use Rattle.http_edge.specs.Request.{message_in};
-ghost use Rattle.gate_workers.specs.Asked as spec;
-ghost use Rattle.gate_workers.specs.Shown.{shown};
-ghost use Rattle.gate_workers.specs.Naming.{IsName};
+ghost use Rattle.gate_workers.specs.Requested as spec;
+ghost use Rattle.gate_workers.specs.inner.Shown.{shown};
+ghost use Rattle.gate_workers.specs.inner.Naming.{IsName};
 ghost use Rattle.otlp_read.specs.Reading.{text_reading};
 ghost use Rattle.std.specs.Str.{bytes_eq};
 
@@ -13,7 +13,7 @@ use http::Method;
 use http_edge::{Request, find_in};
 use metric_events::batch::Batch;
 use metric_events::sender_name::{NameFault, SenderName};
-use otlp_read::{Memo, ReadFault, read_request_with};
+use otlp_read::{IdentityCache, ReadFault, read_request_with};
 use out_texts::success_text;
 use std::alloc::{AllocError, Global};
 
@@ -50,11 +50,11 @@ fn read_body(
     alloc: Global,
     body: &[u8],
     sender: SenderName,
-    memo: &mut Memo,
+    cache: &mut IdentityCache,
 ) -> Result<Ask, AllocError>
     ensures { IfOk result (λ ask. shown ask ≡ spec.read_as sender (text_reading body.now)) }
 {
-    match read_request_with(alloc, body, memo) {
+    match read_request_with(alloc, body, cache) {
         Err(ReadFault::NoMemory) => Err(AllocError),
         Err(ReadFault::NotJson) => Ok(Ask::Refused(Refusal::NotJson)),
         Err(ReadFault::WrongShape(_)) => Ok(Ask::Refused(Refusal::WrongShape)),
@@ -73,38 +73,38 @@ fn metrics_of(
     alloc: Global,
     request: &Request,
     sender: SenderName,
-    memo: &mut Memo,
+    cache: &mut IdentityCache,
 ) -> Result<Ask, AllocError>
     ensures { IfOk result (λ ask. shown ask ≡ spec.metrics_of (message_in request.now) sender) }
 {
     if !is_plain_json(&request.headers) {
         return Ok(Ask::Refused(Refusal::BadContent));
     }
-    read_body(alloc, &request.body, sender, memo)
+    read_body(alloc, &request.body, sender, cache)
 }
 
 fn metrics_named(
     alloc: Global,
     request: &Request,
     name: &[u8],
-    memo: &mut Memo,
+    cache: &mut IdentityCache,
 ) -> Result<Ask, AllocError>
     ensures { IfOk result (λ ask.
         shown ask ≡ spec.with_name (spec.metrics_of (message_in request.now)) name.now) }
 {
     match name_of(alloc, name)? {
         None => Ok(Ask::Refused(Refusal::BadSender)),
-        Some(sender) => metrics_of(alloc, request, sender, memo),
+        Some(sender) => metrics_of(alloc, request, sender, cache),
     }
 }
 
-fn metrics(alloc: Global, request: &Request, memo: &mut Memo) -> Result<Ask, AllocError>
+fn metrics(alloc: Global, request: &Request, cache: &mut IdentityCache) -> Result<Ask, AllocError>
     ensures { IfOk result (λ ask. shown ask ≡ spec.metrics (message_in request.now)) }
 {
     match request.find(b"x-sender") {
-        None => metrics_named(alloc, request, b"-", memo),
+        None => metrics_named(alloc, request, b"-", cache),
         Some((name, behind)) => match find_in(behind, b"x-sender") {
-            None => metrics_named(alloc, request, name, memo),
+            None => metrics_named(alloc, request, name, cache),
             Some(_) => Ok(Ask::Refused(Refusal::BadSender)),
         },
     }
@@ -141,13 +141,18 @@ fn is_get(request: &Request) -> bool
 }
 
 /// The routes: each path, or how it begins, with its method and what it asks for.
-#[tactic(auto, unfolding(crate::specs::Asked::asked_at))]
-fn route(alloc: Global, path: &[u8], request: &Request, memo: &mut Memo) -> Result<Ask, AllocError>
+#[tactic(auto, unfolding(crate::specs::Requested::asked_at))]
+fn route(
+    alloc: Global,
+    path: &[u8],
+    request: &Request,
+    cache: &mut IdentityCache,
+) -> Result<Ask, AllocError>
     ensures { IfOk result (λ ask. shown ask ≡ spec.asked_at path.now (message_in request.now)) }
 {
     if path == b"/v1/metrics".as_slice() {
         if is_post(request) {
-            return metrics(alloc, request, memo);
+            return metrics(alloc, request, cache);
         }
         return Ok(Ask::Refused(Refusal::WrongMethod(Allowed::Post)));
     }
@@ -178,9 +183,13 @@ fn route(alloc: Global, path: &[u8], request: &Request, memo: &mut Memo) -> Resu
     Ok(Ask::Refused(Refusal::NoSuchPath))
 }
 
-/// What a request asks for. Its body is read with a memo of the bodies before.
-pub fn ask_of(alloc: Global, request: &Request, memo: &mut Memo) -> Result<Ask, AllocError>
+/// What a request asks for. Its body is read with a cache of the bodies before.
+pub fn ask_of(
+    alloc: Global,
+    request: &Request,
+    cache: &mut IdentityCache,
+) -> Result<Ask, AllocError>
     ensures { IfOk result (λ ask. shown ask ≡ spec.asked (message_in request.now)) }
 {
-    route(alloc, before(b'?', &request.target), request, memo)
+    route(alloc, before(b'?', &request.target), request, cache)
 }

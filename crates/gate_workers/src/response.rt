@@ -4,7 +4,7 @@ ghost use Rattle.http_edge.specs.Sent.{Sent, Failed};
 ghost use Rattle.gate_workers.specs.Refusals.{allowed_name};
 ghost use Rattle.gate_workers.specs.Responses as spec;
 ghost use Rattle.gate_workers.specs.Responses.{IsThatOrNoMemory};
-ghost use Rattle.gate_workers.specs.Bodies.{kind_of, text_of};
+ghost use Rattle.gate_workers.specs.inner.Bodies.{kind_of, text_of};
 
 use crate::flush::Turn;
 use crate::order::OrderFault;
@@ -69,7 +69,7 @@ impl Model for Response {
     ghost use Rattle.std.specs.Prelude.{option_map};
     ghost use Rattle.gate_workers.specs.Refusals.{allowed_name};
     ghost use Rattle.gate_workers.specs.Responses.{Response};
-    ghost use Rattle.gate_workers.specs.Bodies.{kind_of, text_of};
+    ghost use Rattle.gate_workers.specs.inner.Bodies.{kind_of, text_of};
 
     ghost Value = { Response };
 
@@ -118,7 +118,7 @@ impl Response {
         Response::ok(Body::Empty)
     }
 
-    /// Out of memory. Allocates nothing.
+    /// Out of memory. Takes no memory.
     pub fn no_memory() -> Response
         ensures { result ≡ spec.refusal_response Refusal.NoMemory }
     {
@@ -189,7 +189,7 @@ impl Response {
         self.status.as_u16()
     }
 
-    /// Writes it, and returns how much of it the sink took. Allocates nothing.
+    /// Writes it, and returns how much of it the sink took. Takes no memory.
     pub fn write<W: Sink>(&self, writer: &mut W) -> Written
         ensures sent { Sent (W.contents writer.old) (W.contents writer.new) (spec.bytes_of self.now)
             result }

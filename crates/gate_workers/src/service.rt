@@ -1,10 +1,11 @@
 //! Serves a request: reads it, handles it, writes the response and closes its batch.
 ghost use Rattle.std.specs.Prelude.{◌≡◌};
 ghost use Rattle.http_edge.specs.Delivery.{StopsReading, IsStillOpen};
-ghost use Rattle.gate_workers.specs.Heard.{Hears, HearingFails, heard_of};
+ghost use Rattle.gate_workers.specs.inner.Heard.{Hears, HearingFails, HearingAsks, heard_of};
 ghost use Rattle.gate_workers.specs.Conversations.{IsConfirmed, IsClosed, IsEnded};
 ghost use Rattle.gate_workers.specs.Served.{IsServed, ReadingFails, WritingFails};
 ghost use Rattle.gate_workers.specs.ServedBook.{IsServedBook};
+ghost use Rattle.gate_workers.specs.Paced.{IsPaced};
 ghost use Rattle.gate_workers.specs.Keepers.{book_of, seat_of, uplink_of, max_of};
 
 use crate::book_keeper::BookKeeper;
@@ -17,7 +18,7 @@ use crate::worker::{Pace, Spot};
 use byte_ends::{Sink, Source};
 use delta_book::faults::UndoFault;
 use http_edge::{HttpFault, Written, read_message};
-use otlp_read::Memo;
+use otlp_read::IdentityCache;
 use std::alloc::Global;
 
 /// How the batch of a request was closed.
@@ -73,18 +74,24 @@ fn heard_of(fault: HttpFault) -> Heard
 
 /// Reads a message, and finds what it asks for. No read follows the one that completes the message
 /// or shows a fault.
-fn listen<S: Source, P: Pace>(alloc: Global, reader: &mut S, pace: &mut P, memo: &mut Memo) -> Heard
+fn listen<S: Source, P: Pace>(
+    alloc: Global,
+    reader: &mut S,
+    pace: &mut P,
+    cache: &mut IdentityCache,
+) -> Heard
     ensures heard { Hears (S.remaining reader.old) result }
     ensures failed { HearingFails S.one_more (S.failures reader.old) (S.failures reader.new)
         result }
     ensures stops { StopsReading IsStillOpen (S.remaining reader.old)
         (S.remaining reader.new) (S.given reader.new) }
+    ensures paced { HearingAsks P.reaches (S.remaining reader.old) pace.old pace.new result }
 {
     match read_message(alloc, reader) {
         Err(fault) => return heard_of(fault),
         Ok(request) => {
             pace.at(Spot::BodyRead);
-            match ask_of(alloc, &request, memo) {
+            match ask_of(alloc, &request, cache) {
                 Ok(ask) => return Heard::Asks(ask),
                 Err(_) => return Heard::Asks(Ask::Refused(Refusal::NoMemory)),
             }
@@ -133,7 +140,7 @@ fn close<K: Store>(keeper: &mut K, batch: Option<u64>, written: Written) -> End
 
 /// Serves the request that the reader's bytes begin with. No read follows the one that completes
 /// it or shows a fault, so a client that keeps its side open is not waited for. The body is read
-/// without a memo.
+/// without a cache.
 pub fn serve<K: Keeper, S: Source, W: Sink, P: Pace>(
     alloc: Global,
     keeper: &mut K,
@@ -148,12 +155,13 @@ pub fn serve<K: Keeper, S: Source, W: Sink, P: Pace>(
     ensures read { ReadingFails S.one_more (S.failures reader.old) (S.failures reader.new) result }
     ensures written { WritingFails W.one_more (W.failures writer.old) (W.failures writer.new)
         result }
+    ensures paced { IsPaced P.reaches (S.remaining reader.old) pace.old pace.new result }
 {
-    let mut memo = Memo::without_slots();
-    serve_with(alloc, keeper, reader, writer, pace, &mut memo)
+    let mut cache = IdentityCache::without_slots();
+    serve_with(alloc, keeper, reader, writer, pace, &mut cache)
 }
 
-/// Serves a request as `serve` does. The body is read with a memo of the bodies before; no memo
+/// Serves a request as `serve` does. The body is read with a cache of the bodies before; no cache
 /// changes the result.
 pub fn serve_with<K: Keeper, S: Source, W: Sink, P: Pace>(
     alloc: Global,
@@ -161,7 +169,7 @@ pub fn serve_with<K: Keeper, S: Source, W: Sink, P: Pace>(
     reader: &mut S,
     writer: &mut W,
     pace: &mut P,
-    memo: &mut Memo,
+    cache: &mut IdentityCache,
 ) -> Served
     ensures served { IsServed K.gives (S.remaining reader.old) keeper.old keeper.new
         (W.contents writer.old) (W.contents writer.new) result }
@@ -170,8 +178,9 @@ pub fn serve_with<K: Keeper, S: Source, W: Sink, P: Pace>(
     ensures read { ReadingFails S.one_more (S.failures reader.old) (S.failures reader.new) result }
     ensures written { WritingFails W.one_more (W.failures writer.old) (W.failures writer.new)
         result }
+    ensures paced { IsPaced P.reaches (S.remaining reader.old) pace.old pace.new result }
 {
-    match listen(alloc, reader, pace, memo) {
+    match listen(alloc, reader, pace, cache) {
         Heard::Closed => Served::Closed,
         Heard::Broken => Served::Broken,
         Heard::Asks(ask) => {
@@ -206,6 +215,7 @@ pub fn serve_book<U: Uplink + Drop, S: Source, W: Sink, P: Pace>(
     ensures read { ReadingFails S.one_more (S.failures reader.old) (S.failures reader.new) result }
     ensures written { WritingFails W.one_more (W.failures writer.old) (W.failures writer.new)
         result }
+    ensures paced { IsPaced P.reaches (S.remaining reader.old) pace.old pace.new result }
 {
     serve(alloc, keeper, reader, writer, pace)
 }

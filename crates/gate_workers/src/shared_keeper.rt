@@ -38,7 +38,7 @@ impl<'a, L: Round, R: Wait> Model for SharedKeeper<'a, L, R> {
 
     ghost Value = { Worker };
 
-    ghost view = { λ k. record { told = k.seat; orders = is_some k.orders } };
+    ghost view = { λ k. record { seat = k.seat; orders = is_some k.orders } };
 }
 
 impl<'a, L: Round, R: Wait> SharedKeeper<'a, L, R> {
@@ -51,7 +51,7 @@ impl<'a, L: Round, R: Wait> SharedKeeper<'a, L, R> {
         seat: Seat<L>,
         orders: Option<Sender<Order>>,
     ) -> Self
-        ensures seat { result.told ≡ seat }
+        ensures seat { result.seat ≡ seat }
         ensures orders { result.orders ≡ is_some orders }
     {
         SharedKeeper {
@@ -65,7 +65,7 @@ impl<'a, L: Round, R: Wait> SharedKeeper<'a, L, R> {
 
     /// The seat, with all its receipts. The sender for orders is dropped.
     pub fn into_seat(self) -> Seat<L>
-        ensures { result ≡ self.entry.told }
+        ensures { result ≡ self.entry.seat }
     {
         let SharedKeeper { seat, .. } = self;
         seat

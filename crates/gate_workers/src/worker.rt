@@ -1,8 +1,9 @@
 //! The loops of workers, and what they work on. Each works until it gets no more.
-ghost use Rattle.gate_workers.specs.Worked.{IsServedOnce, AreServed, AreMade};
-ghost use Rattle.std.specs.Prelude.{◌≤◌, List, Option, None};
+ghost use Rattle.gate_workers.specs.Worked.{IsServedOnce, AreConnectionsServed, AreMade};
+ghost use Rattle.std.specs.Prelude.{◌≤◌, ◌≡◌, List, Option, None};
 ghost use Rattle.gate_workers.specs.declared.service.Served.{Served};
 ghost use Rattle.gate_workers.specs.declared.flush.Turn.{Turn};
+ghost use Rattle.gate_workers.specs.declared.worker.Spot.{Spot};
 
 use crate::flush::{Uplink, flush_turn};
 use crate::order::Order;
@@ -10,7 +11,7 @@ use crate::service::Served;
 use crate::store::{Keeper, Store};
 use crossbeam_channel::Receiver;
 use metric_events::limits::MAX_TAKEN;
-use otlp_read::Memo;
+use otlp_read::IdentityCache;
 use std::alloc::Global;
 use std::sync::Wait;
 
@@ -25,7 +26,12 @@ pub enum Spot {
 
 /// What may hold a worker. Tests do; the programs' pace does nothing.
 pub trait Pace {
-    fn at(&mut self, spot: Spot);
+    /// How a worker that reaches a spot changes the pace.
+    ghost reaches: { Self → Spot → Self → Type 0 };
+
+    /// Holds the worker for a while, or not at all.
+    fn at(&mut self, spot: Spot)
+        ensures { reaches self.old spot self.new };
 }
 
 /// A pace that does nothing.
@@ -33,6 +39,8 @@ pub trait Pace {
 pub struct NoPace;
 
 impl Pace for NoPace {
+    ghost reaches = { λ before spot after. after ≡ before };
+
     fn at(&mut self, _spot: Spot) {}
 }
 
@@ -45,7 +53,7 @@ pub trait Connection {
         alloc: Global,
         keeper: &mut K,
         pace: &mut P,
-        memo: &mut Memo,
+        cache: &mut IdentityCache,
     ) -> Served
         ensures { IsServedOnce K.gives keeper.old keeper.new result };
 }
@@ -76,7 +84,7 @@ impl<C: Connection + Drop> Connections for Receiver<C> {
 
 /// Serves one connection after another, each once, until there are no more. May wait for the next
 /// one. The keeper is asked for their requests, and for nothing else. What one body leaves in the
-/// memo serves those after it.
+/// cache serves those after it.
 pub fn receiver_loop<S: Connections, K: Keeper, P: Pace, R: Wait>(
     rt: &R,
     alloc: Global,
@@ -85,15 +93,15 @@ pub fn receiver_loop<S: Connections, K: Keeper, P: Pace, R: Wait>(
     pace: &mut P,
 )
     ensures { (all : List Served) × (last : S) × (end : S)
-        × AreServed S.gives K.gives all connections last keeper.old keeper.new
+        × AreConnectionsServed S.gives K.gives all connections last keeper.old keeper.new
         × S.gives last None end }
 {
-    let mut memo = Memo::new(alloc);
+    let mut cache = IdentityCache::new(alloc);
     for _ in rt.forever() {
         let Some(connection) = connections.next(rt) else {
             return;
         };
-        let _ = connection.serve(alloc, keeper, pace, &mut memo);
+        let _ = connection.serve(alloc, keeper, pace, &mut cache);
     }
     unreachable!()
 }

@@ -3,7 +3,7 @@ use Rattle.std.proofs.Common.{◌≡◌, ◌∙◌, ◌||◌, ap₂, false}
 use Rattle.clap.specs.Words.{AddsArg, App, Rule, rule_of, with_rule}
 use Rattle.clap.specs.declared.builder.arg.Arg.{Arg}
 use Rattle.clap.specs.declared.builder.command.Command.{Command}
-use Rattle.gateway_options.specs.CommandLine.{IsCommand}
+use Rattle.gateway_options.specs.inner.CommandLine.{IsCommand}
 
 -- one argument more
 pub added : (old new : Command) (a : Arg) (app : App) (rule : Rule) → IsCommand app old → a.global ≡ false → rule_of a ≡ rule → AddsArg old a new → IsCommand (with_rule app rule) new

@@ -2,9 +2,8 @@
 use Rattle.std.specs.Prelude.{◌≡◌, ◌≤◌, ℕ, List, [], ◌∷◌, Option, Some, None, codes, pos, true}
 use Rattle.std.specs.Prelude.{false, option_and_then}
 use Rattle.std.specs.Option.{option_map_or}
-use Rattle.clap.specs.Words.{App, Row, Rule, Text, app_of, first_of, new_app, new_rule}
+use Rattle.clap.specs.Words.{App, Row, Rule, Text, first_of, new_app, new_rule}
 use Rattle.clap.specs.Words.{subcommand_of, with_rule, with_subcommand}
-use Rattle.clap.specs.declared.builder.command.Command.{Command, out-Command}
 use Rattle.clap.specs.declared.builder.value_parser.ValueParser.TheVariants as vp
 use Rattle.decimals.specs.Numbers.{number_up_to}
 use Rattle.gateway_options.specs.declared.command_line.TheConstants.{MAX_CONNECTIONS, MAX_RECEIVERS}
@@ -103,14 +102,6 @@ serve =
 abbrev pub rehearse : App
 rehearse = with_numbers (new_app (codes "rehearse")) (senders ∷ batches ∷ [])
 
--- no argument of the command is passed on to its subcommands
-abbrev pub IsOwn : Command → Type 0
-IsOwn c = (out-Command c).has_globals ≡ false
-
--- the command by clap's rules, with no argument that is passed on to subcommands
-abbrev pub IsCommand : App → Command → Type 0
-IsCommand app c = (app_of c ≡ app) × IsOwn c
-
 -- the command before it has subcommands, one of which must be given
 abbrev pub bare : App
 bare = record (new_app (codes "gateway")) {
@@ -125,10 +116,6 @@ gateway = with_subcommand (with_subcommand bare serve.top) rehearse.top
 abbrev pub IsNumber : Number → List Row → ℕ → Type 0
 IsNumber n rows v =
     (option_and_then (number_up_to n.most) (first_of n.name rows) ≡ Some v) × (n.least ≤ v)
-
--- no number is
-abbrev pub HasNoNumber : Number → List Row → Type 0
-HasNoNumber n rows = (v : ℕ) → ¬ (IsNumber n rows v)
 
 -- the values of the options of `serve`
 abbrev pub AreServed : List Row → ServeOptions → Type 0

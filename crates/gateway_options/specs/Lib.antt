@@ -1,3 +1,3 @@
 pub mod CommandLine
-pub mod NumberOption
 pub mod LineFault
+pub mod inner

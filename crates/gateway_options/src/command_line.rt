@@ -2,9 +2,10 @@
 ghost use Rattle.std.specs.Prelude.{◌≡◌, IfOk, IfSome, false, map};
 ghost use Rattle.clap.specs.Words.{app_of, rule_of, found_of, rows_of, subcommand_rows_of};
 ghost use Rattle.gateway_options.specs.CommandLine as spec;
-ghost use Rattle.gateway_options.specs.CommandLine.{IsCommand, IsOwn, IsMeant, IsGiven, AreServed};
+ghost use Rattle.gateway_options.specs.CommandLine.{IsMeant, IsGiven, AreServed};
+ghost use Rattle.gateway_options.specs.inner.CommandLine.{IsCommand, IsOwn};
 ghost use Rattle.gateway_options.specs.CommandLine.{AreRehearsed, with_numbers};
-ghost use Rattle.gateway_options.specs.NumberOption.{described};
+ghost use Rattle.gateway_options.specs.inner.NumberOption.{described};
 
 use crate::line_fault::LineFault;
 use crate::number_option::NumberOption;

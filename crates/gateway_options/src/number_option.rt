@@ -1,7 +1,8 @@
 ghost use Rattle.std.specs.Prelude.{◌≡◌, ◌≤◌, IfNone, IfSome, false};
 ghost use Rattle.clap.specs.Words.{found_of, rows_of, rule_of};
-ghost use Rattle.gateway_options.specs.CommandLine.{HasNoNumber, IsNumber, number_rule};
-ghost use Rattle.gateway_options.specs.NumberOption.{described};
+ghost use Rattle.gateway_options.specs.CommandLine.{IsNumber, number_rule};
+ghost use Rattle.gateway_options.specs.inner.CommandLine.{HasNoNumber};
+ghost use Rattle.gateway_options.specs.inner.NumberOption.{described};
 
 use clap::{Arg, ArgMatches, value_parser};
 use decimals::number_up_to;

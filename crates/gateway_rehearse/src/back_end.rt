@@ -5,7 +5,7 @@ use byte_ends::FromReader;
 use http_edge::read_message;
 use std::alloc::Global;
 use std::io::Write;
-use std::net::{TcpListener, TcpStream};
+use std::net::TcpStream;
 use std::sync::Wait;
 use std::thread;
 use std::time::{Clock, Duration};
@@ -30,13 +30,13 @@ fn answer(alloc: Global, stream: &TcpStream, text: &[u8]) -> bool {
 
 /// Answers requests, one connection after another, until the gateway has ended. The listener does
 /// not block, so that the end is seen.
-pub fn answer_all<R: Wait + Clock>(rt: &R, alloc: Global, listener: &TcpListener, stage: &Stage) {
+pub fn answer_all<R: Wait + Clock>(rt: &R, alloc: Global, stage: &Stage) {
     let mut text = REFUSAL;
     for _ in rt.forever() {
         if stage.has_ended() {
             return;
         }
-        match listener.accept() {
+        match stage.back_end.accept() {
             Err(_) => thread::sleep(rt, Duration::from_millis(PAUSE)),
             Ok((stream, _)) => {
                 if answer(alloc, &stream, text) {

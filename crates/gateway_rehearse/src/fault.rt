@@ -1,7 +1,8 @@
+//! Why a rehearsal ended without a report.
 use std::fmt::Display;
 use thiserror::Error;
 
-/// Why a rehearsal ended without a report. `F` is the fault of what serves.
+/// A fault that ends a rehearsal. `F` is the fault of what serves.
 #[derive(Debug, Drop, Error)]
 #[error_bound(F: Display)]
 pub enum RehearsalFault<F> {

@@ -5,7 +5,7 @@ use crate::back_end::answer_all;
 use crate::fault::RehearsalFault;
 use crate::sender::{ask_report, order_flushes, post_all};
 use crate::stage::Stage;
-use gateway_options::{RehearseOptions, ServeOptions};
+use gateway_options::{MAX_FLUSH_SERIES, MAX_ROUND, RehearseOptions, ServeOptions};
 use std::alloc::Global;
 use std::net::{Net, SocketAddr, TcpListener, TcpStream};
 use std::sync::Wait;
@@ -39,7 +39,7 @@ fn connections_of(options: &RehearseOptions) -> u64
 fn send_all<
     F: Drop,
     R: Net<Listener = TcpListener, Stream = TcpStream> + Threads + Wait + Clock + Sync,
->(rt: &R, alloc: Global, stage: &Stage, options: RehearseOptions) -> Result<(), RehearsalFault<F>> {
+>(rt: &R, alloc: Global, stage: &Stage) -> Result<(), RehearsalFault<F>> {
     thread::scope(thread::scope_env(), rt, |scope| {
         let mut outcome = Ok(());
         if scope
@@ -49,12 +49,12 @@ fn send_all<
             order_flushes(rt, stage, FLUSHES_MEANWHILE);
             outcome = Err(RehearsalFault::CannotStart);
         }
-        for sender in 0..options.senders {
+        for sender in 0..stage.options.senders {
             if scope
-                .spawn(move || post_all(rt, alloc, stage, sender, options.batches))
+                .spawn(move || post_all(rt, alloc, stage, sender))
                 .is_err()
             {
-                post_all(rt, alloc, stage, sender, options.batches);
+                post_all(rt, alloc, stage, sender);
                 outcome = Err(RehearsalFault::CannotStart);
             }
         }
@@ -87,10 +87,8 @@ fn play<
     alloc: Global,
     serve_bound: S,
     listener: TcpListener,
-    back_end: &TcpListener,
     stage: &Stage,
     served: ServeOptions<'_>,
-    options: RehearseOptions,
 ) -> Result<Vec<u8>, RehearsalFault<F>>
     requires { S.IsAlwaysCallable serve_bound }
 {
@@ -100,10 +98,7 @@ fn play<
         |scope|
             requires { S.IsAlwaysCallable serve_bound }
         {
-            if scope
-                .spawn(move || answer_all(rt, alloc, back_end, stage))
-                .is_err()
-            {
+            if scope.spawn(move || answer_all(rt, alloc, stage)).is_err() {
                 return Err(RehearsalFault::CannotStart);
             }
             let Ok(gateway) = scope.spawn(
@@ -114,7 +109,7 @@ fn play<
                 stage.end();
                 return Err(RehearsalFault::CannotStart);
             };
-            let sent = send_all(rt, alloc, stage, options);
+            let sent = send_all(rt, alloc, stage);
             order_flushes(rt, stage, FLUSHES_AFTER);
             ask_report(rt, stage);
             let printed = gateway.join(rt).map_err(RehearsalFault::Serving)?;
@@ -180,18 +175,9 @@ pub fn rehearse<
         connections: connections_of(options),
         receivers: 2,
         flushers: 2,
-        flush_series: 1000,
-        round: 32_000,
+        flush_series: MAX_FLUSH_SERIES as usize,
+        round: u64::from(MAX_ROUND),
     };
-    let stage = Stage::new(gateway_at);
-    play(
-        rt,
-        alloc,
-        serve_bound,
-        listener,
-        &back_end,
-        &stage,
-        served,
-        *options,
-    )
+    let stage = Stage::new(gateway_at, back_end, *options);
+    play(rt, alloc, serve_bound, listener, &stage, served)
 }

@@ -21,9 +21,8 @@ pub fn post_all<R: Net<Stream = TcpStream> + Wait + Clock>(
     alloc: Global,
     stage: &Stage,
     sender: u16,
-    batches: u16,
 ) {
-    for batch in 0..batches {
+    for batch in 0..stage.options.batches {
         match post_of(alloc, sender, batch) {
             Ok(post) => ask(rt, stage, post.as_slice()),
             Err(_) => {

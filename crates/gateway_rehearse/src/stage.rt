@@ -1,24 +1,34 @@
+//! What the threads of a rehearsal share.
 ghost use Rattle.std.specs.Prelude.{◌≡◌};
 
-use std::net::SocketAddr;
+use gateway_options::RehearseOptions;
+use std::net::{SocketAddr, TcpListener};
 use std::sync::atomic::{AtomicBool, Ordering};
 
-/// What the threads of a rehearsal share: where the gateway listens, and what has become of it.
+/// Where the gateway listens and the back end does, who posts, and what has become of it.
 #[derive(Drop)]
 pub struct Stage {
     /// Where the gateway listens.
     pub gateway: SocketAddr,
+    /// What the back end accepts its connections by.
+    pub back_end: TcpListener,
+    /// Who posts how much.
+    pub options: RehearseOptions,
     ended: AtomicBool,
     starved: AtomicBool,
 }
 
 impl Stage {
     /// A stage on which nothing has ended.
-    pub fn new(gateway: SocketAddr) -> Stage
-        ensures { result.gateway ≡ gateway }
+    pub fn new(gateway: SocketAddr, back_end: TcpListener, options: RehearseOptions) -> Stage
+        ensures gateway { result.gateway ≡ gateway }
+        ensures back_end { result.back_end ≡ back_end }
+        ensures options { result.options ≡ options }
     {
         Stage {
             gateway,
+            back_end,
+            options,
             ended: AtomicBool::new(false),
             starved: AtomicBool::new(false),
         }

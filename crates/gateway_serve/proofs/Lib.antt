@@ -1,3 +1,2 @@
 mod SameEnds
 mod ServedRounds
-mod Pieces

@@ -8,7 +8,8 @@ use Rattle.delta_book.specs.Rounds.{closed}
 use Rattle.delta_book.proofs.Journaled.{opening-history}
 use Rattle.shared_book.specs.declared.audit.Audit.{Audit}
 use Rattle.gateway_serve.specs.declared.sums.Sums.{Sums}
-use Rattle.gateway_serve.specs.Rounds.{IsLastRound, ServedRound, IsOver, IsRound, IsRun, MOST}
+use Rattle.gateway_serve.specs.Rounds.{ServedRound, IsRound, IsRun, MOST}
+use Rattle.gateway_serve.specs.inner.Rounds.{IsLastRound, IsOver}
 
 -- behind rounds 1, 2, .. up to the last so many of the connections are left; while some are, each round was full
 pub record AreThrough (connections round last left : ℕ) : Type 0 where

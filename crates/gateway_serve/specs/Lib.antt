@@ -1,9 +1,5 @@
-pub mod LastLine
 pub mod Ended
 pub mod TimeLimit
 pub mod Rounds
-pub mod Dialled
-pub mod Accepted
-pub mod CutOff
-pub mod Tasks
-pub mod Closing
+pub mod Called
+pub mod inner

@@ -1,11 +1,26 @@
-ghost use Rattle.std.specs.Prelude.{◌≡◌, ◌+◌, ◌-◌, Some, None, IfSome, IfNone, OnOk, unwrap_or};
-ghost use Rattle.gateway_serve.specs.Accepted.{AreAccepted, IsEnded, or_fault, round_fault};
+//! How many connections of a round may still be accepted, and how many were.
+ghost use Rattle.std.specs.Prelude.{◌≡◌, ◌+◌, ◌-◌, ℕ, Option, Some, None, IfSome, IfNone, OnOk};
+ghost use Rattle.std.specs.Prelude.{unwrap_or};
+ghost use Rattle.gateway_serve.specs.inner.Accepted.{AreAccepted, IsAccepted, IsEnded};
+ghost use Rattle.gateway_serve.specs.inner.Accepted.{or_fault, round_fault};
 
-use crate::accepted::Accepted;
-use crate::accepts::Accepts;
-use crate::beginning::Beginning;
+use crate::accept::Accept;
 use crate::fault::GatewayFault;
-use std::marker::PhantomData;
+use std::marker::{Brand, PhantomData};
+
+/// How a round begins: with which listener, and with how many connections to accept. The function
+/// that begins a round chooses both in its proof.
+pub trait RoundStart<A> {
+    ghost listener: { Option A };
+
+    ghost connections: { ℕ };
+}
+
+impl<A> RoundStart<A> for Brand {
+    ghost listener = { None };
+
+    ghost connections = { 0 };
+}
 
 /// The right to accept one connection.
 #[derive(Drop)]
@@ -13,20 +28,41 @@ pub struct Permit {
     of: PhantomData<()>,
 }
 
+/// A connection was accepted by the round's listener. There is one of these for each that was.
+#[derive(Drop)]
+pub struct Accepted<A: Accept, B: RoundStart<A>> {
+    begun: PhantomData<(A, B)>,
+    ghost one: { ∥ ((connection : A.Connection)
+        × IsAccepted A.accepts B.listener connection) ∥₁ },
+}
+
+/// Accepts one connection of the round, or none where it can't be accepted.
+pub fn accept_one<A: Accept, B: RoundStart<A>>(
+    listener: &A,
+    permit: Permit,
+) -> Option<(A::Connection, Accepted<A, B>)>
+    requires { B.listener ≡ Some listener.now }
+    ensures { IfSome result (λ r. A.accepts listener.now r.0) }
+{
+    let connection = listener.accept(permit)?;
+    let accepted = Accepted { begun: PhantomData };
+    Some((connection, accepted))
+}
+
 /// Counts the connections of a round: it permits so many to be accepted, each once, and notes those
 /// that were. After a fault it permits none, and the first fault counts. The receivers share it
-/// under a lock, and accept outside. That so many were accepted at the round's entrance is known of
+/// under a lock, and accept outside. That so many were accepted by the round's listener is known of
 /// it at any time.
 #[derive(Drop)]
-pub struct Acceptor<A: Accepts, B: Beginning<A>> {
+pub struct Acceptor<A: Accept, B: RoundStart<A>> {
     left: u64,
     missing: u64,
     fault: Option<GatewayFault>,
     begun: PhantomData<(A, B)>,
-    ghost accepted: { ∥ AreAccepted A.accepts B.entrance B.connections missing ∥₁ },
+    ghost accepted: { ∥ AreAccepted A.accepts B.listener B.connections missing ∥₁ },
 }
 
-impl<A: Accepts, B: Beginning<A>> Acceptor<A, B> {
+impl<A: Accept, B: RoundStart<A>> Acceptor<A, B> {
     /// None of the connections of this round was accepted.
     pub fn new(connections: u64) -> Self
         requires { B.connections ≡ connections }
@@ -82,7 +118,7 @@ impl<A: Accepts, B: Beginning<A>> Acceptor<A, B> {
     /// were accepted; else the workers' outcome.
     pub fn end<T: Drop>(&self, outcome: Result<T, GatewayFault>) -> Result<T, GatewayFault>
         ensures fault { result ≡ or_fault (round_fault self.now.missing self.now.fault) outcome }
-        ensures all { OnOk result (∥ AreAccepted A.accepts B.entrance B.connections 0 ∥₁) }
+        ensures all { OnOk result (∥ AreAccepted A.accepts B.listener B.connections 0 ∥₁) }
     {
         match self.fault {
             Some(fault) => Err(fault),

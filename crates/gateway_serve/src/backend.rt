@@ -1,8 +1,8 @@
+//! The back end: what connects to it, and how a request goes to it and its answer comes back.
 ghost use Rattle.std.specs.Prelude.{◌≡◌, ◌<◌, ◌^◌, Option, length};
 ghost use Rattle.http_edge.specs.Texts.{post_text};
-ghost use Rattle.gateway_serve.specs.Dialled.{IsCalled, IsExchanged};
+ghost use Rattle.gateway_serve.specs.Called.{IsCalled, IsExchanged};
 
-use crate::dial::Dial;
 use crate::piece_source::PieceSource;
 use crate::uninterrupted::Uninterrupted;
 use back_answers::Answer;
@@ -10,25 +10,70 @@ use byte_ends::ToWriter;
 use gate_workers::{Uplink, exchange};
 use std::alloc::Global;
 use std::io::{Read, Write};
+use std::net::{Net, TcpStream};
 
-/// The back end that a dialler reaches. Each request goes on a connection of its own.
+/// What connects to the back end.
+pub trait Connect {
+    /// The side of a connection that is read.
+    type Reader: Read + Drop;
+
+    /// The side that is written.
+    type Writer: Write + Drop;
+
+    /// What a call makes of it, with the connection that it gives.
+    ghost connects: { Self → Option (Self.Reader × Self.Writer) → Self → Type 0 };
+
+    /// Both sides of a new connection, or none where none could be made.
+    fn connect(&mut self) -> Option<(Self::Reader, Self::Writer)>
+        ensures { connects self.old result self.new };
+}
+
+/// Connects to an address by the system.
+#[derive(Drop)]
+pub struct TcpConnector<'a, R> {
+    net: &'a R,
+    address: &'a str,
+}
+
+impl<'a, R: Net<Stream = TcpStream>> TcpConnector<'a, R> {
+    pub fn new(net: &'a R, address: &'a str) -> Self {
+        TcpConnector { net, address }
+    }
+}
+
+impl<R: Net<Stream = TcpStream>> Connect for TcpConnector<'_, R> {
+    type Reader = TcpStream;
+
+    type Writer = TcpStream;
+
+    /// What a back end has is not known.
+    ghost connects = { λ before connection after. Unit {0} };
+
+    fn connect(&mut self) -> Option<(TcpStream, TcpStream)> {
+        let stream = TcpStream::connect(self.net, self.address).ok()?;
+        let other = stream.try_clone().ok()?;
+        Some((stream, other))
+    }
+}
+
+/// The back end that a connector reaches. Each request goes on a connection of its own.
 #[derive(Drop)]
 pub struct Backend<'a, D> {
-    dialler: D,
+    connector: D,
     alloc: Global,
     host: &'a str,
     ghost short: { length host.now < 2 ^ 32 },
 }
 
-impl<'a, D: Dial> Backend<'a, D> {
+impl<'a, D: Connect> Backend<'a, D> {
     /// The back end that is reached so; its requests name this `Host`.
-    pub fn new(dialler: D, alloc: Global, host: &'a str) -> Self
+    pub fn new(connector: D, alloc: Global, host: &'a str) -> Self
         requires { length host.now < 2 ^ 32 }
-        ensures dialler { result.dialler ≡ dialler }
+        ensures connector { result.connector ≡ connector }
         ensures host { result.host.now ≡ host.now }
     {
         Backend {
-            dialler,
+            connector,
             alloc,
             host,
         }
@@ -57,17 +102,17 @@ fn call<I: Read + Drop, O: Write + Drop>(
     (answer, input, output)
 }
 
-impl<D: Dial> Uplink for Backend<'_, D> {
+impl<D: Connect> Uplink for Backend<'_, D> {
     /// One connection is made, and at most one request is written to it.
     ghost sends = { λ before bytes answer after. (line : Option (D.Reader × D.Writer))
-        × D.dials before.dialler line after.dialler
+        × D.connects before.connector line after.connector
         × IsCalled D.Reader.remaining D.Writer.contents line
         (post_text before.host.now bytes) answer × (after.host.now ≡ before.host.now) };
 
     /// Unknown where there is no connection, and where it breaks. An answer is waited for as long
     /// as it takes: a flush that was given back meanwhile might be counted twice.
     fn send(&mut self, bytes: &[u8]) -> Answer {
-        let Some((reader, writer)) = self.dialler.dial() else {
+        let Some((reader, writer)) = self.connector.connect() else {
             return Answer::Unknown;
         };
         let (answer, _, _) = call(self.alloc, reader, writer, self.host, bytes);

@@ -1,27 +1,22 @@
-//! A client's connection.
-ghost use Rattle.std.specs.Prelude.{◌≡◌, ◌*◌, ◌==◌, false, None};
-ghost use Rattle.std.specs.Duration.{as_nanos};
-ghost use Rattle.byte_ends.specs.Parts.{reader_of, writer_of};
+//! A client's connection: one request on it is served, each of its steps in a time of its own.
+ghost use Rattle.std.specs.Prelude.{◌≡◌, ◌==◌, false};
+ghost use Rattle.byte_ends.specs.Parts.{writer_of};
 ghost use Rattle.gate_workers.specs.Refusals.{refusal_status};
 ghost use Rattle.gate_workers.specs.Served.{IsServed};
-ghost use Rattle.gateway_serve.specs.CutOff.{is_cut_off};
+ghost use Rattle.gateway_serve.specs.TimeLimit.{IsUnbegun};
+ghost use Rattle.gateway_serve.specs.inner.CutOff.{is_cut_off};
 ghost use Rattle.http_edge.specs.Delivery.{IsStillOpen, StopsReading};
 
-use crate::finish::Finish;
-use crate::moments::Moments;
-use crate::noting::Noting;
 use crate::piece_source::PieceSource;
-use crate::reading::Reading;
-use crate::served_client::ServedClient;
-use crate::time_limit::{ANSWER_SECONDS, REFUSED_SECONDS, REQUEST_SECONDS};
-use crate::timed_reader::TimedReader;
-use crate::timed_writer::TimedWriter;
+use crate::reading::{Noting, Reading};
+use crate::socket::{ShutdownWrite, Timeouts};
+use crate::time_limit::{ANSWER_SECONDS, MonotonicClock, REFUSED_SECONDS, REQUEST_SECONDS};
+use crate::timed::Timed;
 use crate::uninterrupted::Uninterrupted;
-use crate::waits::Waits;
-use byte_ends::{FromReader, Sink, Source, ToWriter, drain};
+use byte_ends::{Sink, Source, ToWriter, drain};
 use gate_workers::{Connection, Keeper, Pace, Refusal, Served, serve_with};
 use http_edge::MAX_PIECE;
-use otlp_read::Memo;
+use otlp_read::IdentityCache;
 use std::alloc::Global;
 use std::io::{Read, Write};
 use std::net::TcpStream;
@@ -56,60 +51,64 @@ fn may_be_cut_off(served: Served, reading: Reading) -> bool
 }
 
 /// Where a request is read from: it has `REQUEST_SECONDS` to come.
-fn request_end<I: Read + Waits, M: Moments>(
+fn request_end<I: Read + Timeouts, M: MonotonicClock>(
     input: I,
-    moments: M,
-) -> PieceSource<Uninterrupted<TimedReader<I, M>>>
-    ensures bytes { ⟦<PieceSource<Uninterrupted<TimedReader<I, M>>> as Source>⟧.remaining result
+    clock: M,
+) -> PieceSource<Uninterrupted<Timed<I, M>>>
+    ensures bytes { ⟦<PieceSource<Uninterrupted<Timed<I, M>>> as Source>⟧.remaining result
         ≡ I.remaining input }
-    ensures seconds { as_nanos result.reader.stream.limit.whole
-        ≡ REQUEST_SECONDS * 1_000_000_000 }
-    ensures run { result.reader.stream.limit.run ≡ None }
+    ensures seconds { IsUnbegun result.reader.stream.limit REQUEST_SECONDS }
 {
-    let timed = TimedReader::new(input, moments, REQUEST_SECONDS);
+    let timed = Timed::new(input, clock, REQUEST_SECONDS);
     PieceSource::new(Uninterrupted::new(timed))
 }
 
 /// Where an answer is written to: it has `ANSWER_SECONDS` to go.
-fn answer_end<O: Write + Waits, M: Moments>(
+fn answer_end<O: Write + Timeouts, M: MonotonicClock>(
     output: O,
-    moments: M,
-) -> ToWriter<Uninterrupted<TimedWriter<O, M>>>
-    ensures bytes { ⟦<ToWriter<Uninterrupted<TimedWriter<O, M>>> as Sink>⟧.contents result
+    clock: M,
+) -> ToWriter<Uninterrupted<Timed<O, M>>>
+    ensures bytes { ⟦<ToWriter<Uninterrupted<Timed<O, M>>> as Sink>⟧.contents result
         ≡ O.contents output }
-    ensures seconds { as_nanos (writer_of result).stream.limit.whole
-        ≡ ANSWER_SECONDS * 1_000_000_000 }
-    ensures run { (writer_of result).stream.limit.run ≡ None }
+    ensures seconds { IsUnbegun (writer_of result).stream.limit ANSWER_SECONDS }
 {
-    let timed = TimedWriter::new(output, moments, ANSWER_SECONDS);
+    let timed = Timed::new(output, clock, ANSWER_SECONDS);
     ToWriter::new(Uninterrupted::new(timed))
 }
 
 /// Where what follows a refused request is read from: it has `REFUSED_SECONDS` to come.
-fn rest_end<I: Read + Waits, M: Moments>(
+fn rest_end<I: Read + Timeouts, M: MonotonicClock>(
     input: I,
-    moments: M,
-) -> FromReader<Uninterrupted<TimedReader<I, M>>>
-    ensures seconds { as_nanos (reader_of result).stream.limit.whole
-        ≡ REFUSED_SECONDS * 1_000_000_000 }
-    ensures run { (reader_of result).stream.limit.run ≡ None }
+    clock: M,
+) -> PieceSource<Uninterrupted<Timed<I, M>>>
+    ensures seconds { IsUnbegun result.reader.stream.limit REFUSED_SECONDS }
 {
-    let timed = TimedReader::new(input, moments, REFUSED_SECONDS);
-    FromReader::new(Uninterrupted::new(timed))
+    let timed = Timed::new(input, clock, REFUSED_SECONDS);
+    PieceSource::new(Uninterrupted::new(timed))
 }
 
 /// Says that nothing more is written, and reads what still comes, so that the sender can read its
 /// answer: what is closed with unread bytes is reset. Where that fails the connection is closed all
 /// the same.
-fn end_softly<I: Read + Waits, O: Finish, M: Moments + Drop>(
-    moments: M,
+fn lingering_close<I: Read + Timeouts, O: ShutdownWrite, M: MonotonicClock + Drop>(
+    clock: M,
     input: &mut I,
     output: &O,
 ) {
-    if output.finish().is_err() {
+    if output.shutdown_write().is_err() {
         return;
     }
-    let _ = drain(&mut rest_end(input, moments), MOST_REFUSED);
+    let _ = drain(&mut rest_end(input, clock), MOST_REFUSED);
+}
+
+/// A client that was served: the result, how much of its request was read, and both sides of its
+/// connection as the calls have left them.
+#[derive(Drop)]
+pub struct ServedClient<I, O> {
+    pub served: Served,
+    pub reading: Reading,
+    pub input: I,
+    pub output: O,
 }
 
 /// Serves one client: what its bytes ask for, and the answer. The request has `REQUEST_SECONDS` to
@@ -119,27 +118,27 @@ fn end_softly<I: Read + Waits, O: Finish, M: Moments + Drop>(
 fn serve_client<
     K: Keeper,
     P: Pace,
-    I: Read + Waits + Drop,
-    O: Write + Waits + Finish + Drop,
-    M: Moments + Copy + Drop,
+    I: Read + Timeouts + Drop,
+    O: Write + Timeouts + ShutdownWrite + Drop,
+    M: MonotonicClock + Copy + Drop,
 >(
     alloc: Global,
-    moments: M,
+    clock: M,
     input: I,
     output: O,
     keeper: &mut K,
     pace: &mut P,
-    memo: &mut Memo,
+    cache: &mut IdentityCache,
 ) -> ServedClient<I, O>
     ensures served { IsServed K.gives (I.remaining input) keeper.old keeper.new
         (O.contents output) (O.contents result.output) result.served }
     ensures stops { is_cut_off result.served result.reading ≡ false → StopsReading IsStillOpen
         (I.remaining input) (I.remaining result.input) MAX_PIECE }
 {
-    let mut reader = request_end(input, moments);
-    let mut writer = answer_end(output, moments);
+    let mut reader = request_end(input, clock);
+    let mut writer = answer_end(output, clock);
     let mut noting = Noting::new(pace);
-    let served = serve_with(alloc, keeper, &mut reader, &mut writer, &mut noting, memo);
+    let served = serve_with(alloc, keeper, &mut reader, &mut writer, &mut noting, cache);
     let reading = noting.reading();
     let mut input = reader.into_reader().into_stream().into_stream();
     let output = writer.into_inner().into_stream().into_stream();
@@ -151,7 +150,7 @@ fn serve_client<
             output,
         };
     }
-    end_softly(moments, &mut input, &output);
+    lingering_close(clock, &mut input, &output);
     ServedClient {
         served,
         reading,
@@ -184,7 +183,7 @@ impl<C: Clock> Connection for ClientConnection<'_, C> {
         alloc: Global,
         keeper: &mut K,
         pace: &mut P,
-        memo: &mut Memo,
+        cache: &mut IdentityCache,
     ) -> Served {
         let client = serve_client(
             alloc,
@@ -193,7 +192,7 @@ impl<C: Clock> Connection for ClientConnection<'_, C> {
             &self.stream,
             keeper,
             pace,
-            memo,
+            cache,
         );
         client.served
     }

@@ -1,6 +1,11 @@
+//! Why the gateway ended without its report.
+ghost use Rattle.std.specs.Prelude.{◌≡◌};
+ghost use Rattle.gateway_serve.specs.declared.fault.GatewayFault.TheVariants.{NoMemory};
+
+use std::alloc::AllocError;
 use thiserror::Error;
 
-/// Why the gateway ended without telling its report.
+/// A fault that ends the gateway.
 #[derive(Clone, Copy, Debug, Drop, PartialEq, Eq, Error)]
 pub enum GatewayFault {
     /// The address can't be listened on.
@@ -21,4 +26,12 @@ pub enum GatewayFault {
     /// The report was not written whole.
     #[error("cannot write")]
     CannotWrite,
+}
+
+impl From<AllocError> for GatewayFault {
+    ghost from_gives = { λ error fault. fault ≡ NoMemory };
+
+    fn from(_error: AllocError) -> GatewayFault {
+        GatewayFault::NoMemory
+    }
 }

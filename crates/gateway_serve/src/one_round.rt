@@ -1,11 +1,10 @@
 //! One round, served by workers in threads.
 ghost use Rattle.std.specs.Prelude.{◌≡◌, ◌+◌, [], IfOk, OnOk, Some};
-ghost use Rattle.gateway_serve.specs.Accepted.{AreAccepted};
-ghost use Rattle.gateway_serve.specs.Rounds.{IsOver};
+ghost use Rattle.gateway_serve.specs.inner.Accepted.{AreAccepted};
+ghost use Rattle.gateway_serve.specs.inner.Rounds.{IsOver};
 
-use crate::accepts::Accepts;
-use crate::beginning::Beginning;
-use crate::entrance::Entrance;
+use crate::accept::{Accept, Listener};
+use crate::acceptor::RoundStart;
 use crate::fault::GatewayFault;
 use crate::workers::serve_beside;
 use delta_book::book::Book;
@@ -24,14 +23,14 @@ use std::time::Clock;
 /// One round over a ledger: the book is shared, so many connections are accepted and served, and
 /// the receipts of the workers are compared with the book.
 fn round_over<
-    L: Round + Beginning<Entrance> + Send + Sync,
+    L: Round + RoundStart<Listener> + Send + Sync,
     R: Net<Listener = TcpListener, Stream = TcpStream> + Threads + Wait + Clock + Sync,
 >(
     rt: &R,
     alloc: Global,
     blank: Blank,
     book: Book,
-    entrance: Entrance,
+    listener: Listener,
     options: &ServeOptions<'_>,
     connections: u64,
 ) -> Result<(Book, Audit), GatewayFault>
@@ -39,17 +38,17 @@ fn round_over<
     requires parts { blank.parts ≡ options.now.receivers + options.now.flushers }
     requires empty { book.entries ≡ [] }
     requires opening { book.opening ≡ L.opening }
-    requires entrance { L.entrance ≡ Some entrance }
+    requires listener { L.listener ≡ Some listener }
     requires connections { L.connections ≡ connections }
     ensures over { IfOk result (λ r. IsOver book r.0 r.1) }
     ensures accepted { OnOk result (
-        ∥ AreAccepted ⟦<Entrance as Accepts>⟧.accepts (Some entrance) connections 0 ∥₁) }
+        ∥ AreAccepted ⟦<Listener as Accept>⟧.accepts (Some listener) connections 0 ∥₁) }
 {
     let seats = options.receivers + options.flushers;
     let Ok((shared, seats)) = SharedBook::<L>::new(alloc, book, blank, seats) else {
         return Err(GatewayFault::NoMemory);
     };
-    let seats = serve_beside(rt, alloc, &shared, seats, entrance, options, connections)?;
+    let seats = serve_beside(rt, alloc, &shared, seats, listener, options, connections)?;
     match shared.finish(seats) {
         Ok(done) => Ok(done),
         Err(_) => Err(GatewayFault::AuditFailed),
@@ -69,11 +68,11 @@ pub fn one_round<
 ) -> Result<(Book, Audit), GatewayFault>
     requires empty { book.entries ≡ [] }
     ensures over { IfOk result (λ r. IsOver book r.0 r.1) }
-    ensures accepted { OnOk result ((begun : Entrance)
-        × ∥ AreAccepted ⟦<Entrance as Accepts>⟧.accepts (Some begun) connections 0 ∥₁) }
+    ensures accepted { OnOk result ((begun : Listener)
+        × ∥ AreAccepted ⟦<Listener as Accept>⟧.accepts (Some begun) connections 0 ∥₁) }
 {
     let parts = u64::from(options.receivers) + u64::from(options.flushers);
     let blank = Blank::new(parts);
-    let entrance = Entrance::new(listener)?;
-    round_over::<Brand, R>(rt, alloc, blank, book, entrance, options, connections)
+    let listener = Listener::new(listener)?;
+    round_over::<Brand, R>(rt, alloc, blank, book, listener, options, connections)
 }

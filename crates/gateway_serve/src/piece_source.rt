@@ -1,3 +1,4 @@
+//! What a request or an answer is read by: a source that takes a bounded piece a call.
 ghost use Rattle.std.specs.Prelude.{◌≡◌, ◌≤◌};
 ghost use Rattle.http_edge.specs.declared.limits.TheConstants.{MAX_PIECE};
 
@@ -36,7 +37,8 @@ impl<R: Read> PieceSource<R> {
 }
 
 impl<R: Read> Source for PieceSource<R> {
-    ghost use Rattle.byte_ends.specs.Counts.{next_count, next_count-differs};
+    ghost use Rattle.byte_ends.specs.Counts.{next_count};
+    ghost use Rattle.byte_ends.specs.inner.Counts.{next_count-differs};
 
     ghost remaining = { λ s. R.remaining s.reader };
 

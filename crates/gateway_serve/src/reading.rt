@@ -1,3 +1,10 @@
+//! How much of a request was read before it was answered.
+ghost use Rattle.std.specs.Prelude.{◌≡◌};
+ghost use Rattle.gateway_serve.specs.inner.CutOff.{reading_at};
+ghost use Rattle.gateway_serve.specs.declared.reading.Reading.TheVariants.{Open};
+
+use gate_workers::{Pace, Spot};
+
 /// How much of a request was read.
 #[derive(Clone, Copy, Debug, PartialEq, Eq)]
 pub enum Reading {
@@ -5,4 +12,42 @@ pub enum Reading {
     Open,
     /// All of it.
     Whole,
+}
+
+/// A pace that notes whether a request was read whole, and holds a worker as another one does.
+#[derive(Drop)]
+pub struct Noting<'a, P> {
+    pace: &'a mut P,
+    reading: Reading,
+}
+
+impl<'a, P> Noting<'a, P> {
+    /// Nothing was read yet.
+    pub fn new(pace: &'a mut P) -> Self
+        ensures { result.reading ≡ Open }
+    {
+        Noting {
+            pace,
+            reading: Reading::Open,
+        }
+    }
+
+    /// How much was read.
+    pub fn reading(&self) -> Reading
+        ensures { result ≡ self.now.reading }
+    {
+        self.reading
+    }
+}
+
+impl<P: Pace> Pace for Noting<'_, P> {
+    /// Nothing is noted of other spots.
+    ghost reaches = { λ before spot after. after.reading ≡ reading_at spot before.reading };
+
+    fn at(&mut self, spot: Spot) {
+        if spot == Spot::BodyRead {
+            self.reading = Reading::Whole;
+        }
+        self.pace.at(spot);
+    }
 }

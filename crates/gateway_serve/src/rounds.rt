@@ -2,8 +2,8 @@
 ghost use Rattle.std.specs.Prelude.{◌≡◌, IfErr, IfOk, OnOk, List, ◌∷◌, min, unwrap_or};
 ghost use Rattle.delta_book.specs.Journal.{history};
 ghost use Rattle.delta_book.specs.Rounds.{closed, round_refusal};
-ghost use Rattle.gateway_serve.specs.Closing.{close_fault};
-ghost use Rattle.gateway_serve.specs.Rounds.{AreServed, CanServe, IsLastRound, IsRun, ServedRound};
+ghost use Rattle.gateway_serve.specs.Rounds.{IsRun, ServedRound};
+ghost use Rattle.gateway_serve.specs.inner.Rounds.{AreServed, CanServe, IsLastRound, close_fault};
 
 use crate::fault::GatewayFault;
 use crate::sums::Sums;

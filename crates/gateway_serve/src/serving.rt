@@ -1,13 +1,13 @@
 //! Connections are served by workers over one store, and the report is told at the end.
 ghost use Rattle.std.specs.Prelude.{◌≡◌, IfOk, List, [], ◌∷◌};
 ghost use Rattle.gateway_serve.specs.Ended.{IsEnding, ending_text};
-ghost use Rattle.gateway_serve.specs.Rounds.{AreServed, CanServe, IsOver, ServedRound};
+ghost use Rattle.gateway_serve.specs.Rounds.{ServedRound};
+ghost use Rattle.gateway_serve.specs.inner.Rounds.{AreServed, CanServe, IsOver};
 
 use crate::fault::GatewayFault;
-use crate::last_line::put_last_line;
 use crate::one_round::one_round;
 use crate::rounds::serve_rounds;
-use crate::sums::Sums;
+use crate::sums::{Sums, put_last_line};
 use delta_book::book::Book;
 use gateway_options::ServeOptions;
 use out_texts::report_text;
@@ -41,10 +41,7 @@ fn tell_rounds<F: FnMut(Book, u64) -> Result<(Book, Audit), GatewayFault>>(
         × IsEnding options.now.connections options.now.round latest earlier text.items) }
 {
     let (book, sums) = serve_rounds(serve_round, alloc, options)?;
-    match ending_of(alloc, &book, sums) {
-        Ok(text) => Ok(text),
-        Err(_) => Err(GatewayFault::NoMemory),
-    }
+    Ok(ending_of(alloc, &book, sums)?)
 }
 
 /// Serves so many connections of a listener by its workers, each flush on a connection of its own

@@ -1,14 +1,13 @@
 //! How long a connection may take as a whole.
-ghost use Rattle.std.specs.Prelude.{◌≡◌, ◌-◌, ◌*◌, ◌<◌, ◌↔◌, Option, None, IsNone, IfSome};
+ghost use Rattle.std.specs.Prelude.{◌≡◌, ◌-◌, ◌<◌, ◌↔◌, Option, IsNone, IfSome};
 ghost use Rattle.std.specs.Duration.{as_nanos};
 ghost use Rattle.std.specs.Result.{result_ok};
 ghost use Rattle.std.specs.declared.time.Instant.{Instant};
-ghost use Rattle.gateway_serve.specs.TimeLimit.{IsWait};
+ghost use Rattle.gateway_serve.specs.TimeLimit.{IsUnbegun, IsWait};
 
-use crate::moments::Moments;
 use std::io;
 use std::io::ErrorKind;
-use std::time::{Duration, Instant};
+use std::time::{Clock, Duration, Instant};
 
 /// How many seconds a request has to come whole, head and body, from when a receiver takes its
 /// connection.
@@ -26,6 +25,25 @@ const STANDS_MILLIS: u64 = 10;
 
 /// The least wait that a socket takes, in nanoseconds.
 const LEAST_NANOS: u128 = 1_000;
+
+/// A clock that a limit is measured by.
+pub trait MonotonicClock {
+    /// What a call makes of it, with the instant that it reads, or none where it failed.
+    ghost reads: { Self → Option Instant → Self → Type 0 };
+
+    /// This instant.
+    fn now(&mut self) -> io::Result<Instant>
+        ensures { reads self.old (result_ok result) self.new };
+}
+
+impl<C: Clock> MonotonicClock for &C {
+    /// A clock promises nothing of its time.
+    ghost reads = { λ before instant after. Unit {0} };
+
+    fn now(&mut self) -> io::Result<Instant> {
+        Instant::now(*self)
+    }
+}
 
 /// When a limit began to run, and when a socket was last told what was left of it.
 #[derive(Clone, Copy)]
@@ -50,20 +68,19 @@ fn wait_left(limit: Duration, elapsed: Duration) -> Option<Duration>
 /// So many seconds, which begin to run at the first call.
 #[derive(Drop)]
 pub struct TimeLimit<M> {
-    moments: M,
+    clock: M,
     whole: Duration,
     run: Option<Run>,
 }
 
-impl<M: Moments> TimeLimit<M> {
+impl<M: MonotonicClock> TimeLimit<M> {
     /// So many seconds, which have not begun.
-    pub fn new(moments: M, seconds: u64) -> Self
-        ensures moments { result.moments ≡ moments }
-        ensures whole { as_nanos result.whole ≡ seconds * 1_000_000_000 }
-        ensures run { result.run ≡ None }
+    pub fn new(clock: M, seconds: u64) -> Self
+        ensures clock { result.clock ≡ clock }
+        ensures seconds { IsUnbegun result seconds }
     {
         TimeLimit {
-            moments,
+            clock,
             whole: Duration::from_secs(seconds),
             run: None,
         }
@@ -73,11 +90,11 @@ impl<M: Moments> TimeLimit<M> {
     /// `TimedOut` once nothing is. A clock that fails fails the call: without one nothing would
     /// bound the wait.
     pub fn next_wait(&mut self) -> io::Result<Option<Duration>>
-        ensures wait { (now : Option Instant) × M.tells self.old.moments now self.new.moments
+        ensures wait { (now : Option Instant) × M.reads self.old.clock now self.new.clock
             × IsWait self.old.whole self.old.run now (result_ok result) self.new.run }
         ensures whole { self.new.whole ≡ self.old.whole }
     {
-        let now = self.moments.now()?;
+        let now = self.clock.now()?;
         let begun = match self.run {
             Some(run) => run.begun,
             None => now,

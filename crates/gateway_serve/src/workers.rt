@@ -1,17 +1,16 @@
 //! The workers of a round, each in a thread of its own.
 ghost use Rattle.std.specs.Prelude.{◌≡◌, IfErr, IfOk, OnOk, Some, nat_lt};
-ghost use Rattle.gateway_serve.specs.Tasks.{is_flush};
-ghost use Rattle.gateway_serve.specs.Accepted.{AreAccepted};
+ghost use Rattle.gateway_serve.specs.inner.Tasks.{is_flush};
+ghost use Rattle.gateway_serve.specs.inner.Accepted.{AreAccepted};
 ghost use Rattle.gateway_serve.specs.declared.fault.GatewayFault.TheVariants.{NoMemory};
 
-use crate::accepts::Accepts;
-use crate::beginning::Beginning;
-use crate::door::Door;
-use crate::entrance::Entrance;
+use crate::accept::{Accept, Listener};
+use crate::acceptor::RoundStart;
 use crate::fault::GatewayFault;
-use crate::order_channel::OrderChannel;
-use crate::work::Work;
-use crate::worker::work;
+use crate::shared_listener::SharedListener;
+use crate::worker::{Work, run_worker};
+use crossbeam_channel::{Receiver, Sender, bounded};
+use gate_workers::{CHANNEL_PLACES, Order};
 use gateway_options::ServeOptions;
 use shared_book::round::Round;
 use shared_book::seat::Seat;
@@ -28,22 +27,37 @@ use std::time::Clock;
 /// posts have used up the memory.
 const STACK: usize = 1 << 20;
 
+/// Both sides of the channel of orders of a round.
+#[derive(Drop)]
+struct OrderChannel {
+    order: Sender<Order>,
+    orders: Receiver<Order>,
+}
+
+/// A channel without an order.
+fn order_channel(alloc: Global) -> Result<OrderChannel, GatewayFault>
+    ensures { IfErr result (λ fault. fault ≡ NoMemory) }
+{
+    let (order, orders) = bounded(alloc, CHANNEL_PLACES)?;
+    Ok(OrderChannel { order, orders })
+}
+
 /// The work of the seat of this number: the first seats are the flushers', so that these are there
 /// before the first receiver.
-fn work_of(orders: &OrderChannel, flushers: u16, number: u16) -> Result<Work, GatewayFault>
+fn work_of(channel: &OrderChannel, flushers: u16, number: u16) -> Result<Work, GatewayFault>
     ensures task { IfOk result (λ work. is_flush work ≡ nat_lt number flushers) }
     ensures fault { IfErr result (λ fault. fault ≡ NoMemory) }
 {
     if number < flushers {
-        let orders = orders.receiver()?;
+        let orders = channel.orders.clone()?;
         Ok(Work::Flush { orders })
     } else {
-        let order = orders.sender()?;
+        let order = channel.order.clone()?;
         Ok(Work::Receive { order })
     }
 }
 
-/// Waits for all workers, and gives their seats.
+/// Timeouts for all workers, and gives their seats.
 fn join_all<L: Ledger, R: Threads>(
     rt: &R,
     alloc: Global,
@@ -66,70 +80,70 @@ fn join_all<L: Ledger, R: Threads>(
 /// started, and none where one could not be. On every path the sides of the channel are dropped
 /// before a worker is waited for, so each of them ends.
 fn run_workers<
-    L: Round + Beginning<Entrance> + Send + Sync,
+    L: Round + RoundStart<Listener> + Send + Sync,
     R: Net<Listener = TcpListener, Stream = TcpStream> + Threads + Wait + Clock + Sync,
 >(
     rt: &R,
     alloc: Global,
     shared: &SharedBook<L>,
     seats: Vec<Seat<L>>,
-    door: &Door<Entrance, L>,
-    orders: OrderChannel,
+    listener: &SharedListener<Listener, L>,
+    channel: OrderChannel,
     options: &ServeOptions<'_>,
 ) -> Result<Vec<Seat<L>>, GatewayFault> {
     thread::scope(thread::scope_env(), rt, |scope| {
         let mut running = Vec::new(alloc);
-        let mut closed = door.hold(rt);
+        let mut acceptor = listener.hold(rt);
         for seat in seats {
-            let task = match work_of(&orders, options.flushers, seat.number()) {
+            let task = match work_of(&channel, options.flushers, seat.number()) {
                 Ok(task) => task,
                 Err(fault) => {
-                    closed.close(fault);
+                    acceptor.close(fault);
                     break;
                 }
             };
             let started = Builder::new()
                 .stack_size(STACK)
                 .spawn_scoped(scope, move || {
-                    work(rt, alloc, shared, seat, options, door, task)
+                    run_worker(rt, alloc, shared, seat, options, listener, task)
                 });
             let Ok(worker) = started else {
-                closed.close(GatewayFault::CannotStart);
+                acceptor.close(GatewayFault::CannotStart);
                 break;
             };
             if running.push(worker).is_err() {
-                closed.close(GatewayFault::NoMemory);
+                acceptor.close(GatewayFault::NoMemory);
                 break;
             }
         }
-        drop(closed);
-        drop(orders);
+        drop(acceptor);
+        drop(channel);
         join_all(rt, alloc, running)
     })
 }
 
 /// Starts a worker on each seat, and waits until they end: the receivers once so many connections
 /// were accepted and served, or after a fault, and then the flushers. None is accepted before all
-/// have started. If it returns Ok, so many connections were accepted at this entrance.
+/// have started. If it returns Ok, so many connections were accepted by this listener.
 pub fn serve_beside<
-    L: Round + Beginning<Entrance> + Send + Sync,
+    L: Round + RoundStart<Listener> + Send + Sync,
     R: Net<Listener = TcpListener, Stream = TcpStream> + Threads + Wait + Clock + Sync,
 >(
     rt: &R,
     alloc: Global,
     shared: &SharedBook<L>,
     seats: Vec<Seat<L>>,
-    entrance: Entrance,
+    listener: Listener,
     options: &ServeOptions<'_>,
     connections: u64,
 ) -> Result<Vec<Seat<L>>, GatewayFault>
-    requires entrance { L.entrance ≡ Some entrance }
+    requires listener { L.listener ≡ Some listener }
     requires connections { L.connections ≡ connections }
     ensures accepted { OnOk result (
-        ∥ AreAccepted ⟦<Entrance as Accepts>⟧.accepts (Some entrance) connections 0 ∥₁) }
+        ∥ AreAccepted ⟦<Listener as Accept>⟧.accepts (Some listener) connections 0 ∥₁) }
 {
-    let orders = OrderChannel::new(alloc)?;
-    let door = Door::<Entrance, L>::new(entrance, connections);
-    let seats = run_workers(rt, alloc, shared, seats, &door, orders, options);
-    door.end(seats)
+    let channel = order_channel(alloc)?;
+    let listener = SharedListener::<Listener, L>::new(listener, connections);
+    let seats = run_workers(rt, alloc, shared, seats, &listener, channel, options);
+    listener.end(seats)
 }

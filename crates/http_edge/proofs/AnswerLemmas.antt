@@ -9,7 +9,8 @@ use Rattle.http_edge.specs.declared.fault.HttpFault.TheVariants.{Closed, BadHead
 use Rattle.http_edge.specs.declared.framing.Framing.{Framing}
 use Rattle.http_edge.specs.declared.request.Request.{Request}
 use Rattle.http_edge.specs.Form.{IsAnswer, Gives, Delivers, IsClosed}
-use Rattle.http_edge.specs.Message.{Message, IsHeadAt, NeverHead}
+use Rattle.http_edge.specs.Message.{Message, IsHeadAt}
+use Rattle.http_edge.specs.inner.Message.{NeverHead}
 use Rattle.http_edge.specs.Reading.{HasBody, framing_in, BeginsWith, IsTooLong, NotYet}
 use Rattle.http_edge.specs.Request.{message_in}
 use Rattle.http_edge.specs.Answer.{Explains, request_form, Fails, ReportsTooLong}

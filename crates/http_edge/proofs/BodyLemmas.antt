@@ -13,7 +13,8 @@ use Rattle.http_edge.specs.declared.fault.HttpFault.TheVariants.{Closed, BadHead
 use Rattle.http_edge.specs.declared.phase.Phase.{Phase}
 use Rattle.http_edge.specs.declared.phase.Phase.TheVariants.{Counted, Line, Content, Return, LineFeed, Trailer, Whole}
 use Rattle.http_edge.specs.Chunks.{room, HasTrailer, AreChunks, HasChunks}
-use Rattle.http_edge.specs.Body.{BodyState, Becomes, bare, IsOpen, Splits, Reaches, Refuses}
+use Rattle.http_edge.specs.Body.{BodyState, Becomes, bare, IsOpen}
+use Rattle.http_edge.specs.inner.Body.{Splits, Reaches, Refuses}
 use Rattle.http_edge.proofs.ListLemmas.{front_of, rest_of, behind_same, text_taken}
 use Rattle.http_edge.proofs.ChunkLemmas.{IsLine, HasContent, zero_forward, zero_not_over, zero_backward, fits_forward, fits_backward, over}
 

@@ -13,8 +13,8 @@ use Rattle.http_edge.specs.declared.framing.Framing.TheVariants.{Sized, Chunked}
 use Rattle.http_edge.specs.Chunks.{Chunk, IsSizeLine, HasTrailer, AreChunks}
 use Rattle.http_edge.specs.Message.{Message, IsHeadAt}
 use Rattle.http_edge.specs.Reading.{framing_in, HasBody, Reads, BeginsWith, NotYet}
-use Rattle.http_edge.specs.Framing.{Frames}
-use Rattle.http_edge.specs.Head.{FindsHead, LooksForHead}
+use Rattle.http_edge.specs.inner.Framing.{Frames}
+use Rattle.http_edge.specs.inner.Head.{FindsHead, LooksForHead}
 use Rattle.http_edge.specs.Form.{IsLasting}
 use Rattle.http_edge.specs.Answer.{Explains, Fails}
 

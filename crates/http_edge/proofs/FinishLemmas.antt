@@ -9,9 +9,9 @@ use Rattle.httparse.proofs.GrammarLemmas.{request_unique}
 use Rattle.http_edge.specs.declared.fault.HttpFault.{HttpFault}
 use Rattle.http_edge.specs.declared.request.Request.{Request}
 use Rattle.http_edge.specs.Message.{Header, Message, IsHeadAt}
-use Rattle.http_edge.specs.Head.{FindsHead}
+use Rattle.http_edge.specs.inner.Head.{FindsHead}
 use Rattle.http_edge.specs.Reading.{message_of, BeginsWith}
-use Rattle.http_edge.specs.Request.{message_at}
+use Rattle.http_edge.specs.inner.Request.{message_at}
 use Rattle.http_edge.specs.Form.{IsAnswer, Gives}
 use Rattle.http_edge.specs.Answer.{Explains, request_form}
 

@@ -1,7 +1,7 @@
 -- A head within the limits, and what follows it.
 use Rattle.std.proofs.Common.{ℕ, ◌<◌, ◌≤◌, List, length, drop, arith}
 use Rattle.httparse.specs.Grammar.{print_request, HasNoRequest, NeverHasRequest}
-use Rattle.http_edge.specs.Message.{NeverHead}
+use Rattle.http_edge.specs.inner.Message.{NeverHead}
 use Rattle.http_edge.specs.Head.{HasTooManyFields, HasLongHead}
 use Rattle.http_edge.proofs.ListLemmas.{front_of}
 

@@ -17,13 +17,17 @@ use Rattle.http_edge.specs.declared.framing.Framing.TheVariants.{Sized, Chunked}
 use Rattle.http_edge.specs.declared.phase.Phase.{Phase}
 use Rattle.http_edge.specs.declared.phase.Phase.TheVariants.{Counted, Line, Content, Return, LineFeed, Trailer, Whole}
 use Rattle.http_edge.specs.Message.{Message, IsHeadAt}
-use Rattle.http_edge.specs.Framing.{framing_by, Frames}
+use Rattle.http_edge.specs.Framing.{framing_by}
+use Rattle.http_edge.specs.inner.Framing.{Frames}
 use Rattle.http_edge.specs.Chunks.{HasTrailer, HasChunks}
-use Rattle.http_edge.specs.Head.{FindsHead}
+use Rattle.http_edge.specs.inner.Head.{FindsHead}
 use Rattle.http_edge.specs.Reading.{HasBody, framing_in, message_of, Reads, BeginsWith, NotYet}
-use Rattle.http_edge.specs.Body.{BodyState, Becomes, Grows, IsOpen, is_whole, Reaches, Refuses}
+use Rattle.http_edge.specs.Body.{BodyState, Becomes, Grows, IsOpen, is_whole}
+use Rattle.http_edge.specs.inner.Body.{Reaches, Refuses}
 use Rattle.http_edge.specs.Answer.{Fails, Reports}
-use Rattle.http_edge.specs.Holds.{Progress, in_head, in_body, failed, start, IsBehind, Holds, IsSound, IsFramed, Starts, EndsHead, Advances, Stops, fault_in, is_done}
+use Rattle.http_edge.specs.Holds.{Progress, in_head, in_body, failed, IsBehind, Holds, IsSound}
+use Rattle.http_edge.specs.Holds.{fault_in}
+use Rattle.http_edge.specs.inner.Holds.{start, IsFramed, Starts, EndsHead, Advances, Stops, is_done}
 use Rattle.http_edge.proofs.ListLemmas.{text_taken, EndsIn}
 use Rattle.http_edge.proofs.ChunkLemmas.{no_chunks}
 use Rattle.http_edge.proofs.BodyLemmas.{at, no_line_yet, line_may_come}

@@ -6,7 +6,7 @@ use Rattle.httparse.specs.Grammar as head
 use Rattle.httparse.specs.Spans.{span_bytes}
 use Rattle.httparse.specs.declared.spans.HeaderSpan.{HeaderSpan}
 use Rattle.httparse.specs.declared.spans.RequestSpans.{RequestSpans}
-use Rattle.http_edge.specs.Head.{FindsHead}
+use Rattle.http_edge.specs.inner.Head.{FindsHead}
 
 same_byte : (b : ℕ) → head.is_token_byte b ≡ http.is_token_byte b
 unfolding head.is_token_byte http.is_token_byte

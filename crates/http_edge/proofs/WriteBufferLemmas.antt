@@ -8,8 +8,9 @@ use Rattle.std.specs.List.{flat_map}
 use Rattle.http_edge.specs.declared.write_buffer.WriteBuffer.{WriteBuffer}
 use Rattle.http_edge.specs.declared.written.Written.{Written}
 use Rattle.http_edge.specs.declared.written.Written.TheVariants.{All, None_, Part}
-use Rattle.http_edge.specs.Sent.{Sent, IsCut, Ends, cut_after}
-use Rattle.http_edge.specs.WriteBuffer.{waiting_bytes, Passes}
+use Rattle.http_edge.specs.Sent.{Sent}
+use Rattle.http_edge.specs.inner.Sent.{IsCut, Ends, cut_after}
+use Rattle.http_edge.specs.inner.WriteBuffer.{waiting_bytes, Passes}
 use Rattle.http_edge.proofs.WriteLemmas.{part_taken}
 
 -- how much was sent or waits

@@ -1,10 +1,11 @@
 -- What is answered about the bytes of a source, and how far it is read.
-use Rattle.std.specs.Prelude.{◌≡◌, ◌≢◌, ◌⊎◌, ℕ, ◌≤◌, List, [], ◌++◌, length, Option, None, Result, Err}
+use Rattle.std.specs.Prelude.{◌≡◌, ◌≢◌, ◌⊎◌, ℕ, ◌≤◌, List, ◌++◌, length, Option, None, Result, Err}
+use Rattle.std.specs.Prelude.{[]}
 use Rattle.std.specs.Io.KnownBytes.{Consumes}
 use Rattle.http_edge.specs.declared.fault.HttpFault.{HttpFault}
 use Rattle.http_edge.specs.declared.fault.HttpFault.TheVariants.{Io}
 use Rattle.http_edge.specs.declared.request.Request.{Request}
-use Rattle.http_edge.specs.Form.{FaultSays, AnswerSays}
+use Rattle.http_edge.specs.Form.{AnswerSays}
 use Rattle.http_edge.specs.Reading.{IsTooLong, NotYet}
 use Rattle.http_edge.specs.Holds.{Progress, Holds, IsSound, fault_in}
 use Rattle.http_edge.specs.Answer.{request_form, ReportsTooLong}
@@ -13,10 +14,6 @@ use Rattle.http_edge.specs.Answer.{request_form, ReportsTooLong}
 -- wrong
 abbrev pub IsMalformed : List ℕ → Type 0
 IsMalformed bytes = (bytes ≢ []) × NotYet bytes
-
--- what a fault says of all the bytes of a source
-abbrev pub SaysFault : HttpFault → List ℕ → Type 0
-SaysFault e bytes = FaultSays request_form e bytes
 
 -- what an answer says of all the bytes of a source
 abbrev pub Says : List ℕ → Result Request HttpFault → Type 0

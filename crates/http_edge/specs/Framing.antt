@@ -1,13 +1,10 @@
 -- Where a head says that its body ends, and what is answered for it.
-use Rattle.std.specs.Prelude.{◌≡◌, ◌==◌, ℕ, ◌<◌, ◌≤◌, Bool, ◌&&◌, List, [], ◌∷◌, map, filter}
-use Rattle.std.specs.Prelude.{Option, Some, None, option_map, Result, Ok, Err, codes, if◌then◌else◌}
+use Rattle.std.specs.Prelude.{◌==◌, ℕ, Bool, ◌&&◌, List, [], ◌∷◌, map, filter}
+use Rattle.std.specs.Prelude.{Option, Some, None, option_map, codes, if◌then◌else◌}
 use Rattle.std.specs.Str.{str_eq_ignore_ascii_case}
 use Rattle.decimals.specs.Numbers.{number}
-use Rattle.http_edge.specs.declared.fault.HttpFault.{HttpFault}
-use Rattle.http_edge.specs.declared.fault.HttpFault.TheVariants.{BadLength, BodyTooLong}
 use Rattle.http_edge.specs.declared.framing.Framing.{Framing}
 use Rattle.http_edge.specs.declared.framing.Framing.TheVariants.{Sized, Chunked}
-use Rattle.http_edge.specs.declared.limits.TheConstants.{MAX_BODY}
 use Rattle.http_edge.specs.Message.{Header}
 
 -- names of fields are compared without regard to ASCII case
@@ -41,12 +38,3 @@ abbrev pub framing_by : ℕ → List Header → Option Framing
 framing_by minor hs =
     framing_of minor (values_of (codes "transfer-encoding") hs)
     (values_of (codes "content-length") hs)
-
--- the framing itself where its size is within the limit; BadLength where there is none, BodyTooLong
--- over the limit
-abbrev pub Frames : Option Framing → Result Framing HttpFault → Type 0
-Frames framing (Ok (Sized n)) = (framing ≡ Some (Sized n)) × (n ≤ MAX_BODY)
-Frames framing (Ok Chunked) = framing ≡ Some Chunked
-Frames framing (Err BadLength) = framing ≡ None
-Frames framing (Err BodyTooLong) = (n : ℕ) × (framing ≡ Some (Sized n)) × (MAX_BODY < n)
-Frames framing (Err e) = ⊥

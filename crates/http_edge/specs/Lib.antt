@@ -11,6 +11,6 @@ pub mod Request
 pub mod Find
 pub mod Delivery
 pub mod Sent
-pub mod WriteBuffer
 pub mod Texts
 pub mod Reply
+pub mod inner

@@ -1,5 +1,5 @@
 -- A message, and the head that bytes begin with.
-use Rattle.std.specs.Prelude.{ℕ, ◌≤◌, List, ◌++◌, length}
+use Rattle.std.specs.Prelude.{ℕ, ◌≤◌, List, length}
 use Rattle.httparse.specs.Grammar.{RequestHead, print_request, ReadsRequest}
 use Rattle.http_edge.specs.declared.limits.TheConstants.{MAX_FIELDS, MAX_HEAD}
 
@@ -19,8 +19,3 @@ pub record IsHeadAt (buf : List ℕ) (head : RequestHead) (after : List ℕ) : T
   pub reads : ReadsRequest buf head after
   pub few : length head.fields ≤ MAX_FIELDS
   pub short : length (print_request head) ≤ MAX_HEAD
-
--- whatever bytes follow, they do not begin with a head within the limits
-abbrev pub NeverHead : List ℕ → Type 0
-NeverHead buf =
-    (more : List ℕ) (head : RequestHead) (after : List ℕ) → ¬ (IsHeadAt (buf ++ more) head after)

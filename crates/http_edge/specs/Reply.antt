@@ -1,6 +1,6 @@
 -- The head of a response, and what is answered about its bytes.
 use Rattle.std.specs.Prelude.{◌≡◌, ◌≢◌, ℕ, ◌<◌, ◌≤◌, List, [], ◌∷◌, ◌++◌, length, map, Option, Some}
-use Rattle.std.specs.Prelude.{None, option_map, Result, Ok, Err, codes, ⊤}
+use Rattle.std.specs.Prelude.{None, option_map, Result, codes, ⊤}
 use Rattle.httparse.specs.Grammar.{ResponseHead, print_response, ReadsResponse, HasNoResponse}
 use Rattle.httparse.specs.Grammar.{NeverHasResponse, MayBecomeResponse, status_code}
 use Rattle.httparse.specs.Spans.{name_and_value, ResponseOverflows, ResponseExceeds}
@@ -9,7 +9,7 @@ use Rattle.http_edge.specs.declared.fault.HttpFault.TheVariants.{Closed, BadHead
 use Rattle.http_edge.specs.declared.fault.HttpFault.TheVariants.{HeadTooLong, Truncated, NoMemory}
 use Rattle.http_edge.specs.declared.reply.Reply.{Reply}
 use Rattle.http_edge.specs.declared.limits.TheConstants.{MAX_FIELDS, MAX_HEAD}
-use Rattle.http_edge.specs.Form.{Form, IsLasting, AnswerSays}
+use Rattle.http_edge.specs.Form.{Form, AnswerSays}
 use Rattle.http_edge.specs.Framing.{values_of}
 
 -- what a reply says, as a plain value
@@ -75,12 +75,6 @@ reply_form =
       not_yet = NoReply;
       explains = ExplainsReply;
     }
-
--- what a look for a reply answers
-abbrev pub LooksForReply : List ℕ → Result (Option Reply) HttpFault → Type 0
-LooksForReply buf (Ok (Some r)) = BeginsWithReply buf (reply_in r)
-LooksForReply buf (Ok None) = IsReplyOpen buf
-LooksForReply buf (Err e) = IsLasting e × ExplainsReply e buf
 
 -- what an answer says of all the bytes of a source
 abbrev pub SaysReply : List ℕ → Result Reply HttpFault → Type 0

@@ -1,8 +1,5 @@
 -- A request as a plain value.
-use Rattle.std.specs.Prelude.{ℕ, List, map, take}
-use Rattle.httparse.specs.declared.spans.HeaderSpan.{HeaderSpan}
-use Rattle.httparse.specs.declared.spans.RequestSpans.{RequestSpans}
-use Rattle.httparse.specs.Spans.{span_bytes, header_bytes}
+use Rattle.std.specs.Prelude.{List, map}
 use Rattle.http_edge.specs.declared.header.Header as kept
 use Rattle.http_edge.specs.declared.request.Request.{Request}
 use Rattle.http_edge.specs.Message.{Header, Message}
@@ -20,14 +17,4 @@ message_in r =
       target = r.target.items;
       headers = headers_in r.headers.items;
       body = r.body.items;
-    }
-
--- the message of that body whose head the spans cover
-abbrev pub message_at : List ℕ → List HeaderSpan → RequestSpans → List ℕ → Message
-message_at buf spans r body =
-    record {
-      method = span_bytes buf r.method;
-      target = span_bytes buf r.path;
-      headers = map (header_bytes buf) (take r.headers spans);
-      body = body;
     }

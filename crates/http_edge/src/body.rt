@@ -1,6 +1,7 @@
 //! A body that is being read (RFC 9112, sections 6 and 7).
 ghost use Rattle.std.specs.Prelude.{◌≡◌, ◌<◌, ◌≤◌, length, IfErr, OnOk};
-ghost use Rattle.http_edge.specs.Body.{body_state, is_whole, IsOpen, Reaches, Refuses, IsStep};
+ghost use Rattle.http_edge.specs.Body.{is_whole, IsOpen};
+ghost use Rattle.http_edge.specs.inner.Body.{body_state, Reaches, Refuses, IsStep};
 
 use crate::fault::HttpFault;
 use crate::limits::{MAX_BODY, MAX_FIELDS, MAX_LINE, MAX_TRAILER};

@@ -27,7 +27,8 @@ pub struct Decoder {
 }
 
 impl Model for Decoder {
-    ghost use Rattle.http_edge.specs.Holds.{Progress, progress_of, IsSound};
+    ghost use Rattle.http_edge.specs.Holds.{Progress, IsSound};
+    ghost use Rattle.http_edge.specs.inner.Holds.{progress_of};
 
     ghost Value = { Progress };
 

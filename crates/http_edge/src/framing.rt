@@ -2,7 +2,8 @@
 ghost use Rattle.std.specs.Prelude.{◌≡◌, ◌∷◌, ◌++◌, [], ◌≤◌, ◌<◌, length, map, All, MatchResult};
 ghost use Rattle.std.specs.Prelude.{option_to_list, option_copied};
 ghost use Rattle.httparse.specs.Spans.{header_bytes, IsHeaderWithin};
-ghost use Rattle.http_edge.specs.Framing.{is_named, values_of, Frames};
+ghost use Rattle.http_edge.specs.Framing.{is_named, values_of};
+ghost use Rattle.http_edge.specs.inner.Framing.{Frames};
 ghost use Rattle.http_edge.specs.Framing.{framing_by_length, framing_by_coding, framing_by};
 
 use crate::fault::HttpFault;

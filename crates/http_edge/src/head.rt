@@ -1,6 +1,6 @@
 //! The head of a request (RFC 9112, sections 2 to 5).
 ghost use Rattle.std.specs.Prelude.{◌≡◌, ◌≤◌, length};
-ghost use Rattle.http_edge.specs.Head.{LooksForHead};
+ghost use Rattle.http_edge.specs.inner.Head.{LooksForHead};
 
 use crate::fault::HttpFault;
 use crate::limits::{MAX_FIELDS, MAX_HEAD};

@@ -7,10 +7,13 @@ ghost use Rattle.http_edge.specs.Answer.{Fails, request_form};
 ghost use Rattle.httparse.specs.Grammar.{RequestHead, HasNoRequest};
 ghost use Rattle.http_edge.specs.Message.{IsHeadAt};
 ghost use Rattle.http_edge.specs.Reading.{NotYet, message_of};
-ghost use Rattle.http_edge.specs.Body.{body_state, is_whole, IsOpen, Reaches, Refuses};
-ghost use Rattle.http_edge.specs.Holds.{progress_of, start, fault_in, content_in};
-ghost use Rattle.http_edge.specs.Holds.{kept_len, IsSound, Holds, TakesHead, IsFed};
-ghost use Rattle.http_edge.specs.Holds.{IsFramed, Starts};
+ghost use Rattle.http_edge.specs.Body.{is_whole, IsOpen};
+ghost use Rattle.http_edge.specs.inner.Body.{body_state, Reaches, Refuses};
+ghost use Rattle.http_edge.specs.Holds.{fault_in, content_in};
+ghost use Rattle.http_edge.specs.inner.Holds.{progress_of, start};
+ghost use Rattle.http_edge.specs.Holds.{kept_len, IsSound, Holds};
+ghost use Rattle.http_edge.specs.inner.Holds.{TakesHead, IsFed};
+ghost use Rattle.http_edge.specs.inner.Holds.{IsFramed, Starts};
 
 use crate::body::Body;
 use crate::fault::HttpFault;

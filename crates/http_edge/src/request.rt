@@ -4,7 +4,8 @@ ghost use Rattle.http_header.specs.Token.{IsToken};
 ghost use Rattle.httparse.specs.Spans.{span_bytes, header_bytes, IsHeaderWithin, IsRequestWithin};
 ghost use Rattle.http_edge.specs.Framing.{is_named};
 ghost use Rattle.http_edge.specs.Find.{first_in, seen_in, HasValues};
-ghost use Rattle.http_edge.specs.Request.{header_in, headers_in, message_in, message_at};
+ghost use Rattle.http_edge.specs.Request.{header_in, headers_in, message_in};
+ghost use Rattle.http_edge.specs.inner.Request.{message_at};
 
 use crate::header::Header;
 use http::Method;

@@ -5,7 +5,8 @@ ghost use Rattle.std.specs.Io.KnownBytes.{IsAtEnd};
 ghost use Rattle.httparse.specs.Spans.{header_bytes, IsHeaderWithin};
 ghost use Rattle.http_edge.specs.Framing.{values_of};
 ghost use Rattle.http_edge.specs.Delivery.{StopsReading};
-ghost use Rattle.http_edge.specs.Reply.{first_of, IsReplyOpen, LooksForReply, SaysReply};
+ghost use Rattle.http_edge.specs.Reply.{first_of, IsReplyOpen, SaysReply};
+ghost use Rattle.http_edge.specs.inner.Reply.{LooksForReply};
 
 use crate::fault::HttpFault;
 use crate::framing::is_named;

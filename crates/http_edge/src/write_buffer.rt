@@ -4,7 +4,8 @@ ghost use Rattle.std.specs.Prelude.{IfOk, IfErr, OnOk, is_err};
 ghost use Rattle.std.specs.Io.KnownBytes.{Appends};
 ghost use Rattle.byte_ends.specs.Counts.{counted};
 ghost use Rattle.http_edge.specs.declared.write_buffer.TheConstants.{ROOM};
-ghost use Rattle.http_edge.specs.Sent.{Failed, IsCut, Ends};
+ghost use Rattle.http_edge.specs.Sent.{Failed};
+ghost use Rattle.http_edge.specs.inner.Sent.{IsCut, Ends};
 
 use crate::written::Written;
 use byte_ends::Sink;
@@ -60,7 +61,7 @@ fn send<K: Sink>(sink: &mut K, sent: usize, bytes: &[u8]) -> Result<usize, Writt
 }
 
 impl WriteBuffer {
-    ghost use Rattle.http_edge.specs.WriteBuffer.{waiting_bytes, Passes};
+    ghost use Rattle.http_edge.specs.inner.WriteBuffer.{waiting_bytes, Passes};
 
     /// Nothing waits, and nothing was written.
     pub fn new() -> Self

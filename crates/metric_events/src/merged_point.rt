@@ -1,5 +1,5 @@
 ghost use Rattle.std.specs.Prelude.{◌≡◌, ◌↔◌, IsTrue, IfOk};
-ghost use Rattle.metric_events.specs.Equal.{same_point};
+ghost use Rattle.metric_events.specs.inner.Equal.{same_point};
 
 use crate::row::Row;
 use crate::span::Span;
@@ -90,19 +90,6 @@ impl MergedPoint {
             && self.span.start() == other.span.start()
             && self.span.end() == other.span.end()
             && self.row.as_slice() == other.row.as_slice()
-    }
-
-    /// Replaces the point's identity by a share of this one, if they are equal. Takes no memory.
-    /// The value of the point does not change.
-    pub fn adopt(&mut self, series: &SharedId)
-        ensures { self.new ≡ self.old }
-    {
-        if !self.series.is_same(series) {
-            return;
-        }
-        if let Ok(shared) = series.share() {
-            self.series = shared;
-        }
     }
 
     /// An equal merged point, which shares the identity. Takes memory for the row alone, and fails

@@ -5,7 +5,8 @@ use Rattle.serde_json.specs.View.{view, items_view}
 use Rattle.otlp_read.specs.declared.place.Place.{Place}
 use Rattle.otlp_read.specs.declared.fault.ReadFault.{ReadFault}
 use Rattle.otlp_read.specs.declared.fault.ReadFault.TheVariants as faults
-use Rattle.otlp_read.specs.Containers.{◌>>=◌, Fails, elements}
+use Rattle.otlp_read.specs.Containers.{◌>>=◌, elements}
+use Rattle.otlp_read.specs.inner.Containers.{Fails}
 
 pub elements_view : (vs : List Value) → elements (items_view vs) ≡ map view vs
 elements_view [] = refl

@@ -1,4 +1,4 @@
-pub mod WholeLemmas
+pub mod IntegerLemmas
 pub mod ContainerLemmas
 pub mod ListLemmas
 pub mod PointLemmas

@@ -1,4 +1,4 @@
--- An identity that a memo has is the one that would be made of its parts.
+-- An identity that a cache has is the one that would be made of its parts.
 use Rattle.std.proofs.Common.{◌≡◌, ℕ, ◌+◌, ◌<◌, ◌≤◌, List, [], ◌∷◌, map, take, drop, length, get_or, set, Option, Some, None, refl, ap, sym, ◌∙◌}
 use Rattle.std.specs.Prelude.{option_and_then, IfSome, IsPermutation}
 use Rattle.std.specs.Result.{result_ok}
@@ -23,7 +23,7 @@ use Rattle.otlp_read.specs.Lists.{all_of, elements_in}
 use Rattle.otlp_read.specs.Attributes.{pair_of, set_of, attributes_in}
 use Rattle.otlp_read.specs.Streams.{Stream, identity_in, series_in, series_of}
 use Rattle.otlp_read.specs.declared.scalar_ref.PairRef.{PairRef}
-use Rattle.otlp_read.specs.RefViews.{pair_data}
+use Rattle.otlp_read.specs.inner.RefViews.{pair_data}
 use Rattle.otlp_read.proofs.ListLemmas.{with_front, all_more}
 
 -- a set, or none for its fault, in the two spellings

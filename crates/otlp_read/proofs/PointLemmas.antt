@@ -14,7 +14,7 @@ use Rattle.otlp_read.specs.Rules.{unless}
 use Rattle.std.specs.Prelude.{codes, option_and_then}
 use Rattle.serde_json.specs.Data.{Data}
 use Rattle.series_id.specs.declared.limits.TheConstants.{MAX_BOUND}
-use Rattle.otlp_read.specs.Whole.{signed_in}
+use Rattle.otlp_read.specs.Integers.{signed_in}
 use Rattle.otlp_read.specs.Fields.{field}
 use Rattle.otlp_read.specs.Lists.{list_in}
 use Rattle.otlp_read.specs.Histograms.{◌>>=◌, kind_in}

@@ -9,7 +9,7 @@ use Rattle.serde_json.specs.Read.{read}
 use Rattle.otlp_read.specs.declared.fault.ReadFault.{ReadFault}
 use Rattle.otlp_read.specs.declared.fault.ReadFault.TheVariants as faults
 use Rattle.otlp_read.specs.declared.reading.Reading.{Reading}
-use Rattle.otlp_read.specs.Containers.{Gives}
+use Rattle.otlp_read.specs.inner.Containers.{Gives}
 use Rattle.otlp_read.specs.Tallies.{tally}
 use Rattle.otlp_read.specs.Reading.{reading, text_reading, Answers}
 

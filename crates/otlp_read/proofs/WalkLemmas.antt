@@ -8,7 +8,8 @@ use Rattle.metric_events.specs.DataPoint.{DataPoint}
 use Rattle.otlp_read.specs.declared.place.Place.{Place}
 use Rattle.otlp_read.specs.declared.fault.ReadFault.{ReadFault}
 use Rattle.otlp_read.specs.declared.fault.ReadFault.TheVariants as faults
-use Rattle.otlp_read.specs.Containers.{◌>>=◌, Fails}
+use Rattle.otlp_read.specs.Containers.{◌>>=◌}
+use Rattle.otlp_read.specs.inner.Containers.{Fails}
 use Rattle.otlp_read.specs.Tallies.{Tally, add_point, each_point}
 use Rattle.otlp_read.specs.Reading.{each}
 

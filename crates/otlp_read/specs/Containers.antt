@@ -1,29 +1,16 @@
 -- Containers: objects, arrays of objects, and the error for one of another type.
-use Rattle.std.specs.Prelude.{◌≡◌, List, [], ◌∷◌, Bool, if◌then◌else◌, Option, Some, None, is_some}
-use Rattle.std.specs.Prelude.{Result, Ok, Err, ⊤}
+use Rattle.std.specs.Prelude.{List, [], ◌∷◌, Bool, if◌then◌else◌, Option, Some, None, is_some}
+use Rattle.std.specs.Prelude.{Result, Ok, Err}
 use Rattle.std.specs.List.{list_all}
 use Rattle.serde_json.specs.Data.{Data, Items, no_items, item}
 use Rattle.serde_json.specs.Find.{as_object, as_array}
 use Rattle.otlp_read.specs.declared.place.Place.{Place}
-use Rattle.otlp_read.specs.declared.fault.ReadFault.{ReadFault}
-use Rattle.otlp_read.specs.declared.fault.ReadFault.TheVariants as faults
 
 infixl 10 ◌>>=◌
 -- the first wrong container ends the walk
 abbrev pub ◌>>=◌ : {A B : Type 0} → Result A Place → (A → Result B Place) → Result B Place
 (Ok x) >>= f = f x
 (Err e) >>= f = Err e
-
--- an error of the walk names the wrong container; being out of memory says nothing of the value
-abbrev pub Fails : {Y : Type 0} → ReadFault → Result Y Place → Type 0
-Fails faults.NoMemory read = ⊤
-Fails faults.NotJson read = ⊥
-Fails (faults.WrongShape place) read = read ≡ Err place
-
--- the function's result, seen by view, is what the value reads as, unless memory ran out
-abbrev pub Gives : {X Y : Type 0} → (X → Y) → Result X ReadFault → Result Y Place → Type 0
-Gives view (Ok x) read = read ≡ Ok (view x)
-Gives view (Err e) read = Fails e read
 
 -- the elements of an array in order
 abbrev pub elements : Items → List Data

@@ -4,7 +4,7 @@ use Rattle.std.specs.Prelude.{if◌then◌else◌, Option, Some, None, option_an
 use Rattle.serde_json.specs.Data.{Data, null, boolean, number, string, array, object}
 use Rattle.serde_json.specs.Find.{get, as_str, as_bool, as_number, as_u64}
 use Rattle.series_id.specs.declared.limits.TheConstants.{MAX_TEXT}
-use Rattle.otlp_read.specs.Whole.{unsigned_in, unsigned_64}
+use Rattle.otlp_read.specs.Integers.{unsigned_in, unsigned_64}
 
 -- null counts as absent
 abbrev pub present : Option Data → Option Data

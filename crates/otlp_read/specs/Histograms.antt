@@ -9,7 +9,7 @@ use Rattle.series_id.specs.Ascending.{histogram_of}
 use Rattle.metric_events.specs.DataPoint.{DataPoint}
 use Rattle.metric_events.specs.NewPoints.{point_of_histogram}
 use Rattle.metric_events.specs.PointFaults.{histogram_fault}
-use Rattle.otlp_read.specs.Whole.{unsigned_64, signed_in}
+use Rattle.otlp_read.specs.Integers.{unsigned_64, signed_in}
 use Rattle.otlp_read.specs.Fields.{field, flags_fit, nanos_in}
 use Rattle.otlp_read.specs.Lists.{list_in}
 use Rattle.otlp_read.specs.Rules.{unless}

@@ -6,7 +6,7 @@ use Rattle.series_id.specs.declared.kinds.Kind.TheVariants.{Sum}
 use Rattle.metric_events.specs.DataPoint.{DataPoint}
 use Rattle.metric_events.specs.NewPoints.{point_of_sum}
 use Rattle.metric_events.specs.PointFaults.{sum_fault}
-use Rattle.otlp_read.specs.Whole.{signed_64}
+use Rattle.otlp_read.specs.Integers.{signed_64}
 use Rattle.otlp_read.specs.Fields.{field, flags_fit, nanos_in}
 use Rattle.otlp_read.specs.Rules.{unless}
 use Rattle.otlp_read.specs.Streams.{SumStream, series_of}

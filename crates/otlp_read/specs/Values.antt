@@ -7,7 +7,7 @@ use Rattle.series_id.specs.declared.scalars.Scalar.{Scalar}
 use Rattle.series_id.specs.declared.scalars.Scalar.TheVariants.{Empty, Truth, Int, Text}
 use Rattle.series_id.specs.declared.values.AttrValue.{AttrValue}
 use Rattle.series_id.specs.declared.values.AttrValue.TheVariants.{One, Many}
-use Rattle.otlp_read.specs.Whole.{signed_64}
+use Rattle.otlp_read.specs.Integers.{signed_64}
 use Rattle.otlp_read.specs.Fields.{field}
 use Rattle.otlp_read.specs.Containers.{is_object}
 use Rattle.otlp_read.specs.Lists.{list_in}

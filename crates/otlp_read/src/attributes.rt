@@ -8,11 +8,11 @@ ghost use Rattle.serde_json.specs.View.{view, members_view};
 ghost use Rattle.otlp_read.specs.Fields.{field};
 ghost use Rattle.otlp_read.specs.Lists.{all_of};
 ghost use Rattle.otlp_read.specs.Attributes.{key_and_value, pair_of, set_of, attributes_in};
-ghost use Rattle.otlp_read.specs.RefViews.{found_data, pair_data};
+ghost use Rattle.otlp_read.specs.inner.RefViews.{found_data, pair_data};
 
 use crate::fields::text_in;
 use crate::lists::elements_in;
-use crate::members::take_named;
+use crate::members::set_if_named;
 use crate::scalar_ref::PairRef;
 use crate::values::{scalar_ref_in, value_in};
 use serde_json::{Map, Value};
@@ -37,8 +37,8 @@ fn pair_fields<'v>(members: &'v Map<String, Value>) -> PairFields<'v>
     let mut value = None;
     for (name, member) in members {
         let name = name.as_str();
-        take_named(&mut key, "key", name, member);
-        take_named(&mut value, "value", name, member);
+        set_if_named(&mut key, "key", name, member);
+        set_if_named(&mut value, "value", name, member);
     }
     PairFields { key, value }
 }

@@ -3,8 +3,9 @@
 ghost use Rattle.std.specs.Prelude.{◌≡◌, map};
 ghost use Rattle.std.specs.List.{list_all};
 ghost use Rattle.serde_json.specs.View.{view};
-ghost use Rattle.otlp_read.specs.Containers.{Gives, is_object, objects, object_in};
-ghost use Rattle.otlp_read.specs.RefViews.{found_data};
+ghost use Rattle.otlp_read.specs.Containers.{is_object, objects, object_in};
+ghost use Rattle.otlp_read.specs.inner.Containers.{Gives};
+ghost use Rattle.otlp_read.specs.inner.RefViews.{found_data};
 
 use crate::fault::ReadFault;
 use crate::place::Place;

@@ -3,9 +3,9 @@
 ghost use Rattle.std.specs.Prelude.{◌≡◌, option_map};
 ghost use Rattle.serde_json.specs.View.{view};
 ghost use Rattle.otlp_read.specs.Fields.{field, flags_fit, text_in, truth_in, is_delta, nanos_in};
-ghost use Rattle.otlp_read.specs.RefViews.{found_data};
+ghost use Rattle.otlp_read.specs.inner.RefViews.{found_data};
 
-use crate::whole::{unsigned, unsigned_64};
+use crate::integers::{unsigned, unsigned_64};
 use serde_json::Value;
 use series_id::limits::MAX_TEXT;
 

@@ -4,43 +4,29 @@
 ghost use Rattle.std.specs.Prelude.{◌≡◌, ◌≢◌, codes, option_map, option_and_then, IfOk, IfSome};
 ghost use Rattle.std.specs.Prelude.{OnErr, OnOk};
 ghost use Rattle.std.specs.Result.{result_ok};
-ghost use Rattle.serde_json.specs.Data.{object};
-ghost use Rattle.serde_json.specs.View.{view, members_view};
+ghost use Rattle.serde_json.specs.View.{view};
 ghost use Rattle.series_id.specs.Ascending.{histogram_of};
 ghost use Rattle.series_id.specs.declared.limits.TheConstants.{MAX_BOUND};
-ghost use Rattle.otlp_read.specs.Whole.{signed_in};
+ghost use Rattle.otlp_read.specs.Integers.{signed_in};
 ghost use Rattle.otlp_read.specs.Lists.{list_in};
 ghost use Rattle.otlp_read.specs.Fields.{field};
 ghost use Rattle.otlp_read.specs.Histograms.{count_in, total_in, histogram_fields, histogram_point};
 ghost use Rattle.otlp_read.specs.Histograms.{histogram_point_in};
-ghost use Rattle.otlp_read.specs.PointViews.{histogram_fields_data};
-ghost use Rattle.otlp_read.specs.StreamViews.{stream_data};
-ghost use Rattle.otlp_read.specs.RefViews.{found_data};
+ghost use Rattle.otlp_read.specs.inner.PointViews.{histogram_fields_data};
+ghost use Rattle.otlp_read.specs.inner.StreamViews.{stream_data};
+ghost use Rattle.otlp_read.specs.inner.RefViews.{found_data};
 
 use crate::fields::{flags_fit, nanos_in};
+use crate::identity_cache::IdentityCache;
+use crate::integers::unsigned_64;
 use crate::lists::{signed_list, unsigned_list};
-use crate::members::take_named;
-use crate::memo::Memo;
+use crate::members::point_members;
 use crate::streams::{Stream, series_of};
-use crate::whole::unsigned_64;
 use metric_events::point::{Point, PointFault};
-use serde_json::{Map, Value};
+use serde_json::Value;
 use series_id::Kind;
 use series_id::limits::MAX_BOUND;
 use std::alloc::{AllocError, Global};
-
-/// The fields of a histogram's point that are present.
-#[derive(Clone, Copy)]
-struct HistogramMembers<'v> {
-    start: Option<&'v Value>,
-    end: Option<&'v Value>,
-    count: Option<&'v Value>,
-    total: Option<&'v Value>,
-    flags: Option<&'v Value>,
-    buckets: Option<&'v Value>,
-    bounds: Option<&'v Value>,
-    attributes: Option<&'v Value>,
-}
 
 /// Start and end (nanoseconds), count and sum of a histogram's point, and the fields of its
 /// buckets, bounds and attributes, which are read later.
@@ -53,56 +39,6 @@ struct HistogramFields<'v> {
     buckets: Option<&'v Value>,
     bounds: Option<&'v Value>,
     attributes: Option<&'v Value>,
-}
-
-/// The fields of a point, in one pass over its members.
-fn histogram_members<'v>(members: &'v Map<String, Value>) -> HistogramMembers<'v>
-    ensures start { found_data result.start ≡ field (codes "startTimeUnixNano")
-        (object (members_view members.now.entries)) }
-    ensures end { found_data result.end ≡ field (codes "timeUnixNano")
-        (object (members_view members.now.entries)) }
-    ensures count { found_data result.count ≡ field (codes "count")
-        (object (members_view members.now.entries)) }
-    ensures total { found_data result.total ≡ field (codes "sum")
-        (object (members_view members.now.entries)) }
-    ensures flags { found_data result.flags ≡ field (codes "flags")
-        (object (members_view members.now.entries)) }
-    ensures buckets { found_data result.buckets ≡ field (codes "bucketCounts")
-        (object (members_view members.now.entries)) }
-    ensures bounds { found_data result.bounds ≡ field (codes "explicitBounds")
-        (object (members_view members.now.entries)) }
-    ensures attributes { found_data result.attributes ≡ field (codes "attributes")
-        (object (members_view members.now.entries)) }
-{
-    let mut start = None;
-    let mut end = None;
-    let mut count = None;
-    let mut total = None;
-    let mut flags = None;
-    let mut buckets = None;
-    let mut bounds = None;
-    let mut attributes = None;
-    for (name, member) in members {
-        let name = name.as_str();
-        take_named(&mut start, "startTimeUnixNano", name, member);
-        take_named(&mut end, "timeUnixNano", name, member);
-        take_named(&mut count, "count", name, member);
-        take_named(&mut total, "sum", name, member);
-        take_named(&mut flags, "flags", name, member);
-        take_named(&mut buckets, "bucketCounts", name, member);
-        take_named(&mut bounds, "explicitBounds", name, member);
-        take_named(&mut attributes, "attributes", name, member);
-    }
-    HistogramMembers {
-        start,
-        end,
-        count,
-        total,
-        flags,
-        buckets,
-        bounds,
-        attributes,
-    }
 }
 
 /// The count of values, 0 if it is absent.
@@ -138,7 +74,7 @@ fn histogram_fields<'v>(value: &'v Value) -> Option<HistogramFields<'v>>
     ensures attributes { IfSome result (λ f. found_data f.attributes ≡ field (codes "attributes")
         (view value.now)) }
 {
-    let members = histogram_members(value.as_object()?);
+    let members = point_members(value.as_object()?);
     let start = nanos_in(members.start)?;
     let end = nanos_in(members.end)?;
     let count = count_in(members.count)?;
@@ -172,7 +108,7 @@ fn kind_of(alloc: Global, bounds: Option<&Value>) -> Result<Option<Kind>, AllocE
 /// Reads a point of a histogram; `None` if it is foreign, as it is in no stream.
 pub fn histogram_point_in(
     alloc: Global,
-    memo: &mut Memo,
+    cache: &mut IdentityCache,
     stream: Option<Stream<'_>>,
     value: &Value,
 ) -> Result<Option<Point>, AllocError>
@@ -181,7 +117,7 @@ pub fn histogram_point_in(
 {
     match stream {
         None => Ok(None),
-        Some(stream) => histogram_point(alloc, memo, stream, value),
+        Some(stream) => histogram_point(alloc, cache, stream, value),
     }
 }
 
@@ -189,7 +125,7 @@ pub fn histogram_point_in(
 #[tactic(auto, unfolding(crate::specs::Histograms::histogram_point, crate::specs::Histograms::kind_in))]
 fn histogram_point(
     alloc: Global,
-    memo: &mut Memo,
+    cache: &mut IdentityCache,
     stream: Stream<'_>,
     value: &Value,
 ) -> Result<Option<Point>, AllocError>
@@ -204,7 +140,7 @@ fn histogram_point(
     let Some(buckets) = unsigned_list(alloc, fields.buckets, u64::MAX)? else {
         return Ok(None);
     };
-    let Some(series) = series_of(alloc, memo, stream, kind, fields.attributes)? else {
+    let Some(series) = series_of(alloc, cache, stream, kind, fields.attributes)? else {
         return Ok(None);
     };
     let HistogramFields {

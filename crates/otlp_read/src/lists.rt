@@ -2,11 +2,11 @@
 
 ghost use Rattle.std.specs.Prelude.{◌≡◌, ◌<◌, ◌^◌, map, option_map, IfOk};
 ghost use Rattle.serde_json.specs.View.{view};
-ghost use Rattle.otlp_read.specs.Whole.{unsigned_in, signed_in};
+ghost use Rattle.otlp_read.specs.Integers.{unsigned_in, signed_in};
 ghost use Rattle.otlp_read.specs.Lists.{all_of, elements_in, list_in};
-ghost use Rattle.otlp_read.specs.RefViews.{found_data};
+ghost use Rattle.otlp_read.specs.inner.RefViews.{found_data};
 
-use crate::whole::{signed, unsigned};
+use crate::integers::{signed, unsigned};
 use serde_json::Value;
 use std::alloc::{AllocError, Global};
 

@@ -1,4 +1,4 @@
-//! Looks an identity up in a memo, before anything of it is made.
+//! Looks an identity up in a cache, before anything of it is made.
 
 ghost use Rattle.std.specs.Prelude.{◌≡◌, ◌≤◌, IfSome, IsPermutation, IsTrue, OnSome, Some};
 ghost use Rattle.std.specs.Prelude.{length, map, option_and_then, take};
@@ -7,13 +7,13 @@ ghost use Rattle.series_id.specs.Identity.{IsIdentity};
 ghost use Rattle.series_id.specs.Sorting.{pair_of as pair_in};
 ghost use Rattle.otlp_read.specs.Lists.{all_of};
 ghost use Rattle.otlp_read.specs.Attributes.{pair_of, set_of};
-ghost use Rattle.otlp_read.specs.RefViews.{found_data, pair_data};
+ghost use Rattle.otlp_read.specs.inner.RefViews.{found_data, pair_data};
 ghost use Rattle.otlp_read.specs.Streams.{identity_in, series_in, series_of};
-ghost use Rattle.otlp_read.specs.StreamViews.{scope_data, stream_data};
+ghost use Rattle.otlp_read.specs.inner.StreamViews.{scope_data, stream_data};
 
 use crate::attributes::pair_ref;
+use crate::identity_cache::IdentityCache;
 use crate::lists::elements_in;
-use crate::memo::Memo;
 use crate::scalar_ref::{PairRef, ScalarRef};
 use crate::streams::{Scope, Stream};
 use serde_json::Value;
@@ -22,12 +22,12 @@ use series_id::{AttrValue, Attribute, Kind, SeriesId, SharedId};
 /// The most attributes of a point that is looked up.
 const MOST_PAIRS: usize = 16;
 
-/// The series of a stream with this kind and these attributes, if the memo has it. Attributes in
-/// any order are found, but only up to `MOST_PAIRS` of them, each with a single value. Allocates
-/// nothing.
+/// The series of a stream with this kind and these attributes, if the cache has it. Attributes in
+/// any order are found, but only up to `MOST_PAIRS` of them, each with a single value. Takes no
+/// memory.
 #[tactic(auto, unfolding(crate::specs::Streams::series_of))]
 pub fn look_up(
-    memo: &Memo,
+    cache: &IdentityCache,
     stream: Stream<'_>,
     kind: &Kind,
     found: Option<&Value>,
@@ -35,7 +35,7 @@ pub fn look_up(
     ensures { IfSome result (λ s.
         series_of (stream_data stream.entry) kind.now (found_data found.entry) ≡ Some s) }
 {
-    if memo.is_empty() {
+    if cache.is_empty() {
         return None;
     }
     let values = elements_in(found)?;
@@ -49,7 +49,7 @@ pub fn look_up(
     put_pairs(&mut room, values)?;
     let pairs = &mut room[..values.len()];
     sort_pairs(pairs);
-    look_up_pairs(memo, stream, kind, pairs)
+    look_up_pairs(cache, stream, kind, pairs)
 }
 
 /// Puts the attributes of a list at the front of `room`; `None` if one has no single value.
@@ -73,7 +73,7 @@ fn sort_pairs(pairs: &mut [PairRef<'_>])
 
 /// The series of a stream with this kind and these attributes, which are in key order.
 fn look_up_pairs(
-    memo: &Memo,
+    cache: &IdentityCache,
     stream: Stream<'_>,
     kind: &Kind,
     pairs: &[PairRef<'_>],
@@ -82,18 +82,18 @@ fn look_up_pairs(
         option_and_then (series_in (stream_data stream.entry) kind.now)
         (set_of (map pair_data pairs.now)) ≡ Some s) }
 {
-    let mut digest = stream.digest;
-    digest.add_kind(kind);
-    digest.add_pairs(pairs);
-    match share_at(memo, digest.slot(), stream, kind, pairs) {
+    let mut hash = stream.hash;
+    hash.add_kind(kind);
+    hash.add_pairs(pairs);
+    match share_at(cache, hash.slot(), stream, kind, pairs) {
         Some(series) => Some(series),
-        None => share_at(memo, digest.other_slot(), stream, kind, pairs),
+        None => share_at(cache, hash.other_slot(), stream, kind, pairs),
     }
 }
 
 /// A share of the series in a slot, if it is that of the stream, the kind and the attributes.
 fn share_at(
-    memo: &Memo,
+    cache: &IdentityCache,
     slot: usize,
     stream: Stream<'_>,
     kind: &Kind,
@@ -103,7 +103,7 @@ fn share_at(
         option_and_then (series_in (stream_data stream.entry) kind.now)
         (set_of (map pair_data pairs.now)) ≡ Some s) }
 {
-    let kept = memo.at(slot)?;
+    let kept = cache.at(slot)?;
     if is_series(kept.as_series(), stream, kind, pairs) {
         kept.share().ok()
     } else {

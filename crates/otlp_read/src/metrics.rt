@@ -3,20 +3,20 @@
 
 ghost use Rattle.std.specs.Prelude.{◌≡◌, ◌≤◌, map, option_map, IfOk, OnOk};
 ghost use Rattle.serde_json.specs.View.{view};
-ghost use Rattle.otlp_read.specs.Containers.{Gives};
-ghost use Rattle.otlp_read.specs.StreamViews.{scope_data, stream_data, sum_stream_data};
+ghost use Rattle.otlp_read.specs.inner.Containers.{Gives};
+ghost use Rattle.otlp_read.specs.inner.StreamViews.{scope_data, stream_data, sum_stream_data};
 ghost use Rattle.otlp_read.specs.Sums.{sum_point_in};
 ghost use Rattle.otlp_read.specs.Histograms.{histogram_point_in};
 ghost use Rattle.otlp_read.specs.Tallies.{tally, add_metric, add_point, each_point};
 ghost use Rattle.otlp_read.specs.Metrics.{part, parts, one_if, is_single, add_all, add_sum};
 ghost use Rattle.otlp_read.specs.Metrics.{add_histogram, add_profile, add_parts, metric};
-ghost use Rattle.otlp_read.specs.PartViews.{part_data, parts_data};
+ghost use Rattle.otlp_read.specs.inner.PartViews.{part_data, parts_data};
 
 use crate::containers::{object_in, objects};
 use crate::fault::ReadFault;
 use crate::fields::field;
 use crate::histograms::histogram_point_in;
-use crate::memo::Memo;
+use crate::identity_cache::IdentityCache;
 use crate::place::Place;
 use crate::reading::Reading;
 use crate::streams::{Scope, Stream, SumStream, stream_in, sum_stream_in};
@@ -46,7 +46,7 @@ struct Parts<'v> {
 #[tactic(auto, unfolding(crate::specs::Metrics::metric))]
 pub fn metric(
     alloc: Global,
-    memo: &mut Memo,
+    cache: &mut IdentityCache,
     out: &mut Reading,
     scope: Option<Scope<'_>>,
     value: &Value,
@@ -56,7 +56,7 @@ pub fn metric(
 {
     let parts = parts_of(value)?;
     out.metrics = out.metrics.saturating_add(1);
-    add_parts(alloc, memo, out, scope, value, parts)?;
+    add_parts(alloc, cache, out, scope, value, parts)?;
     Ok(())
 }
 
@@ -95,7 +95,7 @@ fn part_of<'v>(metric: &'v Value, name: &str) -> Result<Option<Part<'v>>, ReadFa
 #[tactic(auto, unfolding(crate::specs::Metrics::add_parts))]
 fn add_parts(
     alloc: Global,
-    memo: &mut Memo,
+    cache: &mut IdentityCache,
     out: &mut Reading,
     scope: Option<Scope<'_>>,
     metric: &Value,
@@ -105,7 +105,7 @@ fn add_parts(
         (view metric.now) (parts_data parts.entry) (tally out.old)) }
 {
     add_all(out, parts.gauge);
-    add_profile(alloc, memo, out, scope, metric, parts)?;
+    add_profile(alloc, cache, out, scope, metric, parts)?;
     add_all(out, parts.exponential);
     add_all(out, parts.summary);
     Ok(())
@@ -115,7 +115,7 @@ fn add_parts(
 #[tactic(auto, unfolding(crate::specs::Metrics::add_profile))]
 fn add_profile(
     alloc: Global,
-    memo: &mut Memo,
+    cache: &mut IdentityCache,
     out: &mut Reading,
     scope: Option<Scope<'_>>,
     metric: &Value,
@@ -125,8 +125,8 @@ fn add_profile(
         (view metric.now) (parts_data parts.entry) (tally out.old)) }
 {
     if is_single(parts) {
-        add_sum(alloc, memo, out, scope, metric, parts.sum)?;
-        add_histogram(alloc, memo, out, scope, metric, parts.histogram)?;
+        add_sum(alloc, cache, out, scope, metric, parts.sum)?;
+        add_histogram(alloc, cache, out, scope, metric, parts.histogram)?;
     } else {
         add_all(out, parts.sum);
         add_all(out, parts.histogram);
@@ -170,7 +170,7 @@ fn add_all(out: &mut Reading, part: Option<Part<'_>>)
 /// Adds the points of a sum.
 fn add_sum(
     alloc: Global,
-    memo: &mut Memo,
+    cache: &mut IdentityCache,
     out: &mut Reading,
     scope: Option<Scope<'_>>,
     metric: &Value,
@@ -183,13 +183,13 @@ fn add_sum(
         return Ok(());
     };
     let sum = sum_stream_in(scope, metric, part.whole);
-    sum_points(alloc, memo, out, sum, part.points)
+    sum_points(alloc, cache, out, sum, part.points)
 }
 
 /// Adds the points of a histogram.
 fn add_histogram(
     alloc: Global,
-    memo: &mut Memo,
+    cache: &mut IdentityCache,
     out: &mut Reading,
     scope: Option<Scope<'_>>,
     metric: &Value,
@@ -202,13 +202,13 @@ fn add_histogram(
         return Ok(());
     };
     let stream = stream_in(scope, metric, part.whole);
-    histogram_points(alloc, memo, out, stream, part.points)
+    histogram_points(alloc, cache, out, stream, part.points)
 }
 
 /// Reads the points of a sum in order, and adds them.
 fn sum_points(
     alloc: Global,
-    memo: &mut Memo,
+    cache: &mut IdentityCache,
     out: &mut Reading,
     sum: Option<SumStream<'_>>,
     points: &[Value],
@@ -217,7 +217,7 @@ fn sum_points(
         (option_map sum_stream_data sum.entry)) (map view points.now) (tally out.old)) }
 {
     for value in points {
-        let point = sum_point_in(alloc, memo, sum, value)?;
+        let point = sum_point_in(alloc, cache, sum, value)?;
         add_point(out, point)?;
     }
     Ok(())
@@ -226,7 +226,7 @@ fn sum_points(
 /// Reads the points of a histogram in order, and adds them.
 fn histogram_points(
     alloc: Global,
-    memo: &mut Memo,
+    cache: &mut IdentityCache,
     out: &mut Reading,
     stream: Option<Stream<'_>>,
     points: &[Value],
@@ -235,7 +235,7 @@ fn histogram_points(
         (option_map stream_data stream.entry)) (map view points.now) (tally out.old)) }
 {
     for value in points {
-        let point = histogram_point_in(alloc, memo, stream, value)?;
+        let point = histogram_point_in(alloc, cache, stream, value)?;
         add_point(out, point)?;
     }
     Ok(())

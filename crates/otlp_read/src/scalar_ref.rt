@@ -1,7 +1,7 @@
 //! Attributes and single values of them, as references: no text is copied.
 
 ghost use Rattle.std.specs.Prelude.{◌≡◌, IfOk, IsTrue};
-ghost use Rattle.otlp_read.specs.RefViews.{scalar_data};
+ghost use Rattle.otlp_read.specs.inner.RefViews.{scalar_data};
 
 use series_id::{Scalar, Text};
 use std::alloc::{AllocError, Global};

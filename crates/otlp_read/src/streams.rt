@@ -5,43 +5,43 @@ ghost use Rattle.std.specs.Prelude.{◌≡◌, option_map, IfOk};
 ghost use Rattle.serde_json.specs.View.{view};
 ghost use Rattle.otlp_read.specs.Streams.{inner, scope_in, stream_in, sum_stream_in, series_in};
 ghost use Rattle.otlp_read.specs.Streams.{series_of};
-ghost use Rattle.otlp_read.specs.StreamViews.{resource_data, scope_data, stream_data};
-ghost use Rattle.otlp_read.specs.StreamViews.{sum_stream_data};
-ghost use Rattle.otlp_read.specs.RefViews.{found_data};
+ghost use Rattle.otlp_read.specs.inner.StreamViews.{resource_data, scope_data, stream_data};
+ghost use Rattle.otlp_read.specs.inner.StreamViews.{sum_stream_data};
+ghost use Rattle.otlp_read.specs.inner.RefViews.{found_data};
 
 use crate::attributes::attributes_in;
-use crate::digest::Digest;
 use crate::fields::{field, is_delta, text_in, truth_in};
+use crate::identity_cache::IdentityCache;
+use crate::identity_hash::IdentityHash;
 use crate::lookup::look_up;
-use crate::memo::Memo;
 use serde_json::Value;
 use series_id::{AttrSet, Kind, SeriesId, SharedId, Text};
 use std::alloc::{AllocError, Global};
 
-/// A resource's attributes, and their digest.
+/// A resource's attributes, and their hash.
 #[derive(Clone, Copy)]
 pub struct Resource<'a> {
     pub attributes: &'a AttrSet,
-    pub digest: Digest,
+    pub hash: IdentityHash,
 }
 
-/// The resource's attributes, the scope, and the digest of both.
+/// The resource's attributes, the scope, and the hash of both.
 #[derive(Clone, Copy)]
 pub struct Scope<'a> {
     pub resource: &'a AttrSet,
     pub name: &'a str,
     pub version: &'a str,
     pub attributes: &'a AttrSet,
-    pub digest: Digest,
+    pub hash: IdentityHash,
 }
 
-/// A metric of a scope, its name and unit, and the digest of both.
+/// A metric of a scope, its name and unit, and the hash of both.
 #[derive(Clone, Copy)]
 pub struct Stream<'a> {
     pub scope: Scope<'a>,
     pub name: &'a str,
     pub unit: &'a str,
-    pub digest: Digest,
+    pub hash: IdentityHash,
 }
 
 /// A stream of sums, and whether they are monotonic.
@@ -64,9 +64,9 @@ pub fn resource_in<'a>(attributes: Option<&'a AttrSet>) -> Option<Resource<'a>>
     ensures { option_map resource_data result ≡ option_map (λ s. s.now) attributes.entry }
 {
     let attributes = attributes?;
-    let mut digest = Digest::new();
-    digest.add_set(attributes);
-    Some(Resource { attributes, digest })
+    let mut hash = IdentityHash::new();
+    hash.add_set(attributes);
+    Some(Resource { attributes, hash })
 }
 
 /// The scope of a resource, with its own attributes. `None` if one of its parts may be in no
@@ -84,16 +84,16 @@ pub fn scope_in<'a>(
     let name = text_in(inner(scope, "name"))?;
     let version = text_in(inner(scope, "version"))?;
     let attributes = attributes?;
-    let mut digest = resource.digest;
-    digest.add_text(name);
-    digest.add_text(version);
-    digest.add_set(attributes);
+    let mut hash = resource.hash;
+    hash.add_text(name);
+    hash.add_text(version);
+    hash.add_set(attributes);
     Some(Scope {
         resource: resource.attributes,
         name,
         version,
         attributes,
-        digest,
+        hash,
     })
 }
 
@@ -111,14 +111,14 @@ pub fn stream_in<'a>(
     let name = text_in(field(metric, "name"))?;
     let unit = text_in(field(metric, "unit"))?;
     if is_delta(field(part, "aggregationTemporality")) {
-        let mut digest = scope.digest;
-        digest.add_text(name);
-        digest.add_text(unit);
+        let mut hash = scope.hash;
+        hash.add_text(name);
+        hash.add_text(unit);
         Some(Stream {
             scope,
             name,
             unit,
-            digest,
+            hash,
         })
     } else {
         None
@@ -140,12 +140,12 @@ pub fn sum_stream_in<'a>(
     Some(SumStream { stream, monotonic })
 }
 
-/// The series of a stream with this kind and these attributes, shared with the memo if it has it.
+/// The series of a stream with this kind and these attributes, shared with the cache if it has it.
 /// `None` if the attributes are none that a series may have.
 #[tactic(auto, unfolding(crate::specs::Streams::series_of))]
 pub fn series_of(
     alloc: Global,
-    memo: &mut Memo,
+    cache: &mut IdentityCache,
     stream: Stream<'_>,
     kind: Kind,
     found: Option<&Value>,
@@ -153,19 +153,19 @@ pub fn series_of(
     ensures { IfOk result (λ o. o ≡ series_of (stream_data stream.entry) kind
         (found_data found.entry)) }
 {
-    if let Some(series) = look_up(memo, stream, &kind, found) {
+    if let Some(series) = look_up(cache, stream, &kind, found) {
         return Ok(Some(series));
     }
     let Some(attributes) = attributes_in(alloc, found)? else {
         return Ok(None);
     };
-    let mut digest = stream.digest;
-    digest.add_kind(&kind);
-    digest.add_set(&attributes);
+    let mut hash = stream.hash;
+    hash.add_kind(&kind);
+    hash.add_set(&attributes);
     let Some(series) = series_in(alloc, stream, kind, attributes)? else {
         return Ok(None);
     };
-    Ok(Some(memo.shared(alloc, digest, series)?))
+    Ok(Some(cache.shared(alloc, hash, series)?))
 }
 
 /// The series of a stream with this kind and these attributes.

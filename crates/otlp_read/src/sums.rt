@@ -2,34 +2,22 @@
 //! `opentelemetry/proto/metrics/v1/metrics.proto`).
 
 ghost use Rattle.std.specs.Prelude.{◌≡◌, ◌&&◌, codes, is_some, not, option_map, IfOk, IfSome};
-ghost use Rattle.serde_json.specs.Data.{object};
-ghost use Rattle.serde_json.specs.View.{view, members_view};
+ghost use Rattle.serde_json.specs.View.{view};
 ghost use Rattle.otlp_read.specs.Fields.{field, flags_fit};
 ghost use Rattle.otlp_read.specs.Sums.{number_in, sum_fields, sum_point, sum_point_in};
-ghost use Rattle.otlp_read.specs.PointViews.{sum_fields_data};
-ghost use Rattle.otlp_read.specs.StreamViews.{sum_stream_data};
-ghost use Rattle.otlp_read.specs.RefViews.{found_data};
+ghost use Rattle.otlp_read.specs.inner.PointViews.{sum_fields_data};
+ghost use Rattle.otlp_read.specs.inner.StreamViews.{sum_stream_data};
+ghost use Rattle.otlp_read.specs.inner.RefViews.{found_data};
 
 use crate::fields::{flags_fit, nanos_in};
-use crate::members::take_named;
-use crate::memo::Memo;
+use crate::identity_cache::IdentityCache;
+use crate::integers::signed_64;
+use crate::members::{PointMembers, point_members};
 use crate::streams::{SumStream, series_of};
-use crate::whole::signed_64;
 use metric_events::point::Point;
-use serde_json::{Map, Value};
+use serde_json::Value;
 use series_id::Kind;
 use std::alloc::{AllocError, Global};
-
-/// The fields of a sum's point that are present.
-#[derive(Clone, Copy)]
-struct SumMembers<'v> {
-    start: Option<&'v Value>,
-    end: Option<&'v Value>,
-    number: Option<&'v Value>,
-    double: Option<&'v Value>,
-    flags: Option<&'v Value>,
-    attributes: Option<&'v Value>,
-}
 
 /// Start and end (nanoseconds) and value of a sum's point, and the field of its attributes, which
 /// is read later.
@@ -41,46 +29,6 @@ struct SumFields<'v> {
     attributes: Option<&'v Value>,
 }
 
-/// The fields of a point, in one pass over its members.
-fn sum_members<'v>(members: &'v Map<String, Value>) -> SumMembers<'v>
-    ensures start { found_data result.start ≡ field (codes "startTimeUnixNano")
-        (object (members_view members.now.entries)) }
-    ensures end { found_data result.end ≡ field (codes "timeUnixNano")
-        (object (members_view members.now.entries)) }
-    ensures number { found_data result.number ≡ field (codes "asInt")
-        (object (members_view members.now.entries)) }
-    ensures double { found_data result.double ≡ field (codes "asDouble")
-        (object (members_view members.now.entries)) }
-    ensures flags { found_data result.flags ≡ field (codes "flags")
-        (object (members_view members.now.entries)) }
-    ensures attributes { found_data result.attributes ≡ field (codes "attributes")
-        (object (members_view members.now.entries)) }
-{
-    let mut start = None;
-    let mut end = None;
-    let mut number = None;
-    let mut double = None;
-    let mut flags = None;
-    let mut attributes = None;
-    for (name, member) in members {
-        let name = name.as_str();
-        take_named(&mut start, "startTimeUnixNano", name, member);
-        take_named(&mut end, "timeUnixNano", name, member);
-        take_named(&mut number, "asInt", name, member);
-        take_named(&mut double, "asDouble", name, member);
-        take_named(&mut flags, "flags", name, member);
-        take_named(&mut attributes, "attributes", name, member);
-    }
-    SumMembers {
-        start,
-        end,
-        number,
-        double,
-        flags,
-        attributes,
-    }
-}
-
 /// The value, a whole number of 64 bits.
 #[tactic(auto, unfolding(crate::specs::Sums::number_in))]
 fn number_in(found: Option<&Value>) -> Option<i64>
@@ -90,7 +38,7 @@ fn number_in(found: Option<&Value>) -> Option<i64>
 }
 
 /// Whether the point has a recorded value that is no double.
-fn is_whole_value(members: SumMembers<'_>) -> bool
+fn is_whole_value(members: PointMembers<'_>) -> bool
     ensures { result ≡ (flags_fit (found_data members.entry.flags)
         && not (is_some (found_data members.entry.double))) }
 {
@@ -104,7 +52,7 @@ fn sum_fields<'v>(value: &'v Value) -> Option<SumFields<'v>>
     ensures attributes { IfSome result (λ f. found_data f.attributes ≡ field (codes "attributes")
         (view value.now)) }
 {
-    let members = sum_members(value.as_object()?);
+    let members = point_members(value.as_object()?);
     let start = nanos_in(members.start)?;
     let end = nanos_in(members.end)?;
     let number = number_in(members.number)?;
@@ -123,7 +71,7 @@ fn sum_fields<'v>(value: &'v Value) -> Option<SumFields<'v>>
 /// Reads a point of a sum; `None` if it is foreign, as it is in no stream.
 pub fn sum_point_in(
     alloc: Global,
-    memo: &mut Memo,
+    cache: &mut IdentityCache,
     sum: Option<SumStream<'_>>,
     value: &Value,
 ) -> Result<Option<Point>, AllocError>
@@ -132,7 +80,7 @@ pub fn sum_point_in(
 {
     match sum {
         None => Ok(None),
-        Some(sum) => sum_point(alloc, memo, sum, value),
+        Some(sum) => sum_point(alloc, cache, sum, value),
     }
 }
 
@@ -140,7 +88,7 @@ pub fn sum_point_in(
 #[tactic(auto, unfolding(crate::specs::Sums::sum_point))]
 fn sum_point(
     alloc: Global,
-    memo: &mut Memo,
+    cache: &mut IdentityCache,
     sum: SumStream<'_>,
     value: &Value,
 ) -> Result<Option<Point>, AllocError>
@@ -152,7 +100,7 @@ fn sum_point(
     let kind = Kind::Sum {
         monotonic: sum.monotonic,
     };
-    let Some(series) = series_of(alloc, memo, sum.stream, kind, fields.attributes)? else {
+    let Some(series) = series_of(alloc, cache, sum.stream, kind, fields.attributes)? else {
         return Ok(None);
     };
     let point = Point::shared_sum(series, fields.start, fields.end, fields.value);

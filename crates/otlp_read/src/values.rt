@@ -8,14 +8,14 @@ ghost use Rattle.series_id.specs.declared.values.AttrValue.TheVariants.{One};
 ghost use Rattle.otlp_read.specs.Lists.{all_of};
 ghost use Rattle.otlp_read.specs.Values.{fields_of, scalar_of, scalar_in, scalars_of, many_of};
 ghost use Rattle.otlp_read.specs.Values.{value_of, value_in};
-ghost use Rattle.otlp_read.specs.ValueViews.{fields_data};
-ghost use Rattle.otlp_read.specs.RefViews.{found_data, scalar_data};
+ghost use Rattle.otlp_read.specs.inner.ValueViews.{fields_data};
+ghost use Rattle.otlp_read.specs.inner.RefViews.{found_data, scalar_data};
 
 use crate::fields::field;
+use crate::integers::signed_64;
 use crate::lists::elements_in;
-use crate::members::take_named;
+use crate::members::set_if_named;
 use crate::scalar_ref::ScalarRef;
-use crate::whole::signed_64;
 use serde_json::{Map, Value};
 use series_id::{AttrValue, Scalar, Scalars};
 use std::alloc::{AllocError, Global};
@@ -44,13 +44,13 @@ fn fields_of<'v>(members: &'v Map<String, Value>) -> ValueFields<'v>
     let mut bytes = None;
     for (name, member) in members {
         let name = name.as_str();
-        take_named(&mut text, "stringValue", name, member);
-        take_named(&mut truth, "boolValue", name, member);
-        take_named(&mut int, "intValue", name, member);
-        take_named(&mut list, "arrayValue", name, member);
-        take_named(&mut double, "doubleValue", name, member);
-        take_named(&mut map, "kvlistValue", name, member);
-        take_named(&mut bytes, "bytesValue", name, member);
+        set_if_named(&mut text, "stringValue", name, member);
+        set_if_named(&mut truth, "boolValue", name, member);
+        set_if_named(&mut int, "intValue", name, member);
+        set_if_named(&mut list, "arrayValue", name, member);
+        set_if_named(&mut double, "doubleValue", name, member);
+        set_if_named(&mut map, "kvlistValue", name, member);
+        set_if_named(&mut bytes, "bytesValue", name, member);
     }
     ValueFields {
         text,

@@ -2,8 +2,8 @@
 
 ghost use Rattle.std.specs.Prelude.{◌≡◌, map, option_map};
 ghost use Rattle.serde_json.specs.View.{view};
-ghost use Rattle.otlp_read.specs.Containers.{Gives};
-ghost use Rattle.otlp_read.specs.StreamViews.{resource_data, scope_data};
+ghost use Rattle.otlp_read.specs.inner.Containers.{Gives};
+ghost use Rattle.otlp_read.specs.inner.StreamViews.{resource_data, scope_data};
 ghost use Rattle.otlp_read.specs.Tallies.{tally};
 ghost use Rattle.otlp_read.specs.Metrics.{metric};
 ghost use Rattle.otlp_read.specs.Reading.{each, scope_metrics, resource_metrics, body, reading};
@@ -13,7 +13,7 @@ use crate::attributes::attributes_in;
 use crate::containers::{object_in, objects};
 use crate::fault::ReadFault;
 use crate::fields::field;
-use crate::memo::Memo;
+use crate::identity_cache::IdentityCache;
 use crate::metrics::metric;
 use crate::place::Place;
 use crate::reading::Reading;
@@ -35,16 +35,20 @@ use std::alloc::Global;
 pub fn read_request(alloc: Global, bytes: &[u8]) -> Result<Reading, ReadFault>
     ensures { Answers bytes.now result }
 {
-    let mut memo = Memo::without_slots();
-    read_request_with(alloc, bytes, &mut memo)
+    let mut cache = IdentityCache::without_slots();
+    read_request_with(alloc, bytes, &mut cache)
 }
 
 /// Reads the body of a metrics request as `read_request` does. Points share the identities that
-/// the memo has, and new ones are added to it.
+/// the cache has, and new ones are added to it.
 ///
-/// Results and errors are those of `read_request`, whatever the memo has. What it has afterwards is
+/// Results and errors are those of `read_request`, whatever the cache has. What it has afterwards is
 /// left open, also after an error.
-pub fn read_request_with(alloc: Global, bytes: &[u8], memo: &mut Memo) -> Result<Reading, ReadFault>
+pub fn read_request_with(
+    alloc: Global,
+    bytes: &[u8],
+    cache: &mut IdentityCache,
+) -> Result<Reading, ReadFault>
     ensures { Answers bytes.now result }
 {
     let value = match Value::from_slice(alloc, bytes) {
@@ -52,14 +56,14 @@ pub fn read_request_with(alloc: Global, bytes: &[u8], memo: &mut Memo) -> Result
         Err(e) if e.is_memory() => return Err(ReadFault::NoMemory),
         Err(_) => return Err(ReadFault::NotJson),
     };
-    read_value(alloc, memo, &value, bytes.len())
+    read_value(alloc, cache, &value, bytes.len())
 }
 
 /// Reads a request of this length.
 #[tactic(auto, unfolding(crate::specs::Reading::reading))]
 fn read_value(
     alloc: Global,
-    memo: &mut Memo,
+    cache: &mut IdentityCache,
     value: &Value,
     length: usize,
 ) -> Result<Reading, ReadFault>
@@ -73,24 +77,29 @@ fn read_value(
         foreign: 0,
         metrics: 0,
     };
-    body(alloc, memo, &mut out, value)?;
+    body(alloc, cache, &mut out, value)?;
     out.points.fit();
     Ok(out)
 }
 
 /// Reads the body's resources, and adds them to the reading.
 #[tactic(auto, unfolding(crate::specs::Reading::body))]
-fn body(alloc: Global, memo: &mut Memo, out: &mut Reading, value: &Value) -> Result<(), ReadFault>
+fn body(
+    alloc: Global,
+    cache: &mut IdentityCache,
+    out: &mut Reading,
+    value: &Value,
+) -> Result<(), ReadFault>
     ensures { Gives (λ _. tally out.new) result (body (view value.now) (tally out.old)) }
 {
     let values = objects(field(value, "resourceMetrics"), Place::ResourceMetrics)?;
-    resources(alloc, memo, out, values)
+    resources(alloc, cache, out, values)
 }
 
 /// Reads resources in order.
 fn resources(
     alloc: Global,
-    memo: &mut Memo,
+    cache: &mut IdentityCache,
     out: &mut Reading,
     values: &[Value],
 ) -> Result<(), ReadFault>
@@ -98,7 +107,7 @@ fn resources(
         (tally out.old)) }
 {
     for value in values {
-        resource_metrics(alloc, memo, out, value)?;
+        resource_metrics(alloc, cache, out, value)?;
     }
     Ok(())
 }
@@ -107,7 +116,7 @@ fn resources(
 #[tactic(auto, unfolding(crate::specs::Reading::resource_metrics))]
 fn resource_metrics(
     alloc: Global,
-    memo: &mut Memo,
+    cache: &mut IdentityCache,
     out: &mut Reading,
     value: &Value,
 ) -> Result<(), ReadFault>
@@ -117,13 +126,13 @@ fn resource_metrics(
     let resource = object_in(field(value, "resource"), Place::Resource)?;
     let values = objects(field(value, "scopeMetrics"), Place::ScopeMetrics)?;
     let attributes = attributes_in(alloc, inner(resource, "attributes"))?;
-    scopes(alloc, memo, out, resource_in(attributes.as_ref()), values)
+    scopes(alloc, cache, out, resource_in(attributes.as_ref()), values)
 }
 
 /// Reads the scopes of a resource in order.
 fn scopes(
     alloc: Global,
-    memo: &mut Memo,
+    cache: &mut IdentityCache,
     out: &mut Reading,
     resource: Option<Resource<'_>>,
     values: &[Value],
@@ -132,7 +141,7 @@ fn scopes(
         (option_map resource_data resource.entry)) (map view values.now) (tally out.old)) }
 {
     for value in values {
-        scope_metrics(alloc, memo, out, resource, value)?;
+        scope_metrics(alloc, cache, out, resource, value)?;
     }
     Ok(())
 }
@@ -141,7 +150,7 @@ fn scopes(
 #[tactic(auto, unfolding(crate::specs::Reading::scope_metrics))]
 fn scope_metrics(
     alloc: Global,
-    memo: &mut Memo,
+    cache: &mut IdentityCache,
     out: &mut Reading,
     resource: Option<Resource<'_>>,
     value: &Value,
@@ -154,7 +163,7 @@ fn scope_metrics(
     let attributes = attributes_in(alloc, inner(scope, "attributes"))?;
     metrics(
         alloc,
-        memo,
+        cache,
         out,
         scope_in(resource, scope, attributes.as_ref()),
         values,
@@ -164,7 +173,7 @@ fn scope_metrics(
 /// Reads the metrics of a scope in order.
 fn metrics(
     alloc: Global,
-    memo: &mut Memo,
+    cache: &mut IdentityCache,
     out: &mut Reading,
     scope: Option<Scope<'_>>,
     values: &[Value],
@@ -173,7 +182,7 @@ fn metrics(
         (map view values.now) (tally out.old)) }
 {
     for value in values {
-        metric(alloc, memo, out, scope, value)?;
+        metric(alloc, cache, out, scope, value)?;
     }
     Ok(())
 }

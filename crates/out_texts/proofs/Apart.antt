@@ -7,7 +7,8 @@ use Rattle.std.specs.declared.cmp.Ordering.{Ordering}
 use Rattle.std.specs.declared.cmp.Ordering.TheVariants.{Less, Equal, Greater}
 use Rattle.series_id.proofs.Order.{equal_from}
 use Rattle.series_id.proofs.Refusals.{each_more}
-use Rattle.out_texts.specs.Groups.{members, put_before, groups, run}
+use Rattle.out_texts.specs.Groups.{members, put_before, groups}
+use Rattle.out_texts.specs.inner.Groups.{run}
 use Rattle.out_texts.specs.Once.{AreApart}
 use Rattle.out_texts.proofs.Loops.{first_group}
 

@@ -21,7 +21,7 @@ use Rattle.metric_events.specs.DataPoint.{DataPoint, IsMerged}
 use Rattle.metric_events.specs.Interval.{Interval, IsInterval}
 use Rattle.metric_events.specs.Rows.{fits, are_within, histogram_row, buckets_of}
 use Rattle.metric_events.specs.PointFaults.{histogram_fault, given_buckets, bounds_of, is_total_large}
-use Rattle.otlp_read.specs.Whole.{unsigned_in, signed_in}
+use Rattle.otlp_read.specs.Integers.{unsigned_in, signed_in}
 use Rattle.otlp_read.specs.Fields.{field, flags_fit, nanos_in, text_in, is_delta}
 use Rattle.otlp_read.specs.Lists.{elements_in, list_in}
 use Rattle.otlp_read.specs.Containers.{is_object, objects, object_in}

@@ -4,7 +4,8 @@ use Rattle.std.proofs.lemmas.List.{take_more, take_all, map_push, append-nil, le
 use Rattle.serde_json.specs.Data.{Data}
 use Rattle.serde_json.specs.declared.value.Value.{Value}
 use Rattle.serde_json.specs.View.{view, items_of}
-use Rattle.out_texts.specs.Groups.{members, put_before, groups, run}
+use Rattle.out_texts.specs.Groups.{members, put_before, groups}
+use Rattle.out_texts.specs.inner.Groups.{run}
 
 pub values_more : {X : Type 0} (write : X → Data) (xs : List X) (i : ℕ) (x : X) (before : List Value) (v : Value) (after : List Value)
     → i < length xs → x ≡ get_or xs i x → after ≡ before ++ v ∷ [] → view v ≡ write x

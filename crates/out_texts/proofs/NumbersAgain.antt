@@ -10,8 +10,8 @@ use Rattle.std.proofs.lemmas.Str.Parse.{IsNumeralModel, numerals_by_value, tells
 use Rattle.serde_json.specs.Data.{string}
 use Rattle.decimals.specs.Numbers.{number, at_most}
 use Rattle.series_id.specs.Values.{IsInt}
-use Rattle.otlp_read.specs.Whole.{magnitude, text_whole, unsigned_in, signed_in}
-use Rattle.otlp_read.proofs.WholeLemmas.{plain_text}
+use Rattle.otlp_read.specs.Integers.{magnitude, text_whole, unsigned_in, signed_in}
+use Rattle.otlp_read.proofs.IntegerLemmas.{plain_text}
 
 own : IsNumeralModel (λ ds. all_ascii_digits ds ≡ true) (digits_value 10)
 own = numerals_by_value _ tells_all_ascii_digits

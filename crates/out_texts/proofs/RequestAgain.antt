@@ -24,7 +24,8 @@ use Rattle.out_texts.specs.Attributes.{attributes_value}
 use Rattle.out_texts.specs.Sharing.{same}
 use Rattle.out_texts.specs.Points.{point_of_kind, point_value, histogram_data, total_of}
 use Rattle.out_texts.specs.Request.{metric_of_kind, metric_value, scope_value, resource_value, request_value}
-use Rattle.out_texts.specs.Back.{IsTextOf, ReadsBack}
+use Rattle.out_texts.specs.Back.{ReadsBack}
+use Rattle.out_texts.specs.inner.Back.{IsTextOf}
 use Rattle.out_texts.proofs.Sharing.{resource_key, scope_key, metric_key, resource_one, scope_one, metric_one}
 use Rattle.out_texts.proofs.Grouping.{Adds, Shares, groups_flat, groups_share, each_group, elements_of_items, all_objects}
 use Rattle.out_texts.proofs.AttributesAgain.{attributes_again}

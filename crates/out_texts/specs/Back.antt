@@ -1,7 +1,5 @@
 -- What a forwarded request says when it is read back.
-use Rattle.std.specs.Prelude.{◌≡◌, ℕ, List, map, Some, Ok, IsUtf8}
-use Rattle.serde_json.specs.Data.{Data}
-use Rattle.serde_json.specs.Read.{read}
+use Rattle.std.specs.Prelude.{◌≡◌, ℕ, List, map, Some, Ok}
 use Rattle.series_id.specs.declared.kinds.Kind.{Kind}
 use Rattle.series_id.specs.declared.kinds.Kind.TheVariants.{Sum, Histogram}
 use Rattle.metric_events.specs.DataPoint.{DataPoint}
@@ -18,10 +16,6 @@ row_read (Histogram bounds) row = histogram_row (total_of row) (buckets_of row)
 -- the point that is read back for a point: its series, its span, and the row that is read back
 abbrev pub point_read : DataPoint → DataPoint
 point_read p = record { series = p.series; span = p.span; row = row_read p.series.kind p.row }
-
--- the value is read from the bytes
-abbrev pub IsTextOf : Data → List ℕ → Type 0
-IsTextOf d bytes = IsUtf8 bytes × (read bytes ≡ Some d)
 
 -- the bytes are a request with these points, in order, and no foreign one
 abbrev pub ReadsBack : List ℕ → List DataPoint → Type 0

@@ -11,4 +11,4 @@ pub mod Points
 pub mod Request
 pub mod Back
 pub mod Once
-pub mod Objects
+pub mod inner

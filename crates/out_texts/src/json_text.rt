@@ -5,7 +5,7 @@ ghost use Rattle.serde_json.specs.Data.{depth};
 ghost use Rattle.serde_json.specs.Read.{max_depth};
 ghost use Rattle.serde_json.specs.View.{view};
 ghost use Rattle.serde_json.specs.Written.{compact_text, has_float};
-ghost use Rattle.out_texts.specs.Back.{IsTextOf};
+ghost use Rattle.out_texts.specs.inner.Back.{IsTextOf};
 
 use serde_json::Value;
 use std::alloc::{AllocError, Global};

@@ -4,7 +4,7 @@ ghost use Rattle.std.specs.Prelude.{◌≡◌, decimal, IfOk};
 ghost use Rattle.std.specs.Fmt.{signed_decimal};
 ghost use Rattle.serde_json.specs.Data.{Members, string, object, no_members, put};
 ghost use Rattle.serde_json.specs.View.{view};
-ghost use Rattle.out_texts.specs.Objects.{HasMembers};
+ghost use Rattle.out_texts.specs.inner.Objects.{HasMembers};
 
 use serde_json::{Map, Value};
 use std::alloc::{AllocError, Global};

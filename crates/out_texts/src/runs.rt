@@ -1,7 +1,7 @@
 //! Finds runs of points that share an element.
 
 ghost use Rattle.std.specs.Prelude.{◌≡◌, ◌≤◌, length};
-ghost use Rattle.out_texts.specs.Groups.{run};
+ghost use Rattle.out_texts.specs.inner.Groups.{run};
 ghost use Rattle.out_texts.specs.Sharing.{same};
 
 use crate::level::Level;

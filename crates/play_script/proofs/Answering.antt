@@ -25,15 +25,20 @@ use Rattle.otlp_read.specs.Tallies.{Tally}
 use Rattle.otlp_read.specs.declared.fault.ReadFault.{ReadFault}
 use Rattle.otlp_read.specs.declared.fault.ReadFault.TheVariants as read
 use Rattle.play_script.specs.Commands.{Asked, TakeLine, AdmitLine, PostLine, WireLine, AnswerLine}
-use Rattle.play_script.specs.Refused.{refusal_text, of_take, of_point, of_admit, of_read}
+use Rattle.play_script.specs.Refused.{refusal_text, of_take, of_point, of_admit}
+use Rattle.play_script.specs.inner.Refused.{of_read}
 use Rattle.play_script.specs.Replies.{said, batch_and_foreign, flush_text, wired_text}
 use Rattle.out_texts.specs.Request.{request_text}
 use Rattle.back_answers.specs.Answers.{act_of}
 use Rattle.back_answers.specs.declared.answer.Answer.{Answer as BackAnswer}
 use Rattle.back_answers.specs.Waits.{asked_wait}
 use Rattle.delta_book.specs.Outcomes as book
-use Rattle.play_script.specs.Run.{answer, Found, Missed, MissedText, takes_memory, happens, refused, only_says, called_as, answer_by, fault_text, event_text, body_of, posted, posted_batch, posted_text, request_after, returned_by, without_text, IsForwarded, act_text}
-use Rattle.play_script.specs.Answered.{IsReply}
+use Rattle.play_script.specs.Run.{answer, Found, Missed, MissedText, takes_memory, happens, refused}
+use Rattle.play_script.specs.Run.{only_says, called_as, answer_by, fault_text, event_text, body_of}
+use Rattle.play_script.specs.Run.{posted, posted_batch, posted_text, request_after, returned_by}
+use Rattle.play_script.specs.Run.{without_text, act_text}
+use Rattle.play_script.specs.inner.Run.{IsForwarded}
+use Rattle.play_script.specs.inner.Answered.{IsReply}
 use Rattle.play_script.specs.declared.refusal.Refusal.{Refusal}
 use Rattle.play_script.specs.declared.refusal.Refusal.TheVariants.{NotJson, WrongShape, NoMemory}
 

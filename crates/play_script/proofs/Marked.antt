@@ -6,9 +6,11 @@ use Rattle.std.proofs.lemmas.List.{append-nil}
 use Rattle.metric_events.specs.History.{History, Start}
 use Rattle.play_script.specs.Commands.{command}
 use Rattle.play_script.specs.Ends.{AppendsPart}
-use Rattle.play_script.specs.Run.{line_answer, replies, history_after, are_marks, may_stand, run, Mark, Found}
-use Rattle.play_script.specs.Answered.{IsReply}
-use Rattle.play_script.specs.Played.{WritesAll, WritesPart, WritesBefore, LineIsAnswered, LinesArePlayed}
+use Rattle.play_script.specs.Run.{line_answer, replies, are_marks, may_stand, run, Mark, Found}
+use Rattle.play_script.specs.inner.Run.{history_after}
+use Rattle.play_script.specs.inner.Answered.{IsReply}
+use Rattle.play_script.specs.Played.{WritesAll, WritesPart, WritesBefore}
+use Rattle.play_script.specs.inner.Played.{LineIsAnswered, LinesArePlayed}
 use Rattle.play_script.specs.declared.fault.PlayFault.{PlayFault}
 use Rattle.play_script.specs.declared.fault.PlayFault.TheVariants.{CannotRead, TooLong, CannotWrite, NoMemory}
 use Rattle.play_script.proofs.Ended.{appended}

@@ -3,7 +3,7 @@ use Rattle.std.specs.Prelude.{ℕ, List, [], ◌∷◌, ◌==◌, codes, if◌th
 use Rattle.std.specs.declared.option.Option.{Option}
 use Rattle.std.specs.List.{join_with_byte}
 use Rattle.std.specs.Str.{bytes_eq}
-use Rattle.std.specs.Option.{option_map, option_and_then, option_or}
+use Rattle.std.specs.Option.{option_map, option_and_then}
 use Rattle.back_answers.specs.Answers.{answer_of}
 use Rattle.back_answers.specs.declared.answer.Answer.{Answer}
 use Rattle.back_answers.specs.declared.answer.Answer.TheVariants.{Unknown}
@@ -12,11 +12,6 @@ use Rattle.play_script.specs.Numbers.{number, status}
 use Rattle.play_script.specs.PointLines.{PointWords, point_words, name_of}
 use Rattle.play_script.specs.declared.pieces.TheConstants.{SPACE}
 use Rattle.metric_events.specs.declared.limits.TheConstants.{MAX_TAKEN}
-use Rattle.play_script.specs.declared.verb.Verb.{Verb}
-use Rattle.play_script.specs.declared.verb.Verb.TheVariants.{Admit, Take, Settle, GiveBack, Report}
-use Rattle.play_script.specs.declared.verb.Verb.TheVariants.{Undo, Confirm, Discard, Quarantine}
-use Rattle.play_script.specs.declared.verb.Verb.TheVariants.{Lift, Post, Round, Past, Wire}
-use Rattle.play_script.specs.declared.verb.Verb.TheVariants.{Answered}
 
 pub data Asked : Type 0 where
   AdmitLine : (sender : List ℕ) (points : List PointWords) → Asked
@@ -35,37 +30,6 @@ pub data Asked : Type 0 where
   WireLine : (max : ℕ) → Asked
   AnswerLine : (flush : ℕ) (answer : Answer) → Asked
   BadLine : Asked
-
--- the first words of commands on batches
-abbrev pub batch_verb : List ℕ → Option Verb
-batch_verb word =
-    if bytes_eq word (codes "admit") then Some Admit
-    else (if bytes_eq word (codes "post") then Some Post
-    else (if bytes_eq word (codes "undo") then Some Undo
-    else (if bytes_eq word (codes "confirm") then Some Confirm else None)))
-
--- on flushes
-abbrev pub flush_verb : List ℕ → Option Verb
-flush_verb word =
-    if bytes_eq word (codes "take") then Some Take
-    else (if bytes_eq word (codes "wire") then Some Wire
-    else (if bytes_eq word (codes "ok") then Some Settle
-    else (if bytes_eq word (codes "back") then Some GiveBack
-    else (if bytes_eq word (codes "drop") then Some Discard
-    else (if bytes_eq word (codes "answer") then Some Answered else None)))))
-
--- on senders and rounds, and the report
-abbrev pub other_verb : List ℕ → Option Verb
-other_verb word =
-    if bytes_eq word (codes "hold") then Some Quarantine
-    else (if bytes_eq word (codes "lift") then Some Lift
-    else (if bytes_eq word (codes "report") then Some Report
-    else (if bytes_eq word (codes "round") then Some Round
-    else (if bytes_eq word (codes "past") then Some Past else None))))
-
--- the first word of a command
-abbrev pub verb : List ℕ → Option Verb
-verb word = option_or (option_or (batch_verb word) (flush_verb word)) (other_verb word)
 
 -- a number that is the one word
 abbrev pub only_number : List (List ℕ) → Option ℕ
@@ -141,28 +105,39 @@ abbrev pub nothing_more : Asked → List (List ℕ) → Asked
 nothing_more line [] = line
 nothing_more line (word ∷ more) = BadLine
 
--- by the first word and those after it
-abbrev pub command_by : Option Verb → List (List ℕ) → Asked
-command_by None rest = BadLine
-command_by (Some Admit) rest = admit_words rest
-command_by (Some Take) rest = numbered TakeLine (only_taken rest)
-command_by (Some Settle) rest = numbered OkLine (only_number rest)
-command_by (Some GiveBack) rest = numbered BackLine (only_number rest)
-command_by (Some Report) rest = nothing_more ReportLine rest
-command_by (Some Undo) rest = numbered UndoLine (only_number rest)
-command_by (Some Confirm) rest = numbered ConfirmLine (only_number rest)
-command_by (Some Discard) rest = numbered DropLine (only_number rest)
-command_by (Some Quarantine) rest = named QuarantineLine (only_name rest)
-command_by (Some Lift) rest = named LiftLine (only_name rest)
-command_by (Some Post) rest = post_words rest
-command_by (Some Round) rest = nothing_more RoundLine rest
-command_by (Some Past) rest = nothing_more PastLine rest
-command_by (Some Wire) rest = numbered WireLine (only_taken rest)
-command_by (Some Answered) rest = answer_words rest
+-- by the first word and those after it: on senders and rounds, and the report
+abbrev pub other_command : List ℕ → List (List ℕ) → Asked
+other_command word rest =
+    if bytes_eq word (codes "hold") then named QuarantineLine (only_name rest)
+    else (if bytes_eq word (codes "lift") then named LiftLine (only_name rest)
+    else (if bytes_eq word (codes "report") then nothing_more ReportLine rest
+    else (if bytes_eq word (codes "round") then nothing_more RoundLine rest
+    else (if bytes_eq word (codes "past") then nothing_more PastLine rest else BadLine))))
 
+-- on flushes, or one of those
+abbrev pub flush_command : List ℕ → List (List ℕ) → Asked
+flush_command word rest =
+    if bytes_eq word (codes "take") then numbered TakeLine (only_taken rest)
+    else (if bytes_eq word (codes "wire") then numbered WireLine (only_taken rest)
+    else (if bytes_eq word (codes "ok") then numbered OkLine (only_number rest)
+    else (if bytes_eq word (codes "back") then numbered BackLine (only_number rest)
+    else (if bytes_eq word (codes "drop") then numbered DropLine (only_number rest)
+    else (if bytes_eq word (codes "answer") then answer_words rest
+    else other_command word rest)))))
+
+-- on batches that are there, or one of those
+abbrev pub batch_command : List ℕ → List (List ℕ) → Asked
+batch_command word rest =
+    if bytes_eq word (codes "undo") then numbered UndoLine (only_number rest)
+    else (if bytes_eq word (codes "confirm") then numbered ConfirmLine (only_number rest)
+    else flush_command word rest)
+
+-- on a new batch, or one of those
 abbrev pub command_of : List (List ℕ) → Asked
 command_of [] = BadLine
-command_of (word ∷ rest) = command_by (verb word) rest
+command_of (word ∷ rest) =
+    if bytes_eq word (codes "admit") then admit_words rest
+    else (if bytes_eq word (codes "post") then post_words rest else batch_command word rest)
 
 -- what the line asks for
 abbrev pub command : List ℕ → Asked

@@ -1,6 +1,6 @@
 -- What is read and written.
-use Rattle.std.specs.Prelude.{◌≡◌, ℕ, ◌+◌, ◌<◌, ◌≤◌, Bool, true, false, List, ◌++◌, length, Some, None}
-use Rattle.std.specs.Prelude.{Ok, Err, ⊤}
+use Rattle.std.specs.Prelude.{◌≡◌, ℕ, ◌+◌, ◌<◌, ◌≤◌, Bool, true, false, List, ◌++◌, length}
+use Rattle.std.specs.Prelude.{Ok, Err}
 use Rattle.std.specs.declared.option.Option.{Option}
 use Rattle.std.specs.declared.result.Result.{Result}
 use Rattle.std.specs.Io.KnownBytes.{Appends, Consumes}
@@ -8,11 +8,6 @@ use Rattle.play_script.specs.declared.fault.PlayFault.{PlayFault}
 use Rattle.play_script.specs.declared.fault.PlayFault.TheVariants.{CannotRead, TooLong, CannotWrite}
 use Rattle.play_script.specs.declared.fault.PlayFault.TheVariants.{NoMemory}
 use Rattle.play_script.specs.declared.input.TheConstants.{MAX_INPUT, MAX_PIECE}
-
--- there are more bytes than that, where they are known
-abbrev pub HasMore : Option (List ℕ) → ℕ → Type 0
-HasMore None most = ⊤
-HasMore (Some xs) most = most < length xs
 
 -- known bytes grow by a front part of the text
 abbrev pub AppendsPart : Option (List ℕ) → Option (List ℕ) → List ℕ → Type 0
@@ -33,13 +28,6 @@ cannot_write (Err CannotRead) = false
 cannot_write (Err TooLong) = false
 cannot_write (Err CannotWrite) = true
 cannot_write (Err NoMemory) = false
-
--- the faults of reading: TooLong where there are more bytes than that, and none of the writer's
-abbrev pub IsReadFault : Option (List ℕ) → ℕ → PlayFault → Type 0
-IsReadFault old most CannotRead = ⊤
-IsReadFault old most TooLong = HasMore old most
-IsReadFault old most CannotWrite = ⊥
-IsReadFault old most NoMemory = ⊤
 
 -- so many bytes were read of an input, by the outcome: over the limit where it is too long, and
 -- there alone

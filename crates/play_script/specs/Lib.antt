@@ -2,10 +2,9 @@ pub mod Pieces
 pub mod Numbers
 pub mod PointLines
 pub mod Commands
-pub mod Views
 pub mod Refused
 pub mod Replies
 pub mod Ends
 pub mod Run
-pub mod Answered
 pub mod Played
+pub mod inner

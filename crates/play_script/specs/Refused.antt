@@ -10,8 +10,6 @@ use Rattle.delta_book.specs.declared.faults.QuarantineFault.{QuarantineFault}
 use Rattle.delta_book.specs.declared.faults.QuarantineFault.TheVariants as hold
 use Rattle.delta_book.specs.declared.faults.RoundFault.{RoundFault}
 use Rattle.delta_book.specs.declared.faults.RoundFault.TheVariants as round
-use Rattle.otlp_read.specs.declared.fault.ReadFault.{ReadFault}
-use Rattle.otlp_read.specs.declared.fault.ReadFault.TheVariants as read
 use Rattle.metric_events.specs.declared.point.PointFault.{PointFault}
 use Rattle.metric_events.specs.declared.point.PointFault.TheVariants as point
 use Rattle.play_script.specs.declared.refusal.Refusal.{Refusal}
@@ -84,8 +82,3 @@ of_round round.BatchOpen = BatchOpen
 of_round round.FlushLive = FlushLive
 of_round round.LastRound = LastRound
 of_round round.NoMemory = NoMemory
-
-abbrev pub of_read : ReadFault → Refusal
-of_read read.NotJson = NotJson
-of_read (read.WrongShape place) = WrongShape
-of_read read.NoMemory = NoMemory

@@ -1,5 +1,5 @@
 -- The run of a script: a reply for each line, by the rules over the history so far.
-use Rattle.std.specs.Prelude.{◌≡◌, ◌⊎◌, ℕ, ◌+◌, Bool, true, false, ◌&&◌, List, [], ◌∷◌, ◌++◌, map}
+use Rattle.std.specs.Prelude.{ℕ, ◌+◌, Bool, true, false, ◌&&◌, List, [], ◌∷◌, ◌++◌, map}
 use Rattle.std.specs.Prelude.{codes, decimal, Some, None, Ok, Err}
 use Rattle.std.specs.declared.option.Option.{Option}
 use Rattle.std.specs.declared.result.Result.{Result}
@@ -124,12 +124,6 @@ read_or E sender None = refused E NotJson
 read_or E sender (Some (Err place)) = refused E WrongShape
 read_or E sender (Some (Ok t)) = posted E sender t.points t.foreign
 
--- the request of a flush, or no memory for it: then the flush is given back
-abbrev pub IsForwarded : History → History → ℕ → List DataPoint → List ℕ → Type 0
-IsForwarded E F f points text =
-    ((text ≡ wired_text f (request_text points)) × (F ≡ E)) ⊎ ((text ≡ refused_text NoMemory)
-    × (F ≡ E ▸ event.GiveBack f))
-
 -- the request of the flush that an event takes
 abbrev pub request_after : History → ℕ → Event → List ℕ
 request_after E f e = wired_text f (request_text (flush_points (E ▸ e) f))
@@ -195,22 +189,14 @@ marked_answer E asked MissedText = without_text E asked
 
 -- the commands that may find no memory
 abbrev pub takes_memory : Asked → Bool
-takes_memory (AdmitLine sender points) = true
-takes_memory (TakeLine max) = true
 takes_memory (OkLine f) = false
 takes_memory (BackLine f) = false
-takes_memory ReportLine = true
+takes_memory (DropLine f) = false
+takes_memory (AnswerLine f back) = false
 takes_memory (UndoLine b) = false
 takes_memory (ConfirmLine b) = false
-takes_memory (DropLine f) = false
-takes_memory (QuarantineLine s) = true
-takes_memory (LiftLine s) = true
-takes_memory (PostLine sender body) = true
-takes_memory RoundLine = true
-takes_memory PastLine = true
-takes_memory (WireLine max) = true
-takes_memory (AnswerLine f back) = false
 takes_memory BadLine = false
+takes_memory asked = true
 
 -- the commands that send a text
 abbrev pub sends_text : Asked → Bool
@@ -240,13 +226,6 @@ replies E [] marks = []
 replies E (line ∷ lines) [] = []
 replies E (line ∷ lines) (mark ∷ marks) =
     (line_answer E line mark).text ++ replies (line_answer E line mark).after lines marks
-
--- the history after them
-abbrev pub history_after : History → List (List ℕ) → List Mark → History
-history_after E [] marks = E
-history_after E (line ∷ lines) [] = E
-history_after E (line ∷ lines) (mark ∷ marks) =
-    history_after (line_answer E line mark).after lines marks
 
 -- the replies of a script
 abbrev pub run : List (List ℕ) → List Mark → List ℕ

@@ -5,17 +5,17 @@ ghost use Rattle.metric_events.specs.Senders.{is_sender_name};
 ghost use Rattle.delta_book.specs.Journal.{history};
 ghost use Rattle.delta_book.specs.Refusals.{flush_refusal};
 ghost use Rattle.metric_events.specs.History.{◌▸◌};
-ghost use Rattle.play_script.specs.Answered.{IsReply, reply_text};
+ghost use Rattle.play_script.specs.inner.Answered.{IsReply, reply_text};
 ghost use Rattle.play_script.specs.Commands as asked;
 ghost use Rattle.delta_book.specs.Outcomes.{event_of};
 ghost use Rattle.play_script.specs.Run as spec;
-ghost use Rattle.play_script.specs.Run.{IsForwarded};
+ghost use Rattle.play_script.specs.inner.Run.{IsForwarded};
 ghost use Rattle.metric_events.specs.declared.event.Event.TheVariants as event;
-ghost use Rattle.play_script.specs.Views.{asked_by, words_of_each, IsReady};
+ghost use Rattle.play_script.specs.inner.Views.{asked_by, words_of_each, IsReady};
 
 use crate::command::Command;
-use crate::making::make_points;
 use crate::point_line::PointLine;
+use crate::points::make_points;
 use crate::refusal::{
     Refusal, of_admit, of_point, of_quarantine, of_read, of_round, of_take, of_undo,
 };

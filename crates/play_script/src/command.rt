@@ -1,17 +1,17 @@
 //! What a line of a script asks for.
 
-ghost use Rattle.std.specs.Prelude.{◌≡◌, ◌≢◌, ◌≤◌, ◌∷◌, true, option_copied, IfSome, IfOk, OnErr};
+ghost use Rattle.std.specs.Prelude.{◌≡◌, ◌≤◌, ◌∷◌, true, option_copied, IfSome, IfOk, OnErr};
+ghost use Rattle.std.specs.Str.{bytes_eq};
 ghost use Rattle.play_script.specs.Commands as spec;
 ghost use Rattle.play_script.specs.Pieces.{words};
 ghost use Rattle.play_script.specs.Run.{takes_memory};
-ghost use Rattle.play_script.specs.Views.{asked_by, rest_words, IsReady};
+ghost use Rattle.play_script.specs.inner.Views.{asked_by, rest_words, IsReady};
 ghost use Rattle.metric_events.specs.Senders as senders;
 
-use crate::line_points::read_points;
 use crate::numbers::{number, status};
 use crate::pieces::cut_word;
 use crate::point_line::PointLine;
-use crate::verb::{Verb, verb_of};
+use crate::points::read_points;
 use back_answers::{Answer, classify};
 use metric_events::limits::MAX_TAKEN;
 use metric_events::sender_name::is_sender_name;
@@ -77,7 +77,7 @@ fn only_name<'a>(rest: Option<&'a [u8]>) -> Option<&'a [u8]>
     }
 }
 
-/// `admit`: a sender and its points. Allocates the list of points.
+/// `admit`: a sender and its points. The list of points takes memory.
 fn admit<'a>(alloc: Global, rest: Option<&'a [u8]>) -> Result<Option<Command<'a>>, AllocError>
     ensures asks { IfOk result (λ command. asked_by command ≡ spec.admit_words
         (rest_words rest.entry)) }
@@ -200,43 +200,89 @@ fn post(rest: Option<&[u8]>) -> Option<Command<'_>>
     })
 }
 
-/// The command of a verb and the rest of its line. Allocates nothing.
-fn command_by(verb: Verb, rest: Option<&[u8]>) -> Option<Command<'_>>
-    requires { verb ≢ Verb.Admit }
-    ensures asks { asked_by result ≡ spec.command_by (Some verb) (rest_words rest.entry) }
+fn is(word: &[u8], text: &[u8]) -> bool
+    ensures { result ≡ bytes_eq word.now text.now }
+{
+    word == text
+}
+
+/// A command on senders or rounds, or the report.
+fn other_command<'a>(word: &[u8], rest: Option<&'a [u8]>) -> Option<Command<'a>>
+    ensures asks { asked_by result ≡ spec.other_command word.now (rest_words rest.entry) }
     ensures ready { IsReady result }
 {
-    match verb {
-        Verb::Admit => unreachable!(),
-        Verb::Take => Some(Command::Take(only_taken(rest)?)),
-        Verb::Settle => Some(Command::Settle(only_number(rest)?)),
-        Verb::GiveBack => Some(Command::GiveBack(only_number(rest)?)),
-        Verb::Report => report(rest),
-        Verb::Undo => Some(Command::Undo(only_number(rest)?)),
-        Verb::Confirm => Some(Command::Confirm(only_number(rest)?)),
-        Verb::Discard => Some(Command::Discard(only_number(rest)?)),
-        Verb::Quarantine => Some(Command::Quarantine(only_name(rest)?)),
-        Verb::Lift => Some(Command::Lift(only_name(rest)?)),
-        Verb::Post => post(rest),
-        Verb::Round => round(rest),
-        Verb::Past => past(rest),
-        Verb::Wire => Some(Command::Wire(only_taken(rest)?)),
-        Verb::Answered => answer(rest),
+    if is(word, b"hold") {
+        return Some(Command::Quarantine(only_name(rest)?));
     }
+    if is(word, b"lift") {
+        return Some(Command::Lift(only_name(rest)?));
+    }
+    if is(word, b"report") {
+        return report(rest);
+    }
+    if is(word, b"round") {
+        return round(rest);
+    }
+    if is(word, b"past") {
+        return past(rest);
+    }
+    None
+}
+
+/// A command on flushes, or one of those above.
+fn flush_command<'a>(word: &[u8], rest: Option<&'a [u8]>) -> Option<Command<'a>>
+    ensures asks { asked_by result ≡ spec.flush_command word.now (rest_words rest.entry) }
+    ensures ready { IsReady result }
+{
+    if is(word, b"take") {
+        return Some(Command::Take(only_taken(rest)?));
+    }
+    if is(word, b"wire") {
+        return Some(Command::Wire(only_taken(rest)?));
+    }
+    if is(word, b"ok") {
+        return Some(Command::Settle(only_number(rest)?));
+    }
+    if is(word, b"back") {
+        return Some(Command::GiveBack(only_number(rest)?));
+    }
+    if is(word, b"drop") {
+        return Some(Command::Discard(only_number(rest)?));
+    }
+    if is(word, b"answer") {
+        return answer(rest);
+    }
+    other_command(word, rest)
+}
+
+/// A command on a batch that is there, or one of those above.
+fn batch_command<'a>(word: &[u8], rest: Option<&'a [u8]>) -> Option<Command<'a>>
+    ensures asks { asked_by result ≡ spec.batch_command word.now (rest_words rest.entry) }
+    ensures ready { IsReady result }
+{
+    if is(word, b"undo") {
+        return Some(Command::Undo(only_number(rest)?));
+    }
+    if is(word, b"confirm") {
+        return Some(Command::Confirm(only_number(rest)?));
+    }
+    flush_command(word, rest)
 }
 
 /// The command of a line, or None where it is none. Words are separated by one space. Numbers are
 /// decimal digits and within their range, names are those that a sender may have. Only the list of
-/// points of an `admit` line is allocated.
+/// points of an `admit` line takes memory.
 pub fn command_of<'a>(alloc: Global, line: &'a [u8]) -> Result<Option<Command<'a>>, AllocError>
     ensures asks { IfOk result (λ command. asked_by command ≡ spec.command line.now) }
     ensures ready { IfOk result IsReady }
     ensures memory { OnErr result (takes_memory (spec.command line.now) ≡ true) }
 {
     let word = cut_word(line);
-    match verb_of(word.first) {
-        None => Ok(None),
-        Some(Verb::Admit) => admit(alloc, word.rest),
-        Some(verb) => Ok(command_by(verb, word.rest)),
+    if is(word.first, b"admit") {
+        return admit(alloc, word.rest);
     }
+    if is(word.first, b"post") {
+        return Ok(post(word.rest));
+    }
+    Ok(batch_command(word.first, word.rest))
 }

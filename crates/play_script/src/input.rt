@@ -3,7 +3,8 @@
 ghost use Rattle.std.specs.Prelude.{◌≡◌, ◌≤◌, IfOk, IfErr, length, vec_len};
 ghost use Rattle.byte_ends.specs.Counts.{counted};
 ghost use Rattle.byte_ends.specs.Ends.{AreAll};
-ghost use Rattle.play_script.specs.Ends.{IsReadFault, StopsReading, cannot_read};
+ghost use Rattle.play_script.specs.Ends.{StopsReading, cannot_read};
+ghost use Rattle.play_script.specs.inner.Ends.{IsReadFault};
 
 use crate::fault::PlayFault;
 use byte_ends::Source;

@@ -11,16 +11,14 @@ mod command;
 mod fault;
 mod flush_text;
 mod input;
-mod line_points;
-mod making;
 mod numbers;
 mod output;
 mod pieces;
 mod point_line;
+mod points;
 mod refusal;
 mod reply;
 mod script;
-mod verb;
 
 pub use fault::PlayFault;
 pub use input::MAX_INPUT;

@@ -2,6 +2,7 @@
 
 ghost use Rattle.std.specs.Prelude.{◌≡◌, ◌++◌, OnOk};
 ghost use Rattle.play_script.specs.Refused as spec;
+ghost use Rattle.play_script.specs.inner.Refused as inner;
 
 use delta_book::faults::{AdmitFault, QuarantineFault, RoundFault, TakeFault, UndoFault};
 use metric_events::point::PointFault;
@@ -160,7 +161,7 @@ pub fn of_round(fault: RoundFault) -> Refusal
 }
 
 pub fn of_read(fault: ReadFault) -> Refusal
-    ensures { result ≡ spec.of_read fault }
+    ensures { result ≡ inner.of_read fault }
 {
     match fault {
         ReadFault::NotJson => Refusal::NotJson,

@@ -1,7 +1,7 @@
 //! The replies to lines, and their texts.
 
 ghost use Rattle.std.specs.Prelude.{◌≡◌, ◌++◌, OnOk, codes, decimal};
-ghost use Rattle.play_script.specs.Answered.{reply_text};
+ghost use Rattle.play_script.specs.inner.Answered.{reply_text};
 ghost use Rattle.play_script.specs.Refused.{refusal_text};
 ghost use Rattle.play_script.specs.Replies.{said, batch_and_foreign, wired_text, flush_and_wait};
 

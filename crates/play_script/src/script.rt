@@ -4,11 +4,12 @@ ghost use Rattle.std.specs.Prelude.{◌≡◌, List, ℕ, Some};
 ghost use Rattle.byte_ends.specs.Counts.{counted};
 ghost use Rattle.metric_events.specs.History.{Start};
 ghost use Rattle.delta_book.specs.Journal.{history};
-ghost use Rattle.play_script.specs.Answered.{IsReply, reply_text};
+ghost use Rattle.play_script.specs.inner.Answered.{IsReply, reply_text};
 ghost use Rattle.play_script.specs.Commands.{command};
 ghost use Rattle.play_script.specs.Ends.{StopsReading, cannot_read, cannot_write};
 ghost use Rattle.play_script.specs.Pieces.{lines};
-ghost use Rattle.play_script.specs.Played.{LineIsAnswered, LinesArePlayed, IsPlayed};
+ghost use Rattle.play_script.specs.Played.{IsPlayed};
+ghost use Rattle.play_script.specs.inner.Played.{LineIsAnswered, LinesArePlayed};
 
 use crate::calls::reply_to;
 use crate::command::command_of;

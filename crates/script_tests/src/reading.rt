@@ -1,7 +1,7 @@
 //! What no clause says: requests whose meaning was worked out by hand.
 
 use metric_events::point::Point;
-use otlp_read::{Memo, Place, ReadFault, Reading, read_request, read_request_with};
+use otlp_read::{IdentityCache, Place, ReadFault, Reading, read_request, read_request_with};
 use series_id::SeriesId;
 use std::alloc::{AllocError, Global};
 use std::process::Abort;
@@ -570,16 +570,16 @@ fn bodies(alloc: Global) -> Result<Vec<String>, AllocError> {
     Ok(bodies)
 }
 
-/// Series that come again are shared with what a memo holds of them, and read as without one.
+/// Series that come again are shared with what a cache holds of them, and read as without one.
 #[test]
-fn a_memo_shares_what_comes_again(rt: HostRuntime) -> Result<(), Fail> {
+fn a_cache_shares_what_comes_again(rt: HostRuntime) -> Result<(), Fail> {
     let alloc = rt.alloc();
-    let mut memo = Memo::new(alloc);
+    let mut cache = IdentityCache::new(alloc);
     let bodies = bodies(alloc)?;
     let mut readings = Vec::new(alloc);
     for owners in 2..5 {
         for body in &bodies {
-            let reading = read_request_with(alloc, body.as_bytes(), &mut memo)?;
+            let reading = read_request_with(alloc, body.as_bytes(), &mut cache)?;
             let plain = read_request(alloc, body.as_bytes())?;
             assert!(rt; reading.points.is_same(&plain.points), "at {body}");
             let point = first(&reading).ok_or("a point")?;
@@ -590,16 +590,16 @@ fn a_memo_shares_what_comes_again(rt: HostRuntime) -> Result<(), Fail> {
     Ok(())
 }
 
-/// Reads a body by a memo as without one: its first point is of another series than this one, and
-/// the memo alone shares it.
+/// Reads a body by a cache as without one: its first point is of another series than this one, and
+/// the cache alone shares it.
 fn reads_another<R: Abort + AllocGlobal>(
     rt: &R,
     body: &str,
-    memo: &mut Memo,
+    cache: &mut IdentityCache,
     point: &Point,
     what: &str,
 ) -> Result<(), Fail> {
-    let reading = read_request_with(rt.alloc(), body.as_bytes(), memo)?;
+    let reading = read_request_with(rt.alloc(), body.as_bytes(), cache)?;
     let plain = read_request(rt.alloc(), body.as_bytes())?;
     assert!(rt; reading.points.is_same(&plain.points), "at {what}");
     let other = first(&reading).ok_or("a point")?;
@@ -608,14 +608,14 @@ fn reads_another<R: Abort + AllocGlobal>(
     Ok(())
 }
 
-/// A memo is not taken in by series that differ in a part of the identity alone.
+/// A cache is not taken in by series that differ in a part of the identity alone.
 #[test]
-fn a_memo_keeps_series_apart(rt: HostRuntime) -> Result<(), Fail> {
+fn a_cache_keeps_series_apart(rt: HostRuntime) -> Result<(), Fail> {
     let alloc = rt.alloc();
-    let mut memo = Memo::new(alloc);
+    let mut cache = IdentityCache::new(alloc);
     let fields = sum_fields(alloc, "true", PAIRS[2])?;
     let body = metric_of(alloc, fields.as_str())?;
-    let reading = read_request_with(alloc, body.as_bytes(), &mut memo)?;
+    let reading = read_request_with(alloc, body.as_bytes(), &mut cache)?;
     let point = first(&reading).ok_or("a point")?;
     for (old, new) in [
         (r#""key":"r""#, r#""key":"q""#),
@@ -640,22 +640,22 @@ fn a_memo_keeps_series_apart(rt: HostRuntime) -> Result<(), Fail> {
         (r#""key":"b""#, r#""key":"c""#),
     ] {
         let body = body.replace(alloc, old, new)?;
-        reads_another(&rt, body.as_str(), &mut memo, point, new)?;
+        reads_another(&rt, body.as_str(), &mut cache, point, new)?;
     }
     Ok(())
 }
 
 /// The pairs of a set are one series in any order.
 #[test]
-fn a_memo_shares_pairs_in_another_order(rt: HostRuntime) -> Result<(), Fail> {
+fn a_cache_shares_pairs_in_another_order(rt: HostRuntime) -> Result<(), Fail> {
     let alloc = rt.alloc();
-    let mut memo = Memo::new(alloc);
+    let mut cache = IdentityCache::new(alloc);
     let mut readings = Vec::new(alloc);
     let (a, b) = (r#"{"key":"a","value":{"intValue":1}}"#, r#"{"key":"b"}"#);
     for (one, another, owners) in [(a, b, 2), (b, a, 3), (a, b, 4)] {
         let pairs = format!(in alloc; "{one},{another}")?;
         let body = sum_about(alloc, pairs.as_str())?;
-        let reading = read_request_with(alloc, body.as_bytes(), &mut memo)?;
+        let reading = read_request_with(alloc, body.as_bytes(), &mut cache)?;
         let point = first(&reading).ok_or("a point")?;
         assert_eq!(rt; point.shared_series().owners(), owners, "at {pairs}");
         readings.push(reading)?;
@@ -665,14 +665,14 @@ fn a_memo_shares_pairs_in_another_order(rt: HostRuntime) -> Result<(), Fail> {
 
 /// An identity of more than some four thousand bytes is not kept.
 #[test]
-fn a_memo_keeps_no_large_series(rt: HostRuntime) -> Result<(), Fail> {
+fn a_cache_keeps_no_large_series(rt: HostRuntime) -> Result<(), Fail> {
     let alloc = rt.alloc();
-    let mut memo = Memo::new(alloc);
+    let mut cache = IdentityCache::new(alloc);
     for (length, owners) in [(3900, 2), (4096, 1)] {
         let text = letters(alloc, length)?;
         let pair = format!(in alloc; r#"{{"key":"{text}"}}"#)?;
         let body = sum_about(alloc, pair.as_str())?;
-        let reading = read_request_with(alloc, body.as_bytes(), &mut memo)?;
+        let reading = read_request_with(alloc, body.as_bytes(), &mut cache)?;
         let point = first(&reading).ok_or("a point")?;
         assert_eq!(rt; point.shared_series().owners(), owners, "{length} bytes");
     }

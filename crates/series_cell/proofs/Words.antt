@@ -6,7 +6,7 @@ use Rattle.metric_events.specs.Rows.{add_rows, zeros}
 use Rattle.metric_events.specs.declared.accepted.Accepted.{Accepted}
 use Rattle.metric_events.proofs.Sums.{added_at, zeros_at, length-add_rows}
 use Rattle.series_cell.specs.Cells.{CellView, Stands}
-use Rattle.series_cell.specs.CellParts.{AreWords}
+use Rattle.series_cell.specs.inner.CellParts.{AreWords}
 use Rattle.series_cell.proofs.Sizes.{sized, within}
 
 pub words_none : (n : ℕ) (zs : List ℕ) → zs ≡ zeros n → AreWords zs

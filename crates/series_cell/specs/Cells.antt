@@ -87,10 +87,6 @@ pub record Stands (c : CellView) (qs : List Accepted) : Type 0 where
   pub cut : c.cut ≡ length away
   pub landed : c.landed ≡ greatest_end gone
 
--- a cell represents some points
-abbrev pub IsCell : CellView → Type 0
-IsCell c = (qs : List Accepted) × Stands c qs
-
 -- the greatest end of its points, 0 if there is none
 abbrev pub end_of : CellView → ℕ
 end_of c = max c.landed (end_of_spans 0 c.spans)

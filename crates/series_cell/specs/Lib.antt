@@ -3,5 +3,5 @@ pub use Rattle.metric_events.specs.Points
 pub use Rattle.metric_events.specs.Series
 pub mod Spans
 pub mod Cells
-pub mod CellParts
 pub mod Reading
+pub mod inner

@@ -40,7 +40,7 @@ impl Model for Cell {
 
     ghost Value = { CellView };
 
-    ghost use Rattle.series_cell.specs.CellParts.{view_of, IsKept};
+    ghost use Rattle.series_cell.specs.inner.CellParts.{view_of, IsKept};
 
     ghost view = { λ c. view_of c.kept.value };
 

@@ -1,16 +1,15 @@
 pub mod Texts
 pub mod Values
 pub mod Attributes
-pub mod Shares
 pub mod Pairs
 pub mod Sorting
 pub mod Bounds
 pub mod Kinds
 pub mod Ascending
 pub mod Identity
-pub mod Views
 pub mod Checks
 pub mod Order
 pub mod Sharing
 pub mod Totals
 pub mod SeriesLaws
+pub mod inner

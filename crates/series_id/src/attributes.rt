@@ -40,7 +40,7 @@ impl Model for AttrSet {
     ghost use Rattle.std.specs.Prelude.{List};
     ghost use Rattle.series_id.specs.declared.attributes.Attribute.{Attribute};
     ghost use Rattle.series_id.specs.Attributes.{IsAttrSet};
-    ghost use Rattle.series_id.specs.Shares.{shared_items};
+    ghost use Rattle.series_id.specs.inner.Shares.{shared_items};
 
     ghost Value = { List Attribute };
 

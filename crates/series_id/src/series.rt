@@ -38,7 +38,7 @@ impl Model for SeriesId {
     ghost Value = { Identity };
 
     ghost use Rattle.series_id.specs.Identity.{IsIdentity};
-    ghost use Rattle.series_id.specs.Views.{identity_of};
+    ghost use Rattle.series_id.specs.inner.Views.{identity_of};
 
     ghost view = { identity_of };
 

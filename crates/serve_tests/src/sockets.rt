@@ -3,8 +3,8 @@ use crate::desk::{done, keeper, refused};
 use back_answers::Answer;
 use delta_book::book::Book;
 use gate_workers::{BookKeeper, Connection, End, NoPace, Served, Uplink};
-use gateway_serve::{Backend, ClientConnection, Dialler};
-use otlp_read::Memo;
+use gateway_serve::{Backend, ClientConnection, TcpConnector};
+use otlp_read::IdentityCache;
 use std::io::{Read, Write};
 use std::net::{Shutdown, TcpListener, TcpStream};
 use std::process::Abort;
@@ -24,8 +24,13 @@ fn answer_to<R: Abort, U: Uplink + Drop>(
     client.write_all(request)?;
     client.shutdown(Shutdown::Write)?;
     let (stream, _) = listener.accept()?;
-    let mut memo = Memo::new(net.alloc());
-    let got = ClientConnection::new(net, stream).serve(net.alloc(), keeper, &mut NoPace, &mut memo);
+    let mut cache = IdentityCache::new(net.alloc());
+    let got = ClientConnection::new(net, stream).serve(
+        net.alloc(),
+        keeper,
+        &mut NoPace,
+        &mut cache,
+    );
     assert_eq!(rt; got, served);
     let mut text = Vec::new(net.alloc());
     client.read_to_end(&mut text)?;
@@ -45,8 +50,8 @@ fn answers_before_the_end<R: Abort>(
     let mut client = TcpStream::connect(net, listener.local_addr()?)?;
     client.write_all(request)?;
     let (stream, _) = listener.accept()?;
-    let mut memo = Memo::new(net.alloc());
-    let _ = ClientConnection::new(net, stream).serve(net.alloc(), keeper, &mut NoPace, &mut memo);
+    let mut cache = IdentityCache::new(net.alloc());
+    let _ = ClientConnection::new(net, stream).serve(net.alloc(), keeper, &mut NoPace, &mut cache);
     let mut text = Vec::new(net.alloc());
     client.read_to_end(&mut text)?;
     assert!(rt; text.as_slice().starts_with(line));
@@ -117,7 +122,7 @@ fn a_body_that_is_too_long_and_still_comes_is_answered(rt: HostRuntime) -> Resul
 #[test]
 fn a_flush_to_nobody_is_returned(rt: HostRuntime) -> Result<(), Fail> {
     let alloc = rt.alloc();
-    let backend = Backend::new(Dialler::new(&rt, "127.0.0.1:9"), alloc, "127.0.0.1:9");
+    let backend = Backend::new(TcpConnector::new(&rt, "127.0.0.1:9"), alloc, "127.0.0.1:9");
     let mut keeper = BookKeeper::new(alloc, Book::new(alloc)?, 0, backend, 1000);
     let _ = answer_to(&rt, &rt, &mut keeper, POSTED, done(End::Confirmed))?;
     let text = answer_to(

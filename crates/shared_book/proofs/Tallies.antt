@@ -7,8 +7,9 @@ use Rattle.std.proofs.lemmas.List.{take_more, drop_at, drop-drop, append_assoc, 
 use Rattle.metric_events.specs.declared.entry.Entry.{Entry}
 use Rattle.shared_book.specs.declared.receipt.Receipt.{Receipt}
 use Rattle.shared_book.specs.declared.seat.TheConstants.{MAX_SEATS}
-use Rattle.shared_book.specs.Receipts.{SeatView, receipt_of, receipts_of, IsNext}
-use Rattle.shared_book.specs.Audits.{IsBegun, IsTallied}
+use Rattle.shared_book.specs.Receipts.{SeatView, receipt_of, receipts_of}
+use Rattle.shared_book.specs.inner.Receipts.{IsNext}
+use Rattle.shared_book.specs.inner.Audits.{IsBegun, IsTallied}
 
 -- the receipts that an entry at an index adds
 abbrev added : ℕ → ℕ → Entry → List Receipt

@@ -1,13 +1,10 @@
 -- Whether the receipts of the seats are the journal.
-use Rattle.std.specs.Prelude.{◌≡◌, ℕ, ◌<◌, ◌==◌, ◌||◌, Bool, true, false, List, [], ◌∷◌, ◌++◌}
-use Rattle.std.specs.Prelude.{length, slice_index, sum_by}
-use Rattle.std.specs.List.{All, Any}
+use Rattle.std.specs.Prelude.{◌≡◌, ℕ, ◌<◌, ◌==◌, ◌||◌, Bool, true, false, List, [], ◌∷◌}
+use Rattle.std.specs.Prelude.{length, sum_by}
 use Rattle.metric_events.specs.declared.entry.Entry.{Entry}
 use Rattle.metric_events.specs.declared.event.Event.{Event}
 use Rattle.metric_events.specs.declared.event.Event.TheVariants.{Admit, Undo, Confirm, Take, Settle}
 use Rattle.metric_events.specs.declared.event.Event.TheVariants.{Drop, GiveBack, Quarantine, Lift}
-use Rattle.shared_book.specs.declared.receipt.Receipt.{Receipt}
-use Rattle.shared_book.specs.declared.seat.TheConstants.{MAX_SEATS}
 use Rattle.shared_book.specs.Receipts.{SeatView, receipts_of}
 
 -- a seat's receipts are those of the entries that name it, each once, in order
@@ -17,18 +14,6 @@ IsMatched entries t = t.receipts ≡ receipts_of t.number 0 entries
 -- a seat has fewer receipts than entries name it
 abbrev pub IsShort : List Entry → SeatView → Type 0
 IsShort entries t = length t.receipts < length (receipts_of t.number 0 entries)
-
--- a seat's receipts begin with those of the entries that name it
-abbrev pub IsBegun : List Entry → SeatView → Type 0
-IsBegun entries t = (rest : List Receipt) × (t.receipts ≡ receipts_of t.number 0 entries ++ rest)
-
--- how many of these entries name each seat, and whether the receipts of each of these seats begin
--- with those of its entries
-pub record IsTallied
-    (entries : List Entry) (seats : List SeatView) (named : List ℕ) (same : Bool) : Type 0 where
-  pub counted : (n : ℕ) → n < MAX_SEATS → slice_index named n ≡ length (receipts_of n 0 entries)
-  pub begun : same ≡ true → All (λ t. t.number < MAX_SEATS → IsBegun entries t) seats
-  pub differs : same ≡ false → Any (λ t. ¬ (IsBegun entries t)) seats
 
 -- one of the seats has this number
 abbrev pub is_seated : ℕ → List SeatView → Bool

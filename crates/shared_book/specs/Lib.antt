@@ -5,3 +5,4 @@ pub use Rattle.delta_book.specs.Totals
 pub mod Receipts
 pub mod Moments
 pub mod Audits
+pub mod inner

@@ -3,7 +3,6 @@ use Rattle.std.specs.Prelude.{◌≡◌, ◌≢◌, ℕ, ◌<◌, ◌≤◌, len
 use Rattle.std.specs.declared.option.Option.{Option}
 use Rattle.std.specs.List.{All}
 use Rattle.metric_events.specs.Legal.{IsLegal}
-use Rattle.metric_events.specs.declared.limits.TheConstants.{MAX_ENTRIES}
 use Rattle.metric_events.specs.declared.opening.Opening.{Opening}
 use Rattle.metric_events.specs.declared.entry.Entry.{Entry}
 use Rattle.metric_events.specs.declared.event.Event.{Event}
@@ -11,28 +10,11 @@ use Rattle.delta_book.specs.Journal.{Journal, history, IsNumbered}
 use Rattle.delta_book.specs.Refusals.{admit_refusal}
 use Rattle.delta_book.specs.Calls.{Call, admit, added, IsCall}
 use Rattle.delta_book.specs.declared.faults.AdmitFault.TheVariants.{NoMemory}
-use Rattle.shared_book.specs.declared.seat.TheConstants.{MAX_SEATS}
 use Rattle.shared_book.specs.Receipts.{SeatView, with_receipt, receipt_of}
 
 -- an entry of one of so many seats
 abbrev pub IsOfSeat : ℕ → Entry → Type 0
 IsOfSeat seats e = e.seat < seats
-
--- what is under the lock: a journal with the round's opening, each entry of one of the seats, and
--- as many entries as the ledger's total
-pub record IsLocked (seats : ℕ) (opening : Opening) (j : Journal) (total : ℕ) : Type 0 where
-  pub opened : j.opening ≡ opening
-  pub of_seats : All (IsOfSeat seats) j.entries
-  pub counted : length j.entries ≡ total
-
--- a seat: its number is below that of the seats, which are few; it has one part of the ledger,
--- which counts its receipts; there is room for all receipts of a round
-pub record IsSeat (seats number parts amount receipts room : ℕ) : Type 0 where
-  pub numbered : number < seats
-  pub few : seats ≤ MAX_SEATS
-  pub one_part : parts ≡ 1
-  pub counted : amount ≡ receipts
-  pub roomy : MAX_ENTRIES ≤ room
 
 -- a journal that so many seats may have in the round with this opening: legal, its batches and
 -- flushes numbered consecutively, each entry of one of the seats

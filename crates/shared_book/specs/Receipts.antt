@@ -1,5 +1,5 @@
 -- The receipts of a seat, and those that it should have by a journal.
-use Rattle.std.specs.Prelude.{◌≡◌, ℕ, zero, suc, ◌+◌, ◌==◌, List, [], ◌∷◌, ◌++◌, drop, Some, None}
+use Rattle.std.specs.Prelude.{ℕ, zero, suc, ◌+◌, ◌==◌, List, [], ◌∷◌, ◌++◌, Some, None}
 use Rattle.std.specs.Prelude.{if◌then◌else◌}
 use Rattle.std.specs.declared.option.Option.{Option}
 use Rattle.metric_events.specs.declared.batch.Batch.{Batch}
@@ -75,10 +75,6 @@ receipts_of number index [] = []
 receipts_of number index (e ∷ es) =
     if e.seat == number then receipt_of index e.event ∷ receipts_of number (index + 1) es
     else receipts_of number (index + 1) es
-
--- the receipt is at this index of the list
-abbrev pub IsNext : List Receipt → ℕ → Receipt → Type 0
-IsNext receipts at receipt = drop at receipts ≡ receipt ∷ drop (at + 1) receipts
 
 -- seats 0, 1, .. without receipts
 abbrev pub fresh_seats : ℕ → List SeatView

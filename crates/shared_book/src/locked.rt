@@ -32,7 +32,7 @@ pub struct Locked<L: Round> {
 
 impl<L: Round> Model for Locked<L> {
     ghost use Rattle.delta_book.specs.Journal.{Journal};
-    ghost use Rattle.shared_book.specs.Moments.{IsLocked};
+    ghost use Rattle.shared_book.specs.inner.Moments.{IsLocked};
 
     ghost Value = { Journal };
 

@@ -28,7 +28,7 @@ pub struct Seat<L: Ledger> {
 impl<L: Ledger> Model for Seat<L> {
     ghost use Rattle.std.specs.Prelude.{vec_len, vec_capacity};
     ghost use Rattle.shared_book.specs.Receipts.{SeatView, seat_view};
-    ghost use Rattle.shared_book.specs.Moments.{IsSeat};
+    ghost use Rattle.shared_book.specs.inner.Moments.{IsSeat};
 
     ghost Value = { SeatView };
 

@@ -1,8 +1,9 @@
 //! Compares a journal with the receipts of its seats, entry by entry.
 ghost use Rattle.std.specs.Prelude.{◌≡◌, ◌↔◌, ◌+◌, ◌<◌, [], IsTrue, false, length, take};
 ghost use Rattle.std.specs.List.{All, Any};
-ghost use Rattle.shared_book.specs.Audits.{IsTallied};
-ghost use Rattle.shared_book.specs.Receipts.{number_of, body_of, receipt_of, IsNext};
+ghost use Rattle.shared_book.specs.inner.Audits.{IsTallied};
+ghost use Rattle.shared_book.specs.Receipts.{number_of, body_of, receipt_of};
+ghost use Rattle.shared_book.specs.inner.Receipts.{IsNext};
 
 use crate::receipt::{EventKind, Receipt};
 use crate::seat::{MAX_SEATS, Seat};

@@ -390,35 +390,6 @@ fn shared_series(rt: &impl Abort, alloc: Global, monotonic: bool) -> SharedId
     shared
 }
 
-/// The identity that is adopted has so many owners, and the other one has one.
-fn expect_owners(rt: &impl Abort, shared: &SharedId, other: &SharedId, owners: usize) {
-    look::count(rt, shared.owners(), owners, "owners");
-    look::count(rt, other.owners(), 1, "owners of the other");
-}
-
-#[test]
-fn points_adopt_equal_identities(rt: HostRuntime) {
-    let alloc = rt.alloc();
-    let shared = shared_series(&rt, alloc, false);
-    let other = shared_series(&rt, alloc, true);
-    let mut point = sum(&rt, alloc, 10, 20, 7);
-    point.adopt(&other);
-    expect_owners(&rt, &shared, &other, 1);
-    point.adopt(&shared);
-    expect_owners(&rt, &shared, &other, 2);
-    expect_row(&rt, &point, &[1, 7, 0]);
-    let mut points = Points::new(alloc);
-    points
-        .push(sum(&rt, alloc, 20, 30, 8))
-        .expect(&rt, "memory");
-    points.adopt(0, &shared);
-    points.adopt(0, &other);
-    expect_owners(&rt, &shared, &other, 3);
-    let copy = points.copy(alloc).expect(&rt, "memory");
-    expect_owners(&rt, &shared, &other, 3);
-    look::holds(&rt, copy.is_same(&points), "the same points");
-}
-
 #[test]
 fn points_of_one_identity_share_it(rt: HostRuntime) {
     let alloc = rt.alloc();

@@ -1,7 +1,7 @@
 //! A worker that pauses until a flag is set, and a connection of given bytes.
 use byte_ends::{Script, Tape};
 use gate_workers::{Connection, Keeper, Pace, Served, Spot, serve_with};
-use otlp_read::Memo;
+use otlp_read::IdentityCache;
 use std::alloc::Global;
 use std::sync::atomic::{AtomicBool, Ordering};
 use std::thread;
@@ -57,6 +57,9 @@ impl<'a, R: Clock> PauseAt<'a, R> {
 }
 
 impl<R: Clock> Pace for PauseAt<'_, R> {
+    /// What it waits for no contract says.
+    ghost reaches = { λ before spot after. Unit {0} };
+
     fn at(&mut self, spot: Spot) {
         if spot != self.spot || self.flags.paused.swap(true, Ordering::SeqCst) {
             return;
@@ -81,6 +84,9 @@ impl<'a, R: Clock> After<'a, R> {
 }
 
 impl<R: Clock> Pace for After<'_, R> {
+    /// What it waits for no contract says.
+    ghost reaches = { λ before spot after. Unit {0} };
+
     fn at(&mut self, spot: Spot) {
         if spot == Spot::BodyRead && !is_set_in_time(self.rt, &self.flags.paused) {
             self.flags.late.store(true, Ordering::SeqCst);
@@ -112,11 +118,11 @@ impl Connection for Scripted<'_> {
         alloc: Global,
         keeper: &mut K,
         pace: &mut P,
-        memo: &mut Memo,
+        cache: &mut IdentityCache,
     ) -> Served {
         let mut reader = Script::new(self.bytes, &[]);
         let mut writer = Tape::new(alloc, &[]);
-        let served = serve_with(alloc, keeper, &mut reader, &mut writer, pace, memo);
+        let served = serve_with(alloc, keeper, &mut reader, &mut writer, pace, cache);
         if writer.taken() == self.response {
             self.answered.store(true, Ordering::SeqCst);
         }

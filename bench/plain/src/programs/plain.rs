@@ -59,11 +59,13 @@ struct Attribute {
 }
 
 #[derive(Deserialize)]
-#[serde(rename_all = "camelCase")]
 enum AnyValue {
-    StringValue(String),
-    IntValue(Number),
-    BoolValue(bool),
+    #[serde(rename = "stringValue")]
+    Text(String),
+    #[serde(rename = "intValue")]
+    Int(Number),
+    #[serde(rename = "boolValue")]
+    Bool(bool),
 }
 
 #[derive(Deserialize)]
@@ -136,9 +138,9 @@ fn natural(number: Number) -> Result<u64, &'static str> {
 fn sorted(attributes: Vec<Attribute>) -> Result<Pairs, &'static str> {
     let pair = |Attribute { key, value }| {
         let value = match value {
-            AnyValue::StringValue(text) => Value::Text(text),
-            AnyValue::IntValue(number) => Value::Int(signed(number)?),
-            AnyValue::BoolValue(value) => Value::Bool(value),
+            AnyValue::Text(text) => Value::Text(text),
+            AnyValue::Int(number) => Value::Int(signed(number)?),
+            AnyValue::Bool(value) => Value::Bool(value),
         };
         Ok((key, value))
     };

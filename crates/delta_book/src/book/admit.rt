@@ -4,7 +4,7 @@ ghost use Rattle.std.specs.Prelude.{◌≡◌, ◌+◌, ◌<◌, length, IfOk, I
 use crate::book::Book;
 use crate::faults::AdmitFault;
 use crate::lists::has_sender;
-use crate::open::Open;
+use crate::open::JournalRef;
 use crate::put::put_batch;
 use metric_events::batch::Batch;
 use metric_events::entry::Entry;
@@ -59,7 +59,7 @@ impl Book {
         ) {
             return Err((fault, body));
         }
-        self.opened.push_reserved(Open {
+        self.opened.push_reserved(JournalRef {
             number,
             entry: self.entries.len(),
         });

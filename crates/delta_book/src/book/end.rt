@@ -4,12 +4,12 @@ ghost use Rattle.std.specs.Prelude.{◌≡◌, ◌<◌, ℕ, true, IfErr, OnOk, 
 ghost use Rattle.series_id.specs.Identity.{Identity};
 ghost use Rattle.metric_events.specs.Settled.{SendsBefore, is_settled_in, is_taken_before};
 ghost use Rattle.metric_events.specs.Strike.{CanBeStruck, is_reversal};
-ghost use Rattle.delta_book.specs.Flushes.{EndsFlush};
+ghost use Rattle.delta_book.specs.inner.Flushes.{EndsFlush};
 ghost use Rattle.delta_book.specs.Journal.{history, Appends};
 ghost use Rattle.delta_book.specs.Refusals.{flush_refusal, undo_refusal, confirm_refusal};
 
 use crate::book::Book;
-use crate::cells::{is_all_home, land, remove_batch};
+use crate::cells::{end_in_cells, is_all_home, remove_batch};
 use crate::faults::{NotLive, NotOpen, UndoFault};
 use crate::open::{close, find_entry, points_at, series_at};
 use metric_events::entry::Entry;
@@ -38,7 +38,7 @@ impl Book {
         let Some(at) = find_entry(&self.live, flush) else {
             return Err(NotLive);
         };
-        land(&mut self.cells, place, series_at(&self.entries, at));
+        end_in_cells(&mut self.cells, place, series_at(&self.entries, at));
         self.entries.push_reserved(Entry { seat, event });
         close(&mut self.live, flush);
         Ok(())

@@ -1,48 +1,15 @@
 //! Takes a flush.
-ghost use Rattle.std.specs.Prelude.{◌≡◌, ◌≢◌, ◌≤◌, [], List, length, nat_lt, ◌&&◌, map, IfNone};
+ghost use Rattle.std.specs.Prelude.{◌≡◌, ◌≢◌, ◌≤◌, [], length, nat_lt, ◌&&◌, IfNone};
 ghost use Rattle.std.specs.Prelude.{IfSome, IfOk, IfErr, OnErr, if◌then◌else◌};
-ghost use Rattle.metric_events.specs.Choice.{present};
-ghost use Rattle.metric_events.specs.declared.accepted.Accepted.{Accepted};
-ghost use Rattle.delta_book.specs.AtHome.{home_point};
-ghost use Rattle.delta_book.specs.Tables.{AreCells, AreBooked};
-ghost use Rattle.delta_book.specs.Ready.{first_ready};
 
 use crate::book::Book;
-use crate::cells::take_off;
+use crate::cells::mark_in_flight;
 use crate::faults::TakeFault;
-use crate::flush::{Flush, FlushPoints, choose, has_ready, home_sums};
-use crate::open::Open;
+use crate::flush::{Flush, Load, has_ready, prepare};
+use crate::open::JournalRef;
 use metric_events::entry::Entry;
 use metric_events::event::Event;
 use metric_events::limits::{MAX_LIVE, MAX_TAKEN};
-use metric_events::sender_name::SenderName;
-use metric_events::series_list::SeriesList;
-use series_cell::cell::Cell;
-use std::alloc::{AllocError, Global};
-
-/// What a flush takes: its series, and the points that it sends.
-#[derive(Drop)]
-struct Load {
-    series: SeriesList,
-    points: FlushPoints,
-}
-
-fn prepare(
-    alloc: Global,
-    cells: &[Cell],
-    held: &[SenderName],
-    max: usize,
-) -> Result<Load, AllocError>
-    requires { AreBooked cells.now }
-    ensures series { IfOk result (λ l. l.series ≡ first_ready held.now max cells.now) }
-    ensures points { (qs : List Accepted) → AreCells cells.now qs
-        → IfOk result (λ l. l.points ≡ present (map (home_point qs)
-        (first_ready held.now max cells.now))) }
-{
-    let series = SeriesList::new(choose(alloc, cells, held, max)?);
-    let points = home_sums(alloc, cells, series.as_slice())?;
-    Ok(Load { series, points })
-}
 
 impl Book {
     ghost use Rattle.delta_book.specs.Journal.{history};
@@ -86,8 +53,8 @@ impl Book {
             return Err(TakeFault::NoMemory);
         };
         let Load { series, points } = load;
-        take_off(&mut self.cells, number, series.as_slice());
-        self.live.push_reserved(Open {
+        mark_in_flight(&mut self.cells, number, series.as_slice());
+        self.live.push_reserved(JournalRef {
             number,
             entry: self.entries.len(),
         });

@@ -9,7 +9,7 @@ use crate::lenient::{Anything, Field, Nothing, Wanted};
 /// Each name that is known in some object.
 #[derive(Deserialize)]
 #[serde(field_identifier, rename_all = "camelCase")]
-enum Name {
+enum Member {
     AggregationTemporality,
     ArrayValue,
     AsDouble,
@@ -62,8 +62,10 @@ macro_rules! objects {
                 let mut object = $object::default();
                 while let Some(name) = from.next_key()? {
                     match name {
-                        $(Name::$name => object.$field = from.next_value()?,)*
-                        _ => drop(from.next_value::<Anything>()?),
+                        $(Member::$name => object.$field = from.next_value()?,)*
+                        _ => {
+                                from.next_value::<Anything>()?;
+                            }
                     }
                 }
                 Ok(Some(object))

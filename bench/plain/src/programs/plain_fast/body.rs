@@ -59,15 +59,16 @@ pub struct Attribute<'a> {
 }
 
 #[derive(Deserialize, Default)]
-#[serde(rename_all = "camelCase")]
 pub enum AnyValue<'a> {
     #[default]
     #[serde(skip)]
     Empty,
-    #[serde(borrow)]
-    StringValue(Cow<'a, str>),
-    IntValue(Signed),
-    BoolValue(bool),
+    #[serde(borrow, rename = "stringValue")]
+    Text(Cow<'a, str>),
+    #[serde(rename = "intValue")]
+    Int(Signed),
+    #[serde(rename = "boolValue")]
+    Bool(bool),
 }
 
 #[derive(Deserialize)]

@@ -31,9 +31,9 @@ impl Pair for Attribute<'_> {
     fn value(&self) -> Single<'_> {
         match &self.value {
             AnyValue::Empty => Single::Empty,
-            AnyValue::StringValue(text) => Single::Text(text),
-            AnyValue::IntValue(number) => Single::Int(number.0),
-            AnyValue::BoolValue(it) => Single::Bool(*it),
+            AnyValue::Text(text) => Single::Text(text),
+            AnyValue::Int(number) => Single::Int(number.0),
+            AnyValue::Bool(it) => Single::Bool(*it),
         }
     }
 }

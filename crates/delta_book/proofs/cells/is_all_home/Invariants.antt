@@ -2,7 +2,8 @@ use Rattle.std.proofs.Common.{◌≡◌, List, drop}
 use Rattle.std.specs.List.{list_all}
 use Rattle.metric_events.specs.Legal.{is_batch_home}
 use Rattle.metric_events.specs.declared.accepted.Accepted.{Accepted}
-use Rattle.delta_book.specs.Tables.{AreCells, IsEntered}
+use Rattle.delta_book.specs.Tables.{AreCells}
+use Rattle.delta_book.specs.inner.Tables.{IsEntered}
 use Rattle.delta_book.proofs.Entered.{is_home_at}
 use Rattle.delta_book.proofs.cells.is_all_home.Given as goal
 

@@ -1,5 +1,5 @@
 use Rattle.std.proofs.Common.{◌≡◌, ◌+◌, ◌*◌, ◌^◌, ◌≤◌, drop}
-use Rattle.delta_book.specs.Batches.{word_in}
+use Rattle.delta_book.specs.inner.Batches.{word_in}
 use Rattle.delta_book.proofs.limits.batch_word.Given as goal
 
 abbrev pub invariant-loop-p : goal.invariant-loop-p

@@ -2,7 +2,7 @@ use Rattle.std.proofs.Common.{sym, ◌∙◌, ap, not, arith}
 use Rattle.std.specs.Prelude.{slice_index}
 use Rattle.std.proofs.lemmas.Bool.{ltb-true, ltb-false}
 use Rattle.metric_events.specs.Rows.{word_limit}
-use Rattle.delta_book.specs.Batches.{sum_with}
+use Rattle.delta_book.specs.inner.Batches.{sum_with}
 use Rattle.delta_book.proofs.Words.{all_within, not_within, one_more_within}
 use Rattle.delta_book.proofs.limits.has_large_word.Goals as goal
 

@@ -1,7 +1,7 @@
 use Rattle.std.proofs.Common.{ℕ, List, ◌<◌, ◌≤◌}
 use Rattle.std.specs.Prelude.{slice_index}
 use Rattle.metric_events.specs.Rows.{word_limit}
-use Rattle.delta_book.specs.Batches.{sum_with}
+use Rattle.delta_book.specs.inner.Batches.{sum_with}
 use Rattle.metric_events.specs.declared.accepted.Accepted.{Accepted}
 use Rattle.delta_book.specs.Tables.{AreCells}
 use Rattle.delta_book.proofs.limits.has_large_word.Given as goal

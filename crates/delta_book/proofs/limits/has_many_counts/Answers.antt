@@ -2,7 +2,7 @@ use Rattle.std.proofs.Common.{sym, ap, drop, sum, arith}
 use Rattle.std.proofs.lemmas.Bool.{lt-ltb, le-ltb}
 use Rattle.std.proofs.lemmas.List.{drop_all}
 use Rattle.metric_events.specs.declared.limits.TheConstants.{MAX_COUNT}
-use Rattle.delta_book.specs.Batches.{sum_with}
+use Rattle.delta_book.specs.inner.Batches.{sum_with}
 use Rattle.delta_book.proofs.Words.{sum_rest}
 use Rattle.delta_book.proofs.limits.has_many_counts.Goals as goal
 

@@ -1,6 +1,6 @@
 use Rattle.std.proofs.Common.{◌≡◌, ℕ, List, ◌+◌, ◌≤◌, drop, length, sum}
 use Rattle.metric_events.specs.declared.limits.TheConstants.{MAX_COUNT}
-use Rattle.delta_book.specs.Batches.{sum_with}
+use Rattle.delta_book.specs.inner.Batches.{sum_with}
 use Rattle.metric_events.specs.declared.accepted.Accepted.{Accepted}
 use Rattle.delta_book.specs.Tables.{AreCells}
 use Rattle.delta_book.proofs.limits.has_many_counts.Given as goal

@@ -4,7 +4,7 @@ use Rattle.series_id.specs.Identity.{Identity}
 use Rattle.metric_events.specs.Points.{admitted}
 use Rattle.metric_events.specs.Rows.{fits}
 use Rattle.metric_events.specs.Legal.{is_too_large}
-use Rattle.delta_book.specs.Batches.{sum_with}
+use Rattle.delta_book.specs.inner.Batches.{sum_with}
 use Rattle.delta_book.proofs.Words.{length-with, large_here, large_later}
 use Rattle.delta_book.proofs.limits.is_large.Goals as goal
 

@@ -3,7 +3,7 @@ use Rattle.metric_events.specs.Points.{admitted}
 use Rattle.metric_events.specs.Legal.{is_too_large}
 use Rattle.metric_events.specs.declared.accepted.Accepted.{Accepted}
 use Rattle.delta_book.specs.Tables.{AreCells}
-use Rattle.delta_book.specs.AtHome.{AreAccepted}
+use Rattle.delta_book.specs.inner.AtHome.{AreAccepted}
 use Rattle.delta_book.proofs.limits.is_large.Given as goal
 
 abbrev pub invariant-loop-p : goal.invariant-loop-p

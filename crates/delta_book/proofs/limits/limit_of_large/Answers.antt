@@ -1,8 +1,8 @@
 use Rattle.std.proofs.Common.{◌∙◌, sym, refl}
 use Rattle.delta_book.proofs.limits.limit_of_large.Goals as goal
 
-pub returns-then-has_many : goal.returns-then-has_many
-returns-then-has_many c = λ qs h. rw (sym (c.has_many.ensures qs h) ∙ c.if-has_many.true) refl
+pub returns-then-exceeds_max_series : goal.returns-then-exceeds_max_series
+returns-then-exceeds_max_series c = λ qs h. rw (sym (c.exceeds_max_series.ensures qs h) ∙ c.if-exceeds_max_series.true) refl
 
-pub returns-else-has_many : goal.returns-else-has_many
-returns-else-has_many c = λ qs h. rw (sym (c.has_many.ensures qs h) ∙ c.if-has_many.false) refl
+pub returns-else-exceeds_max_series : goal.returns-else-exceeds_max_series
+returns-else-exceeds_max_series c = λ qs h. rw (sym (c.exceeds_max_series.ensures qs h) ∙ c.if-exceeds_max_series.false) refl

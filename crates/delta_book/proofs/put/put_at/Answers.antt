@@ -1,14 +1,14 @@
 use Rattle.std.proofs.Common.{◌∙◌, ap, sym, get_or}
 use Rattle.series_cell.specs.Cells.{CellView}
 use Rattle.delta_book.proofs.Asked.{cell_of}
-use Rattle.delta_book.specs.Parts.{part_of}
-use Rattle.delta_book.proofs.PutIn.{fault_is, clear, row_long, fits_at, stops_at, put_set, same_set, then_ok, then_err, then_stop, any_ok}
+use Rattle.delta_book.specs.inner.Parts.{part_of}
+use Rattle.delta_book.proofs.PutIn.{fault_is, clear, row_long, fits_at, rejects_at, put_set, same_set, then_ok, then_err, then_rejection, any_ok}
 use Rattle.delta_book.proofs.Searching.{same_at}
 use Rattle.delta_book.proofs.Tables.{at_id}
 use Rattle.delta_book.proofs.put.put_at.Goals as goal
 
-pub returns-in-Some-clause-stop : goal.returns-in-Some-clause-stop
-returns-in-Some-clause-stop c = λ qs h.
+pub returns-in-Some-clause-rejection : goal.returns-in-Some-clause-rejection
+returns-in-Some-clause-rejection c = λ qs h.
     sym (fault_is c.args.cells.now c.args.i (get_or c.args.cells.now c.args.i c.index-cells-i.result) qs c.args.sender.now c.args.place c.args.point.now c.requires.inside (ap (get_or c.args.cells.now c.args.i) c.index-cells-i.is) c.requires.there h) ∙ sym c.in-Some.ensures
 
 pub put_part-requires-clause-series : goal.put_part-requires-clause-series
@@ -24,7 +24,7 @@ returns-clause-put c =
     let e = ap (get_or c.args.cells.now c.args.i) c.index-cells-i-2.is in
     let same = same_at c.args.cells.now c.args.i old cell c.requires.inside (ap (get_or c.args.cells.now c.args.i) c.index-cells-i.is) e in
     then_ok c.put_part.result _ _
-    (λ k qs h. put_set c.args.cells.now c.args.i cell c.put_part.new.cell c.args.number c.args.sender.now qs (part_of c.args.part c.args.point.now) c.requires.inside e c.requires.there (clear old cell c.args.sender.now c.args.place c.args.point.now same c.in_default.ensures).owner c.put_part.ensures.same k h)
+    (λ k qs h. put_set c.args.cells.now c.args.i cell c.put_part.new.cell c.args.number c.args.sender.now qs (part_of c.args.fill c.args.point.now) c.requires.inside e c.requires.there (clear old cell c.args.sender.now c.args.place c.args.point.now same c.in_default.ensures).owner c.put_part.ensures.same k h)
     c.put_part.ensures.put
 
 pub returns-clause-within : goal.returns-clause-within
@@ -45,9 +45,9 @@ returns-clause-next c =
     any_ok c.put_part.result _
     (λ qs h. sym (fault_is c.args.cells.now c.args.i (get_or c.args.cells.now c.args.i c.index-cells-i.result) qs c.args.sender.now c.args.place c.args.point.now c.requires.inside (ap (get_or c.args.cells.now c.args.i) c.index-cells-i.is) c.requires.there h) ∙ sym c.in_default.ensures)
 
-pub returns-clause-stop : goal.returns-clause-stop
-returns-clause-stop c =
+pub returns-clause-rejection : goal.returns-clause-rejection
+returns-clause-rejection c =
     let cell : CellView = get_or c.args.cells.now c.args.i c.index-cells-i-2.result in
-    then_stop c.put_part.result _ _
-    (λ e k qs h. stops_at e c.args.part _ qs c.args.sender.now c.args.place c.args.point.now (fits_at cell qs c.args.point.now (cell_of c.args.cells.now qs c.args.i cell c.args.point.now.series h c.requires.inside (ap (get_or c.args.cells.now c.args.i) c.index-cells-i-2.is) c.requires.there).sum) k)
-    c.put_part.ensures.stop
+    then_rejection c.put_part.result _ _
+    (λ e k qs h. rejects_at e c.args.fill _ qs c.args.sender.now c.args.place c.args.point.now (fits_at cell qs c.args.point.now (cell_of c.args.cells.now qs c.args.i cell c.args.point.now.series h c.requires.inside (ap (get_or c.args.cells.now c.args.i) c.index-cells-i-2.is) c.requires.there).sum) k)
+    c.put_part.ensures.rejection

@@ -1,8 +1,8 @@
 use Rattle.std.proofs.Common.{refl, ap, length}
 use Rattle.gate_workers.proofs.flush.flush_turn.Goals as goal
 
-pub returns : goal.returns
-returns g c = (
+pub returns-clause-turn : goal.returns-clause-turn
+returns-clause-turn g c = (
   c.in-Ok-Some.flush,
   c.take.new.self,
   rw c.in-Ok-Some.field-0-is at c.in-Ok-Some.ensures,

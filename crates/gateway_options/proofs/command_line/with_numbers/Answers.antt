@@ -2,7 +2,7 @@ use Rattle.std.proofs.Common.{◌+◌, ◌∙◌, ap, sym, refl, drop, map}
 use Rattle.std.proofs.lemmas.List.{at_drop_more, drop_all}
 use Rattle.clap.specs.Words.{app_of}
 use Rattle.gateway_options.specs.CommandLine.{with_numbers}
-use Rattle.gateway_options.specs.NumberOption.{described}
+use Rattle.gateway_options.specs.inner.NumberOption.{described}
 use Rattle.gateway_options.proofs.Adding.{added}
 use Rattle.gateway_options.proofs.command_line.with_numbers.Goals as goal
 

@@ -1,7 +1,8 @@
 use Rattle.std.proofs.Common.{◌≡◌, drop, map}
 use Rattle.clap.specs.Words.{app_of}
-use Rattle.gateway_options.specs.CommandLine.{IsOwn, with_numbers}
-use Rattle.gateway_options.specs.NumberOption.{described}
+use Rattle.gateway_options.specs.CommandLine.{with_numbers}
+use Rattle.gateway_options.specs.inner.CommandLine.{IsOwn}
+use Rattle.gateway_options.specs.inner.NumberOption.{described}
 use Rattle.gateway_options.proofs.command_line.with_numbers.Given as goal
 
 abbrev pub invariant-loop-number : goal.invariant-loop-number

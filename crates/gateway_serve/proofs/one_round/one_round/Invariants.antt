@@ -7,5 +7,5 @@ ghosts-round_over-L-Ledger g a = record { name = a.blank.name; parts = a.blank.p
 abbrev pub ghosts-round_over-L-Round : goal.ghosts-round_over-L-Round
 ghosts-round_over-L-Round g a = record { opening = a.book.opening }
 
-abbrev pub ghosts-round_over-L-Beginning : goal.ghosts-round_over-L-Beginning
-ghosts-round_over-L-Beginning g a = record { entrance = Some a.entrance; connections = a.connections }
+abbrev pub ghosts-round_over-L-RoundStart : goal.ghosts-round_over-L-RoundStart
+ghosts-round_over-L-RoundStart g a = record { listener = Some a.listener; connections = a.connections }

@@ -1,5 +1,6 @@
 use Rattle.std.proofs.Common.{List, ◌∷◌, ◌-◌}
-use Rattle.gateway_serve.specs.Rounds.{ServedRound, AreServed, IsRun}
+use Rattle.gateway_serve.specs.Rounds.{ServedRound, IsRun}
+use Rattle.gateway_serve.specs.inner.Rounds.{AreServed}
 use Rattle.gateway_serve.proofs.ServedRounds.{AreThrough}
 use Rattle.gateway_serve.proofs.rounds.serve_rounds.Given as goal
 

@@ -6,5 +6,5 @@ use Rattle.gateway_serve.proofs.workers.serve_beside.Goals as goal
 pub returns : goal.returns
 returns g c = record {
   accepted = on_ok_weaker c.end.result (λ all.
-      ∥∥₁_map all (λ a. rw (sym c.requires.entrance, sym c.requires.connections) a)) c.end.ensures;
+      ∥∥₁_map all (λ a. rw (sym c.requires.listener, sym c.requires.connections) a)) c.end.ensures;
 }

@@ -2,8 +2,9 @@ use Rattle.std.proofs.Common.{◌≡◌, ◌++◌, List, ℕ, map, length, take,
 use Rattle.std.proofs.lemmas.Result.{err_from_is_err_and}
 use Rattle.std.proofs.lemmas.List.{take-append-drop}
 use Rattle.httparse.specs.Spans.{header_bytes}
-use Rattle.http_edge.specs.Framing.{framing_by, Frames}
-use Rattle.http_edge.specs.Head.{LooksForHead}
+use Rattle.http_edge.specs.Framing.{framing_by}
+use Rattle.http_edge.specs.inner.Framing.{Frames}
+use Rattle.http_edge.specs.inner.Head.{LooksForHead}
 use Rattle.http_edge.specs.Answer.{Fails}
 use Rattle.http_edge.proofs.FaultLemmas.{looks_fails, frames_fails, head_found, fails_more}
 use Rattle.http_edge.proofs.MachineLemmas.{head_ends, head_whole, framing_found, framed_ok}

@@ -1,6 +1,6 @@
 use Rattle.std.proofs.Common.{◌≡◌, take}
 use Rattle.std.specs.List.{flat_map}
-use Rattle.http_edge.specs.WriteBuffer.{Passes}
+use Rattle.http_edge.specs.inner.WriteBuffer.{Passes}
 use Rattle.http_edge.proofs.write.write_parts.Given as goal
 
 abbrev pub invariant-loop-part : goal.invariant-loop-part

@@ -9,8 +9,8 @@ loop-name-preserved c =
     let here = rest_more deref_pair c.loop-name.name-iterator c.next.new.self c.next.result (c.in-Some.name, c.in-Some.member) c.in-Some.is c.next.ensures.steps in
     let name = c.as_str-name.ensures.value in
     record {
-      key = passed_more (codes "key") _ _ _ _ _ _ here (rw name at c.take_named.ensures) c.loop-name.invariant.key;
-      value = passed_more (codes "value") _ _ _ _ _ _ here (rw name at c.take_named-in-loop-name.ensures) c.loop-name.invariant.value;
+      key = passed_more (codes "key") _ _ _ _ _ _ here (rw name at c.set_if_named.ensures) c.loop-name.invariant.key;
+      value = passed_more (codes "value") _ _ _ _ _ _ here (rw name at c.set_if_named-in-loop-name.ensures) c.loop-name.invariant.value;
     }
 
 pub returns : goal.returns

@@ -14,5 +14,5 @@ pub returns-then-flags_fit-clause-fields : goal.returns-then-flags_fit-clause-fi
 unfolding histogram_fields
 returns-then-flags_fit-clause-fields c =
     let is = object_is (view c.args.value.now) _ (sym c.in_ok-as_object.ensures) in
-    let read = c.histogram_members-members.ensures in
+    let read = c.point_members-members.ensures in
     rw (is, ← read.start, ← c.in_ok-start.ensures, ← read.end, ← c.in_ok-end.ensures, ← read.count, ← c.in_ok-count.ensures, ← read.total, ← c.in_ok-total.ensures, ← read.flags, ← c.if-flags_fit.ensures) refl

@@ -1,7 +1,7 @@
 use Rattle.std.proofs.Common.{sym, ◌∙◌, rules, w64}
 use Rattle.std.proofs.lemmas.Int.{to_z-of_z}
 use Rattle.std.specs.Prelude.{FitsSigned}
-use Rattle.otlp_read.specs.Whole.{signed_in}
+use Rattle.otlp_read.specs.Integers.{signed_in}
 use Rattle.otlp_read.proofs.ListLemmas.{all_more, all_stop, all_done}
 use Rattle.otlp_read.proofs.lists.signed_numbers.Goals as goal
 

@@ -1,6 +1,6 @@
 use Rattle.std.proofs.Common.{◌≡◌, drop, map}
 use Rattle.serde_json.specs.View.{view}
-use Rattle.otlp_read.specs.Whole.{signed_in}
+use Rattle.otlp_read.specs.Integers.{signed_in}
 use Rattle.otlp_read.specs.Lists.{all_of}
 use Rattle.otlp_read.proofs.ListLemmas.{with_front}
 use Rattle.otlp_read.proofs.lists.signed_numbers.Given as goal

@@ -1,5 +1,5 @@
 use Rattle.std.proofs.Common.{sym, ◌∙◌}
-use Rattle.otlp_read.specs.Whole.{unsigned_in}
+use Rattle.otlp_read.specs.Integers.{unsigned_in}
 use Rattle.otlp_read.proofs.ListLemmas.{all_more, all_stop, all_done}
 use Rattle.otlp_read.proofs.lists.unsigned_numbers.Goals as goal
 

@@ -1,6 +1,6 @@
 use Rattle.std.proofs.Common.{◌≡◌, drop, map}
 use Rattle.serde_json.specs.View.{view}
-use Rattle.otlp_read.specs.Whole.{unsigned_in}
+use Rattle.otlp_read.specs.Integers.{unsigned_in}
 use Rattle.otlp_read.specs.Lists.{all_of}
 use Rattle.otlp_read.proofs.ListLemmas.{with_front}
 use Rattle.otlp_read.proofs.lists.unsigned_numbers.Given as goal

@@ -1,6 +1,6 @@
 use Rattle.std.proofs.Common.{arith}
 use Rattle.series_id.specs.Sorting.{pair_of as pair_in}
-use Rattle.otlp_read.specs.RefViews.{pair_data}
+use Rattle.otlp_read.specs.inner.RefViews.{pair_data}
 use Rattle.otlp_read.proofs.LookupLemmas.{alike_more, alike_all}
 use Rattle.otlp_read.proofs.lookup.are_pairs.Goals as goal
 

@@ -1,6 +1,6 @@
 use Rattle.std.proofs.Common.{map, sym, ap, ◌∙◌}
 use Rattle.series_id.specs.Sorting.{pair_of as pair_in}
-use Rattle.otlp_read.specs.StreamViews.{stream_data}
+use Rattle.otlp_read.specs.inner.StreamViews.{stream_data}
 use Rattle.otlp_read.proofs.LookupLemmas.{series_is}
 use Rattle.otlp_read.proofs.lookup.is_series.Goals as goal
 

@@ -1,5 +1,5 @@
 use Rattle.std.proofs.Common.{sym}
-use Rattle.otlp_read.specs.StreamViews.{stream_data}
+use Rattle.otlp_read.specs.inner.StreamViews.{stream_data}
 use Rattle.otlp_read.proofs.LookupLemmas.{series_of_list}
 use Rattle.otlp_read.proofs.lookup.look_up.Goals as goal
 

@@ -1,6 +1,6 @@
 use Rattle.std.proofs.Common.{◌≡◌, arith, length, Some, ap, refl, sym, map, take, ◌∙◌}
 use Rattle.otlp_read.specs.Attributes.{pair_of}
-use Rattle.otlp_read.specs.RefViews.{pair_data}
+use Rattle.otlp_read.specs.inner.RefViews.{pair_data}
 use Rattle.otlp_read.proofs.LookupLemmas.{put_more}
 use Rattle.otlp_read.proofs.ListLemmas.{all_done}
 use Rattle.otlp_read.proofs.lookup.put_pairs.Goals as goal

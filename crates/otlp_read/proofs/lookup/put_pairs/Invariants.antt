@@ -2,7 +2,7 @@ use Rattle.std.proofs.Common.{◌≡◌, map, take, drop}
 use Rattle.serde_json.specs.View.{view}
 use Rattle.otlp_read.specs.Lists.{all_of}
 use Rattle.otlp_read.specs.Attributes.{pair_of}
-use Rattle.otlp_read.specs.RefViews.{pair_data}
+use Rattle.otlp_read.specs.inner.RefViews.{pair_data}
 use Rattle.otlp_read.proofs.ListLemmas.{with_front}
 use Rattle.otlp_read.proofs.lookup.put_pairs.Given as goal
 

@@ -1,7 +1,7 @@
 use Rattle.std.proofs.Common.{option_map}
 use Rattle.otlp_read.specs.Tallies.{tally}
 use Rattle.otlp_read.specs.Histograms.{histogram_point_in}
-use Rattle.otlp_read.specs.StreamViews.{stream_data}
+use Rattle.otlp_read.specs.inner.StreamViews.{stream_data}
 use Rattle.otlp_read.proofs.WalkLemmas.{each_point_more, each_point_done}
 use Rattle.otlp_read.proofs.metrics.histogram_points.Goals as goal
 

@@ -1,7 +1,7 @@
 use Rattle.std.proofs.Common.{option_map}
 use Rattle.otlp_read.specs.Tallies.{tally}
 use Rattle.otlp_read.specs.Sums.{sum_point_in}
-use Rattle.otlp_read.specs.StreamViews.{sum_stream_data}
+use Rattle.otlp_read.specs.inner.StreamViews.{sum_stream_data}
 use Rattle.otlp_read.proofs.WalkLemmas.{each_point_more, each_point_done}
 use Rattle.otlp_read.proofs.metrics.sum_points.Goals as goal
 

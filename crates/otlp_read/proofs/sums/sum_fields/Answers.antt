@@ -16,7 +16,7 @@ pub returns-else-is_whole_value-clause-fields : goal.returns-else-is_whole_value
 unfolding sum_fields is_whole_value
 returns-else-is_whole_value-clause-fields c =
     let is = object_is (view c.args.value.now) _ (sym c.in_ok-as_object.ensures) in
-    let read = c.sum_members-members.ensures in
+    let read = c.point_members-members.ensures in
     rw (is, ← read.start, ← c.in_ok-start.ensures, ← read.end, ← c.in_ok-end.ensures, ← read.number, ← c.in_ok-number.ensures, ← read.flags, ← read.double, ← c.if-is_whole_value.ensures) refl
 
 pub returns-then-is_whole_value-clause-fields : goal.returns-then-is_whole_value-clause-fields
@@ -24,5 +24,5 @@ unfolding sum_fields is_whole_value
 returns-then-is_whole_value-clause-fields c =
     let f : FitsSigned w64 c.in_ok-number.number = search rules in
     let is = object_is (view c.args.value.now) _ (sym c.in_ok-as_object.ensures) in
-    let read = c.sum_members-members.ensures in
+    let read = c.point_members-members.ensures in
     rw (is, ← read.start, ← c.in_ok-start.ensures, ← read.end, ← c.in_ok-end.ensures, ← read.number, ← c.in_ok-number.ensures, ← read.flags, ← read.double, ← c.if-is_whole_value.ensures, to_z-of_z) refl

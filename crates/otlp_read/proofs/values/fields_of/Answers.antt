@@ -10,13 +10,13 @@ loop-name-preserved c =
     let here = rest_more deref_pair c.loop-name.name-iterator c.next.new.self c.next.result (c.in-Some.name, c.in-Some.member) c.in-Some.is c.next.ensures.steps in
     let name = c.as_str-name.ensures.value in
     record {
-      text = passed_more (codes "stringValue") _ _ _ _ _ _ here (rw name at c.take_named.ensures) c.loop-name.invariant.text;
-      truth = passed_more (codes "boolValue") _ _ _ _ _ _ here (rw name at c.take_named-in-loop-name.ensures) c.loop-name.invariant.truth;
-      int = passed_more (codes "intValue") _ _ _ _ _ _ here (rw name at c.take_named-in-loop-name-2.ensures) c.loop-name.invariant.int;
-      list = passed_more (codes "arrayValue") _ _ _ _ _ _ here (rw name at c.take_named-in-loop-name-3.ensures) c.loop-name.invariant.list;
-      double = passed_more (codes "doubleValue") _ _ _ _ _ _ here (rw name at c.take_named-in-loop-name-4.ensures) c.loop-name.invariant.double;
-      map = passed_more (codes "kvlistValue") _ _ _ _ _ _ here (rw name at c.take_named-in-loop-name-5.ensures) c.loop-name.invariant.map;
-      bytes = passed_more (codes "bytesValue") _ _ _ _ _ _ here (rw name at c.take_named-in-loop-name-6.ensures) c.loop-name.invariant.bytes;
+      text = passed_more (codes "stringValue") _ _ _ _ _ _ here (rw name at c.set_if_named.ensures) c.loop-name.invariant.text;
+      truth = passed_more (codes "boolValue") _ _ _ _ _ _ here (rw name at c.set_if_named-in-loop-name.ensures) c.loop-name.invariant.truth;
+      int = passed_more (codes "intValue") _ _ _ _ _ _ here (rw name at c.set_if_named-in-loop-name-2.ensures) c.loop-name.invariant.int;
+      list = passed_more (codes "arrayValue") _ _ _ _ _ _ here (rw name at c.set_if_named-in-loop-name-3.ensures) c.loop-name.invariant.list;
+      double = passed_more (codes "doubleValue") _ _ _ _ _ _ here (rw name at c.set_if_named-in-loop-name-4.ensures) c.loop-name.invariant.double;
+      map = passed_more (codes "kvlistValue") _ _ _ _ _ _ here (rw name at c.set_if_named-in-loop-name-5.ensures) c.loop-name.invariant.map;
+      bytes = passed_more (codes "bytesValue") _ _ _ _ _ _ here (rw name at c.set_if_named-in-loop-name-6.ensures) c.loop-name.invariant.bytes;
     }
 
 pub returns : goal.returns

@@ -1,7 +1,7 @@
 use Rattle.std.proofs.lemmas.Result.{err_from_is_err_and}
 use Rattle.otlp_read.specs.Tallies.{tally}
 use Rattle.std.proofs.Common.{option_map}
-use Rattle.otlp_read.specs.StreamViews.{scope_data}
+use Rattle.otlp_read.specs.inner.StreamViews.{scope_data}
 use Rattle.otlp_read.specs.Metrics.{metric}
 use Rattle.otlp_read.proofs.WalkLemmas.{each_more, each_fails, each_done}
 use Rattle.otlp_read.proofs.walk.metrics.Goals as goal

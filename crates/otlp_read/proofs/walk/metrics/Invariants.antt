@@ -3,7 +3,7 @@ use Rattle.serde_json.specs.View.{view}
 use Rattle.otlp_read.specs.Tallies.{tally}
 use Rattle.otlp_read.specs.Reading.{each}
 use Rattle.std.proofs.Common.{option_map}
-use Rattle.otlp_read.specs.StreamViews.{scope_data}
+use Rattle.otlp_read.specs.inner.StreamViews.{scope_data}
 use Rattle.otlp_read.specs.Metrics.{metric}
 use Rattle.otlp_read.proofs.walk.metrics.Given as goal
 

@@ -1,7 +1,7 @@
 use Rattle.std.proofs.lemmas.Result.{err_from_is_err_and}
 use Rattle.otlp_read.specs.Tallies.{tally}
 use Rattle.std.proofs.Common.{option_map}
-use Rattle.otlp_read.specs.StreamViews.{resource_data}
+use Rattle.otlp_read.specs.inner.StreamViews.{resource_data}
 use Rattle.otlp_read.specs.Reading.{scope_metrics}
 use Rattle.otlp_read.proofs.WalkLemmas.{each_more, each_fails, each_done}
 use Rattle.otlp_read.proofs.walk.scopes.Goals as goal

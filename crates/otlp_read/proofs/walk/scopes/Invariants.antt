@@ -3,7 +3,7 @@ use Rattle.serde_json.specs.View.{view}
 use Rattle.otlp_read.specs.Tallies.{tally}
 use Rattle.otlp_read.specs.Reading.{each}
 use Rattle.std.proofs.Common.{option_map}
-use Rattle.otlp_read.specs.StreamViews.{resource_data}
+use Rattle.otlp_read.specs.inner.StreamViews.{resource_data}
 use Rattle.otlp_read.specs.Reading.{scope_metrics}
 use Rattle.otlp_read.proofs.walk.scopes.Given as goal
 

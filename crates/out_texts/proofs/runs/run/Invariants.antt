@@ -1,5 +1,5 @@
 use Rattle.std.proofs.Common.{◌≡◌, ◌+◌, drop}
-use Rattle.out_texts.specs.Groups.{run}
+use Rattle.out_texts.specs.inner.Groups.{run}
 use Rattle.out_texts.specs.Sharing.{same}
 use Rattle.out_texts.proofs.runs.run.Given as goal
 

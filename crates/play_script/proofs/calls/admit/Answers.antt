@@ -1,4 +1,4 @@
-use Rattle.play_script.specs.Views.{words_of_each}
+use Rattle.play_script.specs.inner.Views.{words_of_each}
 use Rattle.play_script.proofs.Answering.{point_refused, batch_refused}
 use Rattle.play_script.proofs.calls.admit.Goals as goal
 

@@ -1,7 +1,7 @@
 use Rattle.std.proofs.Common.{◌≡◌, length}
 use Rattle.std.specs.List.{AllByRecursion}
 use Rattle.series_id.specs.Pairs.{has_long_pair}
-use Rattle.series_id.specs.Values.{IsNarrow}
+use Rattle.series_id.specs.inner.Values.{IsNarrow}
 use Rattle.series_id.proofs.checks.has_long_pair.Given as goal
 
 abbrev pub invariant-loop-left : goal.invariant-loop-left

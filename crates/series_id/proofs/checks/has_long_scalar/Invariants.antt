@@ -1,7 +1,7 @@
 use Rattle.std.proofs.Common.{◌≡◌, length}
 use Rattle.std.specs.List.{AllByRecursion}
 use Rattle.series_id.specs.Pairs.{has_long_scalar}
-use Rattle.series_id.specs.Values.{IsNarrowScalar}
+use Rattle.series_id.specs.inner.Values.{IsNarrowScalar}
 use Rattle.series_id.proofs.checks.has_long_scalar.Given as goal
 
 abbrev pub invariant-loop-left : goal.invariant-loop-left

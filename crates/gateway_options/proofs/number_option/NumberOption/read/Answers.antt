@@ -4,8 +4,9 @@ use Rattle.clap.specs.declared.parser.matches.Found.{Found}
 use Rattle.clap.specs.Words.{Row, Text, first_of, first_value, found_of, rows_of}
 use Rattle.clap.proofs.WalkLemmas.{first_value-rows}
 use Rattle.decimals.specs.Numbers.{at_most, number, number_up_to}
-use Rattle.gateway_options.specs.CommandLine.{HasNoNumber, Number}
-use Rattle.gateway_options.specs.NumberOption.{described}
+use Rattle.gateway_options.specs.CommandLine.{Number}
+use Rattle.gateway_options.specs.inner.CommandLine.{HasNoNumber}
+use Rattle.gateway_options.specs.inner.NumberOption.{described}
 use Rattle.gateway_options.proofs.number_option.NumberOption.read.Goals as goal
 
 within : (most : ℕ) (o : Option ℕ) (n : ℕ) → at_most most o ≡ Some n → n ≤ most

@@ -2,7 +2,7 @@ use Rattle.std.proofs.Common.{List, ℕ, take, drop, length, ◌≤◌, arith, s
 use Rattle.std.proofs.Math.Seq.{take-add}
 use Rattle.std.proofs.lemmas.List.{take_rest, take-append-drop, length-drop}
 use Rattle.std.proofs.lemmas.Result.{err_from_is_err_and}
-use Rattle.http_edge.specs.Body.{body_state, Reaches, Refuses}
+use Rattle.http_edge.specs.inner.Body.{body_state, Reaches, Refuses}
 use Rattle.http_edge.proofs.BodyLemmas.{goes_on, stays, refused_later}
 use Rattle.http_edge.proofs.body.Body.feed.Goals as goal
 

@@ -1,5 +1,5 @@
 use Rattle.std.proofs.Common.{◌≤◌, ◌-◌, length, take}
-use Rattle.http_edge.specs.Body.{body_state, Reaches}
+use Rattle.http_edge.specs.inner.Body.{body_state, Reaches}
 use Rattle.http_edge.proofs.body.Body.feed.Given as goal
 
 abbrev pub invariant-steps : goal.invariant-steps

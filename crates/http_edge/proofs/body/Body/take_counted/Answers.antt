@@ -1,6 +1,6 @@
 use Rattle.std.proofs.Common.{◌≡◌, ◌-◌, ℕ, length, take, arith, subst, ◌∙◌}
 use Rattle.std.proofs.lemmas.List.{length-take-le}
-use Rattle.http_edge.specs.Body.{Reaches}
+use Rattle.http_edge.specs.inner.Body.{Reaches}
 use Rattle.http_edge.specs.declared.phase.Phase.TheVariants.{Counted}
 use Rattle.http_edge.proofs.BodyLemmas.{at, counted_more, counted_last}
 use Rattle.http_edge.proofs.body.Body.take_counted.Goals as goal

@@ -1,6 +1,7 @@
 use Rattle.std.proofs.Common.{◌≡◌, ◌++◌, ◌-◌, List, ℕ, take, drop, Option, arith, sym, subst, ◌∙◌}
 use Rattle.std.proofs.lemmas.List.{take-append-drop}
-use Rattle.http_edge.specs.Body.{IsOpen, Refuses}
+use Rattle.http_edge.specs.Body.{IsOpen}
+use Rattle.http_edge.specs.inner.Body.{Refuses}
 use Rattle.http_edge.specs.Chunks.{HasChunks}
 use Rattle.http_edge.specs.declared.fault.HttpFault.TheVariants.{BadChunk, BodyTooLong}
 use Rattle.http_edge.specs.declared.phase.Phase.TheVariants.{Line}

@@ -2,7 +2,8 @@ use Rattle.std.proofs.Common.{◌≡◌, ◌≤◌, ◌++◌, List, ℕ, [], len
 use Rattle.std.proofs.lemmas.List.{take_all, take-append-drop, length-append, length-take-le}
 use Rattle.httparse.specs.Grammar.{HasNoSection}
 use Rattle.httparse.specs.Spans.{SectionOverflows, IsSectionAt, IsSectionWithin}
-use Rattle.http_edge.specs.Body.{IsOpen, Refuses, Reaches}
+use Rattle.http_edge.specs.Body.{IsOpen}
+use Rattle.http_edge.specs.inner.Body.{Refuses, Reaches}
 use Rattle.http_edge.specs.declared.fault.HttpFault.TheVariants.{BadChunk}
 use Rattle.http_edge.specs.declared.phase.Phase.TheVariants.{Trailer, Whole}
 use Rattle.http_edge.proofs.BodyLemmas.{at, trailer_whole, trailer_overflows, trailer_long, trailer_more}

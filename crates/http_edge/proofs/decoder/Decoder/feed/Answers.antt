@@ -1,5 +1,6 @@
 use Rattle.std.proofs.Common.{◌≡◌, None, sym, subst, ◌∙◌}
-use Rattle.http_edge.specs.Holds.{Progress, progress_of, Holds, fault_in}
+use Rattle.http_edge.specs.Holds.{Progress, Holds, fault_in}
+use Rattle.http_edge.specs.inner.Holds.{progress_of}
 use Rattle.http_edge.proofs.MachineLemmas.{reports_of, whole_there}
 use Rattle.http_edge.proofs.decoder.Decoder.feed.Goals as goal
 

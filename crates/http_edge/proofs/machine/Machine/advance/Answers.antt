@@ -1,7 +1,7 @@
 use Rattle.std.proofs.Common.{◌≡◌, Some, ap}
 use Rattle.std.proofs.lemmas.List.{take_rest}
 use Rattle.std.proofs.lemmas.Result.{err_from_is_err_and}
-use Rattle.http_edge.specs.Body.{body_state}
+use Rattle.http_edge.specs.inner.Body.{body_state}
 use Rattle.http_edge.specs.Holds.{in_body}
 use Rattle.http_edge.proofs.FaultLemmas.{fails_more}
 use Rattle.http_edge.proofs.MachineLemmas.{stops_behind, begin_body, advance_in_body, stop_in_body}

@@ -1,7 +1,7 @@
 use Rattle.std.proofs.Common.{ℕ, List, [], sym, subst, ◌∙◌, Some}
 use Rattle.http_edge.specs.declared.phase.Phase.{Phase}
 use Rattle.http_edge.specs.Message.{IsHeadAt}
-use Rattle.http_edge.specs.Body.{body_state}
+use Rattle.http_edge.specs.inner.Body.{body_state}
 use Rattle.http_edge.specs.Holds.{IsBehind}
 use Rattle.http_edge.proofs.BodyLemmas.{at}
 use Rattle.http_edge.proofs.FinishLemmas.{answers_of}

@@ -1,5 +1,5 @@
 use Rattle.std.proofs.lemmas.Result.{err_from_is_err_and}
-use Rattle.http_edge.specs.WriteBuffer.{waiting_bytes}
+use Rattle.http_edge.specs.inner.WriteBuffer.{waiting_bytes}
 use Rattle.http_edge.proofs.WriteBufferLemmas.{passes_at_once, cut_at_once}
 use Rattle.http_edge.proofs.write_buffer.WriteBuffer.put.Goals as goal
 

@@ -4,7 +4,7 @@ use Rattle.metric_events.specs.Points.{landed}
 use Rattle.metric_events.specs.Rows.{zeros}
 use Rattle.metric_events.specs.declared.place.Place.TheVariants.{Acknowledged}
 use Rattle.series_cell.specs.Cells.{CellView, Stands}
-use Rattle.series_cell.specs.CellParts.{view_of}
+use Rattle.series_cell.specs.inner.CellParts.{view_of}
 use Rattle.series_cell.specs.Spans.{end_of_spans}
 use Rattle.series_cell.proofs.ByPlace.{moved}
 use Rattle.series_cell.proofs.Lent.{lent_cell, lent_words, lent_view}

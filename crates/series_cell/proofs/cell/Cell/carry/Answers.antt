@@ -1,7 +1,7 @@
 use Rattle.std.proofs.Common.{◌≡◌, ◌<◌, sym, ap, ◌∙◌, subst, arith, drop, length, []}
 use Rattle.metric_events.specs.Rows.{zeros}
 use Rattle.series_cell.specs.Cells.{CellView, Stands, HandsOn, end_of}
-use Rattle.series_cell.specs.CellParts.{view_of}
+use Rattle.series_cell.specs.inner.CellParts.{view_of}
 use Rattle.series_cell.specs.Spans.{hull_of, joined_spans}
 use Rattle.series_cell.proofs.ByPlace.{cleared_row}
 use Rattle.series_cell.proofs.Lent.{lent_cell, lent_words, lent_view}

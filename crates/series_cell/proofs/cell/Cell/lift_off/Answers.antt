@@ -2,7 +2,7 @@ use Rattle.std.proofs.Common.{◌≡◌, ℕ, sym, ap, ◌∙◌, subst, arith, 
 use Rattle.std.specs.Prelude.{slice_index}
 use Rattle.metric_events.specs.Rows.{zeros}
 use Rattle.series_cell.specs.Cells.{CellView, Stands, lifted}
-use Rattle.series_cell.specs.CellParts.{view_of}
+use Rattle.series_cell.specs.inner.CellParts.{view_of}
 use Rattle.series_cell.proofs.ByPlace.{moved}
 use Rattle.series_cell.proofs.Lent.{lent_cell, lent_words, lent_view}
 use Rattle.series_cell.proofs.Sizes.{sized, within}

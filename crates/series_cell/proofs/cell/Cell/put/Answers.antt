@@ -5,7 +5,7 @@ use Rattle.series_id.specs.Identity.{Identity, row_length}
 use Rattle.metric_events.specs.Points.{admitted}
 use Rattle.metric_events.specs.Interval.{Interval}
 use Rattle.series_cell.specs.Cells.{CellView, Stands, end_of}
-use Rattle.series_cell.specs.CellParts.{view_of}
+use Rattle.series_cell.specs.inner.CellParts.{view_of}
 use Rattle.series_cell.proofs.ByPlace.{added_row}
 use Rattle.series_cell.proofs.Lent.{lent_cell, lent_view}
 use Rattle.series_cell.proofs.Sizes.{sized, within}

@@ -2,7 +2,7 @@ use Rattle.std.proofs.Common.{◌≤◌, sym, ap, ◌∙◌, subst, refl, [], �
 use Rattle.metric_events.specs.Points.{admitted}
 use Rattle.metric_events.specs.Interval.{Interval, IsInterval}
 use Rattle.series_cell.specs.Cells.{CellView, Stands, bare, end_of}
-use Rattle.series_cell.specs.CellParts.{view_of}
+use Rattle.series_cell.specs.inner.CellParts.{view_of}
 use Rattle.series_cell.proofs.Lent.{lent_cell, lent_words, lent_view}
 use Rattle.series_cell.proofs.Standing.{stands_put_span}
 use Rattle.series_cell.proofs.cell.Cell.put_span.Goals as goal

@@ -3,7 +3,7 @@ use Rattle.std.specs.Prelude.{slice_index}
 use Rattle.metric_events.specs.Points.{admitted}
 use Rattle.metric_events.specs.Interval.{Interval}
 use Rattle.series_cell.specs.Cells.{CellView, Stands, HasHome}
-use Rattle.series_cell.specs.CellParts.{view_of}
+use Rattle.series_cell.specs.inner.CellParts.{view_of}
 use Rattle.series_cell.specs.Spans.{place_of}
 use Rattle.series_cell.proofs.ByPlace.{taken_row, part_le}
 use Rattle.series_cell.proofs.Lent.{lent_words, lent_view}

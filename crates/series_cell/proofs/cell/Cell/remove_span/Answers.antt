@@ -2,7 +2,7 @@ use Rattle.std.proofs.Common.{◌≡◌, ◌+◌, sym, ap, ◌∙◌, subst, ari
 use Rattle.metric_events.specs.Points.{admitted}
 use Rattle.metric_events.specs.Interval.{Interval}
 use Rattle.series_cell.specs.Cells.{CellView, Stands, HasHome, bare}
-use Rattle.series_cell.specs.CellParts.{view_of}
+use Rattle.series_cell.specs.inner.CellParts.{view_of}
 use Rattle.series_cell.specs.Spans.{place_of}
 use Rattle.series_cell.proofs.Lent.{lent_words, lent_view}
 use Rattle.series_cell.proofs.Standing.{stands_remove_span, parted, span_inside, home_in_order}

@@ -1,6 +1,6 @@
 use Rattle.std.proofs.Common.{rules, sym, ap, ◌∙◌, subst}
 use Rattle.std.specs.List.{AllByRecursion}
-use Rattle.series_id.specs.Values.{IsNarrow}
+use Rattle.series_id.specs.inner.Values.{IsNarrow}
 use Rattle.series_id.specs.Pairs.{attr_refusal}
 use Rattle.series_id.proofs.Sorted.{unrefused_is_set}
 use Rattle.series_id.proofs.attributes.AttrSet.from_pairs.Goals as goal

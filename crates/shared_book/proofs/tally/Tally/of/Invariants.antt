@@ -1,5 +1,5 @@
 use Rattle.std.proofs.Common.{take}
-use Rattle.shared_book.specs.Audits.{IsTallied}
+use Rattle.shared_book.specs.inner.Audits.{IsTallied}
 use Rattle.shared_book.proofs.tally.Tally.of.Given as goal
 
 abbrev pub invariant-loop-index : goal.invariant-loop-index

@@ -1,6 +1,0 @@
-use Rattle.std.proofs.Common.{◌≡◌, max, drop}
-use Rattle.delta_book.specs.Batches.{frontier_in}
-use Rattle.delta_book.proofs.slow.end_in.Given as goal
-
-abbrev pub invariant-loop-p : goal.invariant-loop-p
-invariant-loop-p l = max l.end (frontier_in l.series (drop l.p-index l.points)) ≡ frontier_in l.series l.points

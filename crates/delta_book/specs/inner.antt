@@ -1,0 +1,9 @@
+pub mod Stored
+pub mod Tables
+pub mod Parts
+pub mod Puts
+pub mod Ready
+pub mod Flushes
+pub mod Pasts
+pub mod Batches
+pub mod AtHome

@@ -1,0 +1,42 @@
+-- At which spots a worker asks its pace.
+use Rattle.std.specs.Prelude.{◌≡◌, ◌⊎◌, ℕ, List, Option, IfSome}
+use Rattle.http_edge.specs.Message.{Message}
+use Rattle.http_edge.specs.Reading.{BeginsWith, IsTooLong}
+use Rattle.http_edge.specs.Delivery.{IsMalformed}
+use Rattle.gate_workers.specs.declared.flush.Turn.{Turn}
+use Rattle.gate_workers.specs.declared.flush.Turn.TheVariants.{Idle, Full, NoMemory, Done}
+use Rattle.gate_workers.specs.declared.refusal.Refusal.TheVariants as refusal
+use Rattle.gate_workers.specs.declared.service.Served.{Served}
+use Rattle.gate_workers.specs.declared.service.Served.TheVariants.{Closed, Broken, Replied}
+use Rattle.gate_workers.specs.declared.worker.Spot.{Spot}
+use Rattle.gate_workers.specs.declared.worker.Spot.TheVariants.{BodyRead, BeforeSend}
+use Rattle.gate_workers.specs.Refusals.{refusal_status}
+
+-- how a worker that reaches a spot changes its pace
+abbrev pub Reaching : Type 0 → Type 1
+Reaching P = P → Spot → P → Type 0
+
+-- a flush turn asks once where a flush is sent, and else never
+abbrev pub IsTurnPaced : {P : Type 0} → Reaching P → P → P → Turn → Type 0
+IsTurnPaced reaches p p' Idle = p' ≡ p
+IsTurnPaced reaches p p' Full = p' ≡ p
+IsTurnPaced reaches p p' NoMemory = p' ≡ p
+IsTurnPaced reaches p p' (Done flush points answer act) = reaches p BeforeSend p'
+
+-- the bytes begin with a whole request
+abbrev pub HasRequest : List ℕ → Type 0
+HasRequest bytes = (m : Message) × BeginsWith bytes m
+
+-- bytes that are no whole request were refused by this status, or there was no memory to read them
+abbrev pub IsUnread : Option (List ℕ) → ℕ → Type 0
+IsUnread input status =
+    (status ≡ refusal_status refusal.NoMemory)
+    ⊎ ((IfSome input IsTooLong × (status ≡ refusal_status refusal.BodyTooLong))
+    ⊎ (IfSome input IsMalformed × (status ≡ refusal_status refusal.Malformed)))
+
+-- a request asks once where it was read whole, and else never
+abbrev pub IsPaced : {P : Type 0} → Reaching P → Option (List ℕ) → P → P → Served → Type 0
+IsPaced reaches input p p' Closed = p' ≡ p
+IsPaced reaches input p p' Broken = p' ≡ p
+IsPaced reaches input p p' (Replied status written end) =
+    (IfSome input HasRequest × reaches p BodyRead p') ⊎ (IsUnread input status × (p' ≡ p))

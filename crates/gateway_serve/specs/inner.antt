@@ -1,0 +1,4 @@
+pub mod Rounds
+pub mod Accepted
+pub mod CutOff
+pub mod Tasks

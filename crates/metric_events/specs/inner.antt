@@ -1,0 +1,2 @@
+pub mod RowViews
+pub mod Equal

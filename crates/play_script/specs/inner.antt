@@ -1,0 +1,6 @@
+pub mod Views
+pub mod Refused
+pub mod Ends
+pub mod Run
+pub mod Answered
+pub mod Played

@@ -1,0 +1,32 @@
+-- The contents of a cell, as contracts see it.
+use Rattle.std.specs.Prelude.{ℕ, ◌-◌, ◌<◌, ◌^◌, List, length, slice_index, vec_capacity, vec_len}
+use Rattle.series_cell.specs.Cells.{CellView}
+use Rattle.series_cell.specs.inner.Cells.{IsCell}
+use Rattle.series_cell.specs.declared.cell_parts.CellParts.{CellParts}
+
+-- rows and spans as lists; spare is the room that is left for spans
+abbrev pub view_of : CellParts → CellView
+view_of k = record {
+  owner = k.owner;
+  id = k.id;
+  accepted = k.accepted.items;
+  stored = k.stored.items;
+  in_flight = k.in_flight.items;
+  acknowledged = k.acknowledged.items;
+  dropped = k.dropped.items;
+  spans = k.spans.items;
+  cut = k.cut;
+  flush = k.flush;
+  landed = k.landed;
+  spare = vec_capacity k.spans - vec_len k.spans;
+}
+
+-- each word of a row has 64 bits
+abbrev pub AreWords : List ℕ → Type 0
+AreWords row = (k : ℕ) → k < length row → slice_index row k < 2 ^ 64
+
+-- the contents represent some points, and each word of the sum of all their rows has 64 bits. So
+-- has each word of a sum of some of those rows.
+pub record IsKept (k : CellParts) : Type 0 where
+  pub cell : IsCell (view_of k)
+  pub words : AreWords k.accepted.items

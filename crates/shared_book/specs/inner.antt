@@ -1,0 +1,3 @@
+pub mod Receipts
+pub mod Moments
+pub mod Audits

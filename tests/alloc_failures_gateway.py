@@ -1,0 +1,216 @@
+#!/usr/bin/env python3
+"""The gateway with each growth of its memory refused in turn.
+
+Call: tests/alloc_failures_gateway.py PROGRAM, with the path of the built gateway; it needs gcc.
+
+For each k from 1 until a run meets no refusal it starts the gateway while growth k alone is refused, and
+while all from k on are, and makes the exchanges below over loopback.
+  - A run that met no refusal is the full run.
+  - Else each exchange has the answer that the ones before lead to, or exactly the 503 of `no memory`,
+    with k alone at most one; each is read whole, also by a client that goes on sending.
+  - What was answered 503 left nothing, but that a flush order may have taken its flush: it was given
+    back, or ended by the answer of the back end that got it. Where the exchange with the back end found
+    no memory its flush is given back, and the order is answered so.
+  - At the end the gateway prints the report that all this leads to and how many points were admitted and
+    acknowledged, status 0, or ends with `gateway: no memory`, status 1, and prints nothing; so it ends
+    too where it can't start, or with `gateway: cannot start a thread`.
+The last line counts the runs that passed and failed, and the status is 0 where none failed.
+"""
+import copy
+import sys
+
+from loopback import NO_MEMORY, BackEnd, Gateway, ordered, point, posted, response, sent_points
+from alloc_failures import Run, program_named, refuse_each
+
+JSON = b"application/json"
+DONE = response(b"200 OK", JSON, b"{}")
+# JSON may have blanks: so many that a client still sends while the gateway reads.
+BLANKS = b" " * 400_000
+
+
+FAULT = b"400 Bad Request"
+# A request in chunks, and one with two foreign points.
+CHUNKED = (b"POST /v1/metrics HTTP/1.1\r\nContent-Type: application/json\r\nTransfer-Encoding: chunked\r\n\r\n"
+           b"2\r\n{}\r\n0\r\n\r\n")
+FOREIGN = (b'{"resourceMetrics":[{"scopeMetrics":[{"metrics":[{"name":"g","gauge":{"dataPoints":['
+           b'{"asInt":"1","timeUnixNano":"20"},{"asDouble":1.5,"timeUnixNano":"20"}]}}]}]}]}')
+PARTIAL = b'{"partialSuccess":{"errorMessage":"points outside the profile","rejectedDataPoints":"2"}}'
+MOST = 2**63 - 1
+
+
+class Store:
+    """What a gateway holds of the sum `a`, as docs/FORMATS.md has it. Rows are (points, value)."""
+
+    def __init__(self):
+        self.frontier = self.start = self.flushes = 0
+        self.accepted = self.stored = self.acknowledged = (0, 0)
+        self.owner = None
+        self.quarantined = set()
+        self.sent = []
+
+    def post(self, start, end, value, sender="A"):
+        if sender in self.quarantined:
+            return response(b"403 Forbidden", JSON, b'{"message":"quarantined"}')
+        if self.owner not in (None, sender):
+            return response(FAULT, JSON, b'{"message":"other writer: point 0"}')
+        if start < self.frontier:
+            text = f'{{"message":"out of order: point 0, frontier {self.frontier}"}}'
+            return response(FAULT, JSON, text.encode())
+        if self.accepted[1] + value > MOST:
+            return response(b"503 Service Unavailable", JSON, b'{"message":"too large"}')
+        self.start = start if self.stored == (0, 0) else self.start
+        self.frontier, self.owner = end, sender
+        self.accepted = (self.accepted[0] + 1, self.accepted[1] + value)
+        self.stored = (self.stored[0] + 1, self.stored[1] + value)
+        return DONE
+
+    def flush(self):
+        """A turn by the back end's answers: 503 with a wait to the first request, 200 to all others."""
+        return self.turn(True, bool(self.sent), "" if self.sent else ',"retryAfter":"2"')
+
+    def turn(self, sent, settled, wait):
+        """A turn whose request the back end got or did not get."""
+        if self.stored == (0, 0):
+            return response(b"200 OK", JSON, b'{"act":"nothing"}')
+        self.flushes += 1
+        self.sent += [[(self.stored[1], self.start, self.frontier)]] * sent
+        if settled:
+            self.acknowledged = tuple(map(sum, zip(self.acknowledged, self.stored)))
+            self.stored = (0, 0)
+        act = "settled" if settled else "returned"
+        text = f'{{"act":"{act}","flush":"{self.flushes}","points":"1"{wait}}}'
+        return response(b"200 OK", JSON, text.encode())
+
+    def give_back(self):
+        """A turn whose request found no memory."""
+        self.flushes += self.stored != (0, 0)
+
+    def quarantine(self):
+        self.quarantined.add("B")
+        return DONE
+
+    def lift(self):
+        if "B" not in self.quarantined:
+            return response(FAULT, JSON, b'{"message":"not quarantined"}')
+        self.quarantined.remove("B")
+        return DONE
+
+    def report(self):
+        if self.accepted == (0, 0):
+            return b"end\n"
+        names = [("accepted", self.accepted), ("acknowledged", self.acknowledged), ("dropped", (0, 0)),
+                 ("in-flight", (0, 0)), ("stored", self.stored), ("quarantined", (0, 0))]
+        rows = " ".join(f"{name} {points},{value},0" for name, (points, value) in names)
+        return f"series a monotonic owner {self.owner} frontier {self.frontier} {rows}\nend\n".encode()
+
+    def ending(self):
+        last = f"admitted {self.accepted[0]} acknowledged {self.acknowledged[0]}\n"
+        return self.report() + last.encode()
+
+
+# Each exchange: what is sent, what a store answers to it, and whether it is an order to flush.
+EXCHANGES = [
+    (posted(point(10, 20, 5)), lambda store: store.post(10, 20, 5), False),
+    (ordered("POST /flush"), Store.flush, True),
+    (posted(point(20, 30, 7) + BLANKS), lambda store: store.post(20, 30, 7), False),
+    (ordered("POST /quarantine/B"), Store.quarantine, False),
+    (posted(point(30, 40, 1), "B"), lambda store: store.post(30, 40, 1, "B"), False),
+    (posted(point(10, 20, 5)), lambda store: store.post(10, 20, 5), False),
+    (ordered("POST /flush"), Store.flush, True),
+    (posted(b"[1"), lambda store: response(FAULT, JSON, b'{"message":"not JSON"}'), False),
+    (posted(b"{}"), lambda store: DONE, False),
+    (CHUNKED, lambda store: DONE, False),
+    (posted(FOREIGN), lambda store: response(b"200 OK", JSON, PARTIAL), False),
+    (posted(point(40, 50, MOST)), lambda store: store.post(40, 50, MOST), False),
+    (ordered("POST /lift/B"), Store.lift, False),
+    (ordered("GET /report"), lambda store: response(b"200 OK", b"text/plain", store.report()), False),
+]
+
+
+def branch(store, serve):
+    """A store after a call, with what the call answers."""
+    served = copy.deepcopy(store)
+    return serve(served), served
+
+
+def after(store, exchange, answer):
+    """The stores that an exchange with this answer may lead to from this one."""
+    _, serve, is_order = exchange
+    branches = [branch(store, serve)]
+    if is_order:
+        # Where the exchange with the back end found no memory nobody knows what it answered.
+        branches += [branch(store, lambda store: store.turn(sent, False, "")) for sent in (True, False)]
+    if answer != NO_MEMORY:
+        return [served for right, served in branches if answer == right]
+    if not is_order:
+        return [store]
+    returned = copy.deepcopy(store)
+    returned.give_back()
+    return [store, returned] + [served for _, served in branches]
+
+
+def exchange_all(refusing, program, growth, form):
+    """A run: the answers, the end, and what the back end got."""
+    back_end = BackEnd([b"503 Service Unavailable\r\nRetry-After: 2\r\n"])
+    environment = refusing.environment(growth, form)
+    gateway = Gateway(program, back_end.port, len(EXCHANGES), environment)
+    answers = []
+    for request, _, _ in EXCHANGES:
+        answers.append(gateway.ask(request))
+        if answers[-1] == "no connection":
+            break
+    status, out, err = gateway.end()
+    back_end.close()
+    growths, refused = refusing.counts()
+    bodies = [sent_points(body) for body in back_end.bodies]
+    return answers, bodies, Run(status, out, err, growths, refused)
+
+
+def has_not_started(answers, run):
+    """Whether the gateway ended before it could serve: nobody listens, or hangs up at once."""
+    faults = (b"gateway: no memory\n", b"gateway: cannot start a thread\n")
+    answered = [answer for answer in answers if isinstance(answer, bytes) and answer]
+    return (run.status, run.out) == (1, b"") and run.err in faults and not answered
+
+
+def full_answers():
+    store = Store()
+    return [serve(store) for _, serve, _ in EXCHANGES]
+
+
+def way_of(answers, bodies, run, form):
+    """In which way the run ended, and what is wrong where it is none of them."""
+    no_memory = (run.status, run.out, run.err) == (1, b"", b"gateway: no memory\n")
+    if run.refused and has_not_started(answers, run):
+        return "could not start", None
+    if form == "alone" and answers.count(NO_MEMORY) > 1:
+        return None, f"{answers.count(NO_MEMORY)} answers of no memory"
+    if run.refused == 0 and (run.status != 0 or answers != full_answers()):
+        return None, f"no refusal, but not the full run: {answers}, {run}"
+    stores = [Store()]
+    for place, (exchange, answer) in enumerate(zip(EXCHANGES, answers)):
+        stores = [new for store in stores for new in after(store, exchange, answer)]
+        if not stores:
+            return None, f"exchange {place} answers {answer}"
+    if len(answers) < len(EXCHANGES):
+        return None, f"{len(answers)} answers, and then {run}"
+    stores = [store for store in stores if store.sent == bodies]
+    if not no_memory:
+        stores = [store for store in stores if (run.status, run.out, run.err) == (0, store.ending(), b"")]
+    if not stores:
+        return None, f"the back end got {bodies}, and the end is {run}"
+    if run.refused == 0:
+        return "without refusal", None
+    return ("no report" if no_memory else "answered 503" if NO_MEMORY in answers else "did without"), None
+
+
+def main(program):
+    def run_once(refusing, growth, form):
+        answers, bodies, run = exchange_all(refusing, program, growth, form)
+        return run, *way_of(answers, bodies, run, form)
+
+    return refuse_each("gateway", run_once)
+
+
+if __name__ == "__main__":
+    sys.exit(main(program_named(sys.argv[1:])))
