@@ -3,7 +3,8 @@
 //! Senders post to `intake`, or call `grpc`, which read their request by `otlp` and give it to a `slot`: one gateway with its
 //! journal and outbox (`files`). A `keeper` starts, flushes, replaces and restores the `gateway`. What was flushed
 //! is delivered to one of the `sinks`. `remarks` tells in the log what an operator may want to know of posts.
-//! `operate` is the operator's address, `command` the command line, `service` all of it as one process.
+//! `operate` is the operator's address, `command` the command line, `service` all of it as one process; `switch` tells a
+//! part of it to stop.
 
 pub mod command;
 pub mod files;
@@ -18,3 +19,4 @@ pub mod remarks;
 pub mod service;
 pub mod sinks;
 pub mod slot;
+pub mod switch;

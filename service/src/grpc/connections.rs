@@ -2,8 +2,9 @@
 
 use super::answer;
 use super::guard::Guarded;
-use crate::intake::connections::{accepted, Limits, Switch};
+use crate::intake::connections::{accepted, Limits};
 use crate::intake::{Intake, Place, Taker, Threads};
+use crate::switch::Switch;
 use hyper::server::conn::Http;
 use hyper::service::service_fn;
 use std::convert::Infallible;

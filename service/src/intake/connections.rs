@@ -2,6 +2,7 @@
 //! closed. The senders' are in `front`.
 
 use super::pace::{Overdue, Pace, Watched};
+use crate::switch::Switch;
 use hyper::server::conn::Http;
 use hyper::service::service_fn;
 use hyper::{Body, Request, Response};
@@ -132,20 +133,4 @@ async fn connection<H: Handler>(
     }
     let mut stream = served.into_parts().io;
     let _ = stream.shutdown().await; // who has gone needs no end
-}
-
-/// Waits for a switch.
-pub trait Switch {
-    fn wait_true(&mut self) -> impl Future<Output = ()> + Send;
-}
-
-impl Switch for watch::Receiver<bool> {
-    /// A switch whose owner is gone is on.
-    async fn wait_true(&mut self) {
-        while !*self.borrow_and_update() {
-            if self.changed().await.is_err() {
-                return;
-            }
-        }
-    }
 }

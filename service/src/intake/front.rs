@@ -1,13 +1,14 @@
 //! The senders' address: its connections are bounded and spread over threads, each serves many requests one after
 //! another, slow and idle ones are closed.
 
-use super::connections::{accepted, Limits, Switch, LATE};
+use super::connections::{accepted, Limits, LATE};
 use super::head::{self, Connection};
 use super::refusal::Refusal;
 use super::threads::{Place, Threads};
 use super::wire::Wire;
 use super::{answer, Intake, Taker};
 use crate::otlp::{Encoding, Outcome};
+use crate::switch::Switch;
 use bytes::Buf;
 use std::future::{poll_fn, Future};
 use std::pin::{pin, Pin};

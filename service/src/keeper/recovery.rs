@@ -1,9 +1,10 @@
 //! Replaces a gateway by a fresh one that has all accepted posts that are in no group, and no others.
 
-use super::run::{stopped, Next};
+use super::run::Next;
 use super::{Keeper, Trouble};
 use crate::files::Fault;
 use crate::gateway::Gateway;
+use crate::switch::Switch;
 use std::sync::Arc;
 use std::time::{Duration, Instant};
 use tokio::sync::watch;
@@ -63,7 +64,7 @@ impl Keeper {
             }
             tokio::select! {
                 () = tokio::time::sleep(pause) => pause = (2 * pause).min(LONGEST_PAUSE),
-                () = stopped(stop) => return Ok(Recovered::Stopped),
+                () = stop.wait_true() => return Ok(Recovered::Stopped),
             }
         }
     }
@@ -96,6 +97,6 @@ impl Keeper {
 
 /// Returns so long after the service is told to stop.
 async fn stopped_for(grace: Duration, stop: &mut watch::Receiver<bool>) {
-    stopped(stop).await;
+    stop.wait_true().await;
     tokio::time::sleep(grace).await;
 }

@@ -4,6 +4,7 @@ use super::recovery::Recovered;
 use super::work::seconds_before_now;
 use super::{Done, Keeper, Order};
 use crate::files::Fault;
+use crate::switch::Switch;
 use std::sync::Arc;
 use std::time::{Duration, Instant};
 use tokio::sync::{oneshot, watch};
@@ -83,7 +84,7 @@ impl Keeper {
         let slot = &self.slot;
         tokio::select! {
             biased;
-            () = stopped(stop) => Event::Stop,
+            () = stop.wait_true() => Event::Stop,
             () = slot.trouble.notified() => Event::Doubted,
             Some((order, to)) = self.orders.recv() => Event::Ordered(order, to),
             () = slot.crowded.notified() => Event::Crowded,
@@ -181,14 +182,5 @@ impl Keeper {
 
     pub(super) fn gateway(&self) -> Option<Arc<crate::gateway::Gateway>> {
         self.gateway.clone()
-    }
-}
-
-/// Returns once the service is told to stop. Where nobody can tell it any more, that is a stop too.
-pub(super) async fn stopped(stop: &mut watch::Receiver<bool>) {
-    while !*stop.borrow_and_update() {
-        if stop.changed().await.is_err() {
-            return;
-        }
     }
 }

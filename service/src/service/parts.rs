@@ -80,6 +80,7 @@ impl Parts {
     pub fn start(self, settings: &Settings, senders: Senders, operators: TcpListener) -> Running {
         let (stop_intake, intake_stopped) = watch::channel(false);
         let (stop_keepers, keepers_stopped) = watch::channel(false);
+        let (stop_deliveries, deliveries_stopped) = watch::channel(false);
         let mut deliveries = JoinSet::new();
         let mut deliver = |number: u16, outbox: Arc<Outbox>| {
             let delivery = Arc::new(Mutex::new(Delivery::default()));
@@ -90,6 +91,7 @@ impl Parts {
                 self.sink.clone(),
                 self.metrics.clone(),
                 delivery.clone(),
+                deliveries_stopped.clone(),
             ));
             Left {
                 number,
@@ -143,6 +145,7 @@ impl Parts {
             operate: tokio::spawn(serve(operators, of_operators, Arc::new(desk), keepers_stopped)),
             stop_intake,
             stop_keepers,
+            stop_deliveries,
             slots,
         }
     }

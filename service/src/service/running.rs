@@ -13,6 +13,8 @@ use tokio::task::{JoinError, JoinHandle, JoinSet};
 /// was taken, so what takes longer is left to the next start.
 const LAST_POSTS: Duration = Duration::from_secs(2);
 const LAST_CHECKPOINT: Duration = Duration::from_secs(6);
+/// How long the files that deliveries are changing are waited for: a fault there is told by the exit status.
+const LAST_CHANGES: Duration = Duration::from_secs(2);
 
 /// The parts at work. The intake ends first, then the keepers; the others have nothing to end. All end where this is
 /// dropped.
@@ -23,6 +25,7 @@ pub(super) struct Running {
     pub operate: JoinHandle<()>,
     pub stop_intake: watch::Sender<bool>,
     pub stop_keepers: watch::Sender<bool>,
+    pub stop_deliveries: watch::Sender<bool>,
     pub slots: Arc<Slots>,
 }
 
@@ -42,10 +45,16 @@ impl Running {
         self.stop_intake.send_replace(true);
         let _ = tokio::time::timeout(LAST_POSTS, &mut self.intake).await; // who is slower was not answered
         self.stop_keepers.send_replace(true);
-        let mut ended = self.last_checkpoints().await;
-        // A delivery that is under way is made again at the next start. That a file failed under it is told.
-        self.deliveries.abort_all();
-        while let Some(end) = self.deliveries.join_next().await {
+        let ended = self.last_checkpoints().await;
+        ended.and(self.last_deliveries().await)
+    }
+
+    /// What is sent meanwhile is sent again by the next start.
+    async fn last_deliveries(&mut self) -> Result<(), Ended> {
+        self.stop_deliveries.send_replace(true);
+        let until = tokio::time::Instant::now() + LAST_CHANGES;
+        let mut ended = Ok(());
+        while let Ok(Some(end)) = tokio::time::timeout_at(until, self.deliveries.join_next()).await {
             if let Ok(Err(fault)) = end {
                 ended = ended.and(Err(Ended::Disk(fault)));
             }

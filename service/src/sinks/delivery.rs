@@ -4,8 +4,10 @@ use super::{backoff, Fate, Forwarded, Sink};
 use crate::files::outbox::Waiting;
 use crate::files::{Dead, Fault, Outbox};
 use crate::metrics::Metrics;
+use crate::switch::Switch;
 use std::future::Future;
 use std::sync::{Arc, Mutex, PoisonError};
+use tokio::sync::watch;
 
 /// The state of a delivery, for `status`.
 #[derive(Clone, Debug, Default, PartialEq, Eq, serde::Serialize, serde::Deserialize)]
@@ -16,7 +18,8 @@ pub struct Delivery {
     pub tries: u64,
 }
 
-/// Brings a slot's outbox to the sink. It returns by a fault of a file alone.
+/// Brings a slot's outbox to the sink. It returns by a fault of a file, or once it is told to stop; what changes a file
+/// is then done to its end first, so that its fault is told.
 pub async fn deliver(
     slot: u16,
     outbox: Arc<Outbox>,
@@ -24,6 +27,7 @@ pub async fn deliver(
     sink: Arc<dyn Sink>,
     metrics: Arc<Metrics>,
     state: Arc<Mutex<Delivery>>,
+    stop: watch::Receiver<bool>,
 ) -> Result<(), Fault> {
     let files = Files { outbox, dead };
     Run {
@@ -32,8 +36,9 @@ pub async fn deliver(
         sink,
         metrics,
         state,
+        stop,
     }
-    .run()
+    .until_it_ends()
     .await
 }
 
@@ -94,12 +99,32 @@ struct Run<S> {
     sink: Arc<dyn Sink>,
     metrics: Arc<Metrics>,
     state: Arc<Mutex<Delivery>>,
+    stop: watch::Receiver<bool>,
+}
+
+/// Why a delivery ends.
+enum End {
+    Stopped,
+    Failed(Fault),
+}
+
+impl From<Fault> for End {
+    fn from(fault: Fault) -> End {
+        End::Failed(fault)
+    }
 }
 
 impl<S: Store> Run<S> {
-    async fn run(&self) -> Result<(), Fault> {
+    async fn until_it_ends(&self) -> Result<(), Fault> {
+        match self.run().await {
+            Err(End::Failed(fault)) => Err(fault),
+            Ok(()) | Err(End::Stopped) => Ok(()),
+        }
+    }
+
+    async fn run(&self) -> Result<(), End> {
         loop {
-            let (waiting, body) = self.files.first().await?;
+            let (waiting, body) = self.unless_stopped(self.files.first()).await??;
             let request = Forwarded {
                 slot: self.slot,
                 epoch: self.files.epoch(),
@@ -113,16 +138,17 @@ impl<S: Store> Run<S> {
     }
 
     /// Sends a request, the same bytes under the same key, until its fate is known; what is not taken whole is kept.
-    async fn settle(&self, request: Forwarded) -> Result<(), Fault> {
+    async fn settle(&self, request: Forwarded) -> Result<(), End> {
         loop {
-            match self.sink.deliver(&request).await {
+            match self.unless_stopped(self.sink.deliver(&request)).await? {
                 Fate::Taken => {
                     self.ended("taken");
                     return Ok(());
                 }
                 Fate::Again { reason, after } => {
                     let tries = self.failed(&request, reason);
-                    tokio::time::sleep(backoff::wait(tries, after)).await;
+                    let wait = backoff::wait(tries, after);
+                    self.unless_stopped(tokio::time::sleep(wait)).await?;
                 }
                 Fate::Refused { reason } => {
                     let (sink, key) = (self.sink.name(), request.key());
@@ -135,8 +161,16 @@ impl<S: Store> Run<S> {
                     rejected,
                     reason,
                     left,
-                } => return self.keep_part(request, rejected, reason, left).await,
+                } => return Ok(self.keep_part(request, rejected, reason, left).await?),
             }
+        }
+    }
+
+    async fn unless_stopped<T>(&self, work: impl Future<Output = T>) -> Result<T, End> {
+        let mut stop = self.stop.clone();
+        tokio::select! {
+            done = work => Ok(done),
+            () = stop.wait_true() => Err(End::Stopped),
         }
     }
 

@@ -36,6 +36,8 @@ type Letter = (String, String, Vec<u8>);
 /// Its requests wait in memory. A fault ends the delivery, so a test that wants an end runs out of requests.
 #[derive(Default)]
 struct Memory {
+    /// Turned on within the call of a file, which then goes on for a while.
+    stop: Option<watch::Sender<bool>>,
     waiting: Mutex<VecDeque<u64>>,
     dead: Mutex<Vec<Letter>>,
     acknowledged: Mutex<Vec<u64>>,
@@ -47,6 +49,15 @@ fn fault() -> Fault {
     Fault::Io {
         path: "f".into(),
         source: std::io::Error::other("broken"),
+    }
+}
+
+impl Memory {
+    async fn change(&self) {
+        if let Some(stop) = &self.stop {
+            stop.send_replace(true);
+            tokio::time::sleep(Duration::from_millis(20)).await;
+        }
     }
 }
 
@@ -69,6 +80,7 @@ impl Store for &Memory {
     }
 
     async fn acknowledge(&self, number: u64) -> Result<(), Fault> {
+        self.change().await;
         if self.acknowledge_fails {
             return Err(fault());
         }
@@ -78,6 +90,7 @@ impl Store for &Memory {
     }
 
     async fn keep(&self, key: String, reason: String, body: Vec<u8>) -> Result<(), Fault> {
+        self.change().await;
         if self.dead_fails {
             return Err(fault());
         }
@@ -101,6 +114,18 @@ fn again(after: Option<Duration>) -> Fate {
 
 /// Delivers all that waits.
 async fn run(memory: &Memory, fates: Vec<Fate>) -> Tried {
+    let (_never, stop) = watch::channel(false);
+    let (tried, end) = run_until(memory, fates, stop).await;
+    assert!(end.is_err(), "it ends by a fault alone");
+    tried
+}
+
+/// Delivers all that waits, or until it is told to stop.
+async fn run_until(
+    memory: &Memory,
+    fates: Vec<Fate>,
+    stop: watch::Receiver<bool>,
+) -> (Tried, Result<(), Fault>) {
     let sink = Arc::new(Script {
         fates: Mutex::new(fates.into()),
         ..Script::default()
@@ -113,9 +138,10 @@ async fn run(memory: &Memory, fates: Vec<Fate>) -> Tried {
         sink: sink.clone(),
         metrics: metrics.clone(),
         state: state.clone(),
+        stop,
     };
-    assert!(run.run().await.is_err(), "it ends by a fault alone");
-    Tried { sink, metrics, state }
+    let end = run.until_it_ends().await;
+    (Tried { sink, metrics, state }, end)
 }
 
 fn waiting(numbers: impl IntoIterator<Item = u64>) -> Memory {
@@ -319,9 +345,54 @@ async fn an_acknowledgement_that_fails_ends_the_delivery() {
     assert_eq!(tried.keys(), ["2-e-1"]);
 }
 
+#[tokio::test]
+async fn a_delivery_that_is_told_to_stop_ends_while_it_waits() {
+    let (stop, told) = watch::channel(false);
+    let memory = waiting([1]);
+    let ((tried, end), ()) = tokio::join!(
+        run_until(&memory, vec![again(Some(Duration::from_secs(60)))], told),
+        async move {
+            tokio::time::sleep(Duration::from_millis(20)).await;
+            stop.send_replace(true);
+        }
+    );
+    assert!(end.is_ok());
+    assert_eq!(tried.keys(), ["2-e-1"]);
+    assert!(memory.acknowledged.lock().expect("acknowledged").is_empty());
+}
+
+#[tokio::test]
+async fn what_changes_a_file_is_done_before_a_delivery_stops() {
+    let (stop, told) = watch::channel(false);
+    let memory = Memory {
+        stop: Some(stop),
+        ..waiting([1, 2])
+    };
+    let (tried, end) = run_until(&memory, vec![], told).await;
+    assert!(end.is_ok());
+    assert_eq!(tried.keys(), ["2-e-1"]);
+    assert_eq!(*memory.acknowledged.lock().expect("acknowledged"), [1]);
+}
+
+#[tokio::test]
+async fn a_fault_of_a_file_is_told_by_a_delivery_that_is_told_to_stop() {
+    for fate in [Fate::Taken, Fate::Refused { reason: "no".into() }] {
+        let (stop, told) = watch::channel(false);
+        let memory = Memory {
+            stop: Some(stop),
+            acknowledge_fails: true,
+            dead_fails: true,
+            ..waiting([1])
+        };
+        let (_, end) = run_until(&memory, vec![fate], told).await;
+        assert!(end.is_err());
+    }
+}
+
 /// What `deliver` returns must be a task of its own.
 #[test]
 fn a_delivery_can_be_spawned() {
     fn is_send<T: Send>(_: impl FnOnce(Arc<Outbox>, Arc<Dead>, Arc<dyn Sink>, Arc<Metrics>) -> T) {}
-    is_send(|outbox, dead, sink, metrics| deliver(0, outbox, dead, sink, metrics, Arc::default()));
+    let (_never, stop) = watch::channel(false);
+    is_send(|outbox, dead, sink, metrics| deliver(0, outbox, dead, sink, metrics, Arc::default(), stop));
 }
