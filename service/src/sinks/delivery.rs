@@ -169,8 +169,9 @@ impl<S: Store> Run<S> {
     async fn unless_stopped<T>(&self, work: impl Future<Output = T>) -> Result<T, End> {
         let mut stop = self.stop.clone();
         tokio::select! {
-            done = work => Ok(done),
+            biased;
             () = stop.wait_true() => Err(End::Stopped),
+            done = work => Ok(done),
         }
     }
 

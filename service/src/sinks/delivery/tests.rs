@@ -207,29 +207,20 @@ async fn what_a_sink_asks_for_is_waited() {
 }
 
 #[tokio::test]
-async fn trouble_is_told_while_it_lasts() {
+async fn trouble_is_told_while_it_lasts_and_a_stop_ends_the_wait() {
+    let (stop, told) = watch::channel(false);
     let memory = waiting([1]);
-    let sink = Arc::new(Script {
-        fates: Mutex::new([again(Some(Duration::from_secs(60)))].into()),
-        ..Script::default()
-    });
-    let state = Arc::new(Mutex::new(Delivery::default()));
-    let metrics = Arc::new(Metrics::new().expect("metrics"));
-    let run = Run {
-        slot: 2,
-        files: &memory,
-        sink,
-        metrics,
-        state: state.clone(),
-    };
-    assert!(
-        tokio::time::timeout(Duration::from_millis(200), run.run())
-            .await
-            .is_err(),
-        "it waits"
+    let ((tried, end), ()) = tokio::join!(
+        run_until(&memory, vec![again(Some(Duration::from_secs(60)))], told),
+        async move {
+            tokio::time::sleep(Duration::from_millis(200)).await;
+            stop.send_replace(true);
+        }
     );
+    assert!(end.is_ok());
+    assert_eq!(tried.keys(), ["2-e-1"]);
     assert_eq!(
-        *state.lock().expect("state"),
+        *tried.state.lock().expect("state"),
         Delivery {
             trouble: Some("busy".into()),
             tries: 1
@@ -343,22 +334,6 @@ async fn an_acknowledgement_that_fails_ends_the_delivery() {
     };
     let tried = run(&memory, vec![]).await;
     assert_eq!(tried.keys(), ["2-e-1"]);
-}
-
-#[tokio::test]
-async fn a_delivery_that_is_told_to_stop_ends_while_it_waits() {
-    let (stop, told) = watch::channel(false);
-    let memory = waiting([1]);
-    let ((tried, end), ()) = tokio::join!(
-        run_until(&memory, vec![again(Some(Duration::from_secs(60)))], told),
-        async move {
-            tokio::time::sleep(Duration::from_millis(20)).await;
-            stop.send_replace(true);
-        }
-    );
-    assert!(end.is_ok());
-    assert_eq!(tried.keys(), ["2-e-1"]);
-    assert!(memory.acknowledged.lock().expect("acknowledged").is_empty());
 }
 
 #[tokio::test]
