@@ -122,9 +122,17 @@ struct Writer {
 
 impl Writer {
     fn store(&mut self) -> Result<&mut Store, SqliteFault> {
-        // Else rows would go into a file that has no name any more.
-        let store = match self.store.take().filter(Store::is_in_place) {
-            Some(store) => store,
+        let store = match self.store.take() {
+            Some(store) if store.is_in_place() => store,
+            // Else rows would go into a file that has no name any more.
+            Some(gone) => {
+                drop(gone);
+                tracing::error!(
+                    "{} was deleted or replaced: the file of this name lacks what was delivered so far",
+                    self.path.display()
+                );
+                Store::open(&self.path)?
+            }
             None => Store::open(&self.path)?,
         };
         Ok(self.store.insert(store))
