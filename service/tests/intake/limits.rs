@@ -34,7 +34,7 @@ async fn a_body_over_the_limit_is_answered_and_its_rest_thrown_away() {
 
 #[tokio::test]
 async fn a_slow_head_and_a_slow_body_are_ended() {
-    let served = Served::start().await;
+    let served = Served::impatient().await;
     let mut head = served.client().await;
     head.write(b"POST /v1/metrics HTTP/1.1\r\nHost:").await;
     assert_eq!(head.answer().await.status, 408);

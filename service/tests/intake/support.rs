@@ -15,7 +15,9 @@ use totxegun::metrics::Metrics;
 use totxegun::otlp::{Outcome, Reading};
 
 pub const BODY: &str = r#"{"resourceMetrics":[]}"#;
+/// For tests of what is late; all others have time, also on a busy machine.
 pub const LATE: Duration = Duration::from_millis(400);
+const PATIENCE: Duration = Duration::from_secs(30);
 
 /// Keeps what it is given, and answers as it was told.
 pub struct Kept {
@@ -46,6 +48,15 @@ impl Served {
     }
 
     pub async fn with(outcome: Outcome, most_bytes: usize, connections: usize) -> Served {
+        Served::within(PATIENCE, outcome, most_bytes, connections).await
+    }
+
+    /// Who is slower than `LATE` is not waited for.
+    pub async fn impatient() -> Served {
+        Served::within(LATE, Outcome::taken(0), 64 << 20, 8).await
+    }
+
+    async fn within(patience: Duration, outcome: Outcome, most_bytes: usize, connections: usize) -> Served {
         let kept = Arc::new(Kept {
             posts: Mutex::new(Vec::new()),
             outcome,
@@ -53,13 +64,13 @@ impl Served {
         let metrics = Arc::new(Metrics::new().unwrap());
         let budget = Budget::new(most_bytes);
         let intake = Intake::new(kept.clone(), Reading::default(), budget.clone(), metrics.clone())
-            .with_patience(LATE);
+            .with_patience(patience);
         let listener = TcpListener::bind("127.0.0.1:0").await.unwrap();
         let address = listener.local_addr().unwrap();
         let limits = Limits {
             connections,
-            head: LATE,
-            idle: 3 * LATE,
+            head: patience,
+            idle: 3 * patience,
         };
         let (stop, stopped) = watch::channel(false);
         let threads = Arc::new(Threads::new(2).unwrap());
