@@ -5,26 +5,17 @@ use Rattle.std.proofs.lemmas.List.{append-nil}
 use Rattle.http.specs.StatusCode.{reason_phrase}
 use Rattle.http_edge.specs.declared.written.Written.{Written}
 use Rattle.http_edge.specs.Sent.{Sent}
-use Rattle.http_edge.specs.Texts.{plain_response, allowing_response, post_request}
+use Rattle.http_edge.specs.Texts.{response_of, post_request}
 
-same_plain : (a b p q k l z y body : List ℕ) → a ≡ b → p ≡ q → k ≡ l → z ≡ y → plain_response a p k z body ≡ plain_response b q l y body
-same_plain a b p q k l z y body e f g h =
-    ap (λ x. plain_response x p k z body) e ∙ ap (λ x. plain_response b x k z body) f ∙ ap (λ x. plain_response b q x z body) g ∙ ap (λ x. plain_response b q l x body) h
+same_response : (a b p q k l z y t m n body : List ℕ) → a ≡ b → p ≡ q → k ≡ l → z ≡ y → m ≡ n → response_of a p k z t m body ≡ response_of b q l y t n body
+same_response a b p q k l z y t m n body e f g h i =
+    ap (λ x. response_of x p k z t m body) e ∙ ap (λ x. response_of b x k z t m body) f ∙ ap (λ x. response_of b q x z t m body) g ∙ ap (λ x. response_of b q l x t m body) h
+    ∙ ap (λ x. response_of b q l y t x body) i
 
-same_allowing : (a b p q k l z y m n body : List ℕ) → a ≡ b → p ≡ q → k ≡ l → z ≡ y → m ≡ n → allowing_response a p k z m body ≡ allowing_response b q l y n body
-same_allowing a b p q k l z y m n body e f g h i =
-    ap (λ x. allowing_response x p k z m body) e ∙ ap (λ x. allowing_response b x k z m body) f ∙ ap (λ x. allowing_response b q x z m body) g ∙ ap (λ x. allowing_response b q l x m body) h
-    ∙ ap (λ x. allowing_response b q l y x body) i
-
-pub sent_plain : (old new : Option (List ℕ)) (w : Written) (a p k z digits phrase kind size body : List ℕ) → a ≡ digits → p ≡ phrase → k ≡ kind → z ≡ size
-    → Sent old new (plain_response a p k z body) w → Sent old new (plain_response digits phrase kind size body) w
-sent_plain old new w a p k z digits phrase kind size body e f g h s =
-    let P : List ℕ → Type 0 = λ x. Sent old new x w in subst P (same_plain a digits p phrase k kind z size body e f g h) s
-
-pub sent_allowing : (old new : Option (List ℕ)) (w : Written) (a p k z m digits phrase kind size methods body : List ℕ) → a ≡ digits → p ≡ phrase → k ≡ kind → z ≡ size → m ≡ methods
-    → Sent old new (allowing_response a p k z m body) w → Sent old new (allowing_response digits phrase kind size methods body) w
-sent_allowing old new w a p k z m digits phrase kind size methods body e f g h i s =
-    let P : List ℕ → Type 0 = λ x. Sent old new x w in subst P (same_allowing a digits p phrase k kind z size m methods body e f g h i) s
+pub sent_response : (old new : Option (List ℕ)) (w : Written) (a p k z t m digits phrase kind size methods body : List ℕ) → a ≡ digits → p ≡ phrase → k ≡ kind → z ≡ size → m ≡ methods
+    → Sent old new (response_of a p k z t m body) w → Sent old new (response_of digits phrase kind size t methods body) w
+sent_response old new w a p k z t m digits phrase kind size methods body e f g h i s =
+    let P : List ℕ → Type 0 = λ x. Sent old new x w in subst P (same_response a digits p phrase k kind z size t m methods body e f g h i) s
 
 pub sent_post : (old new : Option (List ℕ)) (w : Written) (h z host size body : List ℕ) → h ≡ host → z ≡ size → Sent old new (post_request h z (body ++ [])) w → Sent old new (post_request host size body) w
 sent_post old new w h z host size body e f s =

@@ -3,7 +3,7 @@ ghost use Rattle.std.specs.Prelude.{◌≡◌, ◌<◌, ◌+◌, ◌^◌, length
 ghost use Rattle.std.specs.List.{flat_map};
 ghost use Rattle.http.specs.StatusCode.{reason_phrase};
 ghost use Rattle.http_edge.specs.Sent.{Sent, Failed};
-ghost use Rattle.http_edge.specs.Texts.{plain_response, allowing_response};
+ghost use Rattle.http_edge.specs.Texts.{response_of};
 ghost use Rattle.http_edge.specs.Texts.{response_text, post_text};
 
 use crate::write_buffer::WriteBuffer;
@@ -37,55 +37,23 @@ fn phrase_of(status: StatusCode) -> &'static str
     status.canonical_reason().unwrap_or("")
 }
 
-/// Writes a response from its parts.
+/// Writes a response from its parts. Methods come behind their label, or neither is there.
 fn write_head<'a, K: Sink>(
     writer: &mut K,
     status: &'a [u8],
     phrase: &'a [u8],
     content_type: &'a [u8],
     size: &'a [u8],
-    body: &'a [u8],
-) -> Written
-    requires head { length status.now + length phrase.now + length content_type.now
-        + length size.now < 2 ^ 40 }
-    requires body { length body.now < 2 ^ 63 }
-    ensures text { Sent (K.contents writer.old) (K.contents writer.new)
-        (plain_response status.now phrase.now content_type.now size.now body.now) result }
-    ensures failed { Failed K.one_more (K.failures writer.old) (K.failures writer.new) result }
-{
-    write_parts(
-        writer,
-        &[
-            b"HTTP/1.1 ",
-            status,
-            b" ",
-            phrase,
-            b"\r\nContent-Type: ",
-            content_type,
-            b"\r\nContent-Length: ",
-            size,
-            b"\r\nConnection: close\r\n\r\n",
-            body,
-        ],
-    )
-}
-
-/// The same with the methods that are allowed (RFC 9110, section 10.2.1).
-fn write_allowing<'a, K: Sink>(
-    writer: &mut K,
-    status: &'a [u8],
-    phrase: &'a [u8],
-    content_type: &'a [u8],
-    size: &'a [u8],
+    label: &'a [u8],
     methods: &'a [u8],
     body: &'a [u8],
 ) -> Written
     requires head { length status.now + length phrase.now + length content_type.now
-        + length size.now + length methods.now < 2 ^ 40 }
+        + length size.now + length label.now + length methods.now < 2 ^ 40 }
     requires body { length body.now < 2 ^ 63 }
     ensures text { Sent (K.contents writer.old) (K.contents writer.new)
-        (allowing_response status.now phrase.now content_type.now size.now methods.now body.now)
-        result }
+        (response_of status.now phrase.now content_type.now size.now label.now methods.now
+        body.now) result }
     ensures failed { Failed K.one_more (K.failures writer.old) (K.failures writer.new) result }
 {
     write_parts(
@@ -99,7 +67,7 @@ fn write_allowing<'a, K: Sink>(
             content_type,
             b"\r\nContent-Length: ",
             size,
-            b"\r\nAllow: ",
+            label,
             methods,
             b"\r\nConnection: close\r\n\r\n",
             body,
@@ -126,20 +94,25 @@ pub fn write_response<K: Sink>(
     ensures failed { Failed K.one_more (K.failures writer.old) (K.failures writer.new) result }
 {
     let mut digits = Buffer::new();
+    let code = status.as_str().as_bytes();
     let phrase = phrase_of(status).as_bytes();
     let size = digits.format(body.len()).as_bytes();
     let kind = content_type.as_bytes();
     match allow {
-        None => write_head(writer, status.as_str().as_bytes(), phrase, kind, size, body),
-        Some(methods) => write_allowing(
-            writer,
-            status.as_str().as_bytes(),
-            phrase,
-            kind,
-            size,
-            methods.as_bytes(),
-            body,
-        ),
+        None => write_head(writer, code, phrase, kind, size, b"", b"", body),
+        Some(methods) => {
+            let methods = methods.as_bytes();
+            write_head(
+                writer,
+                code,
+                phrase,
+                kind,
+                size,
+                b"\r\nAllow: ",
+                methods,
+                body,
+            )
+        }
     }
 }
 
