@@ -5,7 +5,7 @@
  *   INTERRUPT_HOW=before      the process is killed, and the call is not made
  *                 middle      half of what is to be written is, and the process is killed; else as behind
  *                 behind      the call is made, and the process is killed
- *                 ENOSPC|EIO  the call is not made and fails so; the process goes on
+ *                 ENOSPC|EIO  the call is not made and fails so, after a while; the process goes on
  *                 held        a sync is not made and does not return; others go on, and the process is killed behind
  *                             the next sync that is made, or after five seconds
  *   INTERRUPT_SHADOW=DIR      for a loss of power, what a sync made durable is kept here:
@@ -34,6 +34,9 @@
 #include <sys/types.h>
 #include <sys/uio.h>
 #include <unistd.h>
+
+/* In microseconds: what does not wait for a call that fails goes on meanwhile. */
+#define FAULT_AFTER 100000
 
 enum how { BEFORE, MIDDLE, BEHIND, FAIL, HELD };
 
@@ -119,6 +122,7 @@ static int fails(int is_interrupted)
 {
     if (!is_interrupted || how != FAIL)
         return 0;
+    usleep(FAULT_AFTER);
     errno = fault;
     return 1;
 }
