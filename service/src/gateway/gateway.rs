@@ -102,7 +102,9 @@ impl Gateway {
 
     /// The same, of what a fresh gateway is refilled with.
     pub async fn refill(&self, sender: &str, body: &Bytes) -> Result<Answer, Doubt> {
-        self.used.fetch_add(1, Ordering::Relaxed);
+        if self.used.fetch_add(1, Ordering::Relaxed) >= self.connections {
+            return Err(Doubt::FewConnections(self.connections));
+        }
         self.post_within(PATIENCE_OF_REFILL, sender, body).await
     }
 

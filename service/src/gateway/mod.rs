@@ -54,4 +54,8 @@ pub enum Doubt {
     NoAnswer(String),
     #[error("a flush ended otherwise than it may: {0}")]
     Flush(String),
+    #[error(
+        "it ends behind {0} connections, and what it has to be filled with takes more: raise --connections"
+    )]
+    FewConnections(u64),
 }

@@ -179,3 +179,25 @@ async fn a_stop_does_not_wait_for_a_start() {
         );
     }
 }
+
+#[tokio::test(flavor = "multi_thread")]
+async fn too_few_connections_for_the_senders_lose_nothing() {
+    let place = Place::of_fake();
+    let run = place.run().await;
+    for (sender, series) in [("A", "a"), ("B", "b"), ("C", "c"), ("D", "d")] {
+        assert_eq!(run.post(sender, point(series, 10, 20, 5)).await, all());
+    }
+    run.checkpoint().await;
+    run.abort().await;
+    let mut few = place.settings();
+    few.gateway.connections = 3;
+    let run = place.begin(few);
+    tokio::time::sleep(Duration::from_millis(500)).await;
+    let refused = run.post("A", point("a", 20, 30, 7)).await;
+    assert_eq!(message(&refused), (503, "recovering"));
+    run.abort().await;
+    let run = place.run().await;
+    assert_eq!(run.post("A", point("a", 20, 30, 7)).await, all());
+    let taken = run.stop().await;
+    assert_eq!(sums(&taken), [("a", 12), ("b", 5), ("c", 5), ("d", 5)]);
+}
