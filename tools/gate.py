@@ -82,6 +82,10 @@ WRONG = re.compile(r"rt: .*(NOT PROVED|its tests FAILED)$")
 WORTH_SHOWING = re.compile(r"rt: (note: |must-fail .*(NOT REFUSED|BAD EDIT)|\w+ NOT PROVED: )")
 BLOCK = re.compile(r"== \w")
 IS_TEST = re.compile(rb"#\[test\]")
+# Lines of a step's log that say what is wrong; so many are shown at the end, as far as this.
+FAULT = re.compile(r"failed:|error|test .* FAILED$")
+MOST_FAULTS = 5
+FAULT_WIDTH = 600
 
 
 class Prover:
@@ -188,6 +192,14 @@ def service_steps(before):
     return steps
 
 
+def show_faults(step):
+    """What a failed step has said is wrong: at the end, where it is also seen of a long output."""
+    with open(step.log, encoding="utf-8") as log:
+        faults = [line.rstrip("\n") for line in log if FAULT.match(line)]
+    for line in faults[:MOST_FAULTS]:
+        print(f"{step.name}: {line[:FAULT_WIDTH]}")
+
+
 def has_networks():
     ran = subprocess.run([OWN_NETWORK, "true"], cwd=ROOT, stderr=subprocess.DEVNULL)
     return ran.returncode == 0
@@ -209,6 +221,8 @@ def main(words):
         ])
         steps.run()
         passed, failed = passed + len(steps.passed), len(steps.failed)
+        for step in steps.failed:
+            show_faults(step)
         print("beside the prover:" if words else "the gate, the prover's part and the steps beside it:")
     print(f"{passed} passed, {failed} failed")
     return 1 if failed else 0
