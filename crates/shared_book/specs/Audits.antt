@@ -3,8 +3,7 @@ use Rattle.std.specs.Prelude.{◌≡◌, ℕ, ◌<◌, ◌==◌, ◌||◌, Bool,
 use Rattle.std.specs.Prelude.{length, sum_by}
 use Rattle.metric_events.specs.declared.entry.Entry.{Entry}
 use Rattle.metric_events.specs.declared.event.Event.{Event}
-use Rattle.metric_events.specs.declared.event.Event.TheVariants.{Admit, Undo, Confirm, Take, Settle}
-use Rattle.metric_events.specs.declared.event.Event.TheVariants.{Drop, GiveBack, Quarantine, Lift}
+use Rattle.metric_events.specs.declared.event.Event.TheVariants.{Admit}
 use Rattle.shared_book.specs.Receipts.{SeatView, receipts_of}
 
 -- a seat's receipts are those of the entries that name it, each once, in order
@@ -27,14 +26,7 @@ AllSeated seats ts = (n : ℕ) → n < seats → is_seated n ts ≡ true
 -- how many points an event admits
 abbrev pub points_in : Event → ℕ
 points_in (Admit b body) = length body.points
-points_in (Undo b) = 0
-points_in (Confirm b) = 0
-points_in (Take f series) = 0
-points_in (Settle f) = 0
-points_in (Drop f) = 0
-points_in (GiveBack f) = 0
-points_in (Quarantine s) = 0
-points_in (Lift s) = 0
+points_in other = 0
 
 -- how many points were admitted by these entries
 abbrev pub admitted_points : List Entry → ℕ

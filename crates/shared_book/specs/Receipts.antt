@@ -24,49 +24,26 @@ seat_view number receipts = record { number = number; receipts = receipts }
 abbrev pub with_receipt : SeatView → Receipt → SeatView
 with_receipt t receipt = seat_view t.number (t.receipts ++ receipt ∷ [])
 
--- the kind of an event
-abbrev pub kind_of : Event → EventKind
-kind_of (Admit b body) = kind.Admit
-kind_of (Undo b) = kind.Undo
-kind_of (Confirm b) = kind.Confirm
-kind_of (Take f series) = kind.Take
-kind_of (Settle f) = kind.Settle
-kind_of (Drop f) = kind.Drop
-kind_of (GiveBack f) = kind.GiveBack
-kind_of (Quarantine s) = kind.Quarantine
-kind_of (Lift s) = kind.Lift
-
--- the number of the batch or flush that it names, 0 if it names a sender
-abbrev pub number_of : Event → ℕ
-number_of (Admit b body) = b
-number_of (Undo b) = b
-number_of (Confirm b) = b
-number_of (Take f series) = f
-number_of (Settle f) = f
-number_of (Drop f) = f
-number_of (GiveBack f) = f
-number_of (Quarantine s) = 0
-number_of (Lift s) = 0
-
--- the batch of an Admit
-abbrev pub body_of : Event → Option Batch
-body_of (Admit b body) = Some body
-body_of (Undo b) = None
-body_of (Confirm b) = None
-body_of (Take f series) = None
-body_of (Settle f) = None
-body_of (Drop f) = None
-body_of (GiveBack f) = None
-body_of (Quarantine s) = None
-body_of (Lift s) = None
+-- what the receipt of an event notes of it: its kind; the number of the batch or flush that it
+-- names, 0 if it names a sender; the batch of an Admit
+abbrev pub noted_of : Event → EventKind × ℕ × Option Batch
+noted_of (Admit b body) = (kind.Admit, b, Some body)
+noted_of (Undo b) = (kind.Undo, b, None)
+noted_of (Confirm b) = (kind.Confirm, b, None)
+noted_of (Take f series) = (kind.Take, f, None)
+noted_of (Settle f) = (kind.Settle, f, None)
+noted_of (Drop f) = (kind.Drop, f, None)
+noted_of (GiveBack f) = (kind.GiveBack, f, None)
+noted_of (Quarantine s) = (kind.Quarantine, 0, None)
+noted_of (Lift s) = (kind.Lift, 0, None)
 
 -- the receipt of an event at this index of the journal
 abbrev pub receipt_of : ℕ → Event → Receipt
 receipt_of index event = record {
   index = index;
-  kind = kind_of event;
-  number = number_of event;
-  body = body_of event;
+  kind = (noted_of event).0;
+  number = (noted_of event).1;
+  body = (noted_of event).2;
 }
 
 -- the receipts of those entries that name a seat, in order; the first entry is at this index

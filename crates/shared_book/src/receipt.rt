@@ -1,6 +1,6 @@
 //! The receipt of a call that was accepted, which a seat stores.
-ghost use Rattle.std.specs.Prelude.{◌≡◌};
-ghost use Rattle.shared_book.specs.Receipts.{kind_of};
+ghost use Rattle.std.specs.Prelude.{◌≡◌, option_copied};
+ghost use Rattle.shared_book.specs.Receipts.{noted_of};
 
 use metric_events::batch::Batch;
 use metric_events::event::Event;
@@ -19,22 +19,21 @@ pub enum EventKind {
     Lift,
 }
 
-impl EventKind {
-    /// The kind of an event.
-    pub fn of(event: &Event) -> EventKind
-        ensures { result ≡ kind_of event.now }
-    {
-        match event {
-            Event::Admit { .. } => EventKind::Admit,
-            Event::Undo { .. } => EventKind::Undo,
-            Event::Confirm { .. } => EventKind::Confirm,
-            Event::Take { .. } => EventKind::Take,
-            Event::Settle { .. } => EventKind::Settle,
-            Event::Drop { .. } => EventKind::Drop,
-            Event::GiveBack { .. } => EventKind::GiveBack,
-            Event::Quarantine { .. } => EventKind::Quarantine,
-            Event::Lift { .. } => EventKind::Lift,
-        }
+/// What the receipt of an event notes of it: its kind; the number of the batch or flush that it
+/// names, 0 if it names a sender; the batch of an `Admit`.
+pub(crate) fn noted(event: &Event) -> (EventKind, u64, Option<&Batch>)
+    ensures { (result.0, result.1, option_copied result.2) ≡ noted_of event.now }
+{
+    match event {
+        Event::Admit { batch, body } => (EventKind::Admit, *batch, Some(body)),
+        Event::Undo { batch } => (EventKind::Undo, *batch, None),
+        Event::Confirm { batch } => (EventKind::Confirm, *batch, None),
+        Event::Take { flush, .. } => (EventKind::Take, *flush, None),
+        Event::Settle { flush } => (EventKind::Settle, *flush, None),
+        Event::Drop { flush } => (EventKind::Drop, *flush, None),
+        Event::GiveBack { flush } => (EventKind::GiveBack, *flush, None),
+        Event::Quarantine { .. } => (EventKind::Quarantine, 0, None),
+        Event::Lift { .. } => (EventKind::Lift, 0, None),
     }
 }
 

@@ -1,11 +1,11 @@
 //! Compares a journal with the receipts of its seats, entry by entry.
-ghost use Rattle.std.specs.Prelude.{◌≡◌, ◌↔◌, ◌+◌, ◌<◌, [], IsTrue, false, length, take};
+ghost use Rattle.std.specs.Prelude.{◌≡◌, ◌↔◌, ◌+◌, ◌<◌, [], IsTrue, false, length, take, option_copied};
 ghost use Rattle.std.specs.List.{All, Any};
 ghost use Rattle.shared_book.specs.inner.Audits.{IsTallied};
-ghost use Rattle.shared_book.specs.Receipts.{number_of, body_of, receipt_of};
+ghost use Rattle.shared_book.specs.Receipts.{receipt_of};
 ghost use Rattle.shared_book.specs.inner.Receipts.{IsNext};
 
-use crate::receipt::{EventKind, Receipt};
+use crate::receipt::{Receipt, noted};
 use crate::seat::{MAX_SEATS, Seat};
 use metric_events::batch::Batch;
 use metric_events::entry::Entry;
@@ -57,32 +57,14 @@ impl Tally {
     }
 }
 
-/// The number of the batch or flush that an event names, 0 if it names a sender.
-fn number_in(event: &Event) -> u64
-    ensures { result ≡ number_of event.now }
+/// Whether these are the same batch, or there is none.
+fn are_same(copy: &Option<Batch>, body: Option<&Batch>) -> bool
+    ensures { IsTrue result ↔ (copy.now ≡ option_copied body.entry) }
 {
-    match event {
-        Event::Admit { batch, .. } => *batch,
-        Event::Undo { batch } => *batch,
-        Event::Confirm { batch } => *batch,
-        Event::Take { flush, .. } => *flush,
-        Event::Settle { flush } => *flush,
-        Event::Drop { flush } => *flush,
-        Event::GiveBack { flush } => *flush,
-        Event::Quarantine { .. } => 0,
-        Event::Lift { .. } => 0,
-    }
-}
-
-/// Whether this is the batch of the event.
-fn is_body_of(body: &Option<Batch>, event: &Event) -> bool
-    ensures { IsTrue result ↔ (body.now ≡ body_of event.now) }
-{
-    match (body, event) {
-        (Some(copy), Event::Admit { body, .. }) => copy.is_same(body),
-        (Some(_), _) => false,
-        (None, Event::Admit { .. }) => false,
-        (None, _) => true,
+    match (copy, body) {
+        (Some(copy), Some(body)) => copy.is_same(body),
+        (None, None) => true,
+        _ => false,
     }
 }
 
@@ -90,10 +72,11 @@ fn is_body_of(body: &Option<Batch>, event: &Event) -> bool
 fn is_receipt_of(receipt: &Receipt, index: u64, event: &Event) -> bool
     ensures { IsTrue result ↔ (receipt.now ≡ receipt_of index event.now) }
 {
+    let (kind, number, body) = noted(event);
     receipt.index == index
-        && receipt.kind == EventKind::of(event)
-        && receipt.number == number_in(event)
-        && is_body_of(&receipt.body, event)
+        && receipt.kind == kind
+        && receipt.number == number
+        && are_same(&receipt.body, body)
 }
 
 /// Whether the receipt at index `at` is that of an event.
