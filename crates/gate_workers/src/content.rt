@@ -1,9 +1,9 @@
 //! Whether a request's body is plain JSON, by its headers.
-ghost use Rattle.std.specs.Prelude.{◌≡◌, ◌==◌, position, take, drop, codes};
+ghost use Rattle.std.specs.Prelude.{◌≡◌, ◌==◌, position, codes};
 ghost use Rattle.gate_workers.specs.Requested as spec;
 ghost use Rattle.std.specs.Str.{str_eq_ignore_ascii_case};
 ghost use Rattle.std.specs.List.{list_all};
-ghost use Rattle.http_edge.specs.Framing.{is_named, values_of};
+ghost use Rattle.http_edge.specs.Framing.{values_of};
 ghost use Rattle.http_edge.specs.Request.{header_in, headers_in};
 
 use http_edge::{Header, find_in};
@@ -14,15 +14,6 @@ fn place_of(mark: u8, bytes: &[u8]) -> Option<usize>
     bytes.iter().position(|b| *b == mark)
 }
 
-fn front(bytes: &[u8], n: usize) -> &[u8]
-    ensures { result.now ≡ take n bytes.now }
-{
-    if n < bytes.len() {
-        return &bytes[..n];
-    }
-    bytes
-}
-
 /// The bytes before the first one of this value, or all.
 #[tactic(auto, unfolding(crate::specs::Requested::before))]
 pub fn before(mark: u8, bytes: &[u8]) -> &[u8]
@@ -30,19 +21,8 @@ pub fn before(mark: u8, bytes: &[u8]) -> &[u8]
 {
     match place_of(mark, bytes) {
         None => bytes,
-        Some(i) => front(bytes, i),
+        Some(at) => &bytes[..at],
     }
-}
-
-/// The first `n` bytes, or all, and those behind them.
-fn cut(bytes: &[u8], n: usize) -> (&[u8], &[u8])
-    ensures front { result.0.now ≡ take n bytes.now }
-    ensures behind { result.1.now ≡ drop n bytes.now }
-{
-    if n < bytes.len() {
-        return bytes.split_at(n);
-    }
-    (bytes, &[])
 }
 
 fn is_same(a: &[u8], b: &[u8]) -> bool
@@ -61,27 +41,17 @@ fn are_blanks(bytes: &[u8]) -> bool
 fn is_words(words: &[u8], value: &[u8]) -> bool
     ensures { result ≡ spec.is_words words.now value.now }
 {
-    let (front, behind) = cut(value, words.len());
-    is_same(front, words) && are_blanks(behind)
-}
-
-fn is_coding(header: &Header) -> bool
-    ensures { result ≡ is_named (codes "content-encoding") (header_in header.now) }
-{
-    is_same(&header.name, b"content-encoding")
-}
-
-fn is_identity(coding: &[u8]) -> bool
-    ensures { result ≡ spec.is_identity coding.now }
-{
-    is_same(coding, b"identity")
+    match value.split_at_checked(words.len()) {
+        Some((front, behind)) => is_same(front, words) && are_blanks(behind),
+        None => false,
+    }
 }
 
 /// Whether the field names no coding that has to be undone.
 fn is_uncoded(header: &Header) -> bool
     ensures { result ≡ spec.is_uncoded (header_in header.now) }
 {
-    !is_coding(header) || is_identity(&header.value)
+    !is_same(&header.name, b"content-encoding") || is_same(&header.value, b"identity")
 }
 
 fn are_uncoded(headers: &[Header]) -> bool
