@@ -1,12 +1,8 @@
 -- At which spots a worker asks its pace.
-use Rattle.std.proofs.Common.{◌≡◌, ◌⊎◌, ℕ, List, Bool, true, false, Option, Some, None, inl, inr, refl, ap, subst, ◌∙◌}
+use Rattle.std.proofs.Common.{◌≡◌, ◌⊎◌, ℕ, List, Bool, true, false, Option, Some, None, inl, inr, ap, subst}
 use Rattle.std.specs.Prelude.{IfSome}
-use Rattle.http_edge.specs.Delivery.{IsMalformed}
 use Rattle.http_edge.specs.Message.{Message}
 use Rattle.http_edge.specs.Reading.{BeginsWith}
-use Rattle.http_edge.specs.inner.Delivery.{SaysFault}
-use Rattle.http_edge.specs.declared.fault.HttpFault.{HttpFault}
-use Rattle.http_edge.specs.declared.fault.HttpFault.TheVariants as http
 use Rattle.http_edge.specs.declared.written.Written.{Written}
 use Rattle.gate_workers.specs.declared.refusal.Refusal.{Refusal}
 use Rattle.gate_workers.specs.declared.refusal.Refusal.TheVariants.{Malformed, BodyTooLong, NoMemory}
@@ -18,31 +14,12 @@ use Rattle.gate_workers.specs.Conversations.{Giving, IsHandled}
 use Rattle.gate_workers.specs.Paced.{Reaching, HasRequest, IsUnread, IsPaced}
 use Rattle.gate_workers.specs.Refusals.{refusal_status}
 use Rattle.gate_workers.specs.Responses.{Response, refusal_response, or_no_memory}
-use Rattle.gate_workers.specs.inner.Heard.{HearingAsks, IsUnheard, heard_of}
-
-where_known : (input : Option (List ℕ)) (P Q : List ℕ → Type 0) → ((bytes : List ℕ) → P bytes → Q bytes) → IfSome input P → IfSome input Q
-where_known None P Q f h = tt
-where_known (Some bytes) P Q f h = f bytes h
+use Rattle.gate_workers.specs.inner.Heard.{IsUnheard}
 
 -- a message that was read is a whole request
 pub whole : (input : Option (List ℕ)) (m : Message) → IfSome input (λ bytes. BeginsWith bytes m) → IfSome input HasRequest
-whole input m h = where_known input (λ bytes. BeginsWith bytes m) HasRequest (λ bytes b. (m, b)) h
-
-malformed : (input : Option (List ℕ)) (e : HttpFault) → ((bytes : List ℕ) → SaysFault e bytes → IsMalformed bytes) → IfSome input (λ bytes. SaysFault e bytes) → IsUnheard input (Refused Malformed)
-malformed input e is h = inr (inr (where_known input (λ bytes. SaysFault e bytes) IsMalformed is h, refl))
-
--- behind a fault of the message nothing was asked
-pub unasked : {P : Type 0} (reaches : Reaching P) (input : Option (List ℕ)) (p p' : P) (e : HttpFault) → IfSome input (λ bytes. SaysFault e bytes) → p' ≡ p → HearingAsks reaches input p p' (heard_of e)
-unasked reaches input p p' http.Closed h same = same
-unasked reaches input p p' http.Io h same = same
-unasked reaches input p p' http.BodyTooLong h same = inr (inr (inl (h, refl)), same)
-unasked reaches input p p' http.NoMemory h same = inr (inl refl, same)
-unasked reaches input p p' http.BadHead h same = inr (malformed input http.BadHead (λ bytes s. s.0) h, same)
-unasked reaches input p p' http.TooManyHeaders h same = inr (malformed input http.TooManyHeaders (λ bytes s. s.0) h, same)
-unasked reaches input p p' http.HeadTooLong h same = inr (malformed input http.HeadTooLong (λ bytes s. s.0) h, same)
-unasked reaches input p p' http.BadLength h same = inr (malformed input http.BadLength (λ bytes s. s.0) h, same)
-unasked reaches input p p' http.BadChunk h same = inr (malformed input http.BadChunk (λ bytes s. s.0) h, same)
-unasked reaches input p p' http.Truncated h same = inr (malformed input http.Truncated (λ bytes s. s.0) h, same)
+whole None m h = tt
+whole (Some bytes) m h = (m, h)
 
 -- the status of a refusal, or of there being no memory for its text
 said_status : (mark : Bool) (why : Refusal) (response : Response) → response ≡ or_no_memory mark (refusal_response why) → (response.status ≡ refusal_status why) ⊎ (response.status ≡ refusal_status NoMemory)
