@@ -5,6 +5,7 @@ use Rattle.http_edge.specs.Reading.{BeginsWith, IsTooLong}
 use Rattle.http_edge.specs.Delivery.{IsMalformed}
 use Rattle.gate_workers.specs.declared.flush.Turn.{Turn}
 use Rattle.gate_workers.specs.declared.flush.Turn.TheVariants.{Idle, Full, NoMemory, Done}
+use Rattle.gate_workers.specs.declared.refusal.Refusal.{Refusal}
 use Rattle.gate_workers.specs.declared.refusal.Refusal.TheVariants as refusal
 use Rattle.gate_workers.specs.declared.service.Served.{Served}
 use Rattle.gate_workers.specs.declared.service.Served.TheVariants.{Closed, Broken, Replied}
@@ -27,16 +28,19 @@ IsTurnPaced reaches p p' (Done flush points answer act) = reaches p BeforeSend p
 abbrev pub HasRequest : List ℕ → Type 0
 HasRequest bytes = (m : Message) × BeginsWith bytes m
 
--- bytes that are no whole request were refused by this status, or there was no memory to read them
-abbrev pub IsUnread : Option (List ℕ) → ℕ → Type 0
-IsUnread input status =
-    (status ≡ refusal_status refusal.NoMemory)
-    ⊎ ((IfSome input IsTooLong × (status ≡ refusal_status refusal.BodyTooLong))
-    ⊎ (IfSome input IsMalformed × (status ≡ refusal_status refusal.Malformed)))
+-- bytes that are no whole request are refused so, or there was no memory to read or to answer them
+abbrev pub IsUnread : Option (List ℕ) → Refusal → Type 0
+IsUnread input why =
+    (why ≡ refusal.NoMemory)
+    ⊎ ((IfSome input IsTooLong × (why ≡ refusal.BodyTooLong))
+    ⊎ (IfSome input IsMalformed × (why ≡ refusal.Malformed)))
 
--- a request asks once where it was read whole, and else never
-abbrev pub IsPaced : {P : Type 0} → Reaching P → Option (List ℕ) → P → P → Served → Type 0
-IsPaced reaches input p p' Closed = p' ≡ p
-IsPaced reaches input p p' Broken = p' ≡ p
-IsPaced reaches input p p' (Replied status written end) =
-    (IfSome input HasRequest × reaches p BodyRead p') ⊎ (IsUnread input status × (p' ≡ p))
+-- a request asks once where it was read whole, and else never: then the keeper is as before
+abbrev pub IsPaced : {K P : Type 0} → Reaching P → Option (List ℕ) → K → K → P → P → Served
+    → Type 0
+IsPaced reaches input k k' p p' Closed = p' ≡ p
+IsPaced reaches input k k' p p' Broken = p' ≡ p
+IsPaced reaches input k k' p p' (Replied status written end) =
+    (IfSome input HasRequest × reaches p BodyRead p')
+    ⊎ ((why : Refusal) × IsUnread input why × (status ≡ refusal_status why) × (k' ≡ k)
+    × (p' ≡ p))

@@ -155,7 +155,8 @@ pub fn serve<K: Keeper, S: Source, W: Sink, P: Pace>(
     ensures read { ReadingFails S.one_more (S.failures reader.old) (S.failures reader.new) result }
     ensures written { WritingFails W.one_more (W.failures writer.old) (W.failures writer.new)
         result }
-    ensures paced { IsPaced P.reaches (S.remaining reader.old) pace.old pace.new result }
+    ensures paced { IsPaced P.reaches (S.remaining reader.old) keeper.old keeper.new
+        pace.old pace.new result }
 {
     let mut cache = IdentityCache::without_slots();
     serve_with(alloc, keeper, reader, writer, pace, &mut cache)
@@ -178,7 +179,8 @@ pub fn serve_with<K: Keeper, S: Source, W: Sink, P: Pace>(
     ensures read { ReadingFails S.one_more (S.failures reader.old) (S.failures reader.new) result }
     ensures written { WritingFails W.one_more (W.failures writer.old) (W.failures writer.new)
         result }
-    ensures paced { IsPaced P.reaches (S.remaining reader.old) pace.old pace.new result }
+    ensures paced { IsPaced P.reaches (S.remaining reader.old) keeper.old keeper.new
+        pace.old pace.new result }
 {
     match listen(alloc, reader, pace, cache) {
         Heard::Closed => Served::Closed,
@@ -215,7 +217,8 @@ pub fn serve_book<U: Uplink + Drop, S: Source, W: Sink, P: Pace>(
     ensures read { ReadingFails S.one_more (S.failures reader.old) (S.failures reader.new) result }
     ensures written { WritingFails W.one_more (W.failures writer.old) (W.failures writer.new)
         result }
-    ensures paced { IsPaced P.reaches (S.remaining reader.old) pace.old pace.new result }
+    ensures paced { IsPaced P.reaches (S.remaining reader.old) keeper.old keeper.new
+        pace.old pace.new result }
 {
     serve(alloc, keeper, reader, writer, pace)
 }
