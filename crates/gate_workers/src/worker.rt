@@ -24,7 +24,7 @@ pub enum Spot {
     BeforeSend,
 }
 
-/// What may hold a worker. Tests do; the programs' pace does nothing.
+/// What a worker asks at a spot. Tests hold it there; the gateway notes that a request was read.
 pub trait Pace {
     /// How a worker that reaches a spot changes the pace.
     ghost reaches: { Self → Spot → Self → Type 0 };
