@@ -1,47 +1,20 @@
 //! Reads attribute lists (`KeyValue` of `opentelemetry/proto/common/v1/common.proto`).
 
-ghost use Rattle.std.specs.Prelude.{◌≡◌, ◌≢◌, codes, map, option_map, IfOk, IfSome, OnErr, OnOk};
+ghost use Rattle.std.specs.Prelude.{◌≡◌, ◌≢◌, codes, option_map, IfOk, IfSome, OnErr, OnOk};
 ghost use Rattle.std.specs.Prelude.{Some};
 ghost use Rattle.std.specs.Result.{result_ok};
-ghost use Rattle.serde_json.specs.Data.{object};
-ghost use Rattle.serde_json.specs.View.{view, members_view};
-ghost use Rattle.otlp_read.specs.Fields.{field};
-ghost use Rattle.otlp_read.specs.Lists.{all_of};
+ghost use Rattle.serde_json.specs.View.{view};
 ghost use Rattle.otlp_read.specs.Attributes.{key_and_value, pair_of, set_of, attributes_in};
 ghost use Rattle.otlp_read.specs.inner.RefViews.{found_data, pair_data};
 
 use crate::fields::text_in;
-use crate::lists::elements_in;
-use crate::members::set_if_named;
+use crate::lists::{Element, list_in};
+use crate::members::pair_fields;
 use crate::scalar_ref::PairRef;
 use crate::values::{scalar_ref_in, value_in};
-use serde_json::{Map, Value};
+use serde_json::Value;
 use series_id::{AttrFault, AttrSet, AttrValue, Text};
 use std::alloc::{AllocError, Global};
-
-/// The fields of an attribute that are present.
-#[derive(Clone, Copy)]
-struct PairFields<'v> {
-    key: Option<&'v Value>,
-    value: Option<&'v Value>,
-}
-
-/// The fields of an attribute, in one pass over its members.
-fn pair_fields<'v>(members: &'v Map<String, Value>) -> PairFields<'v>
-    ensures key { found_data result.key ≡ field (codes "key")
-        (object (members_view members.now.entries)) }
-    ensures value { found_data result.value ≡ field (codes "value")
-        (object (members_view members.now.entries)) }
-{
-    let mut key = None;
-    let mut value = None;
-    for (name, member) in members {
-        let name = name.as_str();
-        set_if_named(&mut key, "key", name, member);
-        set_if_named(&mut value, "value", name, member);
-    }
-    PairFields { key, value }
-}
 
 /// The attribute set of a field, empty if it is absent. `None` if the field is no attribute list,
 /// or one that no series may have.
@@ -49,28 +22,18 @@ fn pair_fields<'v>(members: &'v Map<String, Value>) -> PairFields<'v>
 pub fn attributes_in(alloc: Global, found: Option<&Value>) -> Result<Option<AttrSet>, AllocError>
     ensures { IfOk result (λ o. o ≡ attributes_in (found_data found.entry)) }
 {
-    let Some(values) = elements_in(found) else {
-        return Ok(None);
-    };
-    match pairs(alloc, values)? {
+    match list_in(alloc, found)? {
         None => Ok(None),
         Some(pairs) => set_of(alloc, pairs),
     }
 }
 
-/// The keys and values of an attribute list; `None` if an element is no attribute.
-fn pairs(alloc: Global, values: &[Value]) -> Result<Option<Vec<(Text, AttrValue)>>, AllocError>
-    ensures { IfOk result (λ o. option_map (λ v. v.items) o ≡ all_of pair_of
-        (map view values.now)) }
-{
-    let mut found = Vec::with_capacity(alloc, values.len())?;
-    for value in values {
-        let Some(pair) = pair_of(alloc, value)? else {
-            return Ok(None);
-        };
-        found.push(pair)?;
+impl Element for (Text, AttrValue) {
+    ghost reads = { pair_of };
+
+    fn read(alloc: Global, value: &Value) -> Result<Option<(Text, AttrValue)>, AllocError> {
+        pair_of(alloc, value)
     }
-    Ok(Some(found))
 }
 
 /// The key and the value of an attribute; `None` if it is none.

@@ -19,13 +19,12 @@ ghost use Rattle.otlp_read.specs.inner.RefViews.{found_data};
 use crate::fields::{flags_fit, nanos_in};
 use crate::identity_cache::IdentityCache;
 use crate::integers::unsigned_64;
-use crate::lists::{signed_list, unsigned_list};
+use crate::lists::list_in;
 use crate::members::point_members;
-use crate::streams::{Stream, series_of};
+use crate::streams::{PointStream, Stream, series_of};
 use metric_events::point::{Point, PointFault};
 use serde_json::Value;
 use series_id::Kind;
-use series_id::limits::MAX_BOUND;
 use std::alloc::{AllocError, Global};
 
 /// Start and end (nanoseconds), count and sum of a histogram's point, and the fields of its
@@ -99,25 +98,26 @@ fn kind_of(alloc: Global, bounds: Option<&Value>) -> Result<Option<Kind>, AllocE
     ensures { IfOk result (λ o. o ≡ option_and_then (λ found. result_ok (histogram_of found))
         (list_in (signed_in MAX_BOUND MAX_BOUND) (found_data bounds.entry))) }
 {
-    let Some(found) = signed_list(alloc, bounds, MAX_BOUND)? else {
+    let Some(found) = list_in(alloc, bounds)? else {
         return Ok(None);
     };
     Ok(Kind::histogram(found).ok())
 }
 
-/// Reads a point of a histogram; `None` if it is foreign, as it is in no stream.
-pub fn histogram_point_in(
-    alloc: Global,
-    cache: &mut IdentityCache,
-    stream: Option<Stream<'_>>,
-    value: &Value,
-) -> Result<Option<Point>, AllocError>
-    ensures { IfOk result (λ o. o ≡ histogram_point_in (option_map stream_data stream.entry)
-        (view value.now)) }
-{
-    match stream {
-        None => Ok(None),
-        Some(stream) => histogram_point(alloc, cache, stream, value),
+/// In no stream, every point is foreign.
+impl PointStream for Option<Stream<'_>> {
+    ghost reads = { λ stream. histogram_point_in (option_map stream_data stream) };
+
+    fn read(
+        self,
+        alloc: Global,
+        cache: &mut IdentityCache,
+        value: &Value,
+    ) -> Result<Option<Point>, AllocError> {
+        match self {
+            None => Ok(None),
+            Some(stream) => histogram_point(alloc, cache, stream, value),
+        }
     }
 }
 
@@ -137,7 +137,7 @@ fn histogram_point(
     let Some(kind) = kind_of(alloc, fields.bounds)? else {
         return Ok(None);
     };
-    let Some(buckets) = unsigned_list(alloc, fields.buckets, u64::MAX)? else {
+    let Some(buckets) = list_in(alloc, fields.buckets)? else {
         return Ok(None);
     };
     let Some(series) = series_of(alloc, cache, stream, kind, fields.attributes)? else {

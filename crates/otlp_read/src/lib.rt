@@ -18,6 +18,7 @@ mod lookup;
 mod members;
 mod metrics;
 mod place;
+mod reader;
 mod reading;
 mod room;
 mod scalar_ref;

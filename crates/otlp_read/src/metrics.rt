@@ -4,9 +4,7 @@
 ghost use Rattle.std.specs.Prelude.{◌≡◌, ◌≤◌, map, option_map, IfOk, OnOk};
 ghost use Rattle.serde_json.specs.View.{view};
 ghost use Rattle.otlp_read.specs.inner.Containers.{Gives};
-ghost use Rattle.otlp_read.specs.inner.StreamViews.{scope_data, stream_data, sum_stream_data};
-ghost use Rattle.otlp_read.specs.Sums.{sum_point_in};
-ghost use Rattle.otlp_read.specs.Histograms.{histogram_point_in};
+ghost use Rattle.otlp_read.specs.inner.StreamViews.{scope_data};
 ghost use Rattle.otlp_read.specs.Tallies.{tally, add_metric, add_point, each_point};
 ghost use Rattle.otlp_read.specs.Metrics.{part, parts, one_if, is_single, add_all, add_sum};
 ghost use Rattle.otlp_read.specs.Metrics.{add_histogram, add_profile, add_parts, metric};
@@ -15,12 +13,10 @@ ghost use Rattle.otlp_read.specs.inner.PartViews.{part_data, parts_data};
 use crate::containers::{object_in, objects};
 use crate::fault::ReadFault;
 use crate::fields::field;
-use crate::histograms::histogram_point_in;
-use crate::identity_cache::IdentityCache;
 use crate::place::Place;
+use crate::reader::{Object, Reader};
 use crate::reading::Reading;
-use crate::streams::{Scope, Stream, SumStream, stream_in, sum_stream_in};
-use crate::sums::sum_point_in;
+use crate::streams::{PointStream, Scope, stream_in, sum_stream_in};
 use metric_events::point::Point;
 use serde_json::Value;
 use std::alloc::{AllocError, Global};
@@ -44,20 +40,23 @@ struct Parts<'v> {
 
 /// Reads a metric of a scope, and adds it to the reading.
 #[tactic(auto, unfolding(crate::specs::Metrics::metric))]
-pub fn metric(
-    alloc: Global,
-    cache: &mut IdentityCache,
-    out: &mut Reading,
-    scope: Option<Scope<'_>>,
-    value: &Value,
-) -> Result<(), ReadFault>
-    ensures { Gives (λ _. tally out.new) result (metric (option_map scope_data scope.entry)
-        (view value.now) (tally out.old)) }
+fn metric(reader: &mut Reader<'_>, scope: Option<Scope<'_>>, value: &Value) -> Result<(), ReadFault>
+    ensures { Gives (λ _. tally reader.new.out) result (metric (option_map scope_data scope.entry)
+        (view value.now) (tally reader.old.out)) }
 {
     let parts = parts_of(value)?;
-    out.metrics = out.metrics.saturating_add(1);
-    add_parts(alloc, cache, out, scope, value, parts)?;
+    reader.out.metrics = reader.out.metrics.saturating_add(1);
+    add_parts(reader, scope, value, parts)?;
     Ok(())
+}
+
+/// A metric of a scope.
+impl Object for Option<Scope<'_>> {
+    ghost adds = { λ scope. metric (option_map scope_data scope) };
+
+    fn read(self, reader: &mut Reader<'_>, value: &Value) -> Result<(), ReadFault> {
+        metric(reader, self, value)
+    }
 }
 
 /// The data fields of a metric.
@@ -94,42 +93,38 @@ fn part_of<'v>(metric: &'v Value, name: &str) -> Result<Option<Part<'v>>, ReadFa
 /// Adds the points of all data fields.
 #[tactic(auto, unfolding(crate::specs::Metrics::add_parts))]
 fn add_parts(
-    alloc: Global,
-    cache: &mut IdentityCache,
-    out: &mut Reading,
+    reader: &mut Reader<'_>,
     scope: Option<Scope<'_>>,
     metric: &Value,
     parts: Parts<'_>,
 ) -> Result<(), AllocError>
-    ensures { OnOk result (tally out.new ≡ add_parts (option_map scope_data scope.entry)
-        (view metric.now) (parts_data parts.entry) (tally out.old)) }
+    ensures { OnOk result (tally reader.new.out ≡ add_parts (option_map scope_data scope.entry)
+        (view metric.now) (parts_data parts.entry) (tally reader.old.out)) }
 {
-    add_all(out, parts.gauge);
-    add_profile(alloc, cache, out, scope, metric, parts)?;
-    add_all(out, parts.exponential);
-    add_all(out, parts.summary);
+    add_all(&mut reader.out, parts.gauge);
+    add_profile(reader, scope, metric, parts)?;
+    add_all(&mut reader.out, parts.exponential);
+    add_all(&mut reader.out, parts.summary);
     Ok(())
 }
 
 /// Adds the points of the sum and of the histogram. With two data fields all are foreign.
 #[tactic(auto, unfolding(crate::specs::Metrics::add_profile))]
 fn add_profile(
-    alloc: Global,
-    cache: &mut IdentityCache,
-    out: &mut Reading,
+    reader: &mut Reader<'_>,
     scope: Option<Scope<'_>>,
     metric: &Value,
     parts: Parts<'_>,
 ) -> Result<(), AllocError>
-    ensures { OnOk result (tally out.new ≡ add_profile (option_map scope_data scope.entry)
-        (view metric.now) (parts_data parts.entry) (tally out.old)) }
+    ensures { OnOk result (tally reader.new.out ≡ add_profile (option_map scope_data scope.entry)
+        (view metric.now) (parts_data parts.entry) (tally reader.old.out)) }
 {
     if is_single(parts) {
-        add_sum(alloc, cache, out, scope, metric, parts.sum)?;
-        add_histogram(alloc, cache, out, scope, metric, parts.histogram)?;
+        add_sum(reader, scope, metric, parts.sum)?;
+        add_histogram(reader, scope, metric, parts.histogram)?;
     } else {
-        add_all(out, parts.sum);
-        add_all(out, parts.histogram);
+        add_all(&mut reader.out, parts.sum);
+        add_all(&mut reader.out, parts.histogram);
     }
     Ok(())
 }
@@ -169,74 +164,50 @@ fn add_all(out: &mut Reading, part: Option<Part<'_>>)
 
 /// Adds the points of a sum.
 fn add_sum(
-    alloc: Global,
-    cache: &mut IdentityCache,
-    out: &mut Reading,
+    reader: &mut Reader<'_>,
     scope: Option<Scope<'_>>,
     metric: &Value,
     part: Option<Part<'_>>,
 ) -> Result<(), AllocError>
-    ensures { OnOk result (tally out.new ≡ add_sum (option_map scope_data scope.entry)
-        (view metric.now) (option_map part_data part.entry) (tally out.old)) }
+    ensures { OnOk result (tally reader.new.out ≡ add_sum (option_map scope_data scope.entry)
+        (view metric.now) (option_map part_data part.entry) (tally reader.old.out)) }
 {
     let Some(part) = part else {
         return Ok(());
     };
     let sum = sum_stream_in(scope, metric, part.whole);
-    sum_points(alloc, cache, out, sum, part.points)
+    points(reader, sum, part.points)
 }
 
 /// Adds the points of a histogram.
 fn add_histogram(
-    alloc: Global,
-    cache: &mut IdentityCache,
-    out: &mut Reading,
+    reader: &mut Reader<'_>,
     scope: Option<Scope<'_>>,
     metric: &Value,
     part: Option<Part<'_>>,
 ) -> Result<(), AllocError>
-    ensures { OnOk result (tally out.new ≡ add_histogram (option_map scope_data scope.entry)
-        (view metric.now) (option_map part_data part.entry) (tally out.old)) }
+    ensures { OnOk result (tally reader.new.out ≡ add_histogram (option_map scope_data scope.entry)
+        (view metric.now) (option_map part_data part.entry) (tally reader.old.out)) }
 {
     let Some(part) = part else {
         return Ok(());
     };
     let stream = stream_in(scope, metric, part.whole);
-    histogram_points(alloc, cache, out, stream, part.points)
+    points(reader, stream, part.points)
 }
 
-/// Reads the points of a sum in order, and adds them.
-fn sum_points(
-    alloc: Global,
-    cache: &mut IdentityCache,
-    out: &mut Reading,
-    sum: Option<SumStream<'_>>,
+/// Reads points in order, and adds them.
+fn points<S: PointStream>(
+    reader: &mut Reader<'_>,
+    stream: S,
     points: &[Value],
 ) -> Result<(), AllocError>
-    ensures { OnOk result (tally out.new ≡ each_point (sum_point_in
-        (option_map sum_stream_data sum.entry)) (map view points.now) (tally out.old)) }
+    ensures { OnOk result (tally reader.new.out ≡ each_point (S.reads stream)
+        (map view points.now) (tally reader.old.out)) }
 {
     for value in points {
-        let point = sum_point_in(alloc, cache, sum, value)?;
-        add_point(out, point)?;
-    }
-    Ok(())
-}
-
-/// Reads the points of a histogram in order, and adds them.
-fn histogram_points(
-    alloc: Global,
-    cache: &mut IdentityCache,
-    out: &mut Reading,
-    stream: Option<Stream<'_>>,
-    points: &[Value],
-) -> Result<(), AllocError>
-    ensures { OnOk result (tally out.new ≡ each_point (histogram_point_in
-        (option_map stream_data stream.entry)) (map view points.now) (tally out.old)) }
-{
-    for value in points {
-        let point = histogram_point_in(alloc, cache, stream, value)?;
-        add_point(out, point)?;
+        let point = stream.read(reader.alloc, reader.cache, value)?;
+        add_point(&mut reader.out, point)?;
     }
     Ok(())
 }

@@ -1,8 +1,10 @@
 //! Reads the parts of an identity: resource, scope and metric, and with a point's kind and
 //! attributes its series.
 
-ghost use Rattle.std.specs.Prelude.{◌≡◌, option_map, IfOk};
+ghost use Rattle.std.specs.Prelude.{◌≡◌, option_map, IfOk, Option};
+ghost use Rattle.serde_json.specs.Data.{Data};
 ghost use Rattle.serde_json.specs.View.{view};
+ghost use Rattle.metric_events.specs.DataPoint.{DataPoint};
 ghost use Rattle.otlp_read.specs.Streams.{inner, scope_in, stream_in, sum_stream_in, series_in};
 ghost use Rattle.otlp_read.specs.Streams.{series_of};
 ghost use Rattle.otlp_read.specs.inner.StreamViews.{resource_data, scope_data, stream_data};
@@ -14,6 +16,7 @@ use crate::fields::{field, is_delta, text_in, truth_in};
 use crate::identity_cache::IdentityCache;
 use crate::identity_hash::IdentityHash;
 use crate::lookup::look_up;
+use metric_events::point::Point;
 use serde_json::Value;
 use series_id::{AttrSet, Kind, SeriesId, SharedId, Text};
 use std::alloc::{AllocError, Global};
@@ -49,6 +52,21 @@ pub struct Stream<'a> {
 pub struct SumStream<'a> {
     pub stream: Stream<'a>,
     pub monotonic: bool,
+}
+
+/// How the points of a stream are read.
+pub trait PointStream: Copy {
+    /// What a value is read as, if it is such a point.
+    ghost reads: { Self → Data → Option DataPoint };
+
+    /// Reads a point; `None` if it is foreign.
+    fn read(
+        self,
+        alloc: Global,
+        cache: &mut IdentityCache,
+        value: &Value,
+    ) -> Result<Option<Point>, AllocError>
+        ensures { IfOk result (λ o. o ≡ reads self (view value.now)) };
 }
 
 /// The field of this name in an object that may be absent.

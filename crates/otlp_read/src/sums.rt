@@ -13,7 +13,7 @@ use crate::fields::{flags_fit, nanos_in};
 use crate::identity_cache::IdentityCache;
 use crate::integers::signed_64;
 use crate::members::{PointMembers, point_members};
-use crate::streams::{SumStream, series_of};
+use crate::streams::{PointStream, SumStream, series_of};
 use metric_events::point::Point;
 use serde_json::Value;
 use series_id::Kind;
@@ -68,19 +68,20 @@ fn sum_fields<'v>(value: &'v Value) -> Option<SumFields<'v>>
     }
 }
 
-/// Reads a point of a sum; `None` if it is foreign, as it is in no stream.
-pub fn sum_point_in(
-    alloc: Global,
-    cache: &mut IdentityCache,
-    sum: Option<SumStream<'_>>,
-    value: &Value,
-) -> Result<Option<Point>, AllocError>
-    ensures { IfOk result (λ o. o ≡ sum_point_in (option_map sum_stream_data sum.entry)
-        (view value.now)) }
-{
-    match sum {
-        None => Ok(None),
-        Some(sum) => sum_point(alloc, cache, sum, value),
+/// In no stream, every point is foreign.
+impl PointStream for Option<SumStream<'_>> {
+    ghost reads = { λ sum. sum_point_in (option_map sum_stream_data sum) };
+
+    fn read(
+        self,
+        alloc: Global,
+        cache: &mut IdentityCache,
+        value: &Value,
+    ) -> Result<Option<Point>, AllocError> {
+        match self {
+            None => Ok(None),
+            Some(sum) => sum_point(alloc, cache, sum, value),
+        }
     }
 }
 

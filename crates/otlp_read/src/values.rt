@@ -1,73 +1,22 @@
 //! Reads the values of attributes, single ones and lists (`AnyValue` of
 //! `opentelemetry/proto/common/v1/common.proto`).
 
-ghost use Rattle.std.specs.Prelude.{◌≡◌, ◌||◌, is_some, map, option_map, IfOk, IfSome, Some};
-ghost use Rattle.serde_json.specs.Data.{object};
-ghost use Rattle.serde_json.specs.View.{view, members_view};
+ghost use Rattle.std.specs.Prelude.{◌≡◌, option_map, IfOk, IfSome, Some};
+ghost use Rattle.serde_json.specs.View.{view};
 ghost use Rattle.series_id.specs.declared.values.AttrValue.TheVariants.{One};
-ghost use Rattle.otlp_read.specs.Lists.{all_of};
-ghost use Rattle.otlp_read.specs.Values.{fields_of, scalar_of, scalar_in, scalars_of, many_of};
+ghost use Rattle.otlp_read.specs.Values.{scalar_of, scalar_in, scalars_of, many_of};
 ghost use Rattle.otlp_read.specs.Values.{value_of, value_in};
 ghost use Rattle.otlp_read.specs.inner.ValueViews.{fields_data};
 ghost use Rattle.otlp_read.specs.inner.RefViews.{found_data, scalar_data};
 
 use crate::fields::field;
 use crate::integers::signed_64;
-use crate::lists::elements_in;
-use crate::members::set_if_named;
+use crate::lists::{Element, list_in};
+use crate::members::{ValueFields, fields_of};
 use crate::scalar_ref::ScalarRef;
-use serde_json::{Map, Value};
+use serde_json::Value;
 use series_id::{AttrValue, Scalar, Scalars};
 use std::alloc::{AllocError, Global};
-
-/// The fields of a value that are present.
-#[derive(Clone, Copy)]
-struct ValueFields<'v> {
-    text: Option<&'v Value>,
-    truth: Option<&'v Value>,
-    int: Option<&'v Value>,
-    list: Option<&'v Value>,
-    /// Whether there is a double, a map or bytes, which no series may have.
-    other: bool,
-}
-
-/// The fields of a value, in one pass over its members.
-fn fields_of<'v>(members: &'v Map<String, Value>) -> ValueFields<'v>
-    ensures { fields_data result ≡ fields_of (object (members_view members.now.entries)) }
-{
-    let mut text = None;
-    let mut truth = None;
-    let mut int = None;
-    let mut list = None;
-    let mut double = None;
-    let mut map = None;
-    let mut bytes = None;
-    for (name, member) in members {
-        let name = name.as_str();
-        set_if_named(&mut text, "stringValue", name, member);
-        set_if_named(&mut truth, "boolValue", name, member);
-        set_if_named(&mut int, "intValue", name, member);
-        set_if_named(&mut list, "arrayValue", name, member);
-        set_if_named(&mut double, "doubleValue", name, member);
-        set_if_named(&mut map, "kvlistValue", name, member);
-        set_if_named(&mut bytes, "bytesValue", name, member);
-    }
-    ValueFields {
-        text,
-        truth,
-        int,
-        list,
-        other: has_any(double, map, bytes),
-    }
-}
-
-/// Whether one of three fields is present.
-fn has_any(one: Option<&Value>, another: Option<&Value>, third: Option<&Value>) -> bool
-    ensures { result ≡ (is_some (found_data one.entry) || is_some (found_data another.entry)
-        || is_some (found_data third.entry)) }
-{
-    one.is_some() || another.is_some() || third.is_some()
-}
 
 /// The value of an attribute, empty if it is absent. `None` if it is one that no series may have.
 #[tactic(auto, unfolding(crate::specs::Values::value_in))]
@@ -131,24 +80,18 @@ fn scalars_of(alloc: Global, list: &Value) -> Result<Option<Scalars>, AllocError
     if !list.is_object() {
         return Ok(None);
     }
-    match elements_in(field(list, "values")) {
+    match list_in(alloc, field(list, "values"))? {
         None => Ok(None),
-        Some(values) => scalars(alloc, values),
+        Some(scalars) => Ok(Some(Scalars::new(scalars))),
     }
 }
 
-/// The values of a list, if each is a single one.
-fn scalars(alloc: Global, values: &[Value]) -> Result<Option<Scalars>, AllocError>
-    ensures { IfOk result (λ o. o ≡ all_of scalar_in (map view values.now)) }
-{
-    let mut found = Vec::with_capacity(alloc, values.len())?;
-    for value in values {
-        let Some(scalar) = scalar_in(alloc, value)? else {
-            return Ok(None);
-        };
-        found.push(scalar)?;
+impl Element for Scalar {
+    ghost reads = { scalar_in };
+
+    fn read(alloc: Global, value: &Value) -> Result<Option<Scalar>, AllocError> {
+        scalar_in(alloc, value)
     }
-    Ok(Some(Scalars::new(found)))
 }
 
 /// The single value of an element of a list.

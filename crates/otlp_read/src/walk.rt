@@ -1,24 +1,22 @@
 //! Reads a request: walks its containers from the outside in.
 
-ghost use Rattle.std.specs.Prelude.{◌≡◌, map, option_map};
+ghost use Rattle.std.specs.Prelude.{option_map};
 ghost use Rattle.serde_json.specs.View.{view};
 ghost use Rattle.otlp_read.specs.inner.Containers.{Gives};
-ghost use Rattle.otlp_read.specs.inner.StreamViews.{resource_data, scope_data};
+ghost use Rattle.otlp_read.specs.inner.StreamViews.{resource_data};
 ghost use Rattle.otlp_read.specs.Tallies.{tally};
-ghost use Rattle.otlp_read.specs.Metrics.{metric};
-ghost use Rattle.otlp_read.specs.Reading.{each, scope_metrics, resource_metrics, body, reading};
-ghost use Rattle.otlp_read.specs.Reading.{Answers};
+ghost use Rattle.otlp_read.specs.Reading.{scope_metrics, resource_metrics, body, reading, Answers};
 
 use crate::attributes::attributes_in;
 use crate::containers::{object_in, objects};
 use crate::fault::ReadFault;
 use crate::fields::field;
 use crate::identity_cache::IdentityCache;
-use crate::metrics::metric;
 use crate::place::Place;
+use crate::reader::{Object, Reader, each};
 use crate::reading::Reading;
 use crate::room::room_for;
-use crate::streams::{Resource, Scope, inner, resource_in, scope_in};
+use crate::streams::{Resource, inner, resource_in, scope_in};
 use serde_json::Value;
 use std::alloc::Global;
 
@@ -72,117 +70,71 @@ fn read_value(
     if !value.is_object() {
         return Err(ReadFault::WrongShape(Place::Root));
     }
-    let mut out = Reading {
+    let out = Reading {
         points: room_for(alloc, value, length),
         foreign: 0,
         metrics: 0,
     };
-    body(alloc, cache, &mut out, value)?;
+    let mut reader = Reader { alloc, cache, out };
+    body(&mut reader, value)?;
+    let Reader { mut out, .. } = reader;
     out.points.fit();
     Ok(out)
 }
 
-/// Reads the body's resources, and adds them to the reading.
+/// Reads the body's resources.
 #[tactic(auto, unfolding(crate::specs::Reading::body))]
-fn body(
-    alloc: Global,
-    cache: &mut IdentityCache,
-    out: &mut Reading,
-    value: &Value,
-) -> Result<(), ReadFault>
-    ensures { Gives (λ _. tally out.new) result (body (view value.now) (tally out.old)) }
+fn body(reader: &mut Reader<'_>, value: &Value) -> Result<(), ReadFault>
+    ensures { Gives (λ _. tally reader.new.out) result (body (view value.now)
+        (tally reader.old.out)) }
 {
     let values = objects(field(value, "resourceMetrics"), Place::ResourceMetrics)?;
-    resources(alloc, cache, out, values)
+    each(reader, (), values)
 }
 
-/// Reads resources in order.
-fn resources(
-    alloc: Global,
-    cache: &mut IdentityCache,
-    out: &mut Reading,
-    values: &[Value],
-) -> Result<(), ReadFault>
-    ensures { Gives (λ _. tally out.new) result (each resource_metrics (map view values.now)
-        (tally out.old)) }
-{
-    for value in values {
-        resource_metrics(alloc, cache, out, value)?;
+/// A resource of the body.
+impl Object for () {
+    ghost adds = { λ _. resource_metrics };
+
+    fn read(self, reader: &mut Reader<'_>, value: &Value) -> Result<(), ReadFault> {
+        resource_metrics(reader, value)
     }
-    Ok(())
 }
 
 /// Reads a resource and its scopes (`ResourceMetrics`).
 #[tactic(auto, unfolding(crate::specs::Reading::resource_metrics))]
-fn resource_metrics(
-    alloc: Global,
-    cache: &mut IdentityCache,
-    out: &mut Reading,
-    value: &Value,
-) -> Result<(), ReadFault>
-    ensures { Gives (λ _. tally out.new) result (resource_metrics (view value.now)
-        (tally out.old)) }
+fn resource_metrics(reader: &mut Reader<'_>, value: &Value) -> Result<(), ReadFault>
+    ensures { Gives (λ _. tally reader.new.out) result (resource_metrics (view value.now)
+        (tally reader.old.out)) }
 {
     let resource = object_in(field(value, "resource"), Place::Resource)?;
     let values = objects(field(value, "scopeMetrics"), Place::ScopeMetrics)?;
-    let attributes = attributes_in(alloc, inner(resource, "attributes"))?;
-    scopes(alloc, cache, out, resource_in(attributes.as_ref()), values)
+    let attributes = attributes_in(reader.alloc, inner(resource, "attributes"))?;
+    each(reader, resource_in(attributes.as_ref()), values)
 }
 
-/// Reads the scopes of a resource in order.
-fn scopes(
-    alloc: Global,
-    cache: &mut IdentityCache,
-    out: &mut Reading,
-    resource: Option<Resource<'_>>,
-    values: &[Value],
-) -> Result<(), ReadFault>
-    ensures { Gives (λ _. tally out.new) result (each (scope_metrics
-        (option_map resource_data resource.entry)) (map view values.now) (tally out.old)) }
-{
-    for value in values {
-        scope_metrics(alloc, cache, out, resource, value)?;
+/// A scope of a resource.
+impl Object for Option<Resource<'_>> {
+    ghost adds = { λ resource. scope_metrics (option_map resource_data resource) };
+
+    fn read(self, reader: &mut Reader<'_>, value: &Value) -> Result<(), ReadFault> {
+        scope_metrics(reader, self, value)
     }
-    Ok(())
 }
 
 /// Reads a scope and its metrics (`ScopeMetrics`).
 #[tactic(auto, unfolding(crate::specs::Reading::scope_metrics))]
 fn scope_metrics(
-    alloc: Global,
-    cache: &mut IdentityCache,
-    out: &mut Reading,
+    reader: &mut Reader<'_>,
     resource: Option<Resource<'_>>,
     value: &Value,
 ) -> Result<(), ReadFault>
-    ensures { Gives (λ _. tally out.new) result (scope_metrics
-        (option_map resource_data resource.entry) (view value.now) (tally out.old)) }
+    ensures { Gives (λ _. tally reader.new.out) result (scope_metrics
+        (option_map resource_data resource.entry) (view value.now) (tally reader.old.out)) }
 {
     let scope = object_in(field(value, "scope"), Place::Scope)?;
     let values = objects(field(value, "metrics"), Place::Metrics)?;
-    let attributes = attributes_in(alloc, inner(scope, "attributes"))?;
-    metrics(
-        alloc,
-        cache,
-        out,
-        scope_in(resource, scope, attributes.as_ref()),
-        values,
-    )
-}
-
-/// Reads the metrics of a scope in order.
-fn metrics(
-    alloc: Global,
-    cache: &mut IdentityCache,
-    out: &mut Reading,
-    scope: Option<Scope<'_>>,
-    values: &[Value],
-) -> Result<(), ReadFault>
-    ensures { Gives (λ _. tally out.new) result (each (metric (option_map scope_data scope.entry))
-        (map view values.now) (tally out.old)) }
-{
-    for value in values {
-        metric(alloc, cache, out, scope, value)?;
-    }
-    Ok(())
+    let attributes = attributes_in(reader.alloc, inner(scope, "attributes"))?;
+    let scope = scope_in(resource, scope, attributes.as_ref());
+    each(reader, scope, values)
 }

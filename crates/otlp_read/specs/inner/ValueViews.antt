@@ -1,6 +1,6 @@
 -- The fields of a value, without the references.
 use Rattle.otlp_read.specs.inner.RefViews.{found_data}
-use Rattle.otlp_read.specs.declared.values.ValueFields.{ValueFields as Borrowed}
+use Rattle.otlp_read.specs.declared.members.ValueFields.{ValueFields as Borrowed}
 use Rattle.otlp_read.specs.Values.{ValueFields}
 
 abbrev pub fields_data : Borrowed → ValueFields

@@ -2,7 +2,7 @@ use Rattle.std.proofs.Common.{codes}
 use Rattle.std.specs.Map.Iter.{deref_pair}
 use Rattle.std.proofs.lemmas.Map.Iter.{rest_more, rest_all}
 use Rattle.otlp_read.proofs.MemberLemmas.{passed_more, all_passed}
-use Rattle.otlp_read.proofs.attributes.pair_fields.Goals as goal
+use Rattle.otlp_read.proofs.members.pair_fields.Goals as goal
 
 pub loop-name-preserved : goal.loop-name-preserved
 loop-name-preserved c =

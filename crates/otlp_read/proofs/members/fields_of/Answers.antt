@@ -3,7 +3,7 @@ use Rattle.std.specs.Map.Iter.{deref_pair}
 use Rattle.std.proofs.lemmas.Map.Iter.{rest_more, rest_all}
 use Rattle.otlp_read.specs.Values.{fields_of, has_other}
 use Rattle.otlp_read.proofs.MemberLemmas.{passed_more, all_passed}
-use Rattle.otlp_read.proofs.values.fields_of.Goals as goal
+use Rattle.otlp_read.proofs.members.fields_of.Goals as goal
 
 pub loop-name-preserved : goal.loop-name-preserved
 loop-name-preserved c =

@@ -1,7 +1,7 @@
 use Rattle.std.proofs.Common.{◌≡◌, None, option_map, codes}
 use Rattle.serde_json.specs.View.{view}
 use Rattle.otlp_read.proofs.MemberLemmas.{passed}
-use Rattle.otlp_read.proofs.attributes.pair_fields.Given as goal
+use Rattle.otlp_read.proofs.members.pair_fields.Given as goal
 
 abbrev pub invariant-loop-name : goal.invariant-loop-name
 invariant-loop-name l = record {

@@ -1,7 +1,7 @@
 use Rattle.std.proofs.Common.{◌≡◌, None, option_map, codes}
 use Rattle.serde_json.specs.View.{view}
 use Rattle.otlp_read.proofs.MemberLemmas.{passed}
-use Rattle.otlp_read.proofs.values.fields_of.Given as goal
+use Rattle.otlp_read.proofs.members.fields_of.Given as goal
 
 abbrev pub invariant-loop-name : goal.invariant-loop-name
 invariant-loop-name l = record {

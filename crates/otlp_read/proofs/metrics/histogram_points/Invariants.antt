@@ -1,9 +1,0 @@
-use Rattle.std.proofs.Common.{◌≡◌, drop, map, option_map}
-use Rattle.serde_json.specs.View.{view}
-use Rattle.otlp_read.specs.Tallies.{tally, each_point}
-use Rattle.otlp_read.specs.Histograms.{histogram_point_in}
-use Rattle.otlp_read.specs.inner.StreamViews.{stream_data}
-use Rattle.otlp_read.proofs.metrics.histogram_points.Given as goal
-
-abbrev pub invariant-loop-value : goal.invariant-loop-value
-invariant-loop-value l = each_point (histogram_point_in (option_map stream_data l.stream)) (map view (drop l.value-index l.points)) (tally l.out) ≡ each_point (histogram_point_in (option_map stream_data l.stream)) (map view l.points) (tally l.fn.out)
