@@ -1,17 +1,15 @@
 //! Calls of a book: where one is out of memory, the journal and the totals are as before, and the
 //! same call is accepted when it is made again.
-ghost use Rattle.std.specs.Prelude.{◌≡◌, ◌≤◌, [], IfOk, OnOk};
+ghost use Rattle.std.specs.Prelude.{◌≤◌};
 
 use crate::bodies::{LATER, MIXED, SUMS};
-use crate::lines::{no_memory, print_number, print_right};
+use crate::lines::{no_memory, print_bytes, print_number, print_right};
+use crate::making::{batch_of, name_of};
 use crate::tables;
-use crate::twice::{
-    batch_twice, compare_batch, copy_twice, print_request, print_text, sender_twice,
-};
 use delta_book::book::Book;
 use delta_book::faults::{AdmitFault, QuarantineFault, RoundFault, TakeFault};
 use delta_book::flush::Flush;
-use out_texts::{past_text, report_text};
+use out_texts::{past_text, report_text, request_text};
 use std::alloc::{AllocError, Global};
 
 /// The seat of all events.
@@ -31,63 +29,41 @@ fn report_of(alloc: Global, book: &Book) -> Result<Vec<u8>, AllocError> {
 
 /// What a book shows. Where there is no memory for the report, it is asked for again.
 pub fn look_at(rt: &impl Print, alloc: Global, book: &Book) -> Result<Shown, AllocError> {
-    for _ in 0..2 {
-        match report_of(alloc, book) {
-            Ok(report) => {
-                let entries = book.journal().len();
-                return Ok(Shown { entries, report });
-            }
-            Err(_) => no_memory(rt, "Book::totals", true),
-        }
-    }
-    Err(AllocError)
+    let report = twice!(rt, "Book::totals", report_of(alloc, book))?;
+    let entries = book.journal().len();
+    Ok(Shown { entries, report })
 }
 
-/// Prints that a call was out of memory, and whether the book is as before. Reports are compared
-/// where there is memory for this one.
-pub fn refused(rt: &impl Print, alloc: Global, call: &str, book: &Book, before: &Shown) {
-    let same = match report_of(alloc, book) {
+/// Whether a book is as before. Reports are compared where there is memory for this one.
+pub fn is_as_before(alloc: Global, book: &Book, before: &Shown) -> bool {
+    let is_same = match report_of(alloc, book) {
         Ok(report) => report == before.report,
         Err(_) => true,
     };
-    no_memory(rt, call, same && book.journal().len() == before.entries);
+    is_same && book.journal().len() == before.entries
 }
 
 fn made(rt: &impl Print, alloc: Global) -> Result<Book, AllocError> {
-    for _ in 0..2 {
-        match Book::new(alloc) {
-            Ok(book) => {
-                print_right(rt, "Book::new", book.journal().is_empty());
-                return Ok(book);
-            }
-            Err(_) => no_memory(rt, "Book::new", true),
-        }
-    }
-    Err(AllocError)
+    let book = twice!(rt, "Book::new", Book::new(alloc))?;
+    print_right(rt, "Book::new", book.journal().is_empty());
+    Ok(book)
 }
 
 fn admit(rt: &impl Print, alloc: Global, book: &mut Book, body: &[u8]) -> Result<(), AllocError> {
     let before = look_at(rt, alloc, book)?;
-    let mut batch = batch_twice(rt, alloc, body)?;
-    let copy = copy_twice(rt, alloc, &batch)?;
-    for _ in 0..2 {
+    let mut batch = twice!(rt, "the batch", batch_of(alloc, body))?;
+    let copy = twice!(rt, "the batch", batch.copy(alloc))?;
+    let admitted = twice!(rt, "Book::admit", {
         if batch.points.as_slice().is_empty() {
-            break;
+            return Err(AllocError);
         }
-        match book.admit(SEAT, batch) {
-            Ok(number) => {
-                print_number(rt, "Book::admit", number);
-                return Ok(());
-            }
-            Err((AdmitFault::NoMemory, back)) => {
-                refused(rt, alloc, "Book::admit", book, &before);
-                compare_batch(rt, &back, &copy);
-                batch = back;
-            }
-            Err(_) => return Err(AllocError),
-        }
-    }
-    Err(AllocError)
+        book.admit(SEAT, batch)
+    }, (AdmitFault::NoMemory, back) => {
+        batch = back;
+        batch.is_same(&copy) && is_as_before(alloc, book, &before)
+    }, _);
+    print_number(rt, "Book::admit", admitted?);
+    Ok(())
 }
 
 fn take(rt: &impl Print, alloc: Global, book: &mut Book, most: usize) -> Result<Flush, AllocError>
@@ -95,55 +71,42 @@ fn take(rt: &impl Print, alloc: Global, book: &mut Book, most: usize) -> Result<
     requires high { most ≤ 1000 }
 {
     let before = look_at(rt, alloc, book)?;
-    for _ in 0..2 {
-        match book.take(SEAT, most) {
-            Ok(Some(flush)) => {
-                print_number(rt, "Book::take", flush.number);
-                return Ok(flush);
-            }
-            Err(TakeFault::NoMemory) => refused(rt, alloc, "Book::take", book, &before),
-            Ok(None) | Err(TakeFault::Full) => break,
-        }
-    }
-    Err(AllocError)
+    let taken = twice!(rt, "Book::take", book.take(SEAT, most), TakeFault::NoMemory => {
+        is_as_before(alloc, book, &before)
+    }, _);
+    let flush = taken?.ok_or(AllocError)?;
+    print_number(rt, "Book::take", flush.number);
+    Ok(flush)
 }
 
 fn quarantine(rt: &impl Print, alloc: Global, book: &mut Book) -> Result<(), AllocError> {
     let before = look_at(rt, alloc, book)?;
-    for _ in 0..2 {
-        let sender = sender_twice(rt, alloc)?;
-        match book.quarantine(SEAT, sender) {
-            Ok(()) => {
-                print_right(rt, "Book::quarantine", true);
-                return Ok(());
-            }
-            Err(QuarantineFault::NoMemory) => refused(rt, alloc, "Book::quarantine", book, &before),
-            Err(_) => break,
-        }
-    }
-    Err(AllocError)
+    twice!(rt, "Book::quarantine", {
+        let sender = twice!(rt, "the sender", name_of(alloc, b"H"))?;
+        book.quarantine(SEAT, sender)
+    }, QuarantineFault::NoMemory => is_as_before(alloc, book, &before), _)?;
+    print_right(rt, "Book::quarantine", true);
+    Ok(())
 }
 
-fn close_round(rt: &impl Print, alloc: Global, book: &mut Book) -> Result<(), AllocError>
-    ensures { OnOk result (book.new.entries ≡ []) }
-{
+fn close_round(rt: &impl Print, alloc: Global, book: &mut Book) -> Result<(), AllocError> {
     let before = look_at(rt, alloc, book)?;
-    for _ in 0..2 {
-        match book.close_round() {
-            Ok(round) => {
-                print_number(rt, "Book::close_round", round);
-                return Ok(());
-            }
-            Err(RoundFault::NoMemory) => refused(rt, alloc, "Book::close_round", book, &before),
-            Err(_) => break,
-        }
-    }
-    Err(AllocError)
+    let round = twice!(rt, "Book::close_round", book.close_round(), RoundFault::NoMemory => {
+        is_as_before(alloc, book, &before)
+    }, _);
+    print_number(rt, "Book::close_round", round?);
+    Ok(())
+}
+
+/// Prints the request of a flush.
+fn print_request(rt: &impl Print, alloc: Global, flush: &Flush) -> Result<(), AllocError> {
+    let request = twice!(rt, "request_text", request_text(alloc, flush))?;
+    print_bytes(rt, alloc, "request_text", request)
 }
 
 fn print_report(rt: &impl Print, alloc: Global, book: &Book) -> Result<(), AllocError> {
     let now = look_at(rt, alloc, book)?;
-    print_text(rt, alloc, "report_text", now.report)
+    print_bytes(rt, alloc, "report_text", now.report)
 }
 
 fn past_of(alloc: Global, book: &Book) -> Result<Vec<u8>, AllocError> {
@@ -152,13 +115,8 @@ fn past_of(alloc: Global, book: &Book) -> Result<Vec<u8>, AllocError> {
 }
 
 fn print_past(rt: &impl Print, alloc: Global, book: &Book) -> Result<(), AllocError> {
-    for _ in 0..2 {
-        match past_of(alloc, book) {
-            Ok(bytes) => return print_text(rt, alloc, "past_text", bytes),
-            Err(_) => no_memory(rt, "Book::past", true),
-        }
-    }
-    Err(AllocError)
+    let past = twice!(rt, "Book::past", past_of(alloc, book))?;
+    print_bytes(rt, alloc, "past_text", past)
 }
 
 /// The first round: a batch is taken and settled.
@@ -186,9 +144,7 @@ pub fn two_rounds(rt: &impl Print, alloc: Global) -> Result<(), AllocError> {
 }
 
 /// A book whose second round has no entry yet.
-pub fn second_round(rt: &impl Print, alloc: Global) -> Result<Book, AllocError>
-    ensures { IfOk result (λ book. book.entries ≡ []) }
-{
+pub fn second_round(rt: &impl Print, alloc: Global) -> Result<Book, AllocError> {
     let mut book = made(rt, alloc)?;
     admit(rt, alloc, &mut book, SUMS)?;
     print_right(rt, "Book::confirm", book.confirm(SEAT, 1).is_ok());

@@ -12,45 +12,26 @@ use series_cell::cell::Cell;
 use series_id::SharedId;
 use std::alloc::{AllocError, Global};
 
-/// The calls, in the order in which they are made.
-pub const CALLS: [&str; 6] = [
-    "SharedId::new",
-    "Points::push",
-    "Points::reserve",
-    "Cell::put",
-    "Cell::put_span",
-    "Cell::reserve",
-];
-
-/// Makes a call on a value of its own.
-pub fn make(rt: &impl Print, alloc: Global, call: &str) -> Result<(), AllocError> {
-    match call {
-        "SharedId::new" => share(rt, alloc),
-        "Points::push" => push(rt, alloc),
-        "Points::reserve" => reserve_points(rt, alloc),
-        "Cell::put" => put(rt, alloc),
-        "Cell::put_span" => put_span(rt, alloc),
-        _ => reserve(rt, alloc),
-    }
+/// All calls, each on a value of its own. Where there is no memory for that value, it is made again.
+pub fn make_all(rt: &impl Print, alloc: Global) -> Result<(), AllocError> {
+    twice!(rt, "the value", share(rt, alloc))?;
+    twice!(rt, "the value", push(rt, alloc))?;
+    twice!(rt, "the value", reserve_points(rt, alloc))?;
+    twice!(rt, "the value", put(rt, alloc))?;
+    twice!(rt, "the value", put_span(rt, alloc))?;
+    twice!(rt, "the value", reserve(rt, alloc))
 }
 
 /// An identity that is handed back is shared by the second call.
 fn share(rt: &impl Print, alloc: Global) -> Result<(), AllocError> {
     let mut series = own_series(alloc)?;
     let same = own_series(alloc)?;
-    for _ in 0..2 {
-        match SharedId::new(alloc, series) {
-            Ok(shared) => {
-                print_right(rt, "SharedId::new", shared.as_series().is_same(&same));
-                return Ok(());
-            }
-            Err(refused) => {
-                series = refused.value;
-                no_memory(rt, "SharedId::new", series.is_same(&same));
-            }
-        }
-    }
-    Err(AllocError)
+    let shared = twice!(rt, "SharedId::new", SharedId::new(alloc, series), refused => {
+        series = refused.value;
+        series.is_same(&same)
+    })?;
+    print_right(rt, "SharedId::new", shared.as_series().is_same(&same));
+    Ok(())
 }
 
 /// Points without memory for one more are as before.
@@ -71,14 +52,8 @@ fn push_one(
     point: &Point,
 ) -> Result<(), AllocError> {
     let before = points.copy(alloc)?;
-    for _ in 0..2 {
-        let one = point.copy(alloc)?;
-        match points.push(one) {
-            Ok(()) => return Ok(()),
-            Err(_) => no_memory(rt, "Points::push", points.is_same(&before)),
-        }
-    }
-    Err(AllocError)
+    let call = "Points::push";
+    twice!(rt, call, points.push(point.copy(alloc)?), _ => points.is_same(&before))
 }
 
 /// Points without memory for more are as before, both where there are none and where there are some.
@@ -94,20 +69,19 @@ fn reserve_points(rt: &impl Print, alloc: Global) -> Result<(), AllocError> {
 
 fn reserve_more(rt: &impl Print, points: &mut Points) -> Result<(), AllocError> {
     let before = points.as_slice().len();
-    for _ in 0..2 {
-        match points.reserve(100) {
-            Ok(()) => return Ok(()),
-            Err(_) => no_memory(rt, "Points::reserve", points.as_slice().len() == before),
-        }
-    }
-    Err(AllocError)
+    let call = "Points::reserve";
+    twice!(rt, call, points.reserve(100), _ => points.as_slice().len() == before)
+}
+
+/// A cell without an accepted point, for the series of this one.
+fn cell_of(alloc: Global, point: &Point) -> Result<Cell, AllocError> {
+    Cell::new(alloc, name_of(alloc, b"A")?, point.series().copy(alloc)?)
 }
 
 /// A cell without memory for a point is as before.
 fn put(rt: &impl Print, alloc: Global) -> Result<(), AllocError> {
     let point = first_point(alloc, MIXED)?;
-    let series = point.series().copy(alloc)?;
-    let mut cell = Cell::new(alloc, name_of(alloc, b"A")?, series)?;
+    let mut cell = cell_of(alloc, &point)?;
     for _ in 0..2 {
         if !cell.id().is_same(point.series())
             || cell.frontier() > point.span().start()
@@ -122,11 +96,10 @@ fn put(rt: &impl Print, alloc: Global) -> Result<(), AllocError> {
                 print_right(rt, "Cell::put", cell.accepted() == point.row());
                 return Ok(());
             }
-            Err(_) => no_memory(
-                rt,
-                "Cell::put",
-                is_zero(cell.accepted()) && cell.frontier() == 0,
-            ),
+            Err(_) => {
+                let is_as_before = is_zero(cell.accepted()) && cell.frontier() == 0;
+                no_memory(rt, "Cell::put", is_as_before);
+            }
         }
     }
     Err(AllocError)
@@ -135,8 +108,7 @@ fn put(rt: &impl Print, alloc: Global) -> Result<(), AllocError> {
 /// A cell without memory for the span of a point is as before.
 fn put_span(rt: &impl Print, alloc: Global) -> Result<(), AllocError> {
     let point = first_point(alloc, MIXED)?;
-    let series = point.series().copy(alloc)?;
-    let mut cell = Cell::new(alloc, name_of(alloc, b"A")?, series)?;
+    let mut cell = cell_of(alloc, &point)?;
     for _ in 0..2 {
         if !cell.id().is_same(point.series()) || cell.frontier() > point.span().start() {
             print_right(rt, "Cell::put_span", false);
@@ -157,14 +129,7 @@ fn put_span(rt: &impl Print, alloc: Global) -> Result<(), AllocError> {
 /// A cell without memory for more points is as before.
 fn reserve(rt: &impl Print, alloc: Global) -> Result<(), AllocError> {
     let mut cell = Cell::new(alloc, name_of(alloc, b"A")?, own_series(alloc)?)?;
-    for _ in 0..2 {
-        match cell.reserve(100) {
-            Ok(()) => {
-                print_right(rt, "Cell::reserve", is_zero(cell.accepted()));
-                return Ok(());
-            }
-            Err(_) => no_memory(rt, "Cell::reserve", is_zero(cell.accepted())),
-        }
-    }
-    Err(AllocError)
+    twice!(rt, "Cell::reserve", cell.reserve(100), _ => is_zero(cell.accepted()))?;
+    print_right(rt, "Cell::reserve", is_zero(cell.accepted()));
+    Ok(())
 }

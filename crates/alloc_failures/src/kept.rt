@@ -49,9 +49,8 @@ pub fn prepare(alloc: Global) -> Result<Kept, AllocError> {
         take_one(&mut book)?;
     }
     admit(alloc, &mut book, FOURTH)?;
-    if book.quarantine(SEAT, name_of(alloc, b"H")?).is_err() {
-        return Err(AllocError);
-    }
+    let sender = name_of(alloc, b"H")?;
+    book.quarantine(SEAT, sender).map_err(|_| AllocError)?;
     let quarantined = name_of(alloc, b"H")?;
     let shared = first_point(alloc, MIXED)?.shared_series().share()?;
     Ok(Kept {

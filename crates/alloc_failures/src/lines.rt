@@ -1,5 +1,8 @@
 //! The lines that are printed. A line that can't be printed is left out.
 
+use crate::making::text_of;
+use std::alloc::{AllocError, Global};
+
 /// Prints whether what a call has returned and changed is right.
 pub fn print_right(rt: &impl Print, call: &str, right: bool) {
     let word = if right { "right" } else { "wrong" };
@@ -19,4 +22,21 @@ pub fn no_memory(rt: &impl Print, call: &str, unchanged: bool) {
 /// Prints the number that a call has returned.
 pub fn print_number(rt: &impl Print, call: &str, number: u64) {
     let _ = println!(rt; "{call} {number}");
+}
+
+/// Prints the text that a call has made.
+pub fn print_text(rt: &impl Print, call: &str, text: &str) {
+    let _ = println!(rt; "{call} {text}");
+}
+
+/// Prints the text that these bytes are, and makes it.
+pub fn print_bytes(
+    rt: &impl Print,
+    alloc: Global,
+    call: &str,
+    bytes: Vec<u8>,
+) -> Result<(), AllocError> {
+    let text = text_of(alloc, bytes)?;
+    print_text(rt, call, text.as_str());
+    Ok(())
 }

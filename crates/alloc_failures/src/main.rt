@@ -7,6 +7,25 @@
 ghost use Rattle.std.specs.Prelude.{◌≡◌};
 ghost use Rattle.metric_events.specs.Opening.{first_opening};
 
+/// What a call returns, which is made again where it is out of memory. Each time a line says so, and
+/// where something is not as before. What it returns is passed on, and where there are two faults of
+/// no memory, or another fault, that it is out of memory.
+macro_rules! twice {
+    ($rt:expr, $name:expr, $call:expr) => { twice!($rt, $name, $call, _ => true) };
+    ($rt:expr, $name:expr, $call:expr, $fault:pat => $unchanged:expr $(, $other:pat)?) => {
+        'made: {
+            for _ in 0..2 {
+                match $call {
+                    Ok(made) => break 'made Ok(made),
+                    Err($fault) => no_memory($rt, $name, $unchanged),
+                    $(Err($other) => break,)?
+                }
+            }
+            Err(AllocError)
+        }
+    };
+}
+
 mod bodies;
 mod books;
 mod handed;
@@ -18,7 +37,6 @@ mod served;
 mod shared_calls;
 mod shared_kept;
 mod tables;
-mod twice;
 mod values;
 
 use shared_book::round::Round;
@@ -28,39 +46,10 @@ use std::process::ExitCode;
 use std::sync::Wait;
 use std::sync::ledger::Blank;
 
-/// Makes a call, and makes it again where it is out of memory.
-fn make(rt: &impl Print, alloc: Global, call: &str) -> Result<(), AllocError> {
-    for _ in 0..2 {
-        match values::answer_of(alloc, call) {
-            Ok(answer) => {
-                let _ = println!(rt; "{call} {answer}");
-                return Ok(());
-            }
-            Err(_) => lines::no_memory(rt, call, true),
-        }
-    }
-    Err(AllocError)
-}
-
-/// Makes a call on a value. Where there is no memory for that value, it is made again.
-fn make_handed(rt: &impl Print, alloc: Global, call: &str) -> Result<(), AllocError> {
-    for _ in 0..2 {
-        match handed::make(rt, alloc, call) {
-            Ok(()) => return Ok(()),
-            Err(_) => lines::no_memory(rt, "the value", true),
-        }
-    }
-    Err(AllocError)
-}
-
 /// All calls, up to one that is out of memory twice.
 fn make_all<R: Print + Wait>(rt: &R, alloc: Global) -> Result<(), AllocError> {
-    for call in values::CALLS {
-        make(rt, alloc, call)?;
-    }
-    for call in handed::CALLS {
-        make_handed(rt, alloc, call)?;
-    }
+    values::make_all(rt, alloc)?;
+    handed::make_all(rt, alloc)?;
     books::two_rounds(rt, alloc)?;
     shared_calls::make_all(rt, alloc)?;
     served::make_all(rt, alloc)

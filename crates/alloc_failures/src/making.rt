@@ -9,10 +9,8 @@ use std::alloc::{AllocError, Global};
 
 /// The points of a body.
 pub fn points_of(alloc: Global, body: &[u8]) -> Result<Points, AllocError> {
-    match read_request(alloc, body) {
-        Ok(reading) => Ok(reading.points),
-        Err(_) => Err(AllocError),
-    }
+    let reading = read_request(alloc, body).map_err(|_| AllocError)?;
+    Ok(reading.points)
 }
 
 /// The first point of a body.
@@ -26,10 +24,7 @@ pub fn first_point(alloc: Global, body: &[u8]) -> Result<Point, AllocError> {
 
 /// The name of a sender.
 pub fn name_of(alloc: Global, name: &[u8]) -> Result<SenderName, AllocError> {
-    match SenderName::new(alloc, name) {
-        Ok(sender) => Ok(sender),
-        Err(_) => Err(AllocError),
-    }
+    SenderName::new(alloc, name).map_err(|_| AllocError)
 }
 
 /// The points of a body, of sender A.
@@ -45,11 +40,6 @@ pub fn text_of(alloc: Global, bytes: Vec<u8>) -> Result<String, AllocError> {
         Ok(text) => Ok(text),
         Err(_) => String::from_str(alloc, "no text"),
     }
-}
-
-/// The word `same`, or `other`.
-pub fn same_or_other(alloc: Global, same: bool) -> Result<String, AllocError> {
-    String::from_str(alloc, if same { "same" } else { "other" })
 }
 
 /// A text of an identity.
@@ -69,8 +59,5 @@ pub fn own_series(alloc: Global) -> Result<SeriesId, AllocError> {
         Kind::Sum { monotonic: false },
         AttrSet::empty(alloc),
     );
-    match made {
-        Ok(series) => Ok(series),
-        Err(_) => Err(AllocError),
-    }
+    made.map_err(|_| AllocError)
 }

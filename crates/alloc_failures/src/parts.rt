@@ -1,6 +1,6 @@
-//! Calls that copy what identities, points and flushes are made of.
+//! Whether copies of what identities, points and flushes are made of are the same.
 use crate::bodies::MIXED;
-use crate::making::{points_of, same_or_other, text};
+use crate::making::{points_of, text};
 use delta_book::totals::row_of;
 use metric_events::row::Row;
 use metric_events::series_list::SeriesList;
@@ -15,82 +15,75 @@ fn is_text(value: &Scalar, text: &str) -> bool {
     }
 }
 
-fn scalar_copy(alloc: Global) -> Result<String, AllocError> {
-    let value = Scalar::Text(text(alloc, "x")?);
-    let copy = value.copy(alloc)?;
-    same_or_other(alloc, is_text(&copy, "x"))
+/// Whether a value of an attribute is `x`.
+fn is_x(value: &AttrValue) -> bool {
+    match value {
+        AttrValue::One(one) => is_text(one, "x"),
+        AttrValue::Many(_) => false,
+    }
 }
 
-fn scalars_copy(alloc: Global) -> Result<String, AllocError> {
+pub fn text_copy(alloc: Global) -> Result<bool, AllocError> {
+    let copy = text(alloc, "requests")?.copy(alloc)?;
+    Ok(copy.as_str() == "requests")
+}
+
+pub fn scalar_copy(alloc: Global) -> Result<bool, AllocError> {
+    let copy = Scalar::Text(text(alloc, "x")?).copy(alloc)?;
+    Ok(is_text(&copy, "x"))
+}
+
+pub fn scalars_copy(alloc: Global) -> Result<bool, AllocError> {
     let mut values = Vec::new(alloc);
     values.push(Scalar::Text(text(alloc, "x")?))?;
     values.push(Scalar::Text(text(alloc, "y")?))?;
     let copy = Scalars::new(values).copy(alloc)?;
     match copy.as_slice() {
-        [x, y] => same_or_other(alloc, is_text(x, "x") && is_text(y, "y")),
-        _ => same_or_other(alloc, false),
+        [x, y] => Ok(is_text(x, "x") && is_text(y, "y")),
+        _ => Ok(false),
     }
 }
 
-fn attribute_copy(alloc: Global) -> Result<String, AllocError> {
+pub fn value_copy(alloc: Global) -> Result<bool, AllocError> {
+    let copy = AttrValue::One(Scalar::Text(text(alloc, "x")?)).copy(alloc)?;
+    Ok(is_x(&copy))
+}
+
+pub fn attribute_copy(alloc: Global) -> Result<bool, AllocError> {
     let key = text(alloc, "k")?;
     let value = AttrValue::One(Scalar::Text(text(alloc, "x")?));
     let copy = Attribute { key, value }.copy(alloc)?;
-    match &copy.value {
-        AttrValue::One(one) => same_or_other(alloc, copy.key.as_str() == "k" && is_text(one, "x")),
-        AttrValue::Many(_) => same_or_other(alloc, false),
-    }
+    Ok(copy.key.as_str() == "k" && is_x(&copy.value))
 }
 
-fn bounds_copy(alloc: Global) -> Result<String, AllocError> {
-    let mut bounds = Vec::new(alloc);
-    bounds.extend_from_slice(&[0, 5, 10])?;
-    match Kind::histogram(bounds) {
+pub fn bounds_copy(alloc: Global) -> Result<bool, AllocError> {
+    match Kind::histogram(vec![in alloc; 0, 5, 10]?) {
         Ok(Kind::Histogram { bounds }) => {
             let copy = bounds.copy(alloc)?;
-            same_or_other(alloc, copy.as_slice() == [0, 5, 10].as_slice())
+            Ok(copy.as_slice() == [0, 5, 10].as_slice())
         }
-        _ => same_or_other(alloc, false),
+        _ => Ok(false),
     }
 }
 
-fn row_copy(alloc: Global) -> Result<String, AllocError> {
-    let mut words = Vec::new(alloc);
-    words.extend_from_slice(&[1, 5, 0])?;
-    let copy = Row::new(words).copy(alloc)?;
-    same_or_other(alloc, copy.as_slice() == [1, 5, 0].as_slice())
+pub fn row_copy(alloc: Global) -> Result<bool, AllocError> {
+    let copy = Row::new(vec![in alloc; 1, 5, 0]?).copy(alloc)?;
+    Ok(copy.as_slice() == [1, 5, 0].as_slice())
 }
 
-fn row_of_words(alloc: Global) -> Result<String, AllocError> {
+pub fn row_of_words(alloc: Global) -> Result<bool, AllocError> {
     let row = row_of(alloc, &[1, 0, 3])?;
-    same_or_other(alloc, row.as_slice() == [1, 0, 3].as_slice())
+    Ok(row.as_slice() == [1, 0, 3].as_slice())
 }
 
-fn series_list_copy(alloc: Global) -> Result<String, AllocError> {
+pub fn series_list_copy(alloc: Global) -> Result<bool, AllocError> {
     let mut series = Vec::new(alloc);
     for point in points_of(alloc, MIXED)?.as_slice() {
         series.push(point.shared_series().share()?)?;
     }
     let copy = SeriesList::new(series).copy(alloc)?;
     match copy.as_slice() {
-        [h, m] => {
-            let names = [h.as_series().name().as_str(), m.as_series().name().as_str()];
-            same_or_other(alloc, names[0] == "h" && names[1] == "m")
-        }
-        _ => same_or_other(alloc, false),
-    }
-}
-
-/// What a call answers, in words.
-pub fn answer_of(alloc: Global, call: &str) -> Result<String, AllocError> {
-    match call {
-        "Scalar::copy" => scalar_copy(alloc),
-        "Scalars::copy" => scalars_copy(alloc),
-        "Attribute::copy" => attribute_copy(alloc),
-        "Bounds::copy" => bounds_copy(alloc),
-        "Row::copy" => row_copy(alloc),
-        "row_of" => row_of_words(alloc),
-        "SeriesList::copy" => series_list_copy(alloc),
-        _ => String::from_str(alloc, "no such call"),
+        [h, m] => Ok(h.as_series().name().as_str() == "h" && m.as_series().name().as_str() == "m"),
+        _ => Ok(false),
     }
 }

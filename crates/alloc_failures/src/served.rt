@@ -34,14 +34,9 @@ fn steps_of(writer: Writer) -> &'static [Step] {
 
 /// A book that takes requests. Where there is no memory for it, it is made again.
 fn keeper_twice(rt: &impl Print, alloc: Global) -> Result<BookKeeper<Fixed>, AllocError> {
+    let book = twice!(rt, "the value", Book::new(alloc))?;
     let answer = Answer::Success;
-    for _ in 0..2 {
-        match Book::new(alloc) {
-            Ok(book) => return Ok(BookKeeper::new(alloc, book, 0, Fixed { answer }, 1000)),
-            Err(_) => no_memory(rt, "the value", true),
-        }
-    }
-    Err(AllocError)
+    Ok(BookKeeper::new(alloc, book, 0, Fixed { answer }, 1000))
 }
 
 fn report_of(alloc: Global, keeper: &mut BookKeeper<Fixed>) -> Result<Vec<u8>, AllocError> {
@@ -49,35 +44,12 @@ fn report_of(alloc: Global, keeper: &mut BookKeeper<Fixed>) -> Result<Vec<u8>, A
     report_text(alloc, rows.as_slice())
 }
 
-/// The report. Where there is no memory for it, it is asked for again.
-fn report_twice(
-    rt: &impl Print,
-    alloc: Global,
-    keeper: &mut BookKeeper<Fixed>,
-) -> Result<Vec<u8>, AllocError> {
-    for _ in 0..2 {
-        match report_of(alloc, keeper) {
-            Ok(report) => return Ok(report),
-            Err(_) => no_memory(rt, "Book::totals", true),
-        }
-    }
-    Err(AllocError)
-}
-
-/// Prints that a request was out of memory, and whether the report is as before. Reports are
-/// compared where there is memory for this one.
-fn refused(
-    rt: &impl Print,
-    alloc: Global,
-    call: &str,
-    keeper: &mut BookKeeper<Fixed>,
-    before: &[u8],
-) {
-    let same = match report_of(alloc, keeper) {
+/// Whether the report is as before. Reports are compared where there is memory for this one.
+fn is_as_before(alloc: Global, keeper: &mut BookKeeper<Fixed>, before: &[u8]) -> bool {
+    match report_of(alloc, keeper) {
         Ok(report) => report.as_slice() == before,
         Err(_) => true,
-    };
-    no_memory(rt, call, same);
+    }
 }
 
 /// Whether a response says that there was no memory, or its writer had none: a writer that is out
@@ -127,7 +99,7 @@ fn serve_twice(
     request: &[u8],
     writer: Writer,
 ) -> Result<(), AllocError> {
-    let before = report_twice(rt, alloc, keeper)?;
+    let before = twice!(rt, "Book::totals", report_of(alloc, keeper))?;
     for _ in 0..2 {
         let mut reader = Script::new(request, &[]);
         let mut tape = Tape::new(alloc, steps_of(writer));
@@ -142,7 +114,7 @@ fn serve_twice(
             return Ok(());
         };
         if is_no_memory(status, written, tape.taken(), writer) {
-            refused(rt, alloc, call, keeper, before.as_slice());
+            no_memory(rt, call, is_as_before(alloc, keeper, before.as_slice()));
         } else {
             let (much, how) = (written_word(written), end_word(end));
             let _ = println!(rt;
@@ -165,38 +137,32 @@ fn print_accepted(rt: &impl Print, keeper: BookKeeper<Fixed>) {
     print_number(rt, "points accepted", points);
 }
 
-/// Serves a request over a book of its own.
-fn serve_alone(
+/// Serves a request to each of these writers, over a book of its own.
+fn serve_to(
     rt: &impl Print,
     alloc: Global,
-    call: &str,
     request: &[u8],
+    writers: &[(&str, Writer)],
 ) -> Result<(), AllocError> {
     let mut keeper = keeper_twice(rt, alloc)?;
-    serve_twice(rt, alloc, &mut keeper, call, request, Writer::Whole)?;
+    for (call, writer) in writers {
+        serve_twice(rt, alloc, &mut keeper, call, request, *writer)?;
+    }
     print_accepted(rt, keeper);
     Ok(())
 }
 
-/// The same points to three writers, over one book: they are undone, then they stay, and then they
-/// are out of order.
-fn three_writers(rt: &impl Print, alloc: Global) -> Result<(), AllocError> {
-    let mut keeper = keeper_twice(rt, alloc)?;
-    let refusing = "serve to a refusing writer";
-    serve_twice(rt, alloc, &mut keeper, refusing, POSTED, Writer::Refusing)?;
-    let short = "serve to a short writer";
-    serve_twice(rt, alloc, &mut keeper, short, POSTED, Writer::Short)?;
-    let whole = "serve to a whole writer";
-    serve_twice(rt, alloc, &mut keeper, whole, POSTED, Writer::Whole)?;
-    print_accepted(rt, keeper);
-    Ok(())
-}
-
-/// All requests.
+/// All requests. The last one's points come to three writers: they are undone, then they stay, and
+/// then they are out of order.
 pub fn make_all(rt: &impl Print, alloc: Global) -> Result<(), AllocError> {
-    serve_alone(rt, alloc, "serve of no points", NO_POINTS)?;
-    serve_alone(rt, alloc, "serve of foreign points", FOREIGN)?;
-    serve_alone(rt, alloc, "serve of a sum that is too large", TOO_LARGE)?;
-    serve_alone(rt, alloc, "serve of a chunked body", CHUNKED_POINT)?;
-    three_writers(rt, alloc)
+    serve_to(rt, alloc, NO_POINTS, &[("serve of no points", Writer::Whole)])?;
+    serve_to(rt, alloc, FOREIGN, &[("serve of foreign points", Writer::Whole)])?;
+    serve_to(rt, alloc, TOO_LARGE, &[("serve of a sum that is too large", Writer::Whole)])?;
+    serve_to(rt, alloc, CHUNKED_POINT, &[("serve of a chunked body", Writer::Whole)])?;
+    let writers = [
+        ("serve to a refusing writer", Writer::Refusing),
+        ("serve to a short writer", Writer::Short),
+        ("serve to a whole writer", Writer::Whole),
+    ];
+    serve_to(rt, alloc, POSTED, &writers)
 }

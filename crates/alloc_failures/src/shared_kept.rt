@@ -8,6 +8,7 @@ use crate::kept::{self, Kept};
 use crate::lines::{print_number, print_right};
 use crate::make_calls;
 use crate::making::{batch_of, name_of};
+use crate::shared_calls::Caller;
 use delta_book::book::Book;
 use metric_events::sender_name::SenderName;
 use shared_book::audit::{AuditFault, check};
@@ -18,74 +19,52 @@ use std::alloc::{AllocError, Global};
 use std::sync::Wait;
 use std::sync::ledger::Blank;
 
-fn admit<L: Round>(
-    rt: &impl Wait,
-    alloc: Global,
-    shared: &SharedBook<L>,
-    seat: &mut Seat<L>,
-    body: &[u8],
-) -> Result<(), AllocError> {
-    let batch = batch_of(alloc, body)?;
+fn admit<L: Round>(rt: &impl Wait, from: &mut Caller<L>, body: &[u8]) -> Result<(), AllocError> {
+    let batch = batch_of(from.alloc, body)?;
     if batch.points.as_slice().is_empty() {
         return Err(AllocError);
     }
-    match shared.admit(rt, seat, batch) {
+    match from.shared.admit(rt, &mut from.seat, batch) {
         Ok(_) => Ok(()),
         Err(_) => Err(AllocError),
     }
 }
 
-fn take_one<L: Round>(
-    rt: &impl Wait,
-    shared: &SharedBook<L>,
-    seat: &mut Seat<L>,
-) -> Result<(), AllocError> {
-    match shared.take(rt, seat, 1) {
+fn take_one<L: Round>(rt: &impl Wait, from: &mut Caller<L>) -> Result<(), AllocError> {
+    match from.shared.take(rt, &mut from.seat, 1) {
         Ok(Some(_)) => Ok(()),
         _ => Err(AllocError),
     }
 }
 
 /// The same entries as those of the kept book.
-fn fill<L: Round>(
-    rt: &impl Wait,
-    alloc: Global,
-    shared: &SharedBook<L>,
-    seat: &mut Seat<L>,
-) -> Result<(), AllocError> {
-    admit(rt, alloc, shared, seat, SUMS)?;
+fn fill<L: Round>(rt: &impl Wait, from: &mut Caller<L>) -> Result<(), AllocError> {
+    admit(rt, from, SUMS)?;
     for _ in 0..3 {
-        take_one(rt, shared, seat)?;
+        take_one(rt, from)?;
     }
-    admit(rt, alloc, shared, seat, FOURTH)?;
-    match shared.quarantine(rt, seat, name_of(alloc, b"H")?) {
-        Ok(()) => Ok(()),
-        Err(_) => Err(AllocError),
-    }
+    admit(rt, from, FOURTH)?;
+    let sender = name_of(from.alloc, b"H")?;
+    from.shared.quarantine(rt, &mut from.seat, sender).map_err(|_| AllocError)
 }
 
 /// Ends all that is open, in the kept book's order, and prints each answer.
-fn end_calls<L: Round, R: Print + Wait>(
-    rt: &R,
-    shared: &SharedBook<L>,
-    seat: &mut Seat<L>,
-    quarantined: &SenderName,
-) {
-    let settled = shared.settle(rt, seat, 1).is_ok();
+fn end_calls<L: Round, R: Print + Wait>(rt: &R, from: &mut Caller<L>, quarantined: &SenderName) {
+    let settled = from.shared.settle(rt, &mut from.seat, 1).is_ok();
     print_right(rt, "end: SharedBook::settle", settled);
-    let dropped = shared.drop_flush(rt, seat, 2).is_ok();
+    let dropped = from.shared.drop_flush(rt, &mut from.seat, 2).is_ok();
     print_right(rt, "end: SharedBook::drop_flush", dropped);
-    let back = shared.give_back(rt, seat, 3).is_ok();
+    let back = from.shared.give_back(rt, &mut from.seat, 3).is_ok();
     print_right(rt, "end: SharedBook::give_back", back);
-    let undone = shared.undo(rt, seat, 2).is_ok();
+    let undone = from.shared.undo(rt, &mut from.seat, 2).is_ok();
     print_right(rt, "end: SharedBook::undo", undone);
-    let refused = shared.undo(rt, seat, 1).is_err();
+    let refused = from.shared.undo(rt, &mut from.seat, 1).is_err();
     print_right(rt, "end: SharedBook::undo of a taken batch", refused);
-    let confirmed = shared.confirm(rt, seat, 1).is_ok();
+    let confirmed = from.shared.confirm(rt, &mut from.seat, 1).is_ok();
     print_right(rt, "end: SharedBook::confirm", confirmed);
-    let released = shared.lift(rt, seat, quarantined).is_ok();
+    let released = from.shared.lift(rt, &mut from.seat, quarantined).is_ok();
     print_right(rt, "end: SharedBook::lift", released);
-    print_number(rt, "end: Seat::receipts", seat.receipts().len() as u64);
+    print_number(rt, "end: Seat::receipts", from.seat.receipts().len() as u64);
 }
 
 /// The end of the sharing, which is refused without the second seat.
@@ -148,14 +127,16 @@ pub fn calls_beside<L: Round, R: Print + Wait>(
         return Err(AllocError);
     };
     let mut seats = seats;
-    let (Some(idle), Some(mut seat)) = (seats.pop(), seats.pop()) else {
+    let (Some(idle), Some(seat)) = (seats.pop(), seats.pop()) else {
         return Err(AllocError);
     };
-    fill(rt, alloc, &shared, &mut seat)?;
+    let mut from = Caller { alloc, shared, seat };
+    fill(rt, &mut from)?;
     let quarantined = name_of(alloc, b"H")?;
     make_calls(rt, alloc);
     let book = kept::end(rt, alloc, kept);
-    end_calls(rt, &shared, &mut seat, &quarantined);
+    end_calls(rt, &mut from, &quarantined);
+    let Caller { shared, seat, .. } = from;
     if seats.push(seat).is_err() {
         print_right(rt, "end: the room of a seat is", false);
         return Ok(());

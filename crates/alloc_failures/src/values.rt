@@ -1,64 +1,55 @@
 //! Calls that make a value of what they are lent: identities, events, texts and messages. Each is
 //! made on values of its own, so that what it leaves is what it answers.
+ghost use Rattle.std.specs.Prelude.{◌≡◌};
+
 use crate::bodies::{CHUNKED, LATER, MIXED, NO_JSON, NO_REQUEST, SUMS, WAIT};
-use crate::making::{
-    batch_of, first_point, name_of, own_series, points_of, same_or_other, text, text_of,
-};
+use crate::lines::{no_memory, print_text};
+use crate::making::{batch_of, first_point, name_of, own_series, points_of, text, text_of};
 use crate::parts;
 use back_answers::Act;
 use byte_ends::Script;
 use http_edge::{Decoder, HttpFault, read_message, read_response};
-use metric_events::point::Point;
 use otlp_read::{IdentityCache, ReadFault, Reading, read_request, read_request_with};
 use out_texts::{put_number, put_row, put_series_name, status_text, success_text, turn_text};
 use series_cell::cell::Cell;
-use series_id::{AttrFault, AttrSet, AttrValue, Kind, Scalar, Text};
+use series_id::{AttrFault, AttrSet, AttrValue, Scalar, Text};
 use std::alloc::{AllocError, Global};
 
-/// The calls, in the order in which they are made.
-pub const CALLS: [&str; 36] = [
-    "Text::copy",
-    "Scalar::copy",
-    "Scalars::copy",
-    "Attribute::copy",
-    "Bounds::copy",
-    "Row::copy",
-    "row_of",
-    "SeriesList::copy",
-    "AttrSet::from_pairs",
-    "AttrValue::copy",
-    "Kind::copy",
-    "SeriesId::copy",
-    "SenderName::new",
-    "SenderName::copy",
-    "Point::sum",
-    "Point::histogram",
-    "Point::copy",
-    "MergedPoint::copy",
-    "Points::copy",
-    "Batch::copy",
-    "Cell::new",
-    "read_request",
-    "read_request of sums",
-    "read_request of no JSON",
-    "read_request of another shape",
-    "read_request_with",
-    "read_request_with of sums",
-    "status_text",
-    "success_text",
-    "turn_text",
-    "put_series_name",
-    "put_row",
-    "put_number",
-    "read_message",
-    "read_response",
-    "Decoder::feed",
-];
+/// Makes a call, and prints what it answers.
+fn answer<F: Fn(Global) -> Result<String, AllocError>>(
+    rt: &impl Print,
+    alloc: Global,
+    call: &str,
+    made: F,
+) -> Result<(), AllocError>
+    requires { F.IsAlwaysCallable made }
+{
+    let words = twice!(rt, call, made(alloc))?;
+    print_text(rt, call, words.as_str());
+    Ok(())
+}
 
-fn text_copy(alloc: Global) -> Result<String, AllocError> {
-    let name = text(alloc, "requests")?;
-    let copy = name.copy(alloc)?;
-    same_or_other(alloc, copy.as_str() == "requests")
+/// Makes a call, and prints whether it makes the value that is wanted.
+fn same<F: Fn(Global) -> Result<bool, AllocError>>(
+    rt: &impl Print,
+    alloc: Global,
+    call: &str,
+    made: F,
+) -> Result<(), AllocError>
+    requires { F.IsAlwaysCallable made }
+{
+    let is_same = twice!(rt, call, made(alloc))?;
+    print_text(rt, call, if is_same { "same" } else { "other" });
+    Ok(())
+}
+
+/// Whether the copy of a value is the same.
+macro_rules! copied {
+    ($alloc:expr, $value:expr) => {{
+        let value = $value;
+        let copy = value.copy($alloc)?;
+        Ok(copy.is_same(&value))
+    }};
 }
 
 /// Two attributes, of which the second comes first.
@@ -77,79 +68,36 @@ fn set_of_pairs(alloc: Global) -> Result<String, AllocError> {
     }
 }
 
-fn value_copy(alloc: Global) -> Result<String, AllocError> {
-    let value = AttrValue::One(Scalar::Text(text(alloc, "x")?));
-    match value.copy(alloc)? {
-        AttrValue::One(Scalar::Text(copy)) => same_or_other(alloc, copy.as_str() == "x"),
-        _ => same_or_other(alloc, false),
-    }
+fn sender_new(alloc: Global) -> Result<bool, AllocError> {
+    let sender = name_of(alloc, b"A")?;
+    Ok(sender.as_bytes() == b"A".as_slice())
 }
 
-fn kind_copy(alloc: Global) -> Result<String, AllocError> {
+fn kind_copy(alloc: Global) -> Result<bool, AllocError> {
     let point = first_point(alloc, MIXED)?;
-    match point.series().kind().copy(alloc)? {
-        Kind::Histogram { bounds } => same_or_other(
-            alloc,
-            bounds.as_slice() == [0, 5, 10].as_slice(),
-        ),
-        Kind::Sum { .. } => same_or_other(alloc, false),
-    }
+    let copy = point.series().kind().copy(alloc)?;
+    Ok(copy.is_same(point.series().kind()))
 }
 
-fn series_copy(alloc: Global) -> Result<String, AllocError> {
-    let series = own_series(alloc)?;
-    let copy = series.copy(alloc)?;
-    same_or_other(alloc, copy.is_same(&series))
-}
-
-fn sender_new(alloc: Global) -> Result<String, AllocError> {
-    let sender = name_of(alloc, b"A")?;
-    same_or_other(alloc, sender.as_bytes() == b"A".as_slice())
-}
-
-fn sender_copy(alloc: Global) -> Result<String, AllocError> {
-    let sender = name_of(alloc, b"A")?;
-    let copy = sender.copy(alloc)?;
-    same_or_other(alloc, copy.is_same(&sender))
-}
-
-fn sum_point(alloc: Global) -> Result<String, AllocError> {
+fn sum_point(alloc: Global) -> Result<bool, AllocError> {
     let point = first_point(alloc, SUMS)?;
-    same_or_other(alloc, point.row() == [1, 1, 0].as_slice())
+    Ok(point.row() == [1, 1, 0].as_slice())
 }
 
-fn histogram_point(alloc: Global) -> Result<String, AllocError> {
+fn histogram_point(alloc: Global) -> Result<bool, AllocError> {
     let point = first_point(alloc, LATER)?;
-    same_or_other(alloc, point.row() == [1, 1, 0, 1, 0, 0, 0].as_slice())
+    Ok(point.row() == [1, 1, 0, 1, 0, 0, 0].as_slice())
 }
 
-fn point_copy(alloc: Global) -> Result<String, AllocError> {
-    let point: Point = first_point(alloc, MIXED)?;
-    let copy = point.copy(alloc)?;
-    same_or_other(alloc, copy.is_same(&point))
-}
-
-fn merged_copy(alloc: Global) -> Result<String, AllocError> {
+fn merged_copy(alloc: Global) -> Result<bool, AllocError> {
     let point = first_point(alloc, MIXED)?;
     let copy = point.as_merged().copy(alloc)?;
-    same_or_other(alloc, copy.is_same(point.as_merged()))
+    Ok(copy.is_same(point.as_merged()))
 }
 
-fn points_copy(alloc: Global) -> Result<String, AllocError> {
-    let points = points_of(alloc, MIXED)?;
-    let copy = points.copy(alloc)?;
-    same_or_other(alloc, copy.is_same(&points))
-}
-
-fn batch_copy(alloc: Global) -> Result<String, AllocError> {
-    let batch = batch_of(alloc, MIXED)?;
-    let copy = batch.copy(alloc)?;
-    same_or_other(alloc, copy.is_same(&batch))
-}
-
-fn cell_new(alloc: Global) -> Result<String, AllocError> {
+fn cell_new(alloc: Global) -> Result<bool, AllocError> {
     let cell = Cell::new(alloc, name_of(alloc, b"A")?, own_series(alloc)?)?;
-    same_or_other(alloc, cell.accepted() == [0, 0, 0].as_slice())
+    Ok(cell.accepted() == [0, 0, 0].as_slice())
 }
 
 fn reading(alloc: Global, answer: Result<Reading, ReadFault>) -> Result<String, AllocError> {
@@ -166,9 +114,13 @@ fn reading(alloc: Global, answer: Result<Reading, ReadFault>) -> Result<String, 
     }
 }
 
+fn read(alloc: Global, body: &[u8]) -> Result<String, AllocError> {
+    reading(alloc, read_request(alloc, body))
+}
+
 /// A body that is read without a cache, and with one when it is new and when it comes again.
 fn readings(alloc: Global, body: &[u8]) -> Result<String, AllocError> {
-    let plain = reading(alloc, read_request(alloc, body))?;
+    let plain = read(alloc, body)?;
     let mut cache = IdentityCache::new(alloc);
     for _ in 0..2 {
         let with_cache = reading(alloc, read_request_with(alloc, body, &mut cache))?;
@@ -226,14 +178,11 @@ fn response(alloc: Global) -> Result<String, AllocError> {
 fn decoded(alloc: Global) -> Result<String, AllocError> {
     let mut decoder = Decoder::new(alloc);
     for byte in CHUNKED {
-        match decoder.feed(&[*byte]) {
-            Ok(_) => {}
-            Err(fault) => {
-                if decoder.feed(CHUNKED) != Err(fault) || decoder.held() > 0 {
-                    return String::from_str(alloc, "the fault did not last");
-                }
-                return Err(AllocError);
+        if let Err(fault) = decoder.feed(&[*byte]) {
+            if decoder.feed(CHUNKED) != Err(fault) || decoder.held() > 0 {
+                return String::from_str(alloc, "the fault did not last");
             }
+            return Err(AllocError);
         }
     }
     match decoder.finish() {
@@ -243,45 +192,66 @@ fn decoded(alloc: Global) -> Result<String, AllocError> {
     }
 }
 
-/// What becomes of an identity, an event or a cell.
-fn event_answer(alloc: Global, call: &str) -> Result<String, AllocError> {
-    match call {
-        "Text::copy" => text_copy(alloc),
-        "AttrSet::from_pairs" => set_of_pairs(alloc),
-        "AttrValue::copy" => value_copy(alloc),
-        "Kind::copy" => kind_copy(alloc),
-        "SeriesId::copy" => series_copy(alloc),
-        "SenderName::new" => sender_new(alloc),
-        "SenderName::copy" => sender_copy(alloc),
-        "Point::sum" => sum_point(alloc),
-        "Point::histogram" => histogram_point(alloc),
-        "Point::copy" => point_copy(alloc),
-        "MergedPoint::copy" => merged_copy(alloc),
-        "Points::copy" => points_copy(alloc),
-        "Batch::copy" => batch_copy(alloc),
-        "Cell::new" => cell_new(alloc),
-        _ => parts::answer_of(alloc, call),
-    }
+/// What identities are made of.
+fn make_parts(rt: &impl Print, alloc: Global) -> Result<(), AllocError> {
+    same(rt, alloc, "Text::copy", parts::text_copy)?;
+    same(rt, alloc, "Scalar::copy", parts::scalar_copy)?;
+    same(rt, alloc, "Scalars::copy", parts::scalars_copy)?;
+    same(rt, alloc, "Attribute::copy", parts::attribute_copy)?;
+    same(rt, alloc, "Bounds::copy", parts::bounds_copy)?;
+    same(rt, alloc, "Row::copy", parts::row_copy)?;
+    same(rt, alloc, "row_of", parts::row_of_words)?;
+    same(rt, alloc, "SeriesList::copy", parts::series_list_copy)?;
+    answer(rt, alloc, "AttrSet::from_pairs", set_of_pairs)?;
+    same(rt, alloc, "AttrValue::copy", parts::value_copy)
 }
 
-/// What a call answers, in words.
-pub fn answer_of(alloc: Global, call: &str) -> Result<String, AllocError> {
-    match call {
-        "read_request" => reading(alloc, read_request(alloc, MIXED)),
-        "read_request of sums" => reading(alloc, read_request(alloc, SUMS)),
-        "read_request of no JSON" => reading(alloc, read_request(alloc, NO_JSON)),
-        "read_request of another shape" => reading(alloc, read_request(alloc, NO_REQUEST)),
-        "read_request_with" => readings(alloc, MIXED),
-        "read_request_with of sums" => readings(alloc, SUMS),
-        "status_text" => text_of(alloc, status_text(alloc, "a \"message\"")?),
-        "success_text" => text_of(alloc, success_text(alloc, 3)?),
-        "turn_text" => text_of(alloc, turn_text(alloc, 1, 2, Act::GiveBack, Some(7))?),
-        "put_series_name" => series_name(alloc),
-        "put_row" => row(alloc),
-        "put_number" => number(alloc),
-        "read_message" => message(alloc),
-        "read_response" => response(alloc),
-        "Decoder::feed" => decoded(alloc),
-        _ => event_answer(alloc, call),
-    }
+/// Identities, events and cells.
+fn make_events(rt: &impl Print, alloc: Global) -> Result<(), AllocError> {
+    same(rt, alloc, "Kind::copy", kind_copy)?;
+    same(rt, alloc, "SeriesId::copy", |alloc| copied!(alloc, own_series(alloc)?))?;
+    same(rt, alloc, "SenderName::new", sender_new)?;
+    same(rt, alloc, "SenderName::copy", |alloc| copied!(alloc, name_of(alloc, b"A")?))?;
+    same(rt, alloc, "Point::sum", sum_point)?;
+    same(rt, alloc, "Point::histogram", histogram_point)?;
+    same(rt, alloc, "Point::copy", |alloc| copied!(alloc, first_point(alloc, MIXED)?))?;
+    same(rt, alloc, "MergedPoint::copy", merged_copy)?;
+    same(rt, alloc, "Points::copy", |alloc| copied!(alloc, points_of(alloc, MIXED)?))?;
+    same(rt, alloc, "Batch::copy", |alloc| copied!(alloc, batch_of(alloc, MIXED)?))?;
+    same(rt, alloc, "Cell::new", cell_new)
+}
+
+/// Bodies that are read.
+fn make_readings(rt: &impl Print, alloc: Global) -> Result<(), AllocError> {
+    answer(rt, alloc, "read_request", |alloc| read(alloc, MIXED))?;
+    answer(rt, alloc, "read_request of sums", |alloc| read(alloc, SUMS))?;
+    answer(rt, alloc, "read_request of no JSON", |alloc| read(alloc, NO_JSON))?;
+    answer(rt, alloc, "read_request of another shape", |alloc| read(alloc, NO_REQUEST))?;
+    answer(rt, alloc, "read_request_with", |alloc| readings(alloc, MIXED))?;
+    answer(rt, alloc, "read_request_with of sums", |alloc| readings(alloc, SUMS))
+}
+
+/// Texts and messages.
+fn make_texts(rt: &impl Print, alloc: Global) -> Result<(), AllocError> {
+    answer(rt, alloc, "status_text", |alloc| {
+        text_of(alloc, status_text(alloc, "a \"message\"")?)
+    })?;
+    answer(rt, alloc, "success_text", |alloc| text_of(alloc, success_text(alloc, 3)?))?;
+    answer(rt, alloc, "turn_text", |alloc| {
+        text_of(alloc, turn_text(alloc, 1, 2, Act::GiveBack, Some(7))?)
+    })?;
+    answer(rt, alloc, "put_series_name", series_name)?;
+    answer(rt, alloc, "put_row", row)?;
+    answer(rt, alloc, "put_number", number)?;
+    answer(rt, alloc, "read_message", message)?;
+    answer(rt, alloc, "read_response", response)?;
+    answer(rt, alloc, "Decoder::feed", decoded)
+}
+
+/// All calls.
+pub fn make_all(rt: &impl Print, alloc: Global) -> Result<(), AllocError> {
+    make_parts(rt, alloc)?;
+    make_events(rt, alloc)?;
+    make_readings(rt, alloc)?;
+    make_texts(rt, alloc)
 }
