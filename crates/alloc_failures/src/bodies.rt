@@ -1,46 +1,46 @@
 //! The bodies and the requests that the calls are made on.
 
 /// A body with a histogram and a sum with attributes of each kind, and two points that are foreign.
-pub const MIXED: &[u8] = b"{\"resourceMetrics\":[{\"resource\":{\"attributes\":[{\"key\":\"host\",\
-        \"value\":{\"stringValue\":\"h\"}}]},\"scopeMetrics\":[{\"scope\":{\"name\":\"s\",\
-        \"version\":\"1\"},\"metrics\":[{\"name\":\"h\",\"unit\":\"ms\",\
-        \"histogram\":{\"aggregationTemporality\":1,\"dataPoints\":[{\"count\":\"7\",\"sum\":30,\
-        \"explicitBounds\":[0,5,10],\"bucketCounts\":[\"1\",\"2\",\"0\",\"4\"],\
-        \"startTimeUnixNano\":\"10\",\"timeUnixNano\":\"20\"}]}},{\"name\":\"m\",\
-        \"sum\":{\"aggregationTemporality\":1,\"dataPoints\":[{\"attributes\":[{\"key\":\"b\",\
-        \"value\":{\"intValue\":\"1\"}},{\"key\":\"a\",\"value\":{\"arrayValue\":{\"values\":[\
-        {\"stringValue\":\"x\"},{\"boolValue\":true},{}]}}}],\"asInt\":\"5\",\
-        \"startTimeUnixNano\":\"10\",\"timeUnixNano\":\"20\"},{\"asDouble\":1.5,\
-        \"startTimeUnixNano\":\"10\",\"timeUnixNano\":\"20\"}]}},{\"name\":\"g\",\
-        \"gauge\":{\"dataPoints\":[{}]}}]}]}]}";
+pub const MIXED: &[u8] = br#"{"resourceMetrics":[{"resource":{"attributes":[
+    {"key":"host","value":{"stringValue":"h"}}]},
+    "scopeMetrics":[{"scope":{"name":"s","version":"1"},"metrics":[
+    {"name":"h","unit":"ms","histogram":{"aggregationTemporality":1,"dataPoints":[
+    {"count":"7","sum":30,"explicitBounds":[0,5,10],"bucketCounts":["1","2","0","4"],
+    "startTimeUnixNano":"10","timeUnixNano":"20"}]}},
+    {"name":"m","sum":{"aggregationTemporality":1,"dataPoints":[
+    {"attributes":[{"key":"b","value":{"intValue":"1"}},{"key":"a","value":{"arrayValue":
+    {"values":[{"stringValue":"x"},{"boolValue":true},{}]}}}],
+    "asInt":"5","startTimeUnixNano":"10","timeUnixNano":"20"},
+    {"asDouble":1.5,"startTimeUnixNano":"10","timeUnixNano":"20"}]}},
+    {"name":"g","gauge":{"dataPoints":[{}]}}]}]}]}"#;
 
 /// A body with a later point of that histogram.
-pub const LATER: &[u8] = b"{\"resourceMetrics\":[{\"resource\":{\"attributes\":[{\"key\":\"host\",\
-        \"value\":{\"stringValue\":\"h\"}}]},\"scopeMetrics\":[{\"scope\":{\"name\":\"s\",\
-        \"version\":\"1\"},\"metrics\":[{\"name\":\"h\",\"unit\":\"ms\",\
-        \"histogram\":{\"aggregationTemporality\":1,\"dataPoints\":[{\"count\":\"1\",\
-        \"explicitBounds\":[0,5,10],\"bucketCounts\":[\"1\",\"0\",\"0\",\"0\"],\
-        \"startTimeUnixNano\":\"20\",\"timeUnixNano\":\"30\"}]}}]}]}]}";
+pub const LATER: &[u8] = br#"{"resourceMetrics":[{"resource":{"attributes":[
+    {"key":"host","value":{"stringValue":"h"}}]},
+    "scopeMetrics":[{"scope":{"name":"s","version":"1"},"metrics":[
+    {"name":"h","unit":"ms","histogram":{"aggregationTemporality":1,"dataPoints":[
+    {"count":"1","explicitBounds":[0,5,10],"bucketCounts":["1","0","0","0"],
+    "startTimeUnixNano":"20","timeUnixNano":"30"}]}}]}]}]}"#;
 
 /// A body with a point of each of three sums.
-pub const SUMS: &[u8] = b"{\"resourceMetrics\":[{\"scopeMetrics\":[{\"metrics\":[{\"name\":\"x\",\
-        \"sum\":{\"aggregationTemporality\":1,\"dataPoints\":[{\"asInt\":1,\
-        \"startTimeUnixNano\":\"10\",\"timeUnixNano\":\"20\"}]}},{\"name\":\"y\",\
-        \"sum\":{\"aggregationTemporality\":1,\"dataPoints\":[{\"asInt\":2,\
-        \"startTimeUnixNano\":\"10\",\"timeUnixNano\":\"20\"}]}},{\"name\":\"z\",\
-        \"sum\":{\"aggregationTemporality\":1,\"dataPoints\":[{\"asInt\":-3,\
-        \"startTimeUnixNano\":\"10\",\"timeUnixNano\":\"20\"}]}}]}]}]}";
+pub const SUMS: &[u8] = br#"{"resourceMetrics":[{"scopeMetrics":[{"metrics":[
+    {"name":"x","sum":{"aggregationTemporality":1,"dataPoints":[
+    {"asInt":1,"startTimeUnixNano":"10","timeUnixNano":"20"}]}},
+    {"name":"y","sum":{"aggregationTemporality":1,"dataPoints":[
+    {"asInt":2,"startTimeUnixNano":"10","timeUnixNano":"20"}]}},
+    {"name":"z","sum":{"aggregationTemporality":1,"dataPoints":[
+    {"asInt":-3,"startTimeUnixNano":"10","timeUnixNano":"20"}]}}]}]}]}"#;
 
 /// A body with a point of a fourth sum.
-pub const FOURTH: &[u8] = b"{\"resourceMetrics\":[{\"scopeMetrics\":[{\"metrics\":[{\"name\":\"w\",\
-        \"sum\":{\"aggregationTemporality\":1,\"dataPoints\":[{\"asInt\":4,\
-        \"startTimeUnixNano\":\"10\",\"timeUnixNano\":\"20\"}]}}]}]}]}";
+pub const FOURTH: &[u8] = br#"{"resourceMetrics":[{"scopeMetrics":[{"metrics":[
+    {"name":"w","sum":{"aggregationTemporality":1,"dataPoints":[
+    {"asInt":4,"startTimeUnixNano":"10","timeUnixNano":"20"}]}}]}]}]}"#;
 
 /// A body that is no JSON.
-pub const NO_JSON: &[u8] = b"{\"resourceMetrics\":[{\"a\":\"b\"}";
+pub const NO_JSON: &[u8] = br#"{"resourceMetrics":[{"a":"b"}"#;
 
 /// A body of another shape than a request.
-pub const NO_REQUEST: &[u8] = b"{\"resourceMetrics\":[null]}";
+pub const NO_REQUEST: &[u8] = br#"{"resourceMetrics":[null]}"#;
 
 /// A request in chunks.
 pub const CHUNKED: &[u8] = b"POST /v1/metrics HTTP/1.1\r\n\

@@ -101,12 +101,14 @@ fn close_round(rt: &impl Print, alloc: Global, book: &mut Book) -> Result<(), Al
 /// Prints the request of a flush.
 fn print_request(rt: &impl Print, alloc: Global, flush: &Flush) -> Result<(), AllocError> {
     let request = twice!(rt, "request_text", request_text(alloc, flush))?;
-    print_bytes(rt, alloc, "request_text", request)
+    print_bytes(rt, "request_text", request.as_slice());
+    Ok(())
 }
 
 fn print_report(rt: &impl Print, alloc: Global, book: &Book) -> Result<(), AllocError> {
     let now = look_at(rt, alloc, book)?;
-    print_bytes(rt, alloc, "report_text", now.report)
+    print_bytes(rt, "report_text", now.report.as_slice());
+    Ok(())
 }
 
 fn past_of(alloc: Global, book: &Book) -> Result<Vec<u8>, AllocError> {
@@ -116,7 +118,8 @@ fn past_of(alloc: Global, book: &Book) -> Result<Vec<u8>, AllocError> {
 
 fn print_past(rt: &impl Print, alloc: Global, book: &Book) -> Result<(), AllocError> {
     let past = twice!(rt, "Book::past", past_of(alloc, book))?;
-    print_bytes(rt, alloc, "past_text", past)
+    print_bytes(rt, "past_text", past.as_slice());
+    Ok(())
 }
 
 /// The first round: a batch is taken and settled.

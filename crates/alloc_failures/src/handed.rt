@@ -12,7 +12,7 @@ use series_cell::cell::Cell;
 use series_id::SharedId;
 use std::alloc::{AllocError, Global};
 
-/// All calls, each on a value of its own. Where there is no memory for that value, it is made again.
+/// All calls. Where there is no memory for the value of one, that value is made again.
 pub fn make_all(rt: &impl Print, alloc: Global) -> Result<(), AllocError> {
     twice!(rt, "the value", share(rt, alloc))?;
     twice!(rt, "the value", push(rt, alloc))?;
@@ -39,21 +39,12 @@ fn push(rt: &impl Print, alloc: Global) -> Result<(), AllocError> {
     let mut points = Points::new(alloc);
     let sums = points_of(alloc, SUMS)?;
     for point in sums.as_slice() {
-        push_one(rt, alloc, &mut points, point)?;
+        let before = points.copy(alloc)?;
+        let call = "Points::push";
+        twice!(rt, call, points.push(point.copy(alloc)?), _ => points.is_same(&before))?;
     }
     print_right(rt, "Points::push", points.is_same(&sums));
     Ok(())
-}
-
-fn push_one(
-    rt: &impl Print,
-    alloc: Global,
-    points: &mut Points,
-    point: &Point,
-) -> Result<(), AllocError> {
-    let before = points.copy(alloc)?;
-    let call = "Points::push";
-    twice!(rt, call, points.push(point.copy(alloc)?), _ => points.is_same(&before))
 }
 
 /// Points without memory for more are as before, both where there are none and where there are some.
@@ -82,7 +73,7 @@ fn cell_of(alloc: Global, point: &Point) -> Result<Cell, AllocError> {
 fn put(rt: &impl Print, alloc: Global) -> Result<(), AllocError> {
     let point = first_point(alloc, MIXED)?;
     let mut cell = cell_of(alloc, &point)?;
-    for _ in 0..2 {
+    twice!(rt, "Cell::put", {
         if !cell.id().is_same(point.series())
             || cell.frontier() > point.span().start()
             || cell.accepted().len() != point.row().len()
@@ -91,39 +82,26 @@ fn put(rt: &impl Print, alloc: Global) -> Result<(), AllocError> {
             print_right(rt, "Cell::put", false);
             return Ok(());
         }
-        match cell.put(&point, 1) {
-            Ok(()) => {
-                print_right(rt, "Cell::put", cell.accepted() == point.row());
-                return Ok(());
-            }
-            Err(_) => {
-                let is_as_before = is_zero(cell.accepted()) && cell.frontier() == 0;
-                no_memory(rt, "Cell::put", is_as_before);
-            }
-        }
-    }
-    Err(AllocError)
+        cell.put(&point, 1)
+    }, _ => is_zero(cell.accepted()) && cell.frontier() == 0)?;
+    print_right(rt, "Cell::put", cell.accepted() == point.row());
+    Ok(())
 }
 
 /// A cell without memory for the span of a point is as before.
 fn put_span(rt: &impl Print, alloc: Global) -> Result<(), AllocError> {
     let point = first_point(alloc, MIXED)?;
     let mut cell = cell_of(alloc, &point)?;
-    for _ in 0..2 {
+    twice!(rt, "Cell::put_span", {
         if !cell.id().is_same(point.series()) || cell.frontier() > point.span().start() {
             print_right(rt, "Cell::put_span", false);
             return Ok(());
         }
-        match cell.put_span(&point, 1) {
-            Ok(()) => {
-                let is_there = cell.frontier() == point.span().end();
-                print_right(rt, "Cell::put_span", is_there && is_zero(cell.accepted()));
-                return Ok(());
-            }
-            Err(_) => no_memory(rt, "Cell::put_span", cell.frontier() == 0),
-        }
-    }
-    Err(AllocError)
+        cell.put_span(&point, 1)
+    }, _ => cell.frontier() == 0)?;
+    let is_there = cell.frontier() == point.span().end();
+    print_right(rt, "Cell::put_span", is_there && is_zero(cell.accepted()));
+    Ok(())
 }
 
 /// A cell without memory for more points is as before.

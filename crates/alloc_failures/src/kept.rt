@@ -28,10 +28,8 @@ fn admit(alloc: Global, book: &mut Book, body: &[u8]) -> Result<(), AllocError> 
     if batch.points.as_slice().is_empty() {
         return Err(AllocError);
     }
-    match book.admit(SEAT, batch) {
-        Ok(_) => Ok(()),
-        Err(_) => Err(AllocError),
-    }
+    book.admit(SEAT, batch).map_err(|_| AllocError)?;
+    Ok(())
 }
 
 fn take_one(book: &mut Book) -> Result<(), AllocError> {
@@ -97,11 +95,8 @@ pub fn end(rt: &impl Print, alloc: Global, kept: Kept) -> Book {
     print_right(rt, "end: drop_flush", book.drop_flush(SEAT, 2).is_ok());
     print_right(rt, "end: give_back", book.give_back(SEAT, 3).is_ok());
     print_right(rt, "end: undo", book.undo(SEAT, 2).is_ok());
-    print_right(
-        rt,
-        "end: undo of a taken batch",
-        book.undo(SEAT, 1).is_err(),
-    );
+    let refused = book.undo(SEAT, 1).is_err();
+    print_right(rt, "end: undo of a taken batch", refused);
     print_right(rt, "end: confirm", book.confirm(SEAT, 1).is_ok());
     print_right(rt, "end: lift", book.lift(SEAT, &quarantined).is_ok());
     print_right(rt, "end: settle again", book.settle(SEAT, 1).is_err());

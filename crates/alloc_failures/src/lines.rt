@@ -1,7 +1,6 @@
 //! The lines that are printed. A line that can't be printed is left out.
 
-use crate::making::text_of;
-use std::alloc::{AllocError, Global};
+use std::str;
 
 /// Prints whether what a call has returned and changed is right.
 pub fn print_right(rt: &impl Print, call: &str, right: bool) {
@@ -29,14 +28,7 @@ pub fn print_text(rt: &impl Print, call: &str, text: &str) {
     let _ = println!(rt; "{call} {text}");
 }
 
-/// Prints the text that these bytes are, and makes it.
-pub fn print_bytes(
-    rt: &impl Print,
-    alloc: Global,
-    call: &str,
-    bytes: Vec<u8>,
-) -> Result<(), AllocError> {
-    let text = text_of(alloc, bytes)?;
-    print_text(rt, call, text.as_str());
-    Ok(())
+/// Prints the text that a call has made as bytes.
+pub fn print_bytes(rt: &impl Print, call: &str, bytes: &[u8]) {
+    print_text(rt, call, str::from_utf8(bytes).unwrap_or("no text"));
 }

@@ -4,9 +4,6 @@
 //! allocation fail in turn.
 #![tactic(auto)]
 
-ghost use Rattle.std.specs.Prelude.{◌≡◌};
-ghost use Rattle.metric_events.specs.Opening.{first_opening};
-
 /// What a call returns, which is made again where it is out of memory. Each time a line says so, and
 /// where something is not as before. What it returns is passed on, and where there are two faults of
 /// no memory, or another fault, that it is out of memory.
@@ -39,7 +36,6 @@ mod shared_kept;
 mod tables;
 mod values;
 
-use shared_book::round::Round;
 use std::alloc::{AllocError, Global};
 use std::marker::Brand;
 use std::process::ExitCode;
@@ -62,19 +58,8 @@ pub fn make_calls<R: Print + Wait>(rt: &R, alloc: Global) {
     }
 }
 
-/// Makes what is kept, then all calls, and ends what is kept.
-fn run<L: Round, R: Print + Wait>(rt: &R, alloc: Global, blank: Blank) -> Result<(), AllocError>
-    requires name { blank.name ≡ L.name }
-    requires ledger { blank.parts ≡ L.parts }
-    requires parts { blank.parts ≡ 2 }
-    requires opening { L.opening ≡ first_opening }
-{
-    let kept = kept::prepare(alloc)?;
-    shared_kept::calls_beside::<L, R>(rt, alloc, blank, kept)
-}
-
 fn main(rt: HostRuntime) -> ExitCode {
-    match run::<Brand, _>(&rt, rt.alloc(), Blank::new(2)) {
+    match shared_kept::run::<Brand, _>(&rt, rt.alloc(), Blank::new(2)) {
         Ok(()) => ExitCode::SUCCESS,
         Err(_) => {
             let _ = eprintln!(rt; "alloc_failures: no memory");

@@ -6,7 +6,7 @@ use crate::lines::{no_memory, print_number, print_right};
 use back_answers::Answer;
 use byte_ends::{Script, Step, Tape};
 use delta_book::book::Book;
-use gate_workers::{BookKeeper, End, NoPace, Served, Store, serve_book};
+use gate_workers::{BookKeeper, NoPace, Served, Store, serve_book};
 use http_edge::Written;
 use out_texts::{no_memory_text, report_text};
 use std::alloc::{AllocError, Global};
@@ -73,22 +73,6 @@ fn body_of(taken: &[u8]) -> &str {
     }
 }
 
-fn written_word(written: Written) -> &'static str {
-    match written {
-        Written::All => "all",
-        Written::Part(_) => "a part",
-        Written::None_ => "nothing",
-    }
-}
-
-fn end_word(end: End) -> &'static str {
-    match end {
-        End::NoBatch => "no batch",
-        End::Confirmed => "confirmed",
-        End::Undone => "undone",
-    }
-}
-
 /// Serves a request, and again where it is out of memory. Prints the status, how much of the
 /// response was written, how the batch ended, and the body.
 fn serve_twice(
@@ -116,11 +100,8 @@ fn serve_twice(
         if is_no_memory(status, written, tape.taken(), writer) {
             no_memory(rt, call, is_as_before(alloc, keeper, before.as_slice()));
         } else {
-            let (much, how) = (written_word(written), end_word(end));
-            let _ = println!(rt;
-                "{call}: {status}, {much}, {how}, {}",
-                body_of(tape.taken())
-            );
+            let body = body_of(tape.taken());
+            let _ = println!(rt; "{call}: {status}, {written:?}, {end:?}, {body}");
             return Ok(());
         }
     }
@@ -137,32 +118,37 @@ fn print_accepted(rt: &impl Print, keeper: BookKeeper<Fixed>) {
     print_number(rt, "points accepted", points);
 }
 
-/// Serves a request to each of these writers, over a book of its own.
-fn serve_to(
+/// Serves requests in turn over a book of its own.
+fn serve_all(
     rt: &impl Print,
     alloc: Global,
-    request: &[u8],
-    writers: &[(&str, Writer)],
+    requests: &[(&str, &[u8], Writer)],
 ) -> Result<(), AllocError> {
     let mut keeper = keeper_twice(rt, alloc)?;
-    for (call, writer) in writers {
+    for (call, request, writer) in requests {
         serve_twice(rt, alloc, &mut keeper, call, request, *writer)?;
     }
     print_accepted(rt, keeper);
     Ok(())
 }
 
-/// All requests. The last one's points come to three writers: they are undone, then they stay, and
-/// then they are out of order.
+/// All requests. The last one comes to three writers, over one book: its points are undone, then
+/// they stay, and then they are out of order.
 pub fn make_all(rt: &impl Print, alloc: Global) -> Result<(), AllocError> {
-    serve_to(rt, alloc, NO_POINTS, &[("serve of no points", Writer::Whole)])?;
-    serve_to(rt, alloc, FOREIGN, &[("serve of foreign points", Writer::Whole)])?;
-    serve_to(rt, alloc, TOO_LARGE, &[("serve of a sum that is too large", Writer::Whole)])?;
-    serve_to(rt, alloc, CHUNKED_POINT, &[("serve of a chunked body", Writer::Whole)])?;
-    let writers = [
-        ("serve to a refusing writer", Writer::Refusing),
-        ("serve to a short writer", Writer::Short),
-        ("serve to a whole writer", Writer::Whole),
+    let whole = Writer::Whole;
+    serve_all(rt, alloc, &[("serve of no points", NO_POINTS, whole)])?;
+    serve_all(rt, alloc, &[("serve of foreign points", FOREIGN, whole)])?;
+    let name = "serve of a sum that is too large";
+    serve_all(rt, alloc, &[(name, TOO_LARGE, whole)])?;
+    serve_all(
+        rt,
+        alloc,
+        &[("serve of a chunked body", CHUNKED_POINT, whole)],
+    )?;
+    let requests = [
+        ("serve to a refusing writer", POSTED, Writer::Refusing),
+        ("serve to a short writer", POSTED, Writer::Short),
+        ("serve to a whole writer", POSTED, whole),
     ];
-    serve_to(rt, alloc, POSTED, &writers)
+    serve_all(rt, alloc, &requests)
 }

@@ -36,6 +36,14 @@ pub struct Caller<L: Round> {
 }
 
 impl<L: Round> Caller<L> {
+    pub fn new(alloc: Global, shared: SharedBook<L>, seat: Seat<L>) -> Self {
+        Caller {
+            alloc,
+            shared,
+            seat,
+        }
+    }
+
     fn report(&mut self, rt: &impl Wait) -> Result<Vec<u8>, AllocError> {
         let rows = self.shared.totals(rt, &mut self.seat)?;
         report_text(self.alloc, rows.as_slice())
@@ -119,7 +127,8 @@ impl<L: Round> Caller<L> {
         print_right(rt, "SharedBook::settle", settled);
         self.quarantine(rt)?;
         let now = self.look_at(rt)?;
-        print_bytes(rt, self.alloc, "SharedBook::totals", now.report)
+        print_bytes(rt, "SharedBook::totals", now.report.as_slice());
+        Ok(())
     }
 }
 
@@ -135,7 +144,7 @@ fn from_seats<L: Round, R: Print + Wait>(
     let (Some(idle), Some(seat)) = (seats.pop(), seats.pop()) else {
         return Err(AllocError);
     };
-    let mut caller = Caller { alloc, shared, seat };
+    let mut caller = Caller::new(alloc, shared, seat);
     let calls = caller.one_round(rt);
     let Caller { shared, seat, .. } = caller;
     seats.push(seat)?;

@@ -4,11 +4,10 @@ ghost use Rattle.std.specs.Prelude.{◌≡◌, ◌≤◌};
 ghost use Rattle.metric_events.specs.Opening.{first_opening};
 
 use crate::bodies::{FOURTH, SUMS};
-use crate::kept::{self, Kept};
 use crate::lines::{print_number, print_right};
-use crate::make_calls;
 use crate::making::{batch_of, name_of};
 use crate::shared_calls::Caller;
+use crate::{kept, make_calls};
 use delta_book::book::Book;
 use metric_events::sender_name::SenderName;
 use shared_book::audit::{AuditFault, check};
@@ -24,10 +23,9 @@ fn admit<L: Round>(rt: &impl Wait, from: &mut Caller<L>, body: &[u8]) -> Result<
     if batch.points.as_slice().is_empty() {
         return Err(AllocError);
     }
-    match from.shared.admit(rt, &mut from.seat, batch) {
-        Ok(_) => Ok(()),
-        Err(_) => Err(AllocError),
-    }
+    let admitted = from.shared.admit(rt, &mut from.seat, batch);
+    admitted.map_err(|_| AllocError)?;
+    Ok(())
 }
 
 fn take_one<L: Round>(rt: &impl Wait, from: &mut Caller<L>) -> Result<(), AllocError> {
@@ -45,7 +43,8 @@ fn fill<L: Round>(rt: &impl Wait, from: &mut Caller<L>) -> Result<(), AllocError
     }
     admit(rt, from, FOURTH)?;
     let sender = name_of(from.alloc, b"H")?;
-    from.shared.quarantine(rt, &mut from.seat, sender).map_err(|_| AllocError)
+    let quarantined = from.shared.quarantine(rt, &mut from.seat, sender);
+    quarantined.map_err(|_| AllocError)
 }
 
 /// Ends all that is open, in the kept book's order, and prints each answer.
@@ -67,62 +66,38 @@ fn end_calls<L: Round, R: Print + Wait>(rt: &R, from: &mut Caller<L>, quarantine
     print_number(rt, "end: Seat::receipts", from.seat.receipts().len() as u64);
 }
 
-/// The end of the sharing, which is refused without the second seat.
+/// Compares the first seat with the kept book, which has the same entries, and ends the sharing,
+/// which is refused without the second seat.
 fn finish<L: Round>(
-    rt: &impl Print,
-    shared: SharedBook<L>,
-    seats: Vec<Seat<L>>,
-    idle: Seat<L>,
-) -> Result<(), AllocError> {
-    let (shared, seats) = match shared.finish(seats) {
-        Err((AuditFault::SeatOut, shared, seats)) => (shared, seats),
-        _ => return Err(AllocError),
-    };
-    print_right(
-        rt,
-        "end: SharedBook::finish without a seat",
-        seats.len() == 1,
-    );
-    let mut seats = seats;
-    seats.push(idle)?;
-    match shared.finish(seats) {
-        Ok((book, audit)) => {
-            let right = audit.events == book.journal().len() as u128
-                && audit.admitted == 4
-                && audit.acknowledged == 1;
-            print_right(rt, "end: SharedBook::finish", right);
-            Ok(())
-        }
-        Err(_) => Err(AllocError),
-    }
-}
-
-/// Compares the first seat with the kept book, which has the same entries, and ends the sharing.
-fn compare<L: Round>(
     rt: &impl Print,
     book: &Book,
     shared: SharedBook<L>,
     seats: Vec<Seat<L>>,
     idle: Seat<L>,
-) {
+) -> Result<(), AllocError> {
     print_right(rt, "end: check", check(book, seats.as_slice()).is_ok());
-    if finish(rt, shared, seats, idle).is_err() {
-        print_right(rt, "end: SharedBook::finish", false);
-    }
+    let Err((AuditFault::SeatOut, shared, mut seats)) = shared.finish(seats) else {
+        return Err(AllocError);
+    };
+    let is_one = seats.len() == 1;
+    print_right(rt, "end: SharedBook::finish without a seat", is_one);
+    seats.push(idle)?;
+    let (book, audit) = shared.finish(seats).map_err(|_| AllocError)?;
+    let right = audit.events == book.journal().len() as u128
+        && audit.admitted == 4
+        && audit.acknowledged == 1;
+    print_right(rt, "end: SharedBook::finish", right);
+    Ok(())
 }
 
-/// Shares a book beside the kept one, has all calls made, and ends both.
-pub fn calls_beside<L: Round, R: Print + Wait>(
-    rt: &R,
-    alloc: Global,
-    blank: Blank,
-    kept: Kept,
-) -> Result<(), AllocError>
+/// Makes the kept book, and one that is shared beside it, has all calls made, and ends both.
+pub fn run<L: Round, R: Print + Wait>(rt: &R, alloc: Global, blank: Blank) -> Result<(), AllocError>
     requires name { blank.name ≡ L.name }
     requires ledger { blank.parts ≡ L.parts }
     requires parts { blank.parts ≡ 2 }
     requires opening { L.opening ≡ first_opening }
 {
+    let kept = kept::prepare(alloc)?;
     let Ok((shared, seats)) = SharedBook::<L>::new(alloc, Book::new(alloc)?, blank, 2) else {
         return Err(AllocError);
     };
@@ -130,7 +105,7 @@ pub fn calls_beside<L: Round, R: Print + Wait>(
     let (Some(idle), Some(seat)) = (seats.pop(), seats.pop()) else {
         return Err(AllocError);
     };
-    let mut from = Caller { alloc, shared, seat };
+    let mut from = Caller::new(alloc, shared, seat);
     fill(rt, &mut from)?;
     let quarantined = name_of(alloc, b"H")?;
     make_calls(rt, alloc);
@@ -141,6 +116,8 @@ pub fn calls_beside<L: Round, R: Print + Wait>(
         print_right(rt, "end: the room of a seat is", false);
         return Ok(());
     }
-    compare(rt, &book, shared, seats, idle);
+    if finish(rt, &book, shared, seats, idle).is_err() {
+        print_right(rt, "end: SharedBook::finish", false);
+    }
     Ok(())
 }

@@ -25,7 +25,8 @@ pub fn make_all(rt: &impl Print, alloc: Global, book: &Book) -> Result<(), Alloc
     let totals = twice!(rt, "all_totals", all_totals(alloc, book.cells(), &[]))?;
     print_number(rt, "all_totals", totals.len() as u64);
     let report = twice!(rt, "put_report", report(alloc, book))?;
-    print_bytes(rt, alloc, "put_report", report)?;
+    print_bytes(rt, "put_report", report.as_slice());
     let past = twice!(rt, "put_past", past(alloc, book))?;
-    print_bytes(rt, alloc, "put_past", past)
+    print_bytes(rt, "put_past", past.as_slice());
+    Ok(())
 }

@@ -1,7 +1,5 @@
 //! Calls that make a value of what they are lent: identities, events, texts and messages. Each is
 //! made on values of its own, so that what it leaves is what it answers.
-ghost use Rattle.std.specs.Prelude.{◌≡◌};
-
 use crate::bodies::{CHUNKED, LATER, MIXED, NO_JSON, NO_REQUEST, SUMS, WAIT};
 use crate::lines::{no_memory, print_text};
 use crate::making::{batch_of, first_point, name_of, own_series, points_of, text, text_of};
@@ -12,59 +10,66 @@ use http_edge::{Decoder, HttpFault, read_message, read_response};
 use otlp_read::{IdentityCache, ReadFault, Reading, read_request, read_request_with};
 use out_texts::{put_number, put_row, put_series_name, status_text, success_text, turn_text};
 use series_cell::cell::Cell;
-use series_id::{AttrFault, AttrSet, AttrValue, Scalar, Text};
+use series_id::{AttrFault, AttrSet, AttrValue, Scalar};
 use std::alloc::{AllocError, Global};
 
 /// Makes a call, and prints what it answers.
-fn answer<F: Fn(Global) -> Result<String, AllocError>>(
-    rt: &impl Print,
-    alloc: Global,
-    call: &str,
-    made: F,
-) -> Result<(), AllocError>
+fn answer<F>(rt: &impl Print, call: &str, made: F) -> Result<(), AllocError>
+where
+    F: Fn() -> Result<String, AllocError>,
     requires { F.IsAlwaysCallable made }
 {
-    let words = twice!(rt, call, made(alloc))?;
+    let words = twice!(rt, call, made())?;
     print_text(rt, call, words.as_str());
     Ok(())
 }
 
 /// Makes a call, and prints whether it makes the value that is wanted.
-fn same<F: Fn(Global) -> Result<bool, AllocError>>(
-    rt: &impl Print,
-    alloc: Global,
-    call: &str,
-    made: F,
-) -> Result<(), AllocError>
+fn same<F>(rt: &impl Print, call: &str, made: F) -> Result<(), AllocError>
+where
+    F: Fn() -> Result<bool, AllocError>,
     requires { F.IsAlwaysCallable made }
 {
-    let is_same = twice!(rt, call, made(alloc))?;
+    let is_same = twice!(rt, call, made())?;
     print_text(rt, call, if is_same { "same" } else { "other" });
     Ok(())
 }
 
-/// Whether the copy of a value is the same.
+/// Makes these calls in turn.
+macro_rules! calls {
+    ($answer:ident, $rt:expr; $($call:literal => $made:expr,)*) => {{
+        $($answer($rt, $call, || $made)?;)*
+    }};
+}
+
+/// Whether the copy of a value is the same, or that of what these calls lend of it.
 macro_rules! copied {
-    ($alloc:expr, $value:expr) => {{
-        let value = $value;
+    ($alloc:expr, $whole:expr $(, $part:ident)*) => {{
+        let whole = $whole;
+        let value = (&whole)$(.$part())*;
         let copy = value.copy($alloc)?;
-        Ok(copy.is_same(&value))
+        Ok(copy.is_same(value))
+    }};
+}
+
+/// The text that a call puts behind an empty one.
+macro_rules! put {
+    ($alloc:expr, $call:ident, $value:expr) => {{
+        let mut out = Vec::new($alloc);
+        $call(&mut out, $value)?;
+        text_of($alloc, out)
     }};
 }
 
 /// Two attributes, of which the second comes first.
-fn pairs(alloc: Global) -> Result<Vec<(Text, AttrValue)>, AllocError> {
+fn set_of_pairs(alloc: Global) -> Result<bool, AllocError> {
     let mut pairs = Vec::new(alloc);
     pairs.push((text(alloc, "b")?, AttrValue::One(Scalar::Int(1))))?;
     pairs.push((text(alloc, "a")?, AttrValue::One(Scalar::Truth(true))))?;
-    Ok(pairs)
-}
-
-fn set_of_pairs(alloc: Global) -> Result<String, AllocError> {
-    match AttrSet::from_pairs(alloc, pairs(alloc)?) {
-        Ok(set) => format!(in alloc; "{} attributes", set.pairs().len()),
+    match AttrSet::from_pairs(alloc, pairs) {
+        Ok(set) => Ok(set.pairs().len() == 2),
         Err(AttrFault::NoMemory) => Err(AllocError),
-        Err(_) => String::from_str(alloc, "another fault"),
+        Err(_) => Ok(false),
     }
 }
 
@@ -73,26 +78,9 @@ fn sender_new(alloc: Global) -> Result<bool, AllocError> {
     Ok(sender.as_bytes() == b"A".as_slice())
 }
 
-fn kind_copy(alloc: Global) -> Result<bool, AllocError> {
-    let point = first_point(alloc, MIXED)?;
-    let copy = point.series().kind().copy(alloc)?;
-    Ok(copy.is_same(point.series().kind()))
-}
-
-fn sum_point(alloc: Global) -> Result<bool, AllocError> {
-    let point = first_point(alloc, SUMS)?;
-    Ok(point.row() == [1, 1, 0].as_slice())
-}
-
-fn histogram_point(alloc: Global) -> Result<bool, AllocError> {
-    let point = first_point(alloc, LATER)?;
-    Ok(point.row() == [1, 1, 0, 1, 0, 0, 0].as_slice())
-}
-
-fn merged_copy(alloc: Global) -> Result<bool, AllocError> {
-    let point = first_point(alloc, MIXED)?;
-    let copy = point.as_merged().copy(alloc)?;
-    Ok(copy.is_same(point.as_merged()))
+fn has_row(alloc: Global, body: &[u8], row: &[u64]) -> Result<bool, AllocError> {
+    let point = first_point(alloc, body)?;
+    Ok(point.row() == row)
 }
 
 fn cell_new(alloc: Global) -> Result<bool, AllocError> {
@@ -129,25 +117,6 @@ fn readings(alloc: Global, body: &[u8]) -> Result<String, AllocError> {
         }
     }
     Ok(plain)
-}
-
-fn series_name(alloc: Global) -> Result<String, AllocError> {
-    let point = first_point(alloc, MIXED)?;
-    let mut out = Vec::new(alloc);
-    put_series_name(&mut out, point.series())?;
-    text_of(alloc, out)
-}
-
-fn row(alloc: Global) -> Result<String, AllocError> {
-    let mut out = Vec::new(alloc);
-    put_row(&mut out, &[1, 20, 18_446_744_073_709_551_615])?;
-    text_of(alloc, out)
-}
-
-fn number(alloc: Global) -> Result<String, AllocError> {
-    let mut out = Vec::new(alloc);
-    put_number(&mut out, 12_345)?;
-    text_of(alloc, out)
 }
 
 fn message(alloc: Global) -> Result<String, AllocError> {
@@ -192,66 +161,52 @@ fn decoded(alloc: Global) -> Result<String, AllocError> {
     }
 }
 
-/// What identities are made of.
-fn make_parts(rt: &impl Print, alloc: Global) -> Result<(), AllocError> {
-    same(rt, alloc, "Text::copy", parts::text_copy)?;
-    same(rt, alloc, "Scalar::copy", parts::scalar_copy)?;
-    same(rt, alloc, "Scalars::copy", parts::scalars_copy)?;
-    same(rt, alloc, "Attribute::copy", parts::attribute_copy)?;
-    same(rt, alloc, "Bounds::copy", parts::bounds_copy)?;
-    same(rt, alloc, "Row::copy", parts::row_copy)?;
-    same(rt, alloc, "row_of", parts::row_of_words)?;
-    same(rt, alloc, "SeriesList::copy", parts::series_list_copy)?;
-    answer(rt, alloc, "AttrSet::from_pairs", set_of_pairs)?;
-    same(rt, alloc, "AttrValue::copy", parts::value_copy)
-}
-
-/// Identities, events and cells.
-fn make_events(rt: &impl Print, alloc: Global) -> Result<(), AllocError> {
-    same(rt, alloc, "Kind::copy", kind_copy)?;
-    same(rt, alloc, "SeriesId::copy", |alloc| copied!(alloc, own_series(alloc)?))?;
-    same(rt, alloc, "SenderName::new", sender_new)?;
-    same(rt, alloc, "SenderName::copy", |alloc| copied!(alloc, name_of(alloc, b"A")?))?;
-    same(rt, alloc, "Point::sum", sum_point)?;
-    same(rt, alloc, "Point::histogram", histogram_point)?;
-    same(rt, alloc, "Point::copy", |alloc| copied!(alloc, first_point(alloc, MIXED)?))?;
-    same(rt, alloc, "MergedPoint::copy", merged_copy)?;
-    same(rt, alloc, "Points::copy", |alloc| copied!(alloc, points_of(alloc, MIXED)?))?;
-    same(rt, alloc, "Batch::copy", |alloc| copied!(alloc, batch_of(alloc, MIXED)?))?;
-    same(rt, alloc, "Cell::new", cell_new)
-}
-
-/// Bodies that are read.
-fn make_readings(rt: &impl Print, alloc: Global) -> Result<(), AllocError> {
-    answer(rt, alloc, "read_request", |alloc| read(alloc, MIXED))?;
-    answer(rt, alloc, "read_request of sums", |alloc| read(alloc, SUMS))?;
-    answer(rt, alloc, "read_request of no JSON", |alloc| read(alloc, NO_JSON))?;
-    answer(rt, alloc, "read_request of another shape", |alloc| read(alloc, NO_REQUEST))?;
-    answer(rt, alloc, "read_request_with", |alloc| readings(alloc, MIXED))?;
-    answer(rt, alloc, "read_request_with of sums", |alloc| readings(alloc, SUMS))
-}
-
-/// Texts and messages.
+/// Bodies that are read, texts and messages.
 fn make_texts(rt: &impl Print, alloc: Global) -> Result<(), AllocError> {
-    answer(rt, alloc, "status_text", |alloc| {
-        text_of(alloc, status_text(alloc, "a \"message\"")?)
-    })?;
-    answer(rt, alloc, "success_text", |alloc| text_of(alloc, success_text(alloc, 3)?))?;
-    answer(rt, alloc, "turn_text", |alloc| {
-        text_of(alloc, turn_text(alloc, 1, 2, Act::GiveBack, Some(7))?)
-    })?;
-    answer(rt, alloc, "put_series_name", series_name)?;
-    answer(rt, alloc, "put_row", row)?;
-    answer(rt, alloc, "put_number", number)?;
-    answer(rt, alloc, "read_message", message)?;
-    answer(rt, alloc, "read_response", response)?;
-    answer(rt, alloc, "Decoder::feed", decoded)
+    calls!(answer, rt;
+        "read_request" => read(alloc, MIXED),
+        "read_request of sums" => read(alloc, SUMS),
+        "read_request of no JSON" => read(alloc, NO_JSON),
+        "read_request of another shape" => read(alloc, NO_REQUEST),
+        "read_request_with" => readings(alloc, MIXED),
+        "read_request_with of sums" => readings(alloc, SUMS),
+        "status_text" => text_of(alloc, status_text(alloc, "a \"message\"")?),
+        "success_text" => text_of(alloc, success_text(alloc, 3)?),
+        "turn_text" => text_of(alloc, turn_text(alloc, 1, 2, Act::GiveBack, Some(7))?),
+        "put_series_name" => put!(alloc, put_series_name, first_point(alloc, MIXED)?.series()),
+        "put_row" => put!(alloc, put_row, &[1, 20, 18_446_744_073_709_551_615]),
+        "put_number" => put!(alloc, put_number, 12_345),
+        "read_message" => message(alloc),
+        "read_response" => response(alloc),
+        "Decoder::feed" => decoded(alloc),
+    );
+    Ok(())
 }
 
-/// All calls.
+/// All calls: first those that make identities, events and cells.
 pub fn make_all(rt: &impl Print, alloc: Global) -> Result<(), AllocError> {
-    make_parts(rt, alloc)?;
-    make_events(rt, alloc)?;
-    make_readings(rt, alloc)?;
+    calls!(same, rt;
+        "Text::copy" => parts::text_copy(alloc),
+        "Scalar::copy" => parts::scalar_copy(alloc),
+        "Scalars::copy" => parts::scalars_copy(alloc),
+        "Attribute::copy" => parts::attribute_copy(alloc),
+        "Bounds::copy" => parts::bounds_copy(alloc),
+        "Row::copy" => parts::row_copy(alloc),
+        "row_of" => parts::row_of_words(alloc),
+        "SeriesList::copy" => parts::series_list_copy(alloc),
+        "AttrSet::from_pairs" => set_of_pairs(alloc),
+        "AttrValue::copy" => parts::value_copy(alloc),
+        "Kind::copy" => copied!(alloc, first_point(alloc, MIXED)?, series, kind),
+        "SeriesId::copy" => copied!(alloc, own_series(alloc)?),
+        "SenderName::new" => sender_new(alloc),
+        "SenderName::copy" => copied!(alloc, name_of(alloc, b"A")?),
+        "Point::sum" => has_row(alloc, SUMS, &[1, 1, 0]),
+        "Point::histogram" => has_row(alloc, LATER, &[1, 1, 0, 1, 0, 0, 0]),
+        "Point::copy" => copied!(alloc, first_point(alloc, MIXED)?),
+        "MergedPoint::copy" => copied!(alloc, first_point(alloc, MIXED)?, as_merged),
+        "Points::copy" => copied!(alloc, points_of(alloc, MIXED)?),
+        "Batch::copy" => copied!(alloc, batch_of(alloc, MIXED)?),
+        "Cell::new" => cell_new(alloc),
+    );
     make_texts(rt, alloc)
 }
