@@ -4,9 +4,8 @@
 //! allocation fail in turn.
 #![tactic(auto)]
 
-/// What a call returns, which is made again where it is out of memory. Each time a line says so, and
-/// where something is not as before. What it returns is passed on, and where there are two faults of
-/// no memory, or another fault, that it is out of memory.
+/// What a call returns. Where it is out of memory it is made again, and a line says so, and whether
+/// something is not as before. Out of memory is what a second refusal gives, and any other fault.
 macro_rules! twice {
     ($rt:expr, $name:expr, $call:expr) => { twice!($rt, $name, $call, _ => true) };
     ($rt:expr, $name:expr, $call:expr, $fault:pat => $unchanged:expr $(, $other:pat)?) => {
