@@ -11,4 +11,4 @@ new-requires c =
 
 pub returns : goal.returns
 returns c = λ qs h.
-    ap Some (c.new-2.ensures ∙ c.new.ensures) ∙ sym (home_some c.args.cell.now qs c.in-Some.span c.in_ok-row.row c.in_ok-series.series h (sym c.in-Some.ensures) (c.in_ok-row.ensures ∙ c.stored.ensures) (c.in_ok-series.ensures ∙ c.shared_id.ensures))
+    ap Some c.new.ensures ∙ sym (home_some c.args.cell.now qs c.in-Some.span c.in_ok-row.row c.in_ok-series.series h (sym c.in-Some.ensures) (c.in_ok-row.ensures ∙ c.stored.ensures) (c.in_ok-series.ensures ∙ c.shared_id.ensures))
