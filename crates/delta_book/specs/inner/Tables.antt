@@ -5,7 +5,7 @@ use Rattle.std.specs.declared.option.Option.{Option}
 use Rattle.std.specs.List.{list_all, list_any}
 use Rattle.series_id.specs.Identity.{Identity}
 use Rattle.metric_events.specs.DataPoint.{DataPoint}
-use Rattle.metric_events.specs.Points.{points, admitted, is_among}
+use Rattle.metric_events.specs.Points.{admitted, is_among}
 use Rattle.metric_events.specs.Series.{is_of, of_series, is_ascending}
 use Rattle.metric_events.specs.Choice.{is_cargo}
 use Rattle.metric_events.specs.declared.accepted.Accepted.{Accepted}
