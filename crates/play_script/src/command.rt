@@ -1,6 +1,6 @@
 //! What a line of a script asks for.
 
-ghost use Rattle.std.specs.Prelude.{◌≡◌, ◌≤◌, ◌∷◌, true, option_copied, IfSome, IfOk, OnErr};
+ghost use Rattle.std.specs.Prelude.{◌≡◌, ◌≤◌, ◌∷◌, Some, true, option_copied, IfSome, IfOk, OnErr};
 ghost use Rattle.std.specs.Str.{bytes_eq};
 ghost use Rattle.play_script.specs.Commands as spec;
 ghost use Rattle.play_script.specs.Pieces.{words};
@@ -151,35 +151,15 @@ fn answer(rest: Option<&[u8]>) -> Option<Command<'_>>
     Some(Command::Answered { flush, answer })
 }
 
-/// `report`, without further words.
-fn report(rest: Option<&[u8]>) -> Option<Command<'_>>
-    ensures asks { asked_by result ≡ spec.nothing_more spec.ReportLine (rest_words rest.entry) }
+/// A command that has no further words.
+fn alone<'a>(command: Command<'a>, rest: Option<&[u8]>) -> Option<Command<'a>>
+    requires { IsReady (Some command.entry) }
+    ensures asks { asked_by result ≡ spec.nothing_more (asked_by (Some command.entry))
+        (rest_words rest.entry) }
     ensures ready { IsReady result }
 {
     match rest {
-        None => Some(Command::Report),
-        Some(_) => None,
-    }
-}
-
-/// `round`, without further words.
-fn round(rest: Option<&[u8]>) -> Option<Command<'_>>
-    ensures asks { asked_by result ≡ spec.nothing_more spec.RoundLine (rest_words rest.entry) }
-    ensures ready { IsReady result }
-{
-    match rest {
-        None => Some(Command::Round),
-        Some(_) => None,
-    }
-}
-
-/// `past`, without further words.
-fn past(rest: Option<&[u8]>) -> Option<Command<'_>>
-    ensures asks { asked_by result ≡ spec.nothing_more spec.PastLine (rest_words rest.entry) }
-    ensures ready { IsReady result }
-{
-    match rest {
-        None => Some(Command::Past),
+        None => Some(command),
         Some(_) => None,
     }
 }
@@ -218,13 +198,13 @@ fn other_command<'a>(word: &[u8], rest: Option<&'a [u8]>) -> Option<Command<'a>>
         return Some(Command::Lift(only_name(rest)?));
     }
     if is(word, b"report") {
-        return report(rest);
+        return alone(Command::Report, rest);
     }
     if is(word, b"round") {
-        return round(rest);
+        return alone(Command::Round, rest);
     }
     if is(word, b"past") {
-        return past(rest);
+        return alone(Command::Past, rest);
     }
     None
 }

@@ -1,5 +1,0 @@
-use Rattle.play_script.proofs.Wording.{nothing_more}
-use Rattle.play_script.proofs.command.past.Goals as goal
-
-pub returns-in-Some-clause-asks : goal.returns-in-Some-clause-asks
-returns-in-Some-clause-asks c = rw c.in-Some.is (nothing_more _ c.in-Some.field-0.now)
