@@ -20,7 +20,6 @@ mod status;
 mod success;
 mod sum_points;
 mod turn;
-mod wide_words;
 mod words;
 
 pub use past::{past_text, put_past};

@@ -6,7 +6,7 @@ ghost use Rattle.out_texts.specs.Past as spec;
 ghost use Rattle.out_texts.specs.Rows.{labeled_row};
 
 use crate::series_name::{put_kind, put_series_name};
-use crate::wide_words::put_wide_row;
+use crate::words::put_joined;
 use delta_book::totals::PastTotals;
 use std::alloc::{AllocError, Global};
 
@@ -22,12 +22,12 @@ fn put_head(out: &mut Vec<u8>, past: &PastTotals) -> Result<(), AllocError>
 }
 
 /// Appends a label and the words of a row.
-#[tactic(auto, unfolding(crate::specs::Rows::labeled_row))]
+#[tactic(auto, unfolding(crate::specs::Rows::labeled_row, crate::specs::Rows::row_text))]
 fn put_labeled_row(out: &mut Vec<u8>, label: &[u8], row: &[u128]) -> Result<(), AllocError>
     ensures { OnOk result (out.new.items ≡ out.old.items ++ labeled_row label.now row.now) }
 {
     out.extend_from_slice(label)?;
-    put_wide_row(out, row)
+    put_joined(out, b',', row)
 }
 
 /// Appends what was acknowledged and what was dropped.

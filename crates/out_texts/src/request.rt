@@ -1,8 +1,10 @@
 //! Builds and writes the request that forwards the points of a flush.
 
-ghost use Rattle.std.specs.Prelude.{◌≡◌, map, true, IfOk};
+ghost use Rattle.std.specs.Prelude.{◌≡◌, List, map, true, IfOk};
+ghost use Rattle.serde_json.specs.Data.{Data};
 ghost use Rattle.serde_json.specs.View.{view, items_view, items_of};
-ghost use Rattle.out_texts.specs.declared.level.Level.TheVariants as level;
+ghost use Rattle.series_id.specs.Identity.{Identity};
+ghost use Rattle.metric_events.specs.DataPoint.{DataPoint};
 ghost use Rattle.metric_events.specs.Series.{is_ascending};
 ghost use Rattle.out_texts.specs.Back.{ReadsBack};
 ghost use Rattle.out_texts.specs.Groups.{groups, members};
@@ -21,115 +23,98 @@ use serde_json::{Value, json};
 use series_id::{Kind, SeriesId};
 use std::alloc::{AllocError, Global};
 
-/// The metric of a series, with these points.
-#[tactic(auto, unfolding(crate::specs::Request::metric_value))]
-fn metric_value(
+/// How an element of a level is built.
+trait Element {
+    /// The element of a series, with these points.
+    ghost element_of: { Identity → List DataPoint → Data };
+
+    /// Builds the element of a series, with these points.
+    fn build(alloc: Global, series: &SeriesId, points: &[FlushPoint]) -> Result<Value, AllocError>
+        ensures { IfOk result (λ v. view v ≡ element_of series.now points.now) };
+}
+
+/// The elements of these points at a level. Neighbours of one element share it.
+fn elements<E: Element>(
     alloc: Global,
-    series: &SeriesId,
+    level: Level,
     points: &[FlushPoint],
-) -> Result<Value, AllocError>
-    ensures { IfOk result (λ v. view v ≡ spec.metric_value series.now points.now) }
+) -> Result<Vec<Value>, AllocError>
+    ensures { IfOk result (λ vs. items_view vs.items ≡ items_of
+        (map (λ g. E.element_of g.0.series (members g)) (groups (same level) points.now))) }
 {
-    let values = point_values(alloc, points)?;
-    let metric = Object::new(alloc)
-        .text("name", series.name().as_str())
-        .text("unit", series.unit().as_str());
-    let data = Object::new(alloc)
-        .value("aggregationTemporality", Value::from(1u64))
-        .value("dataPoints", Value::from(values));
-    match series.kind() {
-        Kind::Sum { monotonic } => {
-            let data = data.value("isMonotonic", Value::from(*monotonic));
-            metric.object("sum", data).finish()
+    let mut values = Vec::new(alloc);
+    let mut left = points;
+    while let [first, others @ ..] = left {
+        let (_, after) = others.split_at(run(level, first, others));
+        let (group, _) = left.split_at(left.len() - after.len());
+        values.push(E::build(alloc, first.series(), group)?)?;
+        left = after;
+    }
+    Ok(values)
+}
+
+/// A metric, with its points.
+struct Metric;
+
+impl Element for Metric {
+    ghost element_of = { spec.metric_value };
+
+    #[tactic(auto, unfolding(crate::specs::Request::metric_value))]
+    fn build(alloc: Global, series: &SeriesId, points: &[FlushPoint]) -> Result<Value, AllocError> {
+        let values = point_values(alloc, points)?;
+        let metric = Object::new(alloc)
+            .text("name", series.name().as_str())
+            .text("unit", series.unit().as_str());
+        let data = Object::new(alloc)
+            .value("aggregationTemporality", Value::from(1u64))
+            .value("dataPoints", Value::from(values));
+        match series.kind() {
+            Kind::Sum { monotonic } => {
+                let data = data.value("isMonotonic", Value::from(*monotonic));
+                metric.object("sum", data).finish()
+            }
+            Kind::Histogram { .. } => metric.object("histogram", data).finish(),
         }
-        Kind::Histogram { .. } => metric.object("histogram", data).finish(),
     }
 }
 
-/// The metrics of these points. Neighbours of one metric share it.
-fn metric_values(alloc: Global, points: &[FlushPoint]) -> Result<Vec<Value>, AllocError>
-    ensures { IfOk result (λ vs. items_view vs.items ≡ items_of
-        (map (λ g. spec.metric_value g.0.series (members g))
-        (groups (same level.Metric) points.now))) }
-{
-    let mut values = Vec::new(alloc);
-    let mut left = points;
-    while let [first, others @ ..] = left {
-        let (_, after) = others.split_at(run(Level::Metric, first, others));
-        let (group, _) = left.split_at(left.len() - after.len());
-        values.push(metric_value(alloc, first.series(), group)?)?;
-        left = after;
+/// A scope, with the metrics of its points.
+struct Scope;
+
+impl Element for Scope {
+    ghost element_of = { spec.scope_value };
+
+    #[tactic(auto, unfolding(crate::specs::Request::scope_value))]
+    fn build(alloc: Global, series: &SeriesId, points: &[FlushPoint]) -> Result<Value, AllocError> {
+        let metrics = elements::<Metric>(alloc, Level::Metric, points)?;
+        let attributes = attributes_value(alloc, series.scope_attrs())?;
+        let scope = Object::new(alloc)
+            .value("attributes", attributes)
+            .text("name", series.scope_name().as_str())
+            .text("version", series.scope_version().as_str());
+        Object::new(alloc)
+            .value("metrics", Value::from(metrics))
+            .object("scope", scope)
+            .finish()
     }
-    Ok(values)
 }
 
-/// The scope of a series, with the metrics of these points.
-#[tactic(auto, unfolding(crate::specs::Request::scope_value))]
-fn scope_value(alloc: Global, series: &SeriesId, points: &[FlushPoint]) -> Result<Value, AllocError>
-    ensures { IfOk result (λ v. view v ≡ spec.scope_value series.now points.now) }
-{
-    let metrics = metric_values(alloc, points)?;
-    let attributes = attributes_value(alloc, series.scope_attrs())?;
-    let scope = Object::new(alloc)
-        .value("attributes", attributes)
-        .text("name", series.scope_name().as_str())
-        .text("version", series.scope_version().as_str());
-    Object::new(alloc)
-        .value("metrics", Value::from(metrics))
-        .object("scope", scope)
-        .finish()
-}
+/// A resource, with the scopes of its points.
+struct Resource;
 
-/// The scopes of these points. Neighbours of one scope share it.
-fn scope_values(alloc: Global, points: &[FlushPoint]) -> Result<Vec<Value>, AllocError>
-    ensures { IfOk result (λ vs. items_view vs.items ≡ items_of
-        (map (λ g. spec.scope_value g.0.series (members g)) (groups
-        (same level.Scope) points.now))) }
-{
-    let mut values = Vec::new(alloc);
-    let mut left = points;
-    while let [first, others @ ..] = left {
-        let (_, after) = others.split_at(run(Level::Scope, first, others));
-        let (group, _) = left.split_at(left.len() - after.len());
-        values.push(scope_value(alloc, first.series(), group)?)?;
-        left = after;
+impl Element for Resource {
+    ghost element_of = { spec.resource_value };
+
+    #[tactic(auto, unfolding(crate::specs::Request::resource_value))]
+    fn build(alloc: Global, series: &SeriesId, points: &[FlushPoint]) -> Result<Value, AllocError> {
+        let scopes = elements::<Scope>(alloc, Level::Scope, points)?;
+        let attributes = attributes_value(alloc, series.resource())?;
+        let resource = Object::new(alloc).value("attributes", attributes);
+        Object::new(alloc)
+            .object("resource", resource)
+            .value("scopeMetrics", Value::from(scopes))
+            .finish()
     }
-    Ok(values)
-}
-
-/// The resource of a series, with the scopes of these points.
-#[tactic(auto, unfolding(crate::specs::Request::resource_value))]
-fn resource_value(
-    alloc: Global,
-    series: &SeriesId,
-    points: &[FlushPoint],
-) -> Result<Value, AllocError>
-    ensures { IfOk result (λ v. view v ≡ spec.resource_value series.now points.now) }
-{
-    let scopes = scope_values(alloc, points)?;
-    let attributes = attributes_value(alloc, series.resource())?;
-    let resource = Object::new(alloc).value("attributes", attributes);
-    Object::new(alloc)
-        .object("resource", resource)
-        .value("scopeMetrics", Value::from(scopes))
-        .finish()
-}
-
-/// The resources of these points. Neighbours of one resource share it.
-fn resource_values(alloc: Global, points: &[FlushPoint]) -> Result<Vec<Value>, AllocError>
-    ensures { IfOk result (λ vs. items_view vs.items ≡ items_of
-        (map (λ g. spec.resource_value g.0.series (members g))
-        (groups (same level.Resource) points.now))) }
-{
-    let mut values = Vec::new(alloc);
-    let mut left = points;
-    while let [first, others @ ..] = left {
-        let (_, after) = others.split_at(run(Level::Resource, first, others));
-        let (group, _) = left.split_at(left.len() - after.len());
-        values.push(resource_value(alloc, first.series(), group)?)?;
-        left = after;
-    }
-    Ok(values)
 }
 
 /// The request with these points.
@@ -137,7 +122,7 @@ fn resource_values(alloc: Global, points: &[FlushPoint]) -> Result<Vec<Value>, A
 fn request_value(alloc: Global, points: &[FlushPoint]) -> Result<Value, AllocError>
     ensures { IfOk result (λ v. view v ≡ spec.request_value points.now) }
 {
-    let resources = resource_values(alloc, points)?;
+    let resources = elements::<Resource>(alloc, Level::Resource, points)?;
     json!(in alloc; {"resourceMetrics": resources})
 }
 

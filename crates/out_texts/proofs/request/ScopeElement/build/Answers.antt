@@ -1,5 +1,5 @@
 use Rattle.out_texts.specs.Request.{scope_value}
-use Rattle.out_texts.proofs.request.scope_value.Goals as goal
+use Rattle.out_texts.proofs.request.ScopeElement.build.Goals as goal
 
 pub returns : goal.returns
 unfolding scope_value

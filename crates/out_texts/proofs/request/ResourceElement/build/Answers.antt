@@ -1,5 +1,5 @@
 use Rattle.out_texts.specs.Request.{resource_value}
-use Rattle.out_texts.proofs.request.resource_value.Goals as goal
+use Rattle.out_texts.proofs.request.ResourceElement.build.Goals as goal
 
 pub returns : goal.returns
 unfolding resource_value

@@ -1,5 +1,5 @@
 use Rattle.out_texts.specs.Request.{metric_value}
-use Rattle.out_texts.proofs.request.metric_value.Goals as goal
+use Rattle.out_texts.proofs.request.MetricElement.build.Goals as goal
 
 pub returns-in-Sum : goal.returns-in-Sum
 unfolding metric_value
