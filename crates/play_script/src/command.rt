@@ -153,7 +153,7 @@ fn answer(rest: Option<&[u8]>) -> Option<Command<'_>>
 
 /// A command that has no further words.
 fn alone<'a>(command: Command<'a>, rest: Option<&[u8]>) -> Option<Command<'a>>
-    requires { IsReady (Some command.entry) }
+    requires { IsReady (Some command) }
     ensures asks { asked_by result ≡ spec.nothing_more (asked_by (Some command.entry))
         (rest_words rest.entry) }
     ensures ready { IsReady result }

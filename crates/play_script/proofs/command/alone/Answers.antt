@@ -1,5 +1,5 @@
 use Rattle.play_script.proofs.Wording.{nothing_more}
 use Rattle.play_script.proofs.command.alone.Goals as goal
 
-pub returns-in-Some-clause-asks : goal.returns-in-Some-clause-asks
-returns-in-Some-clause-asks c = rw c.in-Some.is (nothing_more _ c.in-Some.field-0.now)
+pub returns-clause-asks : goal.returns-clause-asks
+returns-clause-asks c = rw c.in-Some.is (nothing_more _ c.in-Some.field-0.now)
