@@ -9,7 +9,7 @@ FILE is bin/gateway, as `make build` makes it, where none is named. With no opti
 points a request and histograms of 20 (11 buckets each), over 800 series, with 8 senders and 2 receivers, beside `plain` and
 with the C library's allocator; else each of the points with each of the kinds, series and so on that are named.
 
-The plain programs are of bench/plain, whose src/lib.rs says what they are: plain, plain-answers, plain-fast. None proves or
+The plain programs are of bench/plain, whose src/lib.rs says what they are: plain, plain-tree, plain-answers, plain-fast. None proves or
 undoes anything, or keeps a journal. What can't be built is left out, and a line says so.
 
 An allocator is given to all programs of a row alike: libc; tuned, which is libc with GLIBC_TUNABLES' tcache_count and

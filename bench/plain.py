@@ -9,7 +9,7 @@ SOURCE = f"{ROOT}/bench/plain"
 BUILT = f"{ROOT}/out/plain"
 PACKAGES = [f"librust-{crate}-dev" for crate in ("serde-json", "serde-derive", "httparse", "ahash-0.7", "hashbrown")]
 # Each with the profile that it is built by.
-PROGRAMS = {"plain": "release", "plain-answers": "release", "plain-fast": "fast"}
+PROGRAMS = {"plain": "release", "plain-tree": "release", "plain-answers": "release", "plain-fast": "fast"}
 
 
 def build(name):
