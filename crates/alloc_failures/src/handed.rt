@@ -18,7 +18,6 @@ pub fn make_all(rt: &impl Print, alloc: Global) -> Result<(), AllocError> {
     twice!(rt, "the value", push(rt, alloc))?;
     twice!(rt, "the value", reserve_points(rt, alloc))?;
     twice!(rt, "the value", put(rt, alloc))?;
-    twice!(rt, "the value", put_span(rt, alloc))?;
     twice!(rt, "the value", reserve(rt, alloc))
 }
 
@@ -69,38 +68,26 @@ fn cell_of(alloc: Global, point: &Point) -> Result<Cell, AllocError> {
     Cell::new(alloc, name_of(alloc, b"A")?, point.series().copy(alloc)?)
 }
 
+/// Asks for room and puts a point there, where it may be put.
+fn ask_and_put(cell: &mut Cell, point: &Point) -> Result<(), AllocError> {
+    cell.ask()?;
+    if cell.id().is_same(point.series())
+        && cell.frontier() <= point.span().start()
+        && cell.accepted().len() == point.row().len()
+        && fits(cell.accepted(), point.row(), 18_446_744_073_709_551_615)
+    {
+        cell.put(point, 1);
+    }
+    Ok(())
+}
+
 /// A cell without memory for a point is as before.
 fn put(rt: &impl Print, alloc: Global) -> Result<(), AllocError> {
     let point = first_point(alloc, MIXED)?;
     let mut cell = cell_of(alloc, &point)?;
-    twice!(rt, "Cell::put", {
-        if !cell.id().is_same(point.series())
-            || cell.frontier() > point.span().start()
-            || cell.accepted().len() != point.row().len()
-            || !fits(cell.accepted(), point.row(), 18_446_744_073_709_551_615)
-        {
-            print_right(rt, "Cell::put", false);
-            return Ok(());
-        }
-        cell.put(&point, 1)
-    }, _ => is_zero(cell.accepted()) && cell.frontier() == 0)?;
-    print_right(rt, "Cell::put", cell.accepted() == point.row());
-    Ok(())
-}
-
-/// A cell without memory for the span of a point is as before.
-fn put_span(rt: &impl Print, alloc: Global) -> Result<(), AllocError> {
-    let point = first_point(alloc, MIXED)?;
-    let mut cell = cell_of(alloc, &point)?;
-    twice!(rt, "Cell::put_span", {
-        if !cell.id().is_same(point.series()) || cell.frontier() > point.span().start() {
-            print_right(rt, "Cell::put_span", false);
-            return Ok(());
-        }
-        cell.put_span(&point, 1)
-    }, _ => cell.frontier() == 0)?;
-    let is_there = cell.frontier() == point.span().end();
-    print_right(rt, "Cell::put_span", is_there && is_zero(cell.accepted()));
+    twice!(rt, "Cell::ask", ask_and_put(&mut cell, &point), _ =>
+        is_zero(cell.accepted()) && cell.frontier() == 0)?;
+    print_right(rt, "Cell::ask", cell.accepted() == point.row());
     Ok(())
 }
 

@@ -13,7 +13,11 @@ use Rattle.metric_events.proofs.SeriesOnce.{among_in_order}
 use Rattle.series_cell.specs.Cells.{CellView, AllOwn, end_of}
 use Rattle.series_cell.proofs.Reading.{frontier_is}
 use Rattle.delta_book.specs.Tables.{AreCells, id_of}
-use Rattle.delta_book.specs.inner.Tables.{IdAt}
+use Rattle.metric_events.specs.DataPoint.{DataPoint}
+use Rattle.metric_events.proofs.Senders.{same_sender-refl}
+use Rattle.delta_book.specs.inner.Rooms.{AreReady, IsListed, IsReady}
+use Rattle.delta_book.specs.inner.Tables.{HasPoint, IdAt}
+use Rattle.delta_book.proofs.Rooms.{each_at}
 use Rattle.delta_book.specs.Refusals.{has_other_writer}
 use Rattle.delta_book.proofs.Tables.{stands_at, at_id}
 use Rattle.delta_book.proofs.CellTotals.{point_at, frontier_of}
@@ -86,3 +90,23 @@ cell_of cs qs i c x h l e a =
       end = frontier_is c (of_series c.id qs) st ∙ frontier_of c.id qs;
       sum = st.accepted;
     })
+
+-- the cell of a series of which there may be no point yet
+pub record ReadyCell (c : CellView) (qs : List Accepted) (s : List ℕ) (x : Identity) : Type 0 where
+  pub writer : has_other_writer qs x s ≡ not (same_sender c.owner s)
+  pub end : end_of c ≡ frontier x qs
+  pub sum : c.accepted ≡ sum_of x qs
+
+pub ready_cell : (cs : List CellView) (qs : List Accepted) (s : List ℕ) (ps : List DataPoint) (i : ℕ) (c : CellView) (x : Identity) → AreReady cs qs s ps → i < length cs → c ≡ get_or cs i c → IdAt cs i x → ReadyCell c qs s x
+ready_cell cs qs s ps i c x h l e a =
+    let st = stands_at cs qs i c l e h.table.stand in
+    subst (ReadyCell c qs s) (at_id cs i c x a e) (record {
+      writer = both (list_any (is_of c.id) qs) refl st.own (each_at (IsReady qs s ps) cs i c l e h.each).some;
+      end = frontier_is c (of_series c.id qs) st ∙ frontier_of c.id qs;
+      sum = st.accepted;
+    })
+  where
+    both : (v : Bool) → list_any (is_of c.id) qs ≡ v → AllOwn c.owner c.id (of_series c.id qs) → HasPoint c.id qs ⊎ ((c.owner ≡ s) × IsListed c.id ps) → has_other_writer qs c.id s ≡ not (same_sender c.owner s)
+    both true m own k = writer_of c.owner c.id s qs own m
+    both false m own (inl k) = absurd (let q : true ≡ false = sym k ∙ m in cc)
+    both false m own (inr k) = no_writer c.id s qs m ∙ sym (ap not (ap (λ t. same_sender t s) k.0 ∙ same_sender-refl s))

@@ -1,5 +1,5 @@
 -- A part of each point of a batch.
-use Rattle.std.proofs.Common.{◌≡◌, ℕ, ◌+◌, ◌<◌, cond, ◌||◌, List, [], ◌∷◌, ◌++◌, map, take, get_or, length, max, refl, ap, sym, ◌∙◌}
+use Rattle.std.proofs.Common.{◌≡◌, ℕ, ◌+◌, ◌-◌, ◌<◌, arith, cond, ◌||◌, List, [], ◌∷◌, ◌++◌, map, take, get_or, length, max, refl, ap, sym, ◌∙◌}
 use Rattle.std.specs.Prelude.{if◌then◌else◌}
 use Rattle.std.specs.List.{list_any}
 use Rattle.std.proofs.lemmas.List.{map-append}
@@ -22,6 +22,14 @@ whole_parts (p ∷ ps) = ap (λ qs. p ∷ qs) (whole_parts ps)
 -- one more
 pub parts_more : (fill : Fill) (i : ℕ) (ps : List DataPoint) (p : DataPoint) → i < length ps → p ≡ get_or ps i p → parts_of fill (take (i + 1) ps) ≡ parts_of fill (take i ps) ++ part_of fill p ∷ []
 parts_more fill i ps p l e = ap (parts_of fill) (take_more ps i p l e) ∙ map-append (part_of fill) (take i ps) (p ∷ [])
+
+-- the last of those that are left
+pub last_point : (ps : List DataPoint) (k : ℕ) (p : DataPoint) → k < length ps → p ≡ get_or ps (length ps - 1 - k) p → take (length ps - k) ps ≡ take (length ps - (k + 1)) ps ++ p ∷ []
+last_point ps k p l e =
+    let j = length ps - 1 - k in
+    let here : length ps - k ≡ j + 1 = omega (arith, l) in
+    let next : length ps - (k + 1) ≡ j = omega (arith, l) in
+    ap (λ n. take n ps) here ∙ (take_more ps j p (omega (arith, l)) e ∙ ap (λ n. take n ps ++ p ∷ []) (sym next))
 
 -- series and spans stay
 

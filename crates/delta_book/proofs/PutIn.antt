@@ -1,60 +1,53 @@
 -- A point goes into the cell of its series.
-use Rattle.std.proofs.Common.{◌≡◌, ℕ, ◌<◌, ◌≤◌, Bool, true, false, cond, not, List, [], ◌∷◌, ◌++◌, map, set, get_or, length, refl, ap, sym, ◌∙◌, subst, Some, None}
+use Rattle.std.proofs.Common.{◌≡◌, ℕ, ◌+◌, ◌<◌, ◌≤◌, Bool, true, false, cond, not, List, [], ◌∷◌, ◌++◌, map, take, drop, set, get_or, length, refl, ap, sym, ◌∙◌, subst, arith, inl, inr, ◌⊎◌, Some, None}
 use Rattle.std.specs.declared.result.Result.{Result}
 use Rattle.std.specs.declared.result.Result.TheVariants.{Ok, Err}
 use Rattle.std.specs.Prelude.{OnOk, OnErr, IfErr, nat_lt}
 use Rattle.std.specs.List.{list_all, list_any}
-use Rattle.std.proofs.lemmas.Bool.{and_from, ltb-false}
-use Rattle.std.proofs.lemmas.List.{append-nil}
+use Rattle.std.proofs.lemmas.Bool.{and_parts, and_from, ltb-false, ltb-true, or_cases, or_left}
+use Rattle.std.proofs.lemmas.List.{append-nil, take_all, drop_all}
 use Rattle.std.proofs.lemmas.List.Elements.{filter-append}
 use Rattle.series_id.specs.Identity.{Identity, row_length}
+use Rattle.series_id.specs.Order.{same_series}
 use Rattle.metric_events.specs.DataPoint.{DataPoint}
 use Rattle.metric_events.specs.Points.{admitted, is_among}
 use Rattle.metric_events.specs.Rows.{add_rows, fits}
 use Rattle.metric_events.specs.Senders.{same_sender}
-use Rattle.metric_events.specs.Series.{is_of, of_series, frontier, series_in_order, is_ascending, sum_of}
+use Rattle.metric_events.specs.Series.{is_of, of_series, frontier, is_ascending, sum_of}
 use Rattle.metric_events.specs.declared.accepted.Accepted.{Accepted}
 use Rattle.metric_events.proofs.Identities.{same_of}
-use Rattle.metric_events.proofs.InOrder.{series_ascend}
-use Rattle.metric_events.proofs.SeriesOnce.{among_in_order}
-use Rattle.metric_events.proofs.Lists.{all_append, any_append_left}
+use Rattle.metric_events.proofs.InOrder.{ascending_distinct}
+use Rattle.metric_events.proofs.Lists.{all_append, any_append_left, any_append_right}
 use Rattle.metric_events.proofs.Senders.{same_sender-exact}
 use Rattle.series_cell.specs.Cells.{CellView, Stands, IsOfSame, end_of}
 use Rattle.series_cell.proofs.Sizes.{sized}
 use Rattle.delta_book.specs.Tables.{AreCells, id_of}
-use Rattle.delta_book.specs.inner.Tables.{AreSome, IsTable, IdAt}
-use Rattle.delta_book.specs.inner.Puts.{RejectsAt, RejectsPart, fault_at, fits_with, next_fault}
+use Rattle.delta_book.specs.inner.Batches.{is_point_of}
+use Rattle.delta_book.specs.inner.Parts.{part_of, parts_of}
+use Rattle.delta_book.specs.inner.Tables.{HasPoint, IsTable, IdAt}
+use Rattle.delta_book.specs.inner.Puts.{AddsPoint, RejectsAt, RejectsPart, fault_at, fits_with, next_fault}
+use Rattle.delta_book.specs.inner.Rooms.{points_of, IsListed, IsReady, AreReady, AreCellsFor, HasPart, IsSomeReadyFor, PutsFirst, RemovesPart}
 use Rattle.delta_book.specs.declared.faults.AdmitFault.TheVariants.{OtherWriter, OutOfOrder}
 use Rattle.delta_book.specs.declared.put.Rejection.{Rejection}
-use Rattle.delta_book.specs.declared.put.Rejection.TheVariants.{Fault, TooLarge, NoMemory}
+use Rattle.delta_book.specs.declared.put.Rejection.TheVariants.{Fault, TooLarge}
 use Rattle.delta_book.specs.declared.cells.Fill.{Fill}
-use Rattle.delta_book.proofs.Asked.{cell_of}
-use Rattle.delta_book.proofs.Choosing.{same_ascending}
+use Rattle.delta_book.specs.declared.cells.Fill.TheVariants.{Point, SpanOnly}
+use Rattle.delta_book.proofs.Asked.{ReadyCell, ready_cell}
 use Rattle.delta_book.proofs.Refused.{none_then}
-use Rattle.delta_book.proofs.Removing.{table_of}
-use Rattle.delta_book.proofs.Sweeping.{covered_by}
-use Rattle.delta_book.proofs.Tables.{stands_at, at_id, among_at, ids_distinct, set_ids, set_stand}
-use Rattle.delta_book.proofs.CellTotals.{has_points}
+use Rattle.delta_book.proofs.Rooms.{each_at, each_set, some_of_each, for_of}
+use Rattle.delta_book.proofs.Sweeping.{swept}
+use Rattle.delta_book.proofs.Tables.{stands_at, at_id, among_at, set_ids, set_stand}
 
--- a table whose series all have a point
-pub cells_of_table : (cs : List CellView) (qs : List Accepted) → IsTable cs qs → ((x : Identity) → is_among x (map id_of cs) ≡ true → list_any (is_of x) qs ≡ true) → AreCells cs qs
-cells_of_table cs qs h k = record {
-  ids = same_ascending (map id_of cs) (series_in_order qs) h.ascending (series_ascend qs) (record { same = λ z. both z (is_among z (map id_of cs)) (list_any (is_of z) qs) refl refl ∙ sym (among_in_order z qs) });
-  stand = h.stand;
-}
-  where
-    both : (z : Identity) (v w : Bool) → is_among z (map id_of cs) ≡ v → list_any (is_of z) qs ≡ w → is_among z (map id_of cs) ≡ list_any (is_of z) qs
-    both z true w e f = e ∙ sym (k z e)
-    both z false true e f = covered_by z (map id_of cs) qs h.covered f ∙ sym f
-    both z false false e f = e ∙ sym f
+-- the cell of a point that is to be put
+pub put_cell : (cs : List CellView) (i : ℕ) (c : CellView) (qs : List Accepted) (s : List ℕ) (p : DataPoint) (ps : List DataPoint) → i < length cs → c ≡ get_or cs i c → IdAt cs i p.series → AreReady cs qs s (p ∷ ps) → ReadyCell c qs s p.series
+put_cell cs i c qs s p ps l e a h = ready_cell cs qs s (p ∷ ps) i c p.series h l e a
 
 -- what the cell says against the point
 
-pub fault_is : (cs : List CellView) (i : ℕ) (c : CellView) (qs : List Accepted) (s : List ℕ) (n : ℕ) (p : DataPoint) → i < length cs → c ≡ get_or cs i c → IdAt cs i p.series → AreCells cs qs → fault_at c s n p ≡ next_fault qs s n p
-fault_is cs i c qs s n p l e a h =
-    let k = cell_of cs qs i c p.series h l e a in
+pub fault_is : (c : CellView) (qs : List Accepted) (s : List ℕ) (n : ℕ) (p : DataPoint) → ReadyCell c qs s p.series → fault_at c s n p ≡ next_fault qs s n p
+fault_is c qs s n p k =
     ap (λ m. cond (not (same_sender c.owner s)) (Some (OtherWriter n)) (cond (nat_lt p.span.start m) (Some (OutOfOrder n m)) None)) k.end
-    ∙ ap (λ v. cond v (Some (OtherWriter n)) (cond (nat_lt p.span.start (frontier p.series qs)) (Some (OutOfOrder n (frontier p.series qs))) None)) (sym (k.writer s))
+    ∙ ap (λ v. cond v (Some (OtherWriter n)) (cond (nat_lt p.span.start (frontier p.series qs)) (Some (OutOfOrder n (frontier p.series qs))) None)) (sym k.writer)
 
 -- it says nothing
 pub record Clear (c : CellView) (s : List ℕ) (p : DataPoint) : Type 0 where
@@ -75,8 +68,20 @@ clear c d s n p e h =
     on false e = cc
 
 -- the rows of a cell are as long as its series wants them
-pub row_long : (cs : List CellView) (i : ℕ) (c : CellView) → i < length cs → c ≡ get_or cs i c → AreSome cs → length c.accepted ≡ row_length c.id.kind
-row_long cs i c l e h = (sized c _ (stands_at cs h.0 i c l e h.1.stand)).accepted
+pub row_long : (cs : List CellView) (i : ℕ) (c : CellView) (s : List ℕ) (p : DataPoint) → i < length cs → c ≡ get_or cs i c → IsSomeReadyFor cs s p → length c.accepted ≡ row_length c.id.kind
+row_long cs i c s p l e h = (sized c _ (stands_at cs h.1.0 i c l e h.1.1.table.stand)).accepted
+
+points_first : (x : Identity) (p : DataPoint) (ps : List DataPoint) → p.series ≡ x → points_of x (p ∷ ps) ≡ 1 + points_of x ps
+points_first x p ps e = ap (λ v. cond v (1 + points_of x ps) (points_of x ps)) (same_of p.series x e)
+
+points_fewer : (x : Identity) (p : DataPoint) (ps : List DataPoint) → points_of x ps ≤ points_of x (p ∷ ps)
+points_fewer x p ps = elim (is_point_of x p) as (λ v. points_of x ps ≤ cond v (1 + points_of x ps) (points_of x ps)) [ true ↦ omega arith | false ↦ omega arith ]
+
+-- the cell has room for the point
+pub has_spare : (cs : List CellView) (i : ℕ) (c : CellView) (s : List ℕ) (p : DataPoint) → i < length cs → c ≡ get_or cs i c → IdAt cs i p.series → IsSomeReadyFor cs s p → 1 ≤ c.spare
+has_spare cs i c s p l e a h =
+    let ec : c.id ≡ p.series = at_id cs i c p.series a e in
+    omega (arith, points_first c.id p h.0 (sym ec), (each_at (IsReady h.1.0 s (p ∷ h.0)) cs i c l e h.1.1.each).room)
 
 -- the sum of the series with the point, as its cell has it
 pub fits_at : (c : CellView) (qs : List Accepted) (p : DataPoint) → c.accepted ≡ sum_of p.series qs → fits p.series.kind (add_rows c.accepted p.row) ≡ fits_with qs p
@@ -86,7 +91,6 @@ fits_at c qs p e = ap (λ r. fits p.series.kind (add_rows r p.row)) e
 pub rejects_at : (e : Rejection) (fill : Fill) (v : Bool) (qs : List Accepted) (s : List ℕ) (n : ℕ) (p : DataPoint) → v ≡ fits_with qs p → RejectsPart e fill v → RejectsAt e fill qs s n p
 rejects_at (Fault f) fill v qs s n p k h = absurd h
 rejects_at TooLarge fill v qs s n p k h = (h.0, sym k ∙ h.1)
-rejects_at NoMemory fill v qs s n p k h = tt
 
 -- afterwards
 
@@ -96,52 +100,93 @@ of_more y qs a e = filter-append (is_of y) qs (a ∷ []) ∙ rw e (append-nil (o
 pub of_own : (x : Identity) (qs : List Accepted) (a : Accepted) → is_of x a ≡ true → of_series x (qs ++ a ∷ []) ≡ of_series x qs ++ a ∷ []
 of_own x qs a e = filter-append (is_of x) qs (a ∷ []) ∙ rw e refl
 
-pub put_set : (cs : List CellView) (i : ℕ) (c d : CellView) (b : ℕ) (s : List ℕ) (qs : List Accepted) (p : DataPoint) → i < length cs → c ≡ get_or cs i c → IdAt cs i p.series → c.owner ≡ s → IsOfSame c d → ((rs : List Accepted) → Stands c rs → Stands d (rs ++ admitted b c.owner p ∷ [])) → AreCells cs qs → AreCells (set cs i d) (qs ++ admitted b s p ∷ [])
-put_set cs i c d b s qs p l e a o same k h =
+put_table : (cs : List CellView) (i : ℕ) (c d : CellView) (b : ℕ) (s : List ℕ) (qs : List Accepted) (p : DataPoint) → i < length cs → c ≡ get_or cs i c → IdAt cs i p.series → c.owner ≡ s → IsOfSame c d → AddsPoint c d b p → IsTable cs qs → IsTable (set cs i d) (qs ++ admitted b s p ∷ [])
+put_table cs i c d b s qs p l e a o same k t =
     let x = p.series in
     let q : Accepted = admitted b s p in
-    let t = table_of cs qs h in
     let ec : c.id ≡ x = at_id cs i c x a e in
     let ed : d.id ≡ x = same.id ∙ ec in
     let ids : map id_of (set cs i d) ≡ map id_of cs = set_ids cs i d x a ed in
-    let st : Stands d (of_series x qs ++ admitted b c.owner p ∷ []) = k (of_series x qs) (subst (λ y. Stands c (of_series y qs)) ec (stands_at cs qs i c l e h.stand)) in
-    cells_of_table (set cs i d) (qs ++ q ∷ []) (record {
+    let st : Stands d (of_series x qs ++ admitted b c.owner p ∷ []) = k (of_series x qs) (subst (λ y. Stands c (of_series y qs)) ec (stands_at cs qs i c l e t.stand)) in
+    record {
       ascending = ap is_ascending ids ∙ t.ascending;
-      stand = set_stand cs qs (qs ++ q ∷ []) i d x (ids_distinct cs qs h) a ed
+      stand = set_stand cs qs (qs ++ q ∷ []) i d x (ascending_distinct (map id_of cs) t.ascending) a ed
           (subst (Stands d) (sym (of_own x qs q (same_of x x refl))) (subst (λ w. Stands d (of_series x qs ++ admitted b w p ∷ [])) o st))
           (λ y n. of_more y qs q n)
-          h.stand;
+          t.stand;
       covered = subst (λ xs. list_all (λ a. is_among a.point.series xs) (qs ++ q ∷ []) ≡ true) (sym ids)
           (all_append (λ a. is_among a.point.series (map id_of cs)) qs (q ∷ []) t.covered (and_from (is_among x (map id_of cs)) true (among_at cs i x a) refl));
-    }) (λ y m. any_append_left (is_of y) qs (q ∷ []) (has_points cs qs h y (ap (is_among y) (sym ids) ∙ m)))
-
--- nothing came
-pub same_set : (cs : List CellView) (i : ℕ) (c d : CellView) (x : Identity) (qs : List Accepted) → i < length cs → c ≡ get_or cs i c → IdAt cs i x → IsOfSame c d → ((rs : List Accepted) → Stands c rs → Stands d rs) → AreCells cs qs → AreCells (set cs i d) qs
-same_set cs i c d x qs l e a same k h =
-    let ec : c.id ≡ x = at_id cs i c x a e in
-    let ed : d.id ≡ x = same.id ∙ ec in
-    record {
-      ids = set_ids cs i d x a ed ∙ h.ids;
-      stand = set_stand cs qs qs i d x (ids_distinct cs qs h) a ed (k (of_series x qs) (subst (λ y. Stands c (of_series y qs)) ec (stands_at cs qs i c l e h.stand))) (λ y n. refl) h.stand;
     }
 
--- a batch that is put may be taken out, and then all is as before
+-- the other cells are ready for what is left
+ready_left : (qs : List Accepted) (s : List ℕ) (p : DataPoint) (ps : List DataPoint) (a : Accepted) (c : CellView) → a.point.series ≡ p.series → IsReady qs s (p ∷ ps) c → IsReady (qs ++ a ∷ []) s ps c
+ready_left qs s p ps a c e h = record { room = omega (arith, points_fewer c.id p ps, h.room); some = still h.some }
+  where
+    still : HasPoint c.id qs ⊎ ((c.owner ≡ s) × IsListed c.id (p ∷ ps)) → HasPoint c.id (qs ++ a ∷ []) ⊎ ((c.owner ≡ s) × IsListed c.id ps)
+    still (inl k) = inl (any_append_left (is_of c.id) qs (a ∷ []) k)
+    still (inr k) =
+        elim (or_cases (is_point_of c.id p) (list_any (is_point_of c.id) ps) k.1) [
+          | inl m ↦ inl (any_append_right (is_of c.id) qs (a ∷ []) (or_left (is_of c.id a) false (ap (λ y. same_series y c.id) e ∙ m)))
+          | inr m ↦ inr (k.0, m)
+        ]
 
-pub with_none : (cs : List CellView) (b : ℕ) (s : List ℕ) (qs : List Accepted) (ps rs : List DataPoint) → rs ≡ ps → AreCells cs (qs ++ map (admitted b s) ps) → AreCells cs (qs ++ (map (admitted b s) rs ++ []))
-with_none cs b s qs ps rs e h = subst (λ (ys : List DataPoint). AreCells cs (qs ++ (map (admitted b s) ys ++ []))) (sym e) (subst (λ ys. AreCells cs (qs ++ ys)) (sym (append-nil (map (admitted b s) ps))) h)
+pub put_first : (cs : List CellView) (i : ℕ) (c d : CellView) (b : ℕ) (s : List ℕ) (fill : Fill) (p : DataPoint) → i < length cs → c ≡ get_or cs i c → IdAt cs i p.series → c.owner ≡ s → IsOfSame c d → c.spare ≤ d.spare + 1 → AddsPoint c d b (part_of fill p) → PutsFirst cs (set cs i d) b s fill p
+put_first cs i c d b s fill p l e a o same room k qs ps h =
+    let x = p.series in
+    let q : Accepted = admitted b s (part_of fill p) in
+    let ed : d.id ≡ x = same.id ∙ at_id cs i c x a e in
+    let ids : map id_of (set cs i d) ≡ map id_of cs = set_ids cs i d x a ed in
+    record {
+      table = put_table cs i c d b s qs (part_of fill p) l e a o same k h.table;
+      each = each_set (IsReady qs s (p ∷ ps)) (IsReady (qs ++ q ∷ []) s ps) cs i d x (ascending_distinct (map id_of cs) h.table.ascending) a
+          (λ w n r. ready_left qs s p ps q w refl r)
+          (record {
+            room = omega (arith, room, points_first d.id p ps (sym ed), ap (λ y. points_of y (p ∷ ps)) same.id, (each_at (IsReady qs s (p ∷ ps)) cs i c l e h.each).room);
+            some = inl (any_append_right (is_of d.id) qs (q ∷ []) (or_left (is_of d.id q) false (same_of x d.id (sym ed))));
+          })
+          h.each;
+      there = subst (λ xs. list_all (λ (r : DataPoint). is_among r.series xs) ps ≡ true) (sym ids) (and_parts (is_among x (map id_of cs)) (list_all (λ (r : DataPoint). is_among r.series (map id_of cs)) ps) h.there).1;
+    }
 
-pub cells_without : (cs ds : List CellView) (b : ℕ) (s : List ℕ) (qs : List Accepted) (ps rs : List DataPoint) → rs ≡ ps → ((t : List ℕ) (before after : List Accepted) → AreCells cs (before ++ (map (admitted b t) rs ++ after)) → AreCells ds (before ++ after)) → AreCells cs (qs ++ map (admitted b s) ps) → AreCells ds qs
-cells_without cs ds b s qs ps rs e k h = subst (AreCells ds) (append-nil qs) (k s qs [] (with_none cs b s qs ps rs e h))
+-- part of a batch is put and taken out again
+
+with_none : (cs : List CellView) (b : ℕ) (s : List ℕ) (qs : List Accepted) (ps rs : List DataPoint) → rs ≡ ps → IsTable cs (qs ++ map (admitted b s) ps) → IsTable cs (qs ++ (map (admitted b s) rs ++ []))
+with_none cs b s qs ps rs e h = subst (λ (ys : List DataPoint). IsTable cs (qs ++ (map (admitted b s) ys ++ []))) (sym e) (subst (λ ys. IsTable cs (qs ++ ys)) (sym (append-nil (map (admitted b s) ps))) h)
+
+pub has_part : (cs : List CellView) (b : ℕ) (s : List ℕ) (qs : List Accepted) (ps rs : List DataPoint) → rs ≡ ps → IsTable cs (qs ++ map (admitted b s) ps) → HasPart cs b rs
+has_part cs b s qs ps rs e h = (s, (qs, ([], with_none cs b s qs ps rs e h)))
+
+pub table_without : (cs ds : List CellView) (b : ℕ) (s : List ℕ) (qs : List Accepted) (ps rs : List DataPoint) → rs ≡ ps → RemovesPart cs ds b rs → IsTable cs (qs ++ map (admitted b s) ps) → IsTable ds qs
+table_without cs ds b s qs ps rs e k h = subst (IsTable ds) (append-nil qs) (k s qs [] (with_none cs b s qs ps rs e h))
+
+-- cells of the series of those that were ready for a batch
+pub kept_for : (cs ds : List CellView) (qs : List Accepted) (s : List ℕ) (ps : List DataPoint) → map id_of ds ≡ map id_of cs → IsTable ds qs → AreReady cs qs s ps → AreCellsFor ds qs ps
+kept_for cs ds qs s ps ids t h = record { table = t; some = λ x m. some_of_each cs qs s ps h.each x (ap (is_among x) (sym ids) ∙ m) }
+
+-- all of a batch is put
+
+pub ready_none : (cs : List CellView) (qs : List Accepted) (s : List ℕ) → AreReady cs qs s [] → AreCells cs qs
+ready_none cs qs s h = swept cs qs (for_of cs qs s [] h)
+
+pub all_put : (cs : List CellView) (qs : List Accepted) (b : ℕ) (s : List ℕ) (fill : Fill) (ps : List DataPoint) (n : ℕ) → length ps ≤ n → AreReady cs (qs ++ map (admitted b s) (parts_of fill (take n ps))) s (drop n ps) → AreCells cs (qs ++ map (admitted b s) (parts_of fill ps))
+all_put cs qs b s fill ps n l h =
+    ready_none cs (qs ++ map (admitted b s) (parts_of fill ps)) s
+    (subst (AreReady cs (qs ++ map (admitted b s) (parts_of fill ps)) s) (drop_all n ps l)
+    (subst (λ (xs : List DataPoint). AreReady cs (qs ++ map (admitted b s) (parts_of fill xs)) s (drop n ps)) (take_all n ps l) h))
+
+-- of the spans all are
+pub all_spans : (n m : ℕ) (P : Type 0) → (n < m → (SpanOnly ≡ Point) × P) → m ≤ n
+all_spans n m P f = both (nat_lt n m) refl
+  where
+    both : (v : Bool) → nat_lt n m ≡ v → m ≤ n
+    both true e = absurd (let q : SpanOnly ≡ Point = (f (ltb-true n m e)).0 in cc)
+    both false e = ltb-false n m e
 
 -- clauses of an answer
 
 pub then_ok : {T E : Type 0} (r : Result T E) (P Q : Type 0) → (P → Q) → OnOk r P → OnOk r Q
 then_ok (Ok x) P Q f h = f h
 then_ok (Err e) P Q f h = tt
-
-pub then_err : {T E : Type 0} (r : Result T E) (P Q : Type 0) → (P → Q) → OnErr r P → OnErr r Q
-then_err (Ok x) P Q f h = tt
-then_err (Err e) P Q f h = f h
 
 pub then_rejection : {T E : Type 0} (r : Result T E) (P Q : E → Type 0) → ((e : E) → P e → Q e) → IfErr r P → IfErr r Q
 then_rejection (Ok x) P Q f h = tt
@@ -150,3 +195,11 @@ then_rejection (Err e) P Q f h = f e h
 pub any_ok : {T E : Type 0} (r : Result T E) (P : Type 0) → P → OnOk r P
 any_ok (Ok x) P h = h
 any_ok (Err e) P h = tt
+
+pub any_err : {T E : Type 0} (r : Result T E) (P : Type 0) → P → OnErr r P
+any_err (Ok x) P h = tt
+any_err (Err e) P h = h
+
+pub both_ok : {T E : Type 0} (r : Result T E) (P Q R : Type 0) → (P → Q → R) → OnOk r P → OnOk r Q → OnOk r R
+both_ok (Ok x) P Q R f h k = f h k
+both_ok (Err e) P Q R f h k = tt

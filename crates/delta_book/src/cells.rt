@@ -2,6 +2,7 @@
 ghost use Rattle.std.specs.Prelude.{◌≡◌, ◌<◌, ◌∷◌, [], ℕ, List, map, length, true, false, ◌++◌};
 ghost use Rattle.std.specs.Prelude.{MatchOption, MatchResult, ◌≤◌, not, if◌then◌else◌};
 ghost use Rattle.std.specs.List.{list_any, list_all};
+ghost use Rattle.metric_events.specs.DataPoint.{DataPoint};
 ghost use Rattle.metric_events.specs.Points.{landed, is_among, is_flying, is_in_flight, admitted};
 ghost use Rattle.metric_events.specs.Series.{of_series, is_ascending};
 ghost use Rattle.metric_events.specs.Standing.{stands};
@@ -13,6 +14,7 @@ ghost use Rattle.delta_book.specs.Tables.{AreCells};
 ghost use Rattle.delta_book.specs.Tables.{id_of};
 ghost use Rattle.delta_book.specs.inner.Tables.{ForPoints, HasPending, IdAt, IsEntered, Removes};
 ghost use Rattle.delta_book.specs.inner.Tables.{on_series};
+ghost use Rattle.delta_book.specs.inner.Rooms.{AreOfSame, AreCellsFor, HasPart, RemovesPart};
 ghost use Rattle.delta_book.specs.inner.Parts.{part_of, parts_of};
 ghost use Rattle.delta_book.specs.inner.Puts.{IsGap};
 
@@ -188,24 +190,22 @@ fn remove_part(cell: &mut Cell, point: &Point, fill: Fill, number: u64)
     }
 }
 
-/// Removes what there is of a point, and its cell with the cell's last point.
-fn remove_one(cells: &mut Vec<Cell>, point: &Point, fill: Fill, number: u64)
-    requires { HasPending cells.old.items number (part_of fill point.now ∷ []) }
-    ensures { Removes cells.old.items cells.new.items number (part_of fill point.now ∷ []) }
+/// Removes what there is of a point. Its cell stays.
+fn remove_one(cells: &mut [Cell], point: &Point, fill: Fill, number: u64)
+    requires { HasPart cells.old number (part_of fill point.now ∷ []) }
+    ensures removed { RemovesPart cells.old cells.new number (part_of fill point.now ∷ []) }
+    ensures series { AreOfSame cells.old cells.new }
 {
     if let Some(i) = find_cell(cells, point.shared_series()) {
         remove_part(&mut cells[i], point, fill, number);
-        if cells[i].frontier() == 0 {
-            cells.remove(i);
-        }
     }
 }
 
-/// Removes this part of the points of a batch. The last one goes first: new cells that came in
-/// series order then go from the end, and move no other.
-pub fn remove_points(cells: &mut Vec<Cell>, batch: &[Point], fill: Fill, number: u64)
-    requires { HasPending cells.old.items number (parts_of fill batch.now) }
-    ensures { Removes cells.old.items cells.new.items number (parts_of fill batch.now) }
+/// Removes this part of the points of a batch. Their cells stay.
+pub fn remove_points(cells: &mut [Cell], batch: &[Point], fill: Fill, number: u64)
+    requires { HasPart cells.old number (parts_of fill batch.now) }
+    ensures removed { RemovesPart cells.old cells.new number (parts_of fill batch.now) }
+    ensures series { AreOfSame cells.old cells.new }
 {
     for k in 0..batch.len() {
         let i = batch.len() - 1 - k;
@@ -213,10 +213,38 @@ pub fn remove_points(cells: &mut Vec<Cell>, batch: &[Point], fill: Fill, number:
     }
 }
 
-/// Removes the points of a batch, each with its words.
+/// Removes the cell of a point's series where it represents no point. Where it stays, it forgets
+/// what was asked for.
+fn sweep_cell(cells: &mut Vec<Cell>, point: &Point)
+    ensures { (qs : List Accepted) (ps : List DataPoint)
+        → AreCellsFor cells.old.items qs (ps ++ point.now ∷ []) → AreCellsFor cells.new.items qs ps }
+{
+    if let Some(i) = find_cell(cells, point.shared_series()) {
+        if cells[i].frontier() == 0 {
+            cells.remove(i);
+        } else {
+            cells[i].forget();
+        }
+    }
+}
+
+/// Removes the cells of a batch's series that represent no point. The last one goes first: cells
+/// that were opened in series order then go from the end, and move no other.
+pub fn sweep_cells(cells: &mut Vec<Cell>, batch: &[Point])
+    ensures { (qs : List Accepted) → AreCellsFor cells.old.items qs batch.now
+        → AreCells cells.new.items qs }
+{
+    for k in 0..batch.len() {
+        let i = batch.len() - 1 - k;
+        sweep_cell(cells, &batch[i]);
+    }
+}
+
+/// Removes the points of a batch, each with its words, and the cells whose last points they were.
 pub fn remove_batch(cells: &mut Vec<Cell>, batch: &[Point], number: u64)
     requires { HasPending cells.old.items number batch.now }
     ensures { Removes cells.old.items cells.new.items number batch.now }
 {
     remove_points(cells, batch, Fill::Point, number);
+    sweep_cells(cells, batch);
 }

@@ -50,9 +50,31 @@ pub end_is : (c : CellView) (qs : List Accepted) → Stands c qs → end_of c �
 end_is c qs h =
     omega (arith, h.landed, rest_end c qs h, last_greatest c.owner c.id (h.away ++ h.home) (rest_own c qs h) h.ordered, ap greatest_end h.parts, greatest_end-append h.gone (h.away ++ h.home))
 
+-- whatever was asked for
+pub stands_asked : (c : CellView) (n : ℕ) (qs : List Accepted) → Stands c qs → Stands (record c { asked = n }) qs
+stands_asked c n qs h = record {
+  gone = h.gone;
+  away = h.away;
+  home = h.home;
+  parts = h.parts;
+  are_gone = h.are_gone;
+  are_away = h.are_away;
+  are_home = h.are_home;
+  own = h.own;
+  ordered = h.ordered;
+  accepted = h.accepted;
+  stored = h.stored;
+  in_flight = h.in_flight;
+  acknowledged = h.acknowledged;
+  dropped = h.dropped;
+  spans = h.spans;
+  cut = h.cut;
+  landed = h.landed;
+}
+
 -- a point put at home
-pub stands_put : (c : CellView) (p : DataPoint) (b : ℕ) (qs : List Accepted) (accepted stored : List ℕ) (spans : List BatchSpan) (spare : ℕ) → Stands c qs → IsInterval p.span → length p.row ≡ row_length p.series.kind → p.series ≡ c.id → end_of c ≤ p.span.start → accepted ≡ add_rows c.accepted p.row → stored ≡ add_rows c.stored p.row → spans ≡ c.spans ++ span_of (admitted b c.owner p) ∷ [] → Stands (record c { accepted = accepted; stored = stored; spans = spans; spare = spare }) (qs ++ admitted b c.owner p ∷ [])
-stands_put c p b qs accepted stored spans spare h interval long same late ea es em =
+pub stands_put : (c : CellView) (p : DataPoint) (b : ℕ) (qs : List Accepted) (accepted stored : List ℕ) (spans : List BatchSpan) (spare asked : ℕ) → Stands c qs → IsInterval p.span → length p.row ≡ row_length p.series.kind → p.series ≡ c.id → end_of c ≤ p.span.start → accepted ≡ add_rows c.accepted p.row → stored ≡ add_rows c.stored p.row → spans ≡ c.spans ++ span_of (admitted b c.owner p) ∷ [] → Stands (record c { accepted = accepted; stored = stored; spans = spans; spare = spare; asked = asked }) (qs ++ admitted b c.owner p ∷ [])
+stands_put c p b qs accepted stored spans spare asked h interval long same late ea es em =
     let a = admitted b c.owner p in
     record {
       gone = h.gone;
@@ -464,17 +486,17 @@ pub stands_lift_as : (c : CellView) (f : ℕ) (qs : List Accepted) (in_flight st
 stands_lift_as c f qs in_flight stored cut h none ef es e =
     subst (λ n. Stands (record c { in_flight = in_flight; stored = stored; cut = n; flush = f }) (map (lifted f) qs)) (sym e) (stands_lift c f qs in_flight stored h none ef es)
 
-pub stands_put_as : (c : CellView) (s : List ℕ) (p : DataPoint) (b : ℕ) (qs : List Accepted) (accepted stored : List ℕ) (spans : List BatchSpan) (spare : ℕ) → s ≡ c.owner → Stands c qs → IsPoint p → p.series ≡ c.id → end_of c ≤ p.span.start → accepted ≡ add_rows c.accepted p.row → stored ≡ add_rows c.stored p.row → spans ≡ c.spans ++ span_of (admitted b c.owner p) ∷ [] → Stands (record c { accepted = accepted; stored = stored; spans = spans; spare = spare }) (qs ++ admitted b s p ∷ [])
-stands_put_as c s p b qs accepted stored spans spare e h is same late ea es em =
-    subst (λ t. Stands (record c { accepted = accepted; stored = stored; spans = spans; spare = spare }) (qs ++ admitted b t p ∷ [])) (sym e) (stands_put c p b qs accepted stored spans spare h is.merged.span is.merged.long same late ea es em)
+pub stands_put_as : (c : CellView) (s : List ℕ) (p : DataPoint) (b : ℕ) (qs : List Accepted) (accepted stored : List ℕ) (spans : List BatchSpan) (spare asked : ℕ) → s ≡ c.owner → Stands c qs → IsPoint p → p.series ≡ c.id → end_of c ≤ p.span.start → accepted ≡ add_rows c.accepted p.row → stored ≡ add_rows c.stored p.row → spans ≡ c.spans ++ span_of (admitted b c.owner p) ∷ [] → Stands (record c { accepted = accepted; stored = stored; spans = spans; spare = spare; asked = asked }) (qs ++ admitted b s p ∷ [])
+stands_put_as c s p b qs accepted stored spans spare asked e h is same late ea es em =
+    subst (λ t. Stands (record c { accepted = accepted; stored = stored; spans = spans; spare = spare; asked = asked }) (qs ++ admitted b t p ∷ [])) (sym e) (stands_put c p b qs accepted stored spans spare asked h is.merged.span is.merged.long same late ea es em)
 
 -- a span put at home alone: the rows stay
-pub stands_put_span : (c : CellView) (s : List ℕ) (p : DataPoint) (b : ℕ) (qs : List Accepted) (spans : List BatchSpan) (spare : ℕ) → s ≡ c.owner → Stands c qs → IsInterval p.span → p.series ≡ c.id → end_of c ≤ p.span.start → spans ≡ c.spans ++ span_of (admitted b c.owner p) ∷ [] → Stands (record c { spans = spans; spare = spare }) (qs ++ admitted b s (bare p) ∷ [])
-stands_put_span c s p b qs spans spare e h interval same late em =
+pub stands_put_span : (c : CellView) (s : List ℕ) (p : DataPoint) (b : ℕ) (qs : List Accepted) (spans : List BatchSpan) (spare asked : ℕ) → s ≡ c.owner → Stands c qs → IsInterval p.span → p.series ≡ c.id → end_of c ≤ p.span.start → spans ≡ c.spans ++ span_of (admitted b c.owner p) ∷ [] → Stands (record c { spans = spans; spare = spare; asked = asked }) (qs ++ admitted b s (bare p) ∷ [])
+stands_put_span c s p b qs spans spare asked e h interval same late em =
     let w = sized_rows c qs h in
     let n : row_length p.series.kind ≡ row_length c.id.kind = ap (λ (x : Identity). row_length x.kind) same in
-    subst (λ t. Stands (record c { spans = spans; spare = spare }) (qs ++ admitted b t (bare p) ∷ [])) (sym e)
-    (stands_put c (bare p) b qs c.accepted c.stored spans spare h interval (length-zeros (row_length p.series.kind)) same late (unchanged c.accepted (row_length p.series.kind) (w.0 ∙ sym n)) (unchanged c.stored (row_length p.series.kind) (w.1 ∙ sym n)) em)
+    subst (λ t. Stands (record c { spans = spans; spare = spare; asked = asked }) (qs ++ admitted b t (bare p) ∷ [])) (sym e)
+    (stands_put c (bare p) b qs c.accepted c.stored spans spare asked h interval (length-zeros (row_length p.series.kind)) same late (unchanged c.accepted (row_length p.series.kind) (w.0 ∙ sym n)) (unchanged c.stored (row_length p.series.kind) (w.1 ∙ sym n)) em)
   where
     unchanged : (row : List ℕ) (n : ℕ) → length row ≡ n → row ≡ add_rows row (zeros n)
     unchanged row n l = sym (add_rows-comm row (zeros n) ∙ add_rows-zeros n row (omega (arith, l)))

@@ -81,6 +81,7 @@ impl Cell {
             cut: 0,
             flush: 0,
             landed: 0,
+            asked: 0,
         };
         Ok(Cell {
             kept: Box::new(alloc, kept)?,
@@ -91,59 +92,82 @@ impl Cell {
     pub fn reserve(&mut self, n: usize) -> Result<(), AllocError>
         ensures spare { OnOk result (n ≤ self.new.spare) }
         ensures less { self.old.spare ≤ self.new.spare }
+        ensures asked { self.new.asked ≡ self.old.asked }
         ensures same { IsOfSame self.old self.new }
+        ensures flush { self.new.flush ≡ self.old.flush }
         ensures stands { (qs : List Accepted) → Stands self.old qs → Stands self.new qs }
     {
         self.kept.spans.reserve(n)
     }
 
-    /// Adds a point of a batch, as pending. Takes memory only if no room is spare. If memory runs
-    /// out, nothing changes.
-    pub fn put(&mut self, point: &Point, batch: u64) -> Result<(), AllocError>
+    /// Asks for room for one point more: there is room for as many points as were asked for since
+    /// one was last put. Nothing else changes. Fails only if an allocation fails.
+    pub fn ask(&mut self) -> Result<(), AllocError>
+        ensures asked { OnOk result (self.new.asked ≡ self.old.asked + 1) }
+        ensures spare { OnOk result (self.new.asked ≤ self.new.spare) }
+        ensures less { self.old.spare ≤ self.new.spare }
+        ensures err { OnErr result (self.new.asked ≡ self.old.asked) }
+        ensures same { IsOfSame self.old self.new }
+        ensures flush { self.new.flush ≡ self.old.flush }
+        ensures stands { (qs : List Accepted) → Stands self.old qs → Stands self.new qs }
+    {
+        let asked = self.kept.asked.checked_add(1).ok_or(AllocError)?;
+        self.reserve(asked)?;
+        self.kept.asked = asked;
+        Ok(())
+    }
+
+    /// Forgets what was asked for. The room stays, and nothing else changes.
+    pub fn forget(&mut self)
+        ensures asked { self.new.asked ≡ 0 }
+        ensures spare { self.new.spare ≡ self.old.spare }
+        ensures same { IsOfSame self.old self.new }
+        ensures flush { self.new.flush ≡ self.old.flush }
+        ensures stands { (qs : List Accepted) → Stands self.old qs → Stands self.new qs }
+    {
+        self.kept.asked = 0;
+    }
+
+    /// Adds a point of a batch, as pending, where room is spare. Takes no memory.
+    pub fn put(&mut self, point: &Point, batch: u64)
+        requires room { 1 ≤ self.old.spare }
         requires series { point.now.series ≡ self.old.id }
         requires order { end_of self.old ≤ point.now.span.start }
         requires fits { Fits (2 ^ 64 - 1) self.old.accepted point.now.row }
-        ensures ok { OnOk result ((qs : List Accepted) → Stands self.old qs
-            → Stands self.new (qs ++ admitted batch self.old.owner point.now ∷ [])) }
+        ensures stands { (qs : List Accepted) → Stands self.old qs
+            → Stands self.new (qs ++ admitted batch self.old.owner point.now ∷ []) }
         ensures same { IsOfSame self.old self.new }
         ensures flush { self.new.flush ≡ self.old.flush }
-        ensures room { 1 ≤ self.old.spare → IsOk result }
         ensures spare { self.old.spare ≤ self.new.spare + 1 }
-        ensures err { OnErr result ((qs : List Accepted) → Stands self.old qs
-            → Stands self.new qs) }
     {
         let kept = self.kept.as_mut();
-        kept.spans.reserve(1)?;
         add_into(&mut kept.accepted, point.row());
         add_into(&mut kept.stored, point.row());
         kept.spans.push_reserved(BatchSpan {
             span: point.span(),
             batch,
         });
-        Ok(())
+        kept.asked = 0;
     }
 
-    /// Adds the span of a point of a batch, as pending, without its words: the rows stay. Takes
-    /// memory only if no room is spare. If memory runs out, nothing changes.
-    pub fn put_span(&mut self, point: &Point, batch: u64) -> Result<(), AllocError>
+    /// Adds the span of a point of a batch, as pending, without its words: the rows stay. Room is
+    /// spare, and this takes no memory.
+    pub fn put_span(&mut self, point: &Point, batch: u64)
+        requires room { 1 ≤ self.old.spare }
         requires series { point.now.series ≡ self.old.id }
         requires order { end_of self.old ≤ point.now.span.start }
-        ensures ok { OnOk result ((qs : List Accepted) → Stands self.old qs
-            → Stands self.new (qs ++ admitted batch self.old.owner (bare point.now) ∷ [])) }
+        ensures stands { (qs : List Accepted) → Stands self.old qs
+            → Stands self.new (qs ++ admitted batch self.old.owner (bare point.now) ∷ []) }
         ensures same { IsOfSame self.old self.new }
         ensures flush { self.new.flush ≡ self.old.flush }
-        ensures room { 1 ≤ self.old.spare → IsOk result }
         ensures spare { self.old.spare ≤ self.new.spare + 1 }
-        ensures err { OnErr result ((qs : List Accepted) → Stands self.old qs
-            → Stands self.new qs) }
     {
         let kept = self.kept.as_mut();
-        kept.spans.reserve(1)?;
         let span = point.span();
         // So the span is an interval.
         let _end = span.end();
         kept.spans.push_reserved(BatchSpan { span, batch });
-        Ok(())
+        kept.asked = 0;
     }
 
     /// Whether a point of the batch is pending here. If the batch has points here, and all of them

@@ -83,6 +83,8 @@ fn put(rt: &impl Abort, cell: &mut Cell, point: &Point, batch: u64)
     ensures same { IsOfSame cell.old cell.new }
     ensures flush { cell.new.flush ≡ cell.old.flush }
 {
+    let room = cell.reserve(1);
+    assert!(rt; room.is_ok(), "memory");
     assert!(rt; cell.id().is_same(point.series()), "another series");
     assert!(rt; cell.frontier() <= point.span().start(), "out of order");
     assert!(rt; cell.accepted().len() == point.row().len(), "row length");
@@ -90,8 +92,7 @@ fn put(rt: &impl Abort, cell: &mut Cell, point: &Point, batch: u64)
         fits(cell.accepted(), point.row(), 18_446_744_073_709_551_615),
         "a sum over a word"
     );
-    let put = cell.put(point, batch);
-    assert!(rt; put.is_ok(), "memory");
+    cell.put(point, batch);
 }
 
 /// Compares the five rows: accepted, stored, in flight, acknowledged, dropped.
@@ -162,10 +163,11 @@ fn bring(rt: &impl Abort, cell: &mut Cell, point: &Point, batch: u64) {
 
 /// Puts the span of a point of the cell's series, after its frontier.
 fn bring_span(rt: &impl Abort, cell: &mut Cell, point: &Point, batch: u64) {
+    let room = cell.reserve(1);
+    assert!(rt; room.is_ok(), "memory");
     assert!(rt; cell.id().is_same(point.series()), "another series");
     assert!(rt; cell.frontier() <= point.span().start(), "out of order");
-    let put = cell.put_span(point, batch);
-    assert!(rt; put.is_ok(), "memory");
+    cell.put_span(point, batch);
 }
 
 /// Takes all pending points, where nothing is in flight.

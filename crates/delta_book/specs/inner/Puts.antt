@@ -1,23 +1,24 @@
 -- A batch goes into the cells, point by point.
 use Rattle.std.specs.Prelude.{◌≡◌, ℕ, zero, suc, Bool, true, false, not, List, [], ◌∷◌, ◌++◌, map}
-use Rattle.std.specs.Prelude.{if◌then◌else◌, nat_lt, Some, None}
+use Rattle.std.specs.Prelude.{if◌then◌else◌, nat_lt, unwrap_or, Some, None}
 use Rattle.std.specs.declared.option.Option.{Option}
 use Rattle.series_id.specs.Identity.{Identity}
 use Rattle.series_id.specs.Order.{series_before}
 use Rattle.metric_events.specs.DataPoint.{DataPoint}
-use Rattle.metric_events.specs.Legal.{is_too_large}
 use Rattle.metric_events.specs.Points.{admitted}
 use Rattle.metric_events.specs.Rows.{add_rows, fits}
 use Rattle.metric_events.specs.Senders.{same_sender}
-use Rattle.metric_events.specs.Series.{frontier, sum_of}
+use Rattle.metric_events.specs.Series.{frontier, series_count, sum_of}
+use Rattle.metric_events.specs.declared.limits.TheConstants.{MAX_SERIES}
 use Rattle.metric_events.specs.declared.accepted.Accepted.{Accepted}
 use Rattle.series_cell.specs.Cells.{CellView, Stands, end_of}
-use Rattle.delta_book.specs.Refusals.{has_other_writer, batch_fault}
-use Rattle.delta_book.specs.inner.Tables.{ForPoints}
+use Rattle.delta_book.specs.Refusals.{has_other_writer, point_fault}
 use Rattle.delta_book.specs.declared.faults.AdmitFault.{AdmitFault}
 use Rattle.delta_book.specs.declared.faults.AdmitFault.TheVariants.{OtherWriter, OutOfOrder}
+use Rattle.delta_book.specs.declared.faults.AdmitFault.TheVariants.{TooManySeries}
+use Rattle.delta_book.specs.declared.faults.AdmitFault.TheVariants as sums
 use Rattle.delta_book.specs.declared.put.Rejection.{Rejection}
-use Rattle.delta_book.specs.declared.put.Rejection.TheVariants.{Fault, TooLarge, NoMemory}
+use Rattle.delta_book.specs.declared.put.Rejection.TheVariants.{Fault, TooLarge}
 use Rattle.delta_book.specs.declared.cells.Fill.{Fill}
 use Rattle.delta_book.specs.declared.cells.Fill.TheVariants.{Point}
 
@@ -45,49 +46,30 @@ next_fault qs s i p =
 abbrev pub fits_with : List Accepted → DataPoint → Bool
 fits_with qs p = fits p.series.kind (add_rows (sum_of p.series qs) p.row)
 
--- a cell has a point of a batch more, which comes last; and a cell has the same points
+-- a cell has a point of a batch more, which comes last
 abbrev pub AddsPoint : CellView → CellView → ℕ → DataPoint → Type 0
 AddsPoint old new b p =
     (qs : List Accepted) → Stands old qs → Stands new (qs ++ admitted b old.owner p ∷ [])
-
-abbrev pub KeepsPoints : CellView → CellView → Type 0
-KeepsPoints old new = (qs : List Accepted) → Stands old qs → Stands new qs
 
 -- with the point, the sum of its cell is within its limits
 abbrev pub fits_in : CellView → DataPoint → Bool
 fits_in c p = fits p.series.kind (add_rows c.accepted p.row)
 
--- where all of the point is put, the sum of its series is within its limits
-abbrev pub FitsWith : Fill → List CellView → DataPoint → Type 0
-FitsWith fill cs p = fill ≡ Point → ForPoints cs (λ qs. fits_with qs p ≡ true)
-
--- the point at position i of a batch may follow the points of the cells
-abbrev pub MayFollow : List CellView → List ℕ → ℕ → DataPoint → Type 0
-MayFollow cs s i p = ForPoints cs (λ qs. next_fault qs s i p ≡ None)
-
 -- what refuses this part of a point in its cell, with which the sum fits or not
 abbrev pub RejectsPart : Rejection → Fill → Bool → Type 0
 RejectsPart (Fault f) fill fits = ⊥
 RejectsPart TooLarge fill fits = (fill ≡ Point) × (fits ≡ false)
-RejectsPart NoMemory fill fits = Unit {0}
 
--- what refuses this part of the point at position i of a batch after these points: its fault, a sum
--- over its limits, or a failed allocation
+-- what refuses this part of the point at position i of a batch after these points: its fault, or a
+-- sum over its limits
 abbrev pub RejectsAt : Rejection → Fill → List Accepted → List ℕ → ℕ → DataPoint → Type 0
 RejectsAt (Fault f) fill qs s i p = next_fault qs s i p ≡ Some f
 RejectsAt TooLarge fill qs s i p = RejectsPart TooLarge fill (fits_with qs p)
-RejectsAt NoMemory fill qs s i p = Unit {0}
 
--- the same after the points of the cells
-abbrev pub RejectsNext : Rejection → Fill → List CellView → List ℕ → ℕ → DataPoint → Type 0
-RejectsNext e fill cs s i p = ForPoints cs (λ qs. RejectsAt e fill qs s i p)
-
--- what refuses a batch after these points: its fault, a sum over its limits, or a failed allocation
-abbrev pub Rejects : Rejection → List Accepted → List ℕ → List DataPoint → Type 0
-Rejects (Fault f) qs s ps = batch_fault qs s ps ≡ Some f
-Rejects TooLarge qs s ps = is_too_large (qs ++ map (admitted 0 s) ps) ps ≡ true
-Rejects NoMemory qs s ps = Unit {0}
-
--- the same after the points of the cells
-abbrev pub RejectsBatch : Rejection → List CellView → List ℕ → List DataPoint → Type 0
-RejectsBatch e cs s ps = ForPoints cs (λ qs. Rejects e qs s ps)
+-- what refuses a batch with a sum over its limits, whose points before position i are accepted: a
+-- point from there on, else the count of series, else the sum
+abbrev pub large_fault : ℕ → ℕ → List Accepted → List ℕ → List DataPoint → AdmitFault
+large_fault b i qs s ps =
+    unwrap_or (point_fault qs s i ps)
+    (if nat_lt MAX_SERIES (series_count (qs ++ map (admitted b s) ps)) then TooManySeries
+    else sums.TooLarge)

@@ -20,10 +20,6 @@ use Rattle.delta_book.specs.inner.Batches.{is_point_of}
 use Rattle.delta_book.specs.declared.open.JournalRef.{JournalRef}
 use Rattle.delta_book.specs.Tables.{id_of, AllStand, AreCells}
 
--- the cells of some points
-abbrev pub AreSome : List CellView → Type 0
-AreSome cs = (qs : List Accepted) × AreCells cs qs
-
 -- this holds of whatever points the cells are of
 abbrev pub ForPoints : List CellView → (List Accepted → Type 0) → Type 0
 ForPoints cs P = (qs : List Accepted) → AreCells cs qs → P qs

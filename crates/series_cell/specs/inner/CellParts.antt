@@ -19,6 +19,7 @@ view_of k = record {
   flush = k.flush;
   landed = k.landed;
   spare = vec_capacity k.spans - vec_len k.spans;
+  asked = k.asked;
 }
 
 -- each word of a row has 64 bits

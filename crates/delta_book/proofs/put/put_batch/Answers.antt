@@ -3,7 +3,7 @@ use Rattle.metric_events.specs.Points.{points}
 use Rattle.delta_book.proofs.Counting.{few_cells}
 use Rattle.delta_book.proofs.put.put_batch.Goals as goal
 
-pub refusal-requires-clause-few : goal.refusal-requires-clause-few
-refusal-requires-clause-few c =
+pub refusal_without_alloc-fault-requires-clause-few : goal.refusal_without_alloc-fault-requires-clause-few
+refusal_without_alloc-fault-requires-clause-few c =
     let r = c.requires.accepted in
-    omega (arith, ap length c.deref.ensures.value, few_cells c.put_all.new.cells.items (r.0, (r.1.0, c.in-Err.ensures.kept (points r.0) r.1.1)))
+    omega (arith, ap length c.deref.ensures.value, few_cells c.make_room.new.cells.items (r.0, (r.1.0, c.in-Err.ensures.kept (points r.0) r.1.1)))

@@ -41,8 +41,8 @@ add_into-requires-2-clause-fits c = λ k l.
     let top = c.requires.fits k (omega (arith, l, ap length c.deref_mut-2.ensures.value, s.stored, s.accepted, ap length ea)) in
     omega (arith, top, ed, er, ap (λ (r : List ℕ). slice_index r k) ea, w.stored)
 
-pub invariant_of-self-2 : goal.invariant_of-self-2
-invariant_of-self-2 c =
+pub invariant_of-self : goal.invariant_of-self
+invariant_of-self c =
     let i = c.as_mut-kept.result.now in
     let own = lent_cell c.as_mut-kept.ensures.value c.self.invariant in
     let is = lent_view c.as_mut-kept.ensures.value c.self.view_is in
@@ -53,25 +53,25 @@ invariant_of-self-2 c =
     record {
       cell = (
         own.0 ++ admitted c.args.batch i.owner c.args.point.now ∷ [],
-        stands_put_as _ i.owner c.args.point.now c.args.batch own.0 _ _ _ _ refl h c.row.ensures.made (c.requires.series ∙ sym (ap (λ (w : CellView). w.id) is))
+        stands_put_as _ i.owner c.args.point.now c.args.batch own.0 _ _ _ _ _ refl h c.row.ensures.made (c.requires.series ∙ sym (ap (λ (w : CellView). w.id) is))
             (subst (λ (w : CellView). end_of w ≤ c.args.point.now.span.start) (sym is) c.requires.order)
             added
             (added_row i.stored.items c.args.point.now.row _ _ _ i.stored.len c.deref_mut-2.ensures.value c.row-2.ensures.value (long ∙ sym s.stored) c.add_into-2.auto.dst c.add_into-2.ensures i.stored.ok.0)
-            (c.push_reserved.ensures.items ∙ (ap (λ ms. ms ++ record { span = c.span.result; batch = c.args.batch } ∷ []) c.in_ok-reserve.ensures.items ∙ ap (λ (t : Interval). i.spans.items ++ record { span = t; batch = c.args.batch } ∷ []) c.span.ensures)),
+            (c.push_reserved.ensures.items ∙ ap (λ (t : Interval). i.spans.items ++ record { span = t; batch = c.args.batch } ∷ []) c.span.ensures),
       );
       words = words_added i.accepted.items c.args.point.now.row _ (long ∙ sym s.accepted) (subst (λ (w : CellView). Fits (2 ^ 64 - 1) w.accepted c.args.point.now.row) (sym is) c.requires.fits) added;
     }
 
-pub returns-clause-ok : goal.returns-clause-ok
-returns-clause-ok c = λ qs g.
+pub returns-clause-stands : goal.returns-clause-stands
+returns-clause-stands c = λ qs g.
     let i = c.as_mut-kept.result.now in
     let is = lent_view c.as_mut-kept.ensures.value c.self.view_is in
     let long : length c.args.point.now.row ≡ row_length i.id.kind = c.row.ensures.made.merged.long ∙ ap (λ (x : Identity). row_length x.kind) (c.requires.series ∙ sym (ap (λ (w : CellView). w.id) is)) in
     let v : CellView = view_of i in
     let h : Stands v qs = subst (λ (w : CellView). Stands w qs) (sym is) g in
     let s = sized v qs h in
-    stands_put_as v c.args.self.now.owner c.args.point.now c.args.batch qs _ _ _ _ (sym (ap (λ (w : CellView). w.owner) is)) h c.row.ensures.made (c.requires.series ∙ sym (ap (λ (w : CellView). w.id) is))
+    stands_put_as v c.args.self.now.owner c.args.point.now c.args.batch qs _ _ _ _ _ (sym (ap (λ (w : CellView). w.owner) is)) h c.row.ensures.made (c.requires.series ∙ sym (ap (λ (w : CellView). w.id) is))
     (subst (λ (w : CellView). end_of w ≤ c.args.point.now.span.start) (sym is) c.requires.order)
     (added_row i.accepted.items c.args.point.now.row _ _ _ i.accepted.len c.deref_mut.ensures.value c.row.ensures.value (long ∙ sym s.accepted) c.add_into.auto.dst c.add_into.ensures i.accepted.ok.0)
     (added_row i.stored.items c.args.point.now.row _ _ _ i.stored.len c.deref_mut-2.ensures.value c.row-2.ensures.value (long ∙ sym s.stored) c.add_into-2.auto.dst c.add_into-2.ensures i.stored.ok.0)
-    (c.push_reserved.ensures.items ∙ (ap (λ ms. ms ++ record { span = c.span.result; batch = c.args.batch } ∷ []) c.in_ok-reserve.ensures.items ∙ ap (λ (t : Interval). i.spans.items ++ record { span = t; batch = c.args.batch } ∷ []) c.span.ensures))
+    (c.push_reserved.ensures.items ∙ ap (λ (t : Interval). i.spans.items ++ record { span = t; batch = c.args.batch } ∷ []) c.span.ensures)
