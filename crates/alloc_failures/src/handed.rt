@@ -18,6 +18,7 @@ pub fn make_all(rt: &impl Print, alloc: Global) -> Result<(), AllocError> {
     twice!(rt, "the value", push(rt, alloc))?;
     twice!(rt, "the value", reserve_points(rt, alloc))?;
     twice!(rt, "the value", put(rt, alloc))?;
+    twice!(rt, "the value", ask(rt, alloc))?;
     twice!(rt, "the value", reserve(rt, alloc))
 }
 
@@ -68,26 +69,30 @@ fn cell_of(alloc: Global, point: &Point) -> Result<Cell, AllocError> {
     Cell::new(alloc, name_of(alloc, b"A")?, point.series().copy(alloc)?)
 }
 
-/// Asks for room and puts a point there, where it may be put.
-fn ask_and_put(cell: &mut Cell, point: &Point) -> Result<(), AllocError> {
-    cell.ask()?;
-    if cell.id().is_same(point.series())
-        && cell.frontier() <= point.span().start()
-        && cell.accepted().len() == point.row().len()
-        && fits(cell.accepted(), point.row(), 18_446_744_073_709_551_615)
-    {
-        cell.put(point, 1);
-    }
-    Ok(())
-}
-
 /// A cell without memory for a point is as before.
 fn put(rt: &impl Print, alloc: Global) -> Result<(), AllocError> {
     let point = first_point(alloc, MIXED)?;
     let mut cell = cell_of(alloc, &point)?;
-    twice!(rt, "Cell::ask", ask_and_put(&mut cell, &point), _ =>
-        is_zero(cell.accepted()) && cell.frontier() == 0)?;
-    print_right(rt, "Cell::ask", cell.accepted() == point.row());
+    twice!(rt, "Cell::put", {
+        if !cell.id().is_same(point.series())
+            || cell.frontier() > point.span().start()
+            || cell.accepted().len() != point.row().len()
+            || !fits(cell.accepted(), point.row(), 18_446_744_073_709_551_615)
+        {
+            print_right(rt, "Cell::put", false);
+            return Ok(());
+        }
+        cell.put(&point, 1)
+    }, _ => is_zero(cell.accepted()) && cell.frontier() == 0)?;
+    print_right(rt, "Cell::put", cell.accepted() == point.row());
+    Ok(())
+}
+
+/// A cell without memory for a point that is asked for is as before.
+fn ask(rt: &impl Print, alloc: Global) -> Result<(), AllocError> {
+    let mut cell = Cell::new(alloc, name_of(alloc, b"A")?, own_series(alloc)?)?;
+    twice!(rt, "Cell::ask", cell.ask(), _ => is_zero(cell.accepted()))?;
+    print_right(rt, "Cell::ask", is_zero(cell.accepted()));
     Ok(())
 }
 

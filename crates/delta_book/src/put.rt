@@ -131,7 +131,7 @@ fn put_point(cell: &mut Cell, point: &Point, number: u64) -> Result<(), Rejectio
     if !is_within(point.series().kind(), cell.accepted(), point.row()) {
         return Err(Rejection::TooLarge);
     }
-    cell.put(point, number);
+    cell.put_reserved(point, number);
     Ok(())
 }
 

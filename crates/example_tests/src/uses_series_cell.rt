@@ -13,12 +13,11 @@ fn a_point_goes_out_and_lands(rt: HostRuntime) -> Result<(), Fail> {
         batch.sender.copy(alloc)?,
         point.series().copy(alloc)?,
     )?;
-    cell.reserve(1)?;
     assert!(rt; cell.id().is_same(point.series()));
     assert!(rt; cell.frontier() <= point.span().start());
     assert!(rt; cell.accepted().len() == point.row().len());
     assert!(rt; fits(cell.accepted(), point.row(), u64::MAX));
-    cell.put(point, 1);
+    cell.put(point, 1)?;
     assert!(rt; !cell.is_flying());
     cell.lift_off(1);
     cell.acknowledge();

@@ -88,13 +88,12 @@ impl Cell {
         })
     }
 
-    /// Reserves room for `n` more points. Nothing else changes.
+    /// Reserves room for `n` more points. Nothing else changes. Takes memory only if less is spare.
     pub fn reserve(&mut self, n: usize) -> Result<(), AllocError>
         ensures spare { OnOk result (n ≤ self.new.spare) }
         ensures less { self.old.spare ≤ self.new.spare }
-        ensures asked { self.new.asked ≡ self.old.asked }
-        ensures same { IsOfSame self.old self.new }
-        ensures flush { self.new.flush ≡ self.old.flush }
+        ensures room { n ≤ self.old.spare → IsOk result }
+        ensures rest { self.new ≡ record self.old { spare = self.new.spare } }
         ensures stands { (qs : List Accepted) → Stands self.old qs → Stands self.new qs }
     {
         self.kept.spans.reserve(n)
@@ -128,8 +127,28 @@ impl Cell {
         self.kept.asked = 0;
     }
 
-    /// Adds a point of a batch, as pending, where room is spare. Takes no memory.
-    pub fn put(&mut self, point: &Point, batch: u64)
+    /// Adds a point of a batch, as pending. Takes memory only if no room is spare. If memory runs
+    /// out, nothing changes.
+    pub fn put(&mut self, point: &Point, batch: u64) -> Result<(), AllocError>
+        requires series { point.now.series ≡ self.old.id }
+        requires order { end_of self.old ≤ point.now.span.start }
+        requires fits { Fits (2 ^ 64 - 1) self.old.accepted point.now.row }
+        ensures ok { OnOk result ((qs : List Accepted) → Stands self.old qs
+            → Stands self.new (qs ++ admitted batch self.old.owner point.now ∷ [])) }
+        ensures same { IsOfSame self.old self.new }
+        ensures flush { self.new.flush ≡ self.old.flush }
+        ensures room { 1 ≤ self.old.spare → IsOk result }
+        ensures spare { self.old.spare ≤ self.new.spare + 1 }
+        ensures err { OnErr result ((qs : List Accepted) → Stands self.old qs
+            → Stands self.new qs) }
+    {
+        self.reserve(1)?;
+        self.put_reserved(point, batch);
+        Ok(())
+    }
+
+    /// As `put`, where room is spare. Takes no memory.
+    pub fn put_reserved(&mut self, point: &Point, batch: u64)
         requires room { 1 ≤ self.old.spare }
         requires series { point.now.series ≡ self.old.id }
         requires order { end_of self.old ≤ point.now.span.start }

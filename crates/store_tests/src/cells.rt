@@ -83,8 +83,6 @@ fn put(rt: &impl Abort, cell: &mut Cell, point: &Point, batch: u64)
     ensures same { IsOfSame cell.old cell.new }
     ensures flush { cell.new.flush ≡ cell.old.flush }
 {
-    let room = cell.reserve(1);
-    assert!(rt; room.is_ok(), "memory");
     assert!(rt; cell.id().is_same(point.series()), "another series");
     assert!(rt; cell.frontier() <= point.span().start(), "out of order");
     assert!(rt; cell.accepted().len() == point.row().len(), "row length");
@@ -92,7 +90,8 @@ fn put(rt: &impl Abort, cell: &mut Cell, point: &Point, batch: u64)
         fits(cell.accepted(), point.row(), 18_446_744_073_709_551_615),
         "a sum over a word"
     );
-    cell.put(point, batch);
+    let put = cell.put(point, batch);
+    assert!(rt; put.is_ok(), "memory");
 }
 
 /// Compares the five rows: accepted, stored, in flight, acknowledged, dropped.

@@ -11,7 +11,7 @@ use Rattle.series_cell.proofs.Lent.{lent_cell, lent_view}
 use Rattle.series_cell.proofs.Sizes.{sized, within}
 use Rattle.series_cell.proofs.Standing.{stands_put_as}
 use Rattle.series_cell.proofs.Words.{words_added}
-use Rattle.series_cell.proofs.cell.Cell.put.Goals as goal
+use Rattle.series_cell.proofs.cell.Cell.put_reserved.Goals as goal
 
 pub add_into-requires-clause-same : goal.add_into-requires-clause-same
 add_into-requires-clause-same c =
