@@ -232,6 +232,9 @@ mod tests {
             b"1\r\nab\r\n",
             b"-1\r\n",
             b"ffffffffffffffffff\r\n",
+            b"1\r\na\r\n\r\n\r\n",
+            b"1\r\na\r\n;a\r\n\r\n",
+            b"1;a\nb\r\na\r\n0\r\n\r\n",
         ] {
             assert_eq!(
                 received(Framing::Line, &[wrong], most).await,

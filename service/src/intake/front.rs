@@ -98,7 +98,11 @@ async fn served<T: Taker>(
         true => asked.connection,
         false => Connection::Closed,
     };
-    let sent = wire.answer(|out| answer::write(out, &outcome, asked.encoding, connection));
+    let write = match asked.wants_head {
+        true => answer::write_head,
+        false => answer::write,
+    };
+    let sent = wire.answer(|out| write(out, &outcome, asked.encoding, connection));
     matches!(within(waiting.idle, sent).await, Some(Ok(()))) && connection != Connection::Closed
 }
 
