@@ -206,7 +206,7 @@ fn prepare(
     hold.set(times * grows * plain.len())?;
     let sender = otlp::sender(head.sender, head.encoding, &plain, reading)?;
     let prepared = otlp::prepare(head.encoding, plain, reading)?;
-    hold.set(prepared.bodies.iter().map(Bytes::len).sum())?;
+    hold.set(prepared.bytes())?;
     Ok(Post {
         sender,
         bodies: prepared.bodies,

@@ -309,6 +309,22 @@ fn what_can_not_be_taken_makes_no_total_less_exact() {
     assert!(found.points.is_empty());
 }
 
+/// Until its post is answered, as its bodies are.
+#[test]
+fn what_was_rounded_is_weighed() {
+    let name = "n".repeat(100);
+    let point = |value: &str| {
+        sum(&format!(r#""asDouble":{value}"#)).replace("\"sum\"", &format!("\"name\":\"{name}\",\"sum\""))
+    };
+    let beside = |value: &str| {
+        let body = request(&vec![point(value); 100]);
+        let prepared = prepare(Encoding::Json, body.into(), &reading(&["s=us"])).unwrap();
+        prepared.bytes() - prepared.bodies[0].len()
+    };
+    assert_eq!(beside("1"), 0);
+    assert!(beside("0.00000125") > 100 * name.len());
+}
+
 #[test]
 fn rules_are_told_apart_and_one_series_is_one() {
     let one = sum(r#""asDouble":0.0000015"#);
