@@ -149,6 +149,7 @@ fn sums_of_doubles_and_of_whole_numbers_are_taken() {
         (r#""as_double":"2.0005e0""#, "2000", 1),
         (r#""asDouble":"0.0015""#, "2", 1),
         (r#""asDouble":-0.0"#, "0", 0),
+        (r#""asDouble":597223208286108.25"#, "597223208286108200", 0), // .3 is as short and as near
         (r#""asInt":"7""#, "7000", 0),
         (r#""asInt":7.0,"asDouble":null"#, "7000", 0),
     ] {
