@@ -71,9 +71,9 @@ async fn connection<T: Taker>(
             Err(refusal) => {
                 intake.count(&refusal);
                 let outcome = Outcome::from(&refusal);
-                let _ = wire
-                    .answer(|out| answer::write(out, &outcome, Encoding::Json, Connection::Closed))
-                    .await;
+                let sent =
+                    wire.answer(|out| answer::write(out, &outcome, Encoding::Json, Connection::Closed));
+                let _ = within(waiting.idle, sent).await; // who does not read it has gone
                 false
             }
         };
@@ -135,7 +135,7 @@ async fn next(wire: &mut Wire<TcpStream>, waiting: &mut Waiting) -> Option<Resul
             Came::Bytes => {}
             Came::Nothing => return None,
             Came::TooLate => {
-                let _ = wire.send(LATE).await; // who does not read it has gone
+                let _ = within(waiting.idle, wire.send(LATE)).await; // who does not read it has gone
                 return None;
             }
         }
