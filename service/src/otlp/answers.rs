@@ -82,7 +82,7 @@ fn protobuf(outcome: &Outcome) -> Vec<u8> {
 fn code(status: u16) -> i32 {
     const INVALID_ARGUMENT: i32 = 3;
     match status {
-        400 | 411 | 415 => INVALID_ARGUMENT,
+        400 | 411 | 415 | 431 => INVALID_ARGUMENT,
         401 => 16,               // UNAUTHENTICATED
         403 => 7,                // PERMISSION_DENIED
         404 => 5,                // NOT_FOUND
