@@ -297,6 +297,7 @@ fn bad_headers_are_named() {
         |name: &str, value: &str| OtlpSink::open("http://h/", false, false, &[(name.into(), value.into())]);
     for (name, value) in [
         ("content-type", "x"),
+        ("Accept-Encoding", "gzip"),
         ("Idempotency-Key", "x"),
         ("a b", "x"),
         ("secret", "a\nb"),
