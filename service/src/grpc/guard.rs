@@ -1,4 +1,5 @@
-//! Ends a connection that floods: too long a block of headers, or too many frames that cost the sender nothing.
+//! Ends a connection that floods: too long a block of headers, or too many frames that cost the sender nothing. A ping for
+//! each message that came is none of these: gRPC's client for Go measures the connection so, behind each answer.
 //!
 //! The library's own bounds on these are younger than the release that is used here, so the frames are counted where
 //! their bytes are read: what a frame is and how long, no more. What is no HTTP/2 at all is left to the library.
@@ -25,6 +26,7 @@ const WITHIN: Duration = Duration::from_secs(10);
 
 const DATA: u8 = 0;
 const HEADERS: u8 = 1;
+const PING: u8 = 6;
 const WINDOW_UPDATE: u8 = 8;
 const CONTINUATION: u8 = 9;
 
@@ -38,6 +40,8 @@ struct Frames {
     block_frames: usize,
     idle: usize,
     since: Instant,
+    /// How many pings may come for messages that came.
+    pings: usize,
 }
 
 impl Frames {
@@ -50,6 +54,7 @@ impl Frames {
             block_frames: 0,
             idle: 0,
             since: Instant::now(),
+            pings: 0,
         }
     }
 
@@ -83,7 +88,8 @@ impl Frames {
                 self.block += length;
                 self.block_frames += 1;
             }
-            DATA if length > 0 => {}
+            DATA if length > 0 => self.pings = IDLE_FRAMES.min(self.pings + 1),
+            PING if self.pings > 0 => self.pings -= 1,
             WINDOW_UPDATE => {}
             _ => {
                 if self.since.elapsed() > WITHIN {
@@ -181,12 +187,17 @@ mod tests {
     #[test]
     fn calls_go_on_and_floods_end() {
         let call = [frame(HEADERS, 100), frame(DATA, 500), frame(WINDOW_UPDATE, 4)].concat();
-        assert!(may_go_on(&vec![call; 3000]));
+        assert!(may_go_on(&vec![call.clone(); 3000]));
         assert!(may_go_on(&[frame(HEADERS, 16384), frame(CONTINUATION, 16384)]));
         for (kind, length) in [(DATA, 0), (3, 4), (4, 0), (6, 8)] {
             assert!(may_go_on(&vec![frame(kind, length); IDLE_FRAMES]), "{kind}");
             assert!(!may_go_on(&vec![frame(kind, length); IDLE_FRAMES + 1]), "{kind}");
         }
+        let with_pings = |pings: usize| [call.clone(), frame(PING, 8).repeat(pings)].concat();
+        assert!(may_go_on(&vec![with_pings(1); 3000]));
+        assert!(!may_go_on(&vec![with_pings(2); IDLE_FRAMES + 1]));
+        let begun = [call.clone(), frame(3, 4)].concat();
+        assert!(!may_go_on(&vec![begun; IDLE_FRAMES + 1]));
         let reset = [frame(HEADERS, 30), frame(3, 4)].concat();
         assert!(!may_go_on(&vec![reset; IDLE_FRAMES + 1]));
         let empty = vec![frame(CONTINUATION, 0); BLOCK_FRAMES];

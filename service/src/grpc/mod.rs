@@ -32,16 +32,18 @@ const LATE: u16 = 504;
 /// Answers one call.
 async fn answer<T: Taker>(intake: Arc<Intake<T>>, request: Request<Body>) -> Response<Reply> {
     let (parts, mut body) = request.into_parts();
-    if !is_grpc(&parts.headers) {
+    let is_grpc = is_grpc(&parts.headers);
+    let (call, limit) = (call(&parts), timeout::of(&parts.headers));
+    drop(parts); // they may be long, are in no budget, and a call may last
+    if !is_grpc {
         message::throw_away(&mut body).await;
         let mut response = Response::new(Reply::nothing());
         *response.status_mut() = StatusCode::UNSUPPORTED_MEDIA_TYPE;
         return response;
     }
-    let outcome = match call(&parts) {
+    let outcome = match call {
         Err(refused) => refused,
         Ok(head) => {
-            let limit = timeout::of(&parts.headers);
             let taking = take(&intake, head, &mut body);
             match tokio::time::timeout(limit, taking).await {
                 Ok(outcome) => outcome,

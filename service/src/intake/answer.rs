@@ -22,6 +22,12 @@ pub fn write(out: &mut Vec<u8>, outcome: &Outcome, encoding: Encoding, connectio
     });
 }
 
+/// The same without its body, whose length it has: what HEAD is answered.
+pub fn write_head(out: &mut Vec<u8>, outcome: &Outcome, encoding: Encoding, connection: Connection) {
+    write(out, outcome, encoding, connection);
+    out.truncate(out.len() - outcome.body(encoding).len());
+}
+
 fn write_any(out: &mut Vec<u8>, outcome: &Outcome, encoding: Encoding, connection: Connection, date: &str) {
     let body = outcome.body(encoding);
     let status = outcome.status();

@@ -78,21 +78,21 @@ pub async fn throw_away<S: AsyncRead + AsyncWrite + Unpin>(wire: &mut Wire<S>) {
     let _ = tokio::time::timeout(LEFT_TIME, reading).await; // who takes longer loses the answer
 }
 
-/// Unpacks a body. What grows over the limit ends there, and takes no more memory than a body that does not.
-pub fn unpack(packed: Bytes, packing: Packing, hold: &mut Hold) -> Result<Bytes, Refusal> {
+/// Unpacks a body. What grows over `most` ends there, and takes no more memory than a body that does not.
+pub fn unpack(packed: Bytes, packing: Packing, most: usize, hold: &mut Hold) -> Result<Bytes, Refusal> {
     match packing {
         Packing::Plain => Ok(packed),
         Packing::Gzip => {
-            hold.set(2 * packed.len() + MOST)?;
-            let plain = gunzip(&packed)?;
+            hold.set(2 * packed.len() + most)?;
+            let plain = gunzip(&packed, most)?;
             hold.set(plain.capacity())?;
             Ok(plain.into())
         }
     }
 }
 
-fn gunzip(packed: &[u8]) -> Result<Vec<u8>, Refusal> {
-    let mut plain = Vec::with_capacity((4 * packed.len()).clamp(1024, MOST));
+fn gunzip(packed: &[u8], most: usize) -> Result<Vec<u8>, Refusal> {
+    let mut plain = Vec::with_capacity((4 * packed.len()).clamp(1024, most));
     let mut reader = MultiGzDecoder::new(packed);
     let mut part = [0; 16 << 10];
     loop {
@@ -100,19 +100,19 @@ fn gunzip(packed: &[u8]) -> Result<Vec<u8>, Refusal> {
         if read == 0 {
             return Ok(plain);
         }
-        if plain.len() + read > MOST {
+        if plain.len() + read > most {
             return Err(Refusal::TooLong);
         }
         if plain.len() + read > plain.capacity() {
-            plain.reserve_exact(plain.capacity().min(MOST - plain.len()).max(read));
-            // never over MOST
+            plain.reserve_exact(plain.capacity().min(most - plain.len()).max(read));
+            // never over `most`
         }
         plain.extend_from_slice(&part[..read]);
     }
 }
 
 #[cfg(test)]
-mod tests {
+pub(super) mod tests {
     use super::super::weight::Budget;
     use super::super::wire::Body as Framing;
     use super::*;
@@ -120,14 +120,14 @@ mod tests {
     use std::io::Write;
     use tokio::io::AsyncWriteExt;
 
-    fn gzip(plain: &[u8]) -> Bytes {
+    pub fn gzip(plain: &[u8]) -> Bytes {
         let mut packer = GzEncoder::new(Vec::new(), Compression::best());
         packer.write_all(plain).unwrap();
         packer.finish().unwrap().into()
     }
 
     fn unpacked(packed: Bytes, most: usize) -> Result<Bytes, u16> {
-        unpack(packed, Packing::Gzip, &mut Budget::new(most).hold()).map_err(|refusal| refusal.status())
+        unpack(packed, Packing::Gzip, MOST, &mut Budget::new(most).hold()).map_err(|refusal| refusal.status())
     }
 
     #[test]
@@ -156,12 +156,12 @@ mod tests {
 
     #[test]
     fn a_bomb_takes_no_more_than_the_limit() {
-        let plain = gunzip(&gzip(&vec![0; MOST])).unwrap();
+        let plain = gunzip(&gzip(&vec![0; MOST]), MOST).unwrap();
         assert!(plain.capacity() <= MOST, "{}", plain.capacity());
         let budget = Budget::new(2 * MOST);
         let mut others = budget.hold();
         others.set(MOST).unwrap();
-        let refused = unpack(gzip(b"{}"), Packing::Gzip, &mut budget.hold()).unwrap_err();
+        let refused = unpack(gzip(b"{}"), Packing::Gzip, MOST, &mut budget.hold()).unwrap_err();
         assert_eq!(refused.status(), 503, "others may give it back");
         assert_eq!(unpacked(gzip(b"{}"), MOST), Err(413), "there is never so much");
     }
@@ -232,6 +232,9 @@ mod tests {
             b"1\r\nab\r\n",
             b"-1\r\n",
             b"ffffffffffffffffff\r\n",
+            b"1\r\na\r\n\r\n\r\n",
+            b"1\r\na\r\n;a\r\n\r\n",
+            b"1;a\nb\r\na\r\n0\r\n\r\n",
         ] {
             assert_eq!(
                 received(Framing::Line, &[wrong], most).await,

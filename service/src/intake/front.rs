@@ -71,9 +71,9 @@ async fn connection<T: Taker>(
             Err(refusal) => {
                 intake.count(&refusal);
                 let outcome = Outcome::from(&refusal);
-                let _ = wire
-                    .answer(|out| answer::write(out, &outcome, Encoding::Json, Connection::Closed))
-                    .await;
+                let sent =
+                    wire.answer(|out| answer::write(out, &outcome, Encoding::Json, Connection::Closed));
+                let _ = within(waiting.idle, sent).await; // who does not read it has gone
                 false
             }
         };
@@ -98,7 +98,11 @@ async fn served<T: Taker>(
         true => asked.connection,
         false => Connection::Closed,
     };
-    let sent = wire.answer(|out| answer::write(out, &outcome, asked.encoding, connection));
+    let write = match asked.wants_head {
+        true => answer::write_head,
+        false => answer::write,
+    };
+    let sent = wire.answer(|out| write(out, &outcome, asked.encoding, connection));
     matches!(within(waiting.idle, sent).await, Some(Ok(()))) && connection != Connection::Closed
 }
 
@@ -131,7 +135,7 @@ async fn next(wire: &mut Wire<TcpStream>, waiting: &mut Waiting) -> Option<Resul
             Came::Bytes => {}
             Came::Nothing => return None,
             Came::TooLate => {
-                let _ = wire.send(LATE).await; // who does not read it has gone
+                let _ = within(waiting.idle, wire.send(LATE)).await; // who does not read it has gone
                 return None;
             }
         }

@@ -30,6 +30,8 @@ pub struct Asked {
     pub body: Body,
     /// The sender waits until it is told to go on.
     pub waits: bool,
+    /// Its method is HEAD: an answer has no body.
+    pub wants_head: bool,
     pub connection: Connection,
 }
 
@@ -62,6 +64,7 @@ pub fn read(input: &[u8]) -> Result<Option<(usize, Asked)>, Refusal> {
         head,
         body: framing(request.headers, is_old)?,
         waits: !is_old && expects(request.headers),
+        wants_head: request.method == Some("HEAD"),
         connection: connection(request.headers, is_old),
     };
     Ok(Some((end, asked)))
@@ -79,6 +82,10 @@ impl Head {
         let sender = sender(request.headers)?;
         let encoding = encoding(request.headers).ok_or(Refusal::ContentType)?;
         let packing = packing(request.headers)?;
+        // Such a body is empty, and an empty one of protobuf is a request of no points: what comes behind would be lost.
+        if !has_length(request.headers) {
+            return Err(Refusal::NoLength);
+        }
         Ok(Head {
             sender,
             encoding,
@@ -104,13 +111,15 @@ fn named<'a>(headers: &'a [Header<'a>], name: &'a str) -> impl Iterator<Item = &
     found.map(|header| header.value)
 }
 
-/// The words of a list that may stand in several headers. What is no text is a word that nothing is.
+/// The words of a list that may stand in several headers; empty ones are none (RFC 9110, 5.6.1.2). What is no text is a
+/// word that nothing is.
 fn words<'a>(headers: &'a [Header<'a>], name: &'a str) -> impl Iterator<Item = &'a str> + 'a {
     named(headers, name).flat_map(|value| {
         std::str::from_utf8(value)
             .unwrap_or("?")
             .split(',')
             .map(str::trim)
+            .filter(|word| !word.is_empty())
     })
 }
 
@@ -126,6 +135,12 @@ fn framing(headers: &[Header], is_old: bool) -> Result<Body, Refusal> {
         }
         _ => Err(Refusal::Malformed),
     }
+}
+
+/// Whether it is said how long a body is.
+fn has_length(headers: &[Header]) -> bool {
+    let mut both = named(headers, "content-length").chain(named(headers, "transfer-encoding"));
+    both.next().is_some()
 }
 
 fn length(value: &[u8]) -> Result<u64, Refusal> {

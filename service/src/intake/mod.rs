@@ -38,9 +38,12 @@ use wire::Wire;
 /// How long a body may take behind its head.
 const PATIENCE: Duration = Duration::from_secs(60);
 
-/// A body up to this long, as it came, is read in place; a longer one on a thread beside the runtime's, so that no
-/// short post waits behind it. A packed one is counted eightfold.
+/// A body up to this long is read in place; a longer one on a thread beside the runtime's, so that no short post waits
+/// behind it. A packed one that may be short is unpacked in place as far as that.
 const SHORT: usize = 64 << 10;
+
+/// How many times its length a packed body is thought to have at least.
+const UNPACKED: usize = 8;
 
 /// How many long bodies are read at a time.
 const READERS: usize = 2;
@@ -143,14 +146,11 @@ impl<T: Taker> Intake<T> {
         self.prepared(head, packed, hold).await
     }
 
-    async fn prepared(&self, head: Head, packed: Bytes, hold: Hold) -> Result<Post, Refusal> {
-        let weight = match head.packing {
-            Packing::Plain => packed.len(),
-            Packing::Gzip => 8 * packed.len(),
-        };
+    async fn prepared(&self, mut head: Head, mut body: Bytes, mut hold: Hold) -> Result<Post, Refusal> {
+        let is_short = is_short(&mut head, &mut body, &mut hold)?;
         let (reading, metrics) = (self.reading.clone(), self.metrics.clone());
-        let prepare = move || prepare(head, packed, hold, &reading, &metrics);
-        if weight <= SHORT {
+        let prepare = move || prepare(head, body, hold, &reading, &metrics);
+        if is_short {
             return prepare();
         }
         let _turn = self.readers.acquire().await; // it is never closed
@@ -188,6 +188,17 @@ impl<T: Taker> Intake<T> {
     }
 }
 
+/// Whether a body is short, which is unpacked then. A few kilobytes may be packed megabytes.
+fn is_short(head: &mut Head, body: &mut Bytes, hold: &mut Hold) -> Result<bool, Refusal> {
+    if head.packing == Packing::Gzip && body.len() <= SHORT / UNPACKED {
+        match body::unpack(body.clone(), Packing::Gzip, SHORT, hold) {
+            Err(Refusal::TooLong) => return Ok(false),
+            unpacked => (*body, head.packing) = (unpacked?, Packing::Plain),
+        }
+    }
+    Ok(head.packing == Packing::Plain && body.len() <= SHORT)
+}
+
 /// Unpacks a body and puts it into the gateway's form. The budget has room for both forms while both are there.
 fn prepare(
     head: Head,
@@ -196,7 +207,7 @@ fn prepare(
     reading: &Reading,
     metrics: &Metrics,
 ) -> Result<Post, Refusal> {
-    let plain = body::unpack(packed, head.packing, &mut hold)?;
+    let plain = body::unpack(packed, head.packing, MOST, &mut hold)?;
     metrics.post_bytes.inc_by(plain.len() as u64);
     let grows = match head.encoding {
         Encoding::Json => WHILE_READ_JSON,
@@ -206,11 +217,45 @@ fn prepare(
     hold.set(times * grows * plain.len())?;
     let sender = otlp::sender(head.sender, head.encoding, &plain, reading)?;
     let prepared = otlp::prepare(head.encoding, plain, reading)?;
-    hold.set(prepared.bodies.iter().map(Bytes::len).sum())?;
+    hold.set(prepared.bytes())?;
     Ok(Post {
         sender,
         bodies: prepared.bodies,
         rounded: prepared.rounded,
         hold,
     })
+}
+
+#[cfg(test)]
+mod tests {
+    use super::body::tests::gzip;
+    use super::*;
+
+    /// How a body goes on, and whether it is read in place.
+    fn seen(packing: Packing, body: Bytes) -> (Packing, usize, bool) {
+        let (sender, encoding) = ("-".to_string(), Encoding::Json);
+        let mut head = Head {
+            sender,
+            encoding,
+            packing,
+        };
+        let mut body = body;
+        let is_short = is_short(&mut head, &mut body, &mut Budget::new(1 << 20).hold()).unwrap();
+        (head.packing, body.len(), is_short)
+    }
+
+    /// Else a post of a few kilobytes would hold up all others of its thread.
+    #[test]
+    fn what_is_long_unpacked_is_not_read_in_place() {
+        let (plain, packed) = (Packing::Plain, Packing::Gzip);
+        let blanks = |length: usize| Bytes::from(vec![b' '; length]);
+        assert_eq!(seen(plain, blanks(SHORT)), (plain, SHORT, true));
+        assert_eq!(seen(plain, blanks(SHORT + 1)), (plain, SHORT + 1, false));
+        assert_eq!(seen(packed, gzip(&blanks(SHORT))), (plain, SHORT, true));
+        let bomb = gzip(&blanks(MOST));
+        assert!(bomb.len() < SHORT / UNPACKED);
+        assert_eq!(seen(packed, bomb.clone()), (packed, bomb.len(), false));
+        let long = blanks(SHORT / UNPACKED + 1);
+        assert_eq!(seen(packed, long.clone()), (packed, long.len(), false));
+    }
 }

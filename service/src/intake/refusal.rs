@@ -15,6 +15,9 @@ pub enum Refusal {
     ContentType,
     #[error("only gzip or identity")]
     ContentEncoding,
+    /// Nothing says how long its body is.
+    #[error("no length of the body: Content-Length, or chunks")]
+    NoLength,
     /// It was not there within its time.
     #[error("the request did not come whole")]
     Late,
@@ -45,6 +48,7 @@ impl Refusal {
             Refusal::WrongMethod => 405,
             Refusal::ContentType | Refusal::ContentEncoding => 415,
             Refusal::Late => 408,
+            Refusal::NoLength => 411,
             Refusal::BadSender | Refusal::Malformed | Refusal::BadGzip | Refusal::Unreadable(_) => 400,
             Refusal::TooLong | Refusal::TooLongForMemory => 413,
             Refusal::HeadTooLong => 431,

@@ -154,6 +154,9 @@ impl<S: AsyncRead + AsyncWrite + Unpin> Wire<S> {
         let mut trailers = [httparse::EMPTY_HEADER; HEADERS];
         let (used, next) = match self.body {
             Body::Line => match httparse::parse_chunk_size(&self.input) {
+                Ok(httparse::Status::Complete((used, _))) if !is_size_line(&self.input[..used]) => {
+                    return Err(Refusal::Malformed)
+                }
                 Ok(httparse::Status::Complete((used, 0))) => (used, Body::Trailers),
                 Ok(httparse::Status::Complete((used, length))) => (used, Body::Chunk(length)),
                 Ok(httparse::Status::Partial) if self.input.len() < CHUNK_LINE => (0, Body::Line),
@@ -212,6 +215,13 @@ impl<S: AsyncRead + AsyncWrite + Unpin> Wire<S> {
 /// What comes in one piece of so many bytes.
 fn short(left: u64) -> usize {
     left.min(READ_AHEAD as u64) as usize
+}
+
+/// Whether what is before a chunk is one line that begins with a digit: to the library a line of none says 0, and so that
+/// the body has ended.
+fn is_size_line(line: &[u8]) -> bool {
+    let has_digit = line.first().is_some_and(u8::is_ascii_hexdigit);
+    has_digit && line.iter().filter(|byte| **byte == b'\n').count() == 1
 }
 
 impl From<Error> for Refusal {

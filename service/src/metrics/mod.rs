@@ -37,7 +37,7 @@ pub struct Metrics {
     /// By `slot`, as the gauges of a gateway are: an alert is of one gateway.
     pub recoveries: IntCounterVec,
     pub forwarded_requests: IntCounter,
-    /// By `outcome`: `taken`, `again`, `refused`.
+    /// By `outcome`: `taken`, `partial`, `again`, `refused`.
     pub deliveries: IntCounterVec,
     pub forgotten_series: IntCounter,
     /// What must never be, by `kind`.
@@ -226,6 +226,7 @@ mod tests {
             "totxegun_posts_total{status=\"200\"} 1",
             "totxegun_posts_total{status=\"503\"} 1",
             "totxegun_deliveries_total{outcome=\"taken\"} 0",
+            "totxegun_deliveries_total{outcome=\"partial\"} 0",
             "totxegun_checkpoints_total{outcome=\"failed\"} 0",
             "totxegun_dead_requests 0",
             "totxegun_quarantined_senders 0",

@@ -1,8 +1,8 @@
 //! What senders are answered, and what the gateway's answers say.
 
-use super::json::{write_text, Document};
+use super::json::{write_text, Document, Value};
 use super::messages::{ExportMetricsPartialSuccess, ExportMetricsServiceResponse, Status};
-use super::number::gateway_whole;
+use super::number::{gateway_whole, mapped_whole};
 use super::{Encoding, Outcome};
 use prost::Message;
 
@@ -15,6 +15,21 @@ pub fn rejected(answer: &[u8]) -> Option<u64> {
     let [partial] = document.root().named(["partialSuccess"])?;
     let [rejected] = partial?.named(["rejectedDataPoints"])?;
     u64::try_from(gateway_whole(rejected?)?).ok()
+}
+
+/// What a receiver's answer in JSON says beside its success, by either name of a field; null is nothing.
+pub fn partial_success(answer: &[u8]) -> Option<ExportMetricsPartialSuccess> {
+    let document = Document::parse(answer).ok()?;
+    let [one, other] = document.root().named(["partialSuccess", "partial_success"])?;
+    let partial = one.or(other)?;
+    let [rejected, why] = partial.named(["rejectedDataPoints", "errorMessage"])?;
+    let [other_rejected, other_why] = partial.named(["rejected_data_points", "error_message"])?;
+    let rejected = rejected.or(other_rejected).and_then(mapped_whole);
+    let why = why.or(other_why).and_then(Value::text);
+    Some(ExportMetricsPartialSuccess {
+        rejected_data_points: i64::try_from(rejected.unwrap_or(0)).unwrap_or(i64::MAX),
+        error_message: why.unwrap_or_default().into_owned(),
+    })
 }
 
 pub(super) fn body(outcome: &Outcome, encoding: Encoding) -> Vec<u8> {
@@ -67,7 +82,7 @@ fn protobuf(outcome: &Outcome) -> Vec<u8> {
 fn code(status: u16) -> i32 {
     const INVALID_ARGUMENT: i32 = 3;
     match status {
-        400 | 415 => INVALID_ARGUMENT,
+        400 | 411 | 415 | 431 => INVALID_ARGUMENT,
         401 => 16,               // UNAUTHENTICATED
         403 => 7,                // PERMISSION_DENIED
         404 => 5,                // NOT_FOUND

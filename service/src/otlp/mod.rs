@@ -21,8 +21,10 @@ mod usual;
 mod whole;
 mod wire;
 
+pub(crate) use answers::partial_success;
 pub use answers::rejected;
 pub use explain::{explained, foreign_points, series_of_point, Explained};
+pub(crate) use messages::ExportMetricsServiceResponse;
 pub use sender::{sender, NO_NAME};
 pub use whole::{Rounded, Rounding, Rule, Whole};
 
@@ -82,6 +84,11 @@ pub struct Prepared {
 }
 
 impl Prepared {
+    /// Of memory, until its post is answered.
+    pub fn bytes(&self) -> usize {
+        self.bodies.iter().map(Bytes::len).sum::<usize>() + self.rounded.bytes()
+    }
+
     fn as_it_is(body: Bytes) -> Prepared {
         Prepared {
             bodies: vec![body],

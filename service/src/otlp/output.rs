@@ -4,7 +4,6 @@ use super::json::{put_text, Document};
 use super::number::{put_whole, whole_double};
 use super::{Reading, Refused};
 use std::borrow::Cow;
-use std::io::Write;
 
 pub struct Output<'r> {
     /// UTF-8, of which no part is looked at twice: all of it is, at the end.
@@ -70,7 +69,12 @@ impl<'r> Output<'r> {
             None if double.is_nan() => self.push("\"NaN\""),
             None if double.is_infinite() && double > 0.0 => self.push("\"Infinity\""),
             None if double.is_infinite() => self.push("\"-Infinity\""),
-            None => drop(write!(self.text, "\"{double:e}\"")), // into memory it never fails
+            None => {
+                self.text.push(b'"');
+                // The shortest decimal; of two that are as near, the even one, as most programs print it and `{:e}` does not.
+                let _ = serde_json::to_writer(&mut self.text, &double); // into memory it never fails
+                self.text.push(b'"');
+            }
         }
     }
 

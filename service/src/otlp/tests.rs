@@ -121,7 +121,7 @@ fn json_of_any_encoder_is_written_as_the_gateway_reads_it() {
         ),
         (
             histogram(r#"{"sum":9007199254740993,"explicit_bounds":[0.5,"Infinity"]}"#),
-            histogram(r#"{"sum":9007199254740992,"explicitBounds":["5e-1","Infinity"]}"#),
+            histogram(r#"{"sum":9007199254740992,"explicitBounds":["0.5","Infinity"]}"#),
         ),
         (
             sum(
@@ -203,7 +203,7 @@ fn protobuf_is_written_as_the_gateway_reads_it() {
         ),
         (
             bytes(9, &bytes(1, &histogram)),
-            r#"{"histogram":{"dataPoints":[{"sum":2,"bucketCounts":["7"],"explicitBounds":[3,"5e-1"]}]}}"#
+            r#"{"histogram":{"dataPoints":[{"sum":2,"bucketCounts":["7"],"explicitBounds":[3,"0.5"]}]}}"#
                 .to_string(),
         ),
         (

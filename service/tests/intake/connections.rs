@@ -119,6 +119,7 @@ async fn what_is_no_request_is_refused_and_ends_the_connection() {
         client.write(text.as_bytes()).await;
         let answer = client.answer().await;
         assert_eq!((answer.status, answer.message().as_str()), (status, message));
+        assert!(answer.body.starts_with(b"{\"code\":3,"), "INVALID_ARGUMENT");
         assert!(answer.has("connection: close"), "{}", answer.head);
         assert!(client.ends().await);
     }

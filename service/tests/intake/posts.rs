@@ -210,3 +210,35 @@ async fn what_a_slot_says_is_answered() {
     let read: serde_json::Value = serde_json::from_slice(&answer.body).unwrap();
     assert_eq!(read["partialSuccess"]["rejectedDataPoints"], "7");
 }
+
+/// Else its bytes would be read as the beginning of the next answer.
+#[tokio::test]
+async fn an_answer_to_head_has_no_body() {
+    let served = Served::start().await;
+    let mut client = served.client().await;
+    let head = b"HEAD /v1/metrics HTTP/1.1\r\nHost: a\r\n\r\n";
+    client.write(&[&head[..], &json(BODY.as_bytes())].concat()).await;
+    while !client.read.ends_with(b"{}") {
+        assert!(client.more().await, "the connection ended");
+    }
+    let text = String::from_utf8(std::mem::take(&mut client.read)).unwrap();
+    let (first, second) = text.split_once("\r\n\r\n").unwrap();
+    assert!(
+        first.starts_with("HTTP/1.1 405 ") && first.contains("\r\ncontent-length: 36\r\n"),
+        "{first}"
+    );
+    assert!(second.starts_with("HTTP/1.1 200 "), "{second}");
+}
+
+/// An empty body of protobuf is a request of no points: 200 would say that those behind the head were taken.
+#[tokio::test]
+async fn a_post_says_how_long_its_body_is() {
+    let served = Served::start().await;
+    for version in ["1.0", "1.1"] {
+        let head = format!("POST /v1/metrics HTTP/{version}\r\nContent-Type: application/x-protobuf\r\n\r\n");
+        let answer = served.ask(&[head.as_bytes(), b"\x0a\x00"].concat()).await;
+        let status = Status::decode(answer.body.as_slice()).expect("google.rpc.Status");
+        assert_eq!((answer.status, status.code), (411, 3), "{}", status.message);
+    }
+    assert!(served.bodies().is_empty());
+}

@@ -26,6 +26,7 @@ fn asked(text: &str) -> Result<Asked, u16> {
 type Case<'a> = (&'a str, &'a str, &'a [(&'a str, &'a str)], u16);
 
 const JSON: (&str, &str) = ("content-type", "application/json");
+const LENGTH: (&str, &str) = ("content-length", "0");
 
 #[test]
 fn a_head_is_read() {
@@ -34,7 +35,8 @@ fn a_head_is_read() {
         "/v1/metrics?a=b",
         &[
             ("content-type", "Application/X-Protobuf; a=b"),
-            ("content-encoding", "GZIP"),
+            ("content-encoding", ", GZIP,"),
+            LENGTH,
         ],
     );
     assert_eq!(
@@ -48,7 +50,13 @@ fn a_head_is_read() {
     let read = head(
         "POST",
         "http://any/v1/metrics",
-        &[JSON, ("x-sender", "A.b_c-9"), ("content-encoding", "identity")],
+        &[
+            JSON,
+            ("x-sender", "A.b_c-9"),
+            ("content-encoding", "identity"),
+            ("content-encoding", ""),
+            ("transfer-encoding", "chunked"),
+        ],
     );
     assert_eq!(
         read,
@@ -95,6 +103,13 @@ fn the_first_thing_that_is_wrong_is_answered() {
             &[JSON, ("content-encoding", "gzip"), ("content-encoding", "gzip")],
             415,
         ),
+        (
+            "POST",
+            "/v1/metrics",
+            &[JSON, ("content-encoding", "deflate")],
+            415,
+        ),
+        ("POST", "/v1/metrics", &[JSON], 411),
     ];
     for (method, path, headers, status) in table {
         assert_eq!(

@@ -31,6 +31,15 @@ pub struct Rounded {
     pub unfit: Option<String>,
 }
 
+impl Rounded {
+    /// Of memory, more or less.
+    pub fn bytes(&self) -> usize {
+        let of =
+            |point: &RoundedPoint| size_of::<RoundedPoint>() + point.metric.len() + point.attributes.len();
+        self.points.iter().map(of).sum()
+    }
+}
+
 /// Values that were not whole, and what they were rounded by together, in the finer unit.
 #[derive(Clone, Copy, Debug, Default, PartialEq)]
 pub struct Rounding {

@@ -149,6 +149,7 @@ fn sums_of_doubles_and_of_whole_numbers_are_taken() {
         (r#""as_double":"2.0005e0""#, "2000", 1),
         (r#""asDouble":"0.0015""#, "2", 1),
         (r#""asDouble":-0.0"#, "0", 0),
+        (r#""asDouble":597223208286108.25"#, "597223208286108200", 0), // .3 is as short and as near
         (r#""asInt":"7""#, "7000", 0),
         (r#""asInt":7.0,"asDouble":null"#, "7000", 0),
     ] {
@@ -307,6 +308,22 @@ fn what_can_not_be_taken_makes_no_total_less_exact() {
     };
     let found = super::rounded::rounded(r#"{"resourceMetrics":{}}"#, vec![mark]).unwrap();
     assert!(found.points.is_empty());
+}
+
+/// Until its post is answered, as its bodies are.
+#[test]
+fn what_was_rounded_is_weighed() {
+    let name = "n".repeat(100);
+    let point = |value: &str| {
+        sum(&format!(r#""asDouble":{value}"#)).replace("\"sum\"", &format!("\"name\":\"{name}\",\"sum\""))
+    };
+    let beside = |value: &str| {
+        let body = request(&vec![point(value); 100]);
+        let prepared = prepare(Encoding::Json, body.into(), &reading(&["s=us"])).unwrap();
+        prepared.bytes() - prepared.bodies[0].len()
+    };
+    assert_eq!(beside("1"), 0);
+    assert!(beside("0.00000125") > 100 * name.len());
 }
 
 #[test]

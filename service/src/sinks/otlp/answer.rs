@@ -6,7 +6,7 @@
 //! | 408, 425, 429, 5xx | is sent again, by `Retry-After` where it is there |
 //! | any other | is refused for good |
 
-use crate::otlp::Encoding;
+use crate::otlp::{partial_success, Encoding, ExportMetricsServiceResponse};
 use crate::sinks::Fate;
 use hyper::body::HttpBody;
 use hyper::header::{HeaderMap, CONTENT_TYPE, LOCATION, RETRY_AFTER};
@@ -19,24 +19,6 @@ use tokio::time::{timeout_at, Instant};
 const LONGEST_ANSWER: usize = 64 << 10;
 /// The most characters of a sink's message that are shown.
 const LONGEST_MESSAGE: usize = 300;
-
-/// `ExportMetricsServiceResponse`.
-#[derive(Clone, PartialEq, Message)]
-struct Taken {
-    #[prost(message, optional, tag = "1")]
-    partial_success: Option<PartialSuccess>,
-}
-
-#[derive(Clone, PartialEq, Message, serde::Deserialize)]
-#[serde(default, rename_all = "camelCase")]
-struct PartialSuccess {
-    #[prost(int64, tag = "1")]
-    #[serde(alias = "rejected_data_points", deserialize_with = "whole")]
-    rejected_data_points: i64,
-    #[prost(string, tag = "2")]
-    #[serde(alias = "error_message", deserialize_with = "text")]
-    error_message: String,
-}
 
 /// `google.rpc.Status`.
 #[derive(Clone, PartialEq, Message, serde::Deserialize)]
@@ -115,10 +97,10 @@ fn taken(body: Read, encoding: Encoding) -> Fate {
         return Fate::Taken;
     };
     let partial = match encoding {
-        Encoding::Protobuf => Taken::decode(bytes.as_slice())
+        Encoding::Protobuf => ExportMetricsServiceResponse::decode(bytes.as_slice())
             .ok()
             .and_then(|taken| taken.partial_success),
-        Encoding::Json => partial_of_json(&bytes),
+        Encoding::Json => partial_success(&bytes),
     };
     match partial {
         Some(partial) if partial.rejected_data_points > 0 => Fate::TakenPartly {
@@ -135,34 +117,6 @@ fn taken(body: Read, encoding: Encoding) -> Fate {
         }
         _ => Fate::Taken,
     }
-}
-
-/// By either name of a field, as the mapping has them; null is nothing.
-fn partial_of_json(bytes: &[u8]) -> Option<PartialSuccess> {
-    let mut answer: serde_json::Value = serde_json::from_slice(bytes).ok()?;
-    let mut named = |name| answer.get_mut(name).map(serde_json::Value::take);
-    let partial = named("partialSuccess").or_else(|| named("partial_success"))?;
-    serde_json::from_value(partial).ok()
-}
-
-/// A 64-bit number of OTLP/JSON: a string, or a number all the same.
-fn whole<'de, D: serde::Deserializer<'de>>(deserializer: D) -> Result<i64, D::Error> {
-    #[derive(serde::Deserialize)]
-    #[serde(untagged)]
-    enum Whole {
-        Number(i64),
-        Text(String),
-    }
-    match serde::Deserialize::deserialize(deserializer)? {
-        None => Ok(0),
-        Some(Whole::Number(number)) => Ok(number),
-        Some(Whole::Text(text)) => text.parse().map_err(serde::de::Error::custom),
-    }
-}
-
-fn text<'de, D: serde::Deserializer<'de>>(deserializer: D) -> Result<String, D::Error> {
-    let text: Option<String> = serde::Deserialize::deserialize(deserializer)?;
-    Ok(text.unwrap_or_default())
 }
 
 /// What the sink says is wrong.

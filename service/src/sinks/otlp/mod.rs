@@ -24,9 +24,10 @@ use tokio::time::{timeout_at, Instant};
 const PATIENCE: Duration = Duration::from_secs(30);
 /// What the sink tells repeated requests by.
 const KEY: &str = "idempotency-key";
-/// Headers that say what is sent: they are not an operator's.
-const OWN: [&str; 7] = [
+/// Headers that say what is sent, and how it is answered: they are not an operator's. No packed answer is read.
+const OWN: [&str; 8] = [
     KEY,
+    "accept-encoding",
     "connection",
     "content-encoding",
     "content-length",
@@ -43,7 +44,7 @@ pub enum BadOtlp {
     HeaderName(String),
     #[error("the value of header `{0}` has bytes that no header has")]
     HeaderValue(String),
-    #[error("header `{0}` is written by the service itself: leave it out")]
+    #[error("header `{0}` is the service's own: leave it out")]
     OwnHeader(String),
     #[error(transparent)]
     Roots(#[from] crate::sinks::roots::NoRoots),

@@ -52,6 +52,8 @@ async fn rejected_points_are_told() {
         r#"{"partialSuccess":{"rejectedDataPoints":"3","errorMessage":"too old"}}"#,
         r#"{"partialSuccess":{"rejectedDataPoints":3,"errorMessage":"too old","more":1}}"#,
         r#"{"partial_success":{"rejected_data_points":"3","error_message":"too old"}}"#,
+        r#"{"partialSuccess":{"rejectedDataPoints":3.0,"errorMessage":"too old"}}"#,
+        r#"{"partial_success":null,"partialSuccess":{"rejectedDataPoints":"3e0","errorMessage":"too old"}}"#,
     ] {
         assert_eq!(
             fate_of("200 OK", "content-type: application/json\r\n", body).await,
@@ -64,8 +66,12 @@ async fn rejected_points_are_told() {
         reason: String::new(),
         left: None,
     };
-    let json = r#"{"partialSuccess":{"rejectedDataPoints":"3","errorMessage":null}}"#;
-    assert_eq!(fate_of("200 OK", "", json).await, without_reason);
+    for json in [
+        r#"{"partialSuccess":{"rejectedDataPoints":"3","errorMessage":null}}"#,
+        r#"{"partialSuccess":{"rejectedDataPoints":"3","errorMessage":{}}}"#,
+    ] {
+        assert_eq!(fate_of("200 OK", "", json).await, without_reason, "{json}");
+    }
 }
 
 /// The answer's own kind decides, not that of the request.
@@ -291,6 +297,7 @@ fn bad_headers_are_named() {
         |name: &str, value: &str| OtlpSink::open("http://h/", false, false, &[(name.into(), value.into())]);
     for (name, value) in [
         ("content-type", "x"),
+        ("Accept-Encoding", "gzip"),
         ("Idempotency-Key", "x"),
         ("a b", "x"),
         ("secret", "a\nb"),

@@ -138,7 +138,9 @@ fn a_key_is_taken_once() {
     trial.reopen();
     trial.taken(1, sum("a", 10, 20, 5));
     trial.taken(2, sum("a", 20, 30, -7));
-    trial.refused(2, sum("a", 30, 40, 9), "key is that of another request");
+    for other in [sum("a", 30, 40, 9), sum("b", 20, 30, -7)] {
+        trial.refused(2, other, "key is that of another request");
+    }
     assert_eq!(trial.totals(), only("a", -2, 2));
 }
 

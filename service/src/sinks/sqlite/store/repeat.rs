@@ -50,12 +50,6 @@ impl Writing<'_> {
         taken: &Taken,
         points: &[ForwardedPoint],
     ) -> Result<Option<Left>, NotTaken> {
-        if taken.time != time_of(points) || taken.points > points.len() {
-            return Err(NotTaken::Refused(OTHER_REQUEST.into()));
-        }
-        if taken.points == points.len() {
-            return Ok(None);
-        }
         let mut left = Left::default();
         for (place, point) in points.iter().enumerate() {
             let (series, _) = self.series(&point.series)?;
@@ -69,6 +63,9 @@ impl Writing<'_> {
             if !is_there {
                 left.add(place, format!("the file had it already: {}", super::shown(point)));
             }
+        }
+        if taken.time != time_of(points) || taken.points + left.places.len() != points.len() {
+            return Err(NotTaken::Refused(OTHER_REQUEST.into()));
         }
         Ok((!left.places.is_empty()).then_some(left))
     }
