@@ -174,11 +174,10 @@ impl Journal {
     }
 
     /// Makes the last copies durable, whatever was asked for posts: what they are copies of may be so for long.
-    pub fn settle_copies(&self) -> Result<(), Fault> {
+    pub fn settle_copies(&self) {
         let kept = lock(&self.shared.place).kept;
-        match self.shared.durable.load(SeqCst) < kept {
-            true => self.shared.sync(),
-            false => Ok(()),
+        if self.shared.durable.load(SeqCst) < kept {
+            self.shared.sync();
         }
     }
 
@@ -186,7 +185,7 @@ impl Journal {
     pub fn forget(&self, before: u64) -> Result<(), Fault> {
         let shared = &*self.shared;
         let last = lock(&shared.place).segment.number;
-        self.settle_copies()?;
+        self.settle_copies();
         for number in segment::numbers(&shared.folder)? {
             if number < before && number < last {
                 shared.disk.remove(&segment::path(&shared.folder, number))?;

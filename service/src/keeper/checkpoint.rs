@@ -175,7 +175,8 @@ impl Keeper {
             for post in &kept {
                 journal.append_copy(post);
             }
-            journal.settle_copies()
+            journal.settle_copies();
+            Ok(())
         })
         .await
     }
