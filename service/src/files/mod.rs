@@ -14,7 +14,7 @@ mod segment;
 
 pub use dead::Dead;
 #[cfg(test)]
-pub(crate) use disk::Disk;
+pub(crate) use disk::{Call, Disk};
 pub use folder::{Folder, FolderFault, MOST_SLOTS};
 pub use journal::{Journal, Post, Ticket};
 pub use outbox::{Outbox, Series};

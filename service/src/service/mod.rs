@@ -87,12 +87,9 @@ pub async fn run(settings: Settings) -> Result<(), Ended> {
     let operators = bind("--operate", &settings.operate).await?;
     let folder = Arc::new(Folder::open(&settings.data, settings.durability)?);
     let keeping = settings.keeping();
-    tokio::select! {
-        changed = change::slots(&folder, settings.slots, &keeping) => changed?,
-        name = signals.received() => {
-            tracing::info!("{name}: ending");
-            return Ok(());
-        }
+    let ending = async { tracing::info!("{}: ending", signals.received().await) };
+    if !change::slots(&folder, settings.slots, &keeping, ending).await? {
+        return Ok(());
     }
     let parts = Parts::open(folder, &settings)?;
     tracing::info!(

@@ -1,10 +1,12 @@
 use super::*;
-use crate::files::{Disk, Durability};
+use crate::files::{Call, Disk, Durability, Post};
 use crate::gateway::Options;
 use std::collections::HashMap;
+use std::future::pending;
 use std::path::{Path, PathBuf};
 use std::sync::atomic::{AtomicUsize, Ordering::SeqCst};
 use std::time::Duration;
+use tokio::sync::Notify;
 
 /// No gateway is started: all is in the outboxes.
 fn settings() -> Settings {
@@ -109,7 +111,9 @@ fn copy(from: &Path, to: &Path) {
 
 async fn change(path: &Path, slots: u16) -> Result<(), Ended> {
     let folder = Arc::new(Folder::open(path, Durability::Process)?);
-    super::slots(&folder, slots, &settings()).await
+    super::slots(&folder, slots, &settings(), pending())
+        .await
+        .map(|done| assert!(done))
 }
 
 #[tokio::test]
@@ -147,7 +151,7 @@ async fn a_kill_at_any_call_leaves_the_old_number_or_the_new_one() {
             Ok(())
         });
         let folder = Arc::new(Folder::open_on(disk, &path, Durability::Process).unwrap());
-        super::slots(&folder, to, &settings()).await.unwrap();
+        assert!(super::slots(&folder, to, &settings(), pending()).await.unwrap());
         drop(folder);
         let calls = count.load(SeqCst);
         let mut found = Vec::new();
@@ -207,4 +211,42 @@ async fn a_quarantine_and_a_full_slot_are_named() {
     let text = change(&path, 1).await.unwrap_err().to_string();
     assert!(text.contains("slot 0 would have 10012 series"), "{text}");
     assert_eq!(Folder::open(&path, Durability::Process).unwrap().slots(), 2);
+}
+
+/// As at a SIGTERM: the fault would else be lost, and the status say that all is well.
+#[tokio::test(flavor = "multi_thread")]
+async fn what_changes_a_file_is_done_before_it_stops_and_its_fault_is_told() {
+    let place = place();
+    let path = place.path().join("data");
+    let (journal, outbox) = Folder::open(&path, Durability::Process).unwrap().slot(0).unwrap();
+    let post = Post {
+        sender: "A".into(),
+        foreign: 0,
+        body: request("a", 10).into(),
+    };
+    journal.append(&post);
+    drop((journal, outbox));
+    let (commits, begun) = (Arc::new(Notify::new()), AtomicUsize::new(0));
+    let committing = commits.clone();
+    let disk = Disk::failing(move |call, path| {
+        let text = path.to_string_lossy();
+        // The second one is behind the flush.
+        if call == Call::Create && text.contains("journal") {
+            begun.fetch_add(1, SeqCst);
+        }
+        if call == Call::Sync && text.contains("outbox") && begun.load(SeqCst) == 2 {
+            committing.notify_one();
+            std::thread::sleep(Duration::from_millis(200));
+            return Err(std::io::Error::other("no disk"));
+        }
+        Ok(())
+    });
+    let folder = Arc::new(Folder::open_on(disk, &path, Durability::Process).unwrap());
+    let mut settings = settings();
+    settings.gateway.program = place.path().join("gateway");
+    let fake = Path::new(env!("CARGO_MANIFEST_DIR")).join("tests/keeper/fake_gateway.py");
+    std::fs::copy(fake, &settings.gateway.program).unwrap();
+    let ended = super::slots(&folder, 2, &settings, commits.notified()).await;
+    assert!(matches!(ended, Err(Ended::Disk(_))), "{ended:?}");
+    assert_eq!(folder.slots(), 1);
 }
