@@ -8,11 +8,12 @@ use std::sync::Arc;
 use std::time::Duration;
 use tokio::sync::watch;
 use tokio::task::{JoinError, JoinHandle, JoinSet};
+use tokio::time::Instant;
 
 /// How long posts that are under way are waited for at the end, and then the last checkpoints. The journals have what
 /// was taken, so what takes longer is left to the next start.
 const LAST_POSTS: Duration = Duration::from_secs(2);
-const LAST_CHECKPOINT: Duration = Duration::from_secs(6);
+const LAST_CHECKPOINT: Duration = Duration::from_secs(5);
 /// How long what is changing a file is waited for: a fault there is told by the exit status.
 pub(super) const LAST_CHANGES: Duration = Duration::from_secs(2);
 
@@ -45,53 +46,35 @@ impl Running {
         self.stop_intake.send_replace(true);
         let _ = tokio::time::timeout(LAST_POSTS, &mut self.intake).await; // who is slower was not answered
         self.stop_keepers.send_replace(true);
-        let ended = self.last_checkpoints().await;
-        ended.and(self.last_changes().await)
-    }
-
-    /// What is sent meanwhile is sent again by the next start. A keeper that is late may be changing a file too.
-    async fn last_changes(&mut self) -> Result<(), Ended> {
+        let in_time = last(&mut self.keepers, "a keeper", Instant::now() + LAST_CHECKPOINT).await;
+        // What is sent meanwhile is sent again by the next start. A keeper that is late may be changing a file too.
         self.stop_deliveries.send_replace(true);
-        let until = tokio::time::Instant::now() + LAST_CHANGES;
-        let mut ended = Ok(());
-        while let Ok(Some((part, end))) = tokio::time::timeout_at(until, self.last_end()).await {
-            if !matches!(end, Ok(Ok(()))) {
-                ended = ended.and(Err(cause(part, end)));
-            }
+        let until = Instant::now() + LAST_CHANGES;
+        let (late, deliveries) = tokio::join!(
+            last(&mut self.keepers, "a keeper", until),
+            last(&mut self.deliveries, "a delivery", until)
+        );
+        let ended = in_time.and(late).and(deliveries);
+        match self.keepers.is_empty() {
+            true if ended.is_ok() => tracing::info!("ended: all that was taken is in the outbox"),
+            true => {}
+            false => tracing::warn!(
+                "ended without a last flush: what was taken is in the journal for the next start"
+            ),
         }
         ended
     }
+}
 
-    /// How a part ended that may change files. None where all have.
-    async fn last_end(&mut self) -> Option<(&'static str, Result<Result<(), Fault>, JoinError>)> {
-        tokio::select! {
-            Some(end) = self.deliveries.join_next() => Some(("a delivery", end)),
-            Some(end) = self.keepers.join_next() => Some(("a keeper", end)),
-            else => None,
+/// Waits so long for parts that were told to end: a fault of one of them.
+async fn last(parts: &mut JoinSet<Result<(), Fault>>, part: &str, until: Instant) -> Result<(), Ended> {
+    let mut ended = Ok(());
+    while let Ok(Some(end)) = tokio::time::timeout_at(until, parts.join_next()).await {
+        if !matches!(end, Ok(Ok(()))) {
+            ended = ended.and(Err(cause(part, end)));
         }
     }
-
-    async fn last_checkpoints(&mut self) -> Result<(), Ended> {
-        let until = tokio::time::Instant::now() + LAST_CHECKPOINT;
-        let mut ended = Ok(());
-        loop {
-            match tokio::time::timeout_at(until, self.keepers.join_next()).await {
-                Ok(None) => break,
-                Ok(Some(Ok(Ok(())))) => {}
-                Ok(Some(end)) => ended = ended.and(Err(cause("a keeper", end))),
-                Err(_) => {
-                    tracing::warn!(
-                        "ended without a last flush: what was taken is in the journal for the next start"
-                    );
-                    return ended;
-                }
-            }
-        }
-        if ended.is_ok() {
-            tracing::info!("ended: all that was taken is in the outbox");
-        }
-        ended
-    }
+    ended
 }
 
 impl Drop for Running {

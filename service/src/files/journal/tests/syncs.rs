@@ -159,10 +159,12 @@ async fn after_a_failed_sync_of_copies_nobody_is_told_either() {
     let fails = Arc::new(AtomicBool::new(false));
     let failing = fails.clone();
     let (tell, told) = mpsc::channel();
-    let disk = Disk::failing(move |call, _| match call == Call::Sync && failing.swap(false, SeqCst) {
-        true => Err(std::io::Error::other("no disk")),
-        false => Ok(()),
-    });
+    let disk = Disk::failing(
+        move |call, _| match call == Call::Sync && failing.swap(false, SeqCst) {
+            true => Err(std::io::Error::other("no disk")),
+            false => Ok(()),
+        },
+    );
     let disk = disk.ending(move |fault| tell.send(fault.to_string()).unwrap());
     let journal = Arc::new(open_on(&disk, folder.path(), Durability::Disk).unwrap());
     journal.append_copy(&post("a"));
@@ -175,7 +177,10 @@ async fn after_a_failed_sync_of_copies_nobody_is_told_either() {
     let ticket = journal.append(&post("b"));
     let durable = tokio::time::timeout(Duration::from_millis(1500), journal.durable(ticket));
     assert!(durable.await.is_err(), "who waits is told of what may be lost");
-    assert!(told.recv_timeout(Duration::from_secs(5)).unwrap().contains("no disk"));
+    assert!(told
+        .recv_timeout(Duration::from_secs(5))
+        .unwrap()
+        .contains("no disk"));
     std::mem::forget(journal);
 }
 
