@@ -144,6 +144,11 @@ impl Journal {
         }
     }
 
+    /// Returns once all before a ticket is on the disk, whatever was asked for posts.
+    pub async fn settled(&self, ticket: Ticket) {
+        self.shared.synced(ticket.0).await;
+    }
+
     /// Gives the posts of the segments from `first` to before `end` that count, in order, until `each` is false.
     pub fn posts(&self, first: u64, end: u64, mut each: impl FnMut(Post) -> bool) -> Result<(), Fault> {
         let (last, at) = {

@@ -2,7 +2,7 @@
 //!
 //! It is a barrier: no post is on its way while the gateway is flushed and the journal turns to a new segment. So a
 //! group is exactly the posts of the segments before its commit. The rest is done while posts go on: the group is
-//! committed once all its posts are durable, and then the segments before are deleted.
+//! committed once all its posts are on the disk, whatever was asked for them, and then the segments before are deleted.
 
 use super::recovery::Recovered;
 use super::run::Next;
@@ -136,7 +136,7 @@ impl Keeper {
         })
     }
 
-    /// Journal first, then outbox: a group is committed once all its posts are durable.
+    /// Journal first, then outbox: a group is committed once all its posts are on the disk.
     async fn commit(&mut self, flushed: Flushed) -> Result<u64, Fault> {
         let Flushed {
             bodies,
@@ -145,7 +145,7 @@ impl Keeper {
             turned,
         } = flushed;
         let requests = bodies.len() as u64;
-        self.slot.journal.durable(turned).await;
+        self.slot.journal.settled(turned).await;
         let held = self.slot.outbox.quarantined();
         if !held.is_empty() {
             self.copy_posts_of(held, first, next).await?;
