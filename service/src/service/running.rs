@@ -56,7 +56,7 @@ impl Running {
         );
         let ended = in_time.and(late).and(deliveries);
         match self.keepers.is_empty() {
-            true if ended.is_ok() => tracing::info!("ended: all that was taken is in the outbox"),
+            true if ended.is_ok() => tracing::info!("ended"),
             true => {}
             false => tracing::warn!(
                 "ended without a last flush: what was taken is in the journal for the next start"

@@ -132,10 +132,10 @@ fn after_a_failed_sync_nothing_is_tried_again() {
 /// Behind a sync that failed the next one says yes to what the disk has not.
 #[test]
 fn after_a_failed_sync_no_segment_is_deleted_and_none_goes_on() {
-    let deletes = |outbox: &Outbox| outbox.sweep().is_ok();
-    let commits = |outbox: &Outbox| outbox.commit(&[body(&[("a", 1)], "")], 2).is_ok();
-    let pairs: [[&dyn Fn(&Outbox) -> bool; 2]; 2] = [[&commits, &deletes], [&deletes, &commits]];
-    for [first, second] in pairs {
+    type Succeeds = fn(&Outbox) -> bool;
+    let deletes: Succeeds = |outbox| outbox.sweep().is_ok();
+    let commits: Succeeds = |outbox| outbox.commit(&[body(&[("a", 1)], "")], 2).is_ok();
+    for [first, second] in [[commits, deletes], [deletes, commits]] {
         let folder = tempfile::tempdir().unwrap();
         let fails = Arc::new(AtomicBool::new(false));
         let failing = fails.clone();
