@@ -22,6 +22,7 @@ const TRIES: usize = 3;
 /// What a barrier brought: all posts of the segments before `next` that are in no group yet.
 struct Flushed {
     bodies: Vec<Vec<u8>>,
+    posts: u64,
     first: u64,
     next: u64,
     /// For all before the turn.
@@ -126,10 +127,10 @@ impl Keeper {
         bodies.extend(fresh);
         let first = self.slot.outbox.journal();
         let (next, turned) = self.slot.journal.turn();
-        self.slot.set_ungrouped(0);
         self.released = false;
         Ok(Flushed {
             bodies,
+            posts: self.slot.ungrouped(),
             first,
             next,
             turned,
@@ -140,6 +141,7 @@ impl Keeper {
     async fn commit(&mut self, flushed: Flushed) -> Result<u64, Fault> {
         let Flushed {
             bodies,
+            posts,
             first,
             next,
             turned,
@@ -152,6 +154,7 @@ impl Keeper {
         }
         let outbox = self.slot.outbox.clone();
         blocking(move || outbox.commit(&bodies, next)).await?;
+        self.slot.count_grouped(posts);
         self.slot.metrics.forwarded_requests.inc_by(requests);
         self.find_owners(first, next).await?;
         self.forget_segments(next).await?;
