@@ -8,6 +8,8 @@ mod judge;
 #[cfg(test)]
 mod numbers;
 pub mod outbox;
+#[cfg(test)]
+mod power;
 mod records;
 mod room;
 mod segment;
