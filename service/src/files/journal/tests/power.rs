@@ -17,7 +17,10 @@ fn run(folder: &Path, left: &Path, durability: Durability, chance: &mut Numbers)
     std::fs::create_dir(folder).unwrap();
     let shadow = Arc::new(Mutex::new(Shadow::of(folder)));
     let journal = open_on(&disk(&shadow, u64::MAX), folder, durability).unwrap();
-    let mut posted = Posted::default();
+    let mut posted = Posted {
+        reach: 1,
+        ..Posted::default()
+    };
     for step in 0..2 + chance.below(12) {
         match chance.below(16) {
             0..=9 => {
