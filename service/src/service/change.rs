@@ -34,8 +34,8 @@ pub(super) async fn slots(
     settings: &Settings,
     ending: impl Future<Output = ()>,
 ) -> Result<bool, Ended> {
-    let (stop, stopped) = watch::channel(false);
-    let mut changing = pin!(change(folder, wanted, settings, stopped));
+    let (stop, _) = watch::channel(false);
+    let mut changing = pin!(change(folder, wanted, settings, &stop));
     tokio::select! {
         changed = &mut changing => return changed.map(|()| true),
         () = ending => {}
@@ -51,7 +51,7 @@ async fn change(
     folder: &Arc<Folder>,
     wanted: u16,
     settings: &Settings,
-    stop: watch::Receiver<bool>,
+    stop: &watch::Sender<bool>,
 ) -> Result<(), Ended> {
     let now = folder.slots();
     if now == wanted {
@@ -81,7 +81,7 @@ async fn at_rest(
     now: u16,
     wanted: u16,
     settings: &Settings,
-    stop: watch::Receiver<bool>,
+    stop: &watch::Sender<bool>,
 ) -> Result<Outboxes, Ended> {
     let mut outboxes = Outboxes::new();
     let mut keepers = Vec::new();
@@ -119,21 +119,30 @@ async fn at_rest(
     Ok(outboxes)
 }
 
-async fn drain(keepers: Vec<Keeper>, stop: watch::Receiver<bool>) -> Result<(), Ended> {
+/// Behind one that fails the others are told to stop: each ends what it changes in a file.
+async fn drain(keepers: Vec<Keeper>, stop: &watch::Sender<bool>) -> Result<(), Ended> {
     let mut draining = JoinSet::new();
     for keeper in keepers {
-        draining.spawn(keeper.drain(stop.clone()));
+        draining.spawn(keeper.drain(stop.subscribe()));
     }
+    let mut all = Ok(());
     while let Some(ended) = draining.join_next().await {
-        let drained = ended.map_err(|error| refused(format!("a keeper failed ({error})")))??;
-        if !drained {
-            return Err(refused(
+        let one = match ended {
+            Ok(Ok(true)) => continue,
+            Ok(Ok(false)) => refused(
                 "the number of slots is as it was, since a flush did not come to its end: the lines above say why"
                     .into(),
-            ));
-        }
+            ),
+            Ok(Err(fault)) => fault.into(),
+            Err(error) => refused(format!("a keeper failed ({error})")),
+        };
+        stop.send_replace(true);
+        all = match one {
+            Ended::Disk(_) => Err(one),
+            Ended::Other(_) => all.and(Err(one)),
+        };
     }
-    Ok(())
+    all
 }
 
 /// How many series have another slot.

@@ -213,40 +213,51 @@ async fn a_quarantine_and_a_full_slot_are_named() {
     assert_eq!(Folder::open(&path, Durability::Process).unwrap().slots(), 2);
 }
 
-/// As at a SIGTERM: the fault would else be lost, and the status say that all is well.
+/// As at a SIGTERM: the fault would else be lost, and the status say that all is well. Of two gateways one hangs, so
+/// its keeper ends before the other's.
 #[tokio::test(flavor = "multi_thread")]
 async fn what_changes_a_file_is_done_before_it_stops_and_its_fault_is_told() {
-    let place = place();
-    let path = place.path().join("data");
-    let (journal, outbox) = Folder::open(&path, Durability::Process).unwrap().slot(0).unwrap();
-    let post = Post {
-        sender: "A".into(),
-        foreign: 0,
-        body: request("a", 10).into(),
-    };
-    journal.append(&post);
-    drop((journal, outbox));
-    let (commits, begun) = (Arc::new(Notify::new()), AtomicUsize::new(0));
-    let committing = commits.clone();
-    let disk = Disk::failing(move |call, path| {
-        let text = path.to_string_lossy();
-        // The second one is behind the flush.
-        if call == Call::Create && text.contains("journal") {
-            begun.fetch_add(1, SeqCst);
+    for slots in [1, 2] {
+        let place = place();
+        let path = place.path().join("data");
+        let folder = Folder::open(&path, Durability::Process).unwrap();
+        folder.set_slots(slots).unwrap();
+        for slot in 0..slots {
+            let (journal, _outbox) = folder.slot(slot).unwrap();
+            journal.append(&Post {
+                sender: "A".into(),
+                foreign: 0,
+                body: request("a", 10).into(),
+            });
         }
-        if call == Call::Sync && text.contains("outbox") && begun.load(SeqCst) == 2 {
-            committing.notify_one();
-            std::thread::sleep(Duration::from_millis(200));
-            return Err(std::io::Error::other("no disk"));
+        drop(folder);
+        let (commits, begun, failed) = (Arc::new(Notify::new()), AtomicUsize::new(0), AtomicUsize::new(0));
+        let committing = commits.clone();
+        let disk = Disk::failing(move |call, path| {
+            let text = path.to_string_lossy();
+            if call == Call::Create && text.contains("journal") {
+                begun.fetch_add(1, SeqCst);
+            }
+            // Behind a flush: its journal has turned.
+            let is_commit =
+                call == Call::Sync && text.contains("outbox") && begun.load(SeqCst) > usize::from(slots);
+            if is_commit && failed.fetch_add(1, SeqCst) == 0 {
+                committing.notify_one();
+                std::thread::sleep(Duration::from_millis(1200));
+                return Err(std::io::Error::other("no disk"));
+            }
+            Ok(())
+        });
+        let folder = Arc::new(Folder::open_on(disk, &path, Durability::Process).unwrap());
+        let mut settings = settings();
+        settings.gateway.program = place.path().join("gateway");
+        let fake = Path::new(env!("CARGO_MANIFEST_DIR")).join("tests/keeper/fake_gateway.py");
+        std::fs::copy(fake, &settings.gateway.program).unwrap();
+        if slots > 1 {
+            std::fs::write(place.path().join("hangs-at-start"), "1").unwrap();
         }
-        Ok(())
-    });
-    let folder = Arc::new(Folder::open_on(disk, &path, Durability::Process).unwrap());
-    let mut settings = settings();
-    settings.gateway.program = place.path().join("gateway");
-    let fake = Path::new(env!("CARGO_MANIFEST_DIR")).join("tests/keeper/fake_gateway.py");
-    std::fs::copy(fake, &settings.gateway.program).unwrap();
-    let ended = super::slots(&folder, 2, &settings, commits.notified()).await;
-    assert!(matches!(ended, Err(Ended::Disk(_))), "{ended:?}");
-    assert_eq!(folder.slots(), 1);
+        let ended = super::slots(&folder, 3, &settings, commits.notified()).await;
+        assert!(matches!(ended, Err(Ended::Disk(_))), "{slots} slots: {ended:?}");
+        assert_eq!(folder.slots(), slots);
+    }
 }
