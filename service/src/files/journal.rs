@@ -144,6 +144,11 @@ impl Journal {
         }
     }
 
+    /// Returns once all before a ticket is on the disk, whatever was asked for posts.
+    pub async fn settled(&self, ticket: Ticket) {
+        self.shared.synced(ticket.0).await;
+    }
+
     /// Gives the posts of the segments from `first` to before `end` that count, in order, until `each` is false.
     pub fn posts(&self, first: u64, end: u64, mut each: impl FnMut(Post) -> bool) -> Result<(), Fault> {
         let (last, at) = {
@@ -174,11 +179,10 @@ impl Journal {
     }
 
     /// Makes the last copies durable, whatever was asked for posts: what they are copies of may be so for long.
-    pub fn settle_copies(&self) -> Result<(), Fault> {
+    pub fn settle_copies(&self) {
         let kept = lock(&self.shared.place).kept;
-        match self.shared.durable.load(SeqCst) < kept {
-            true => self.shared.sync(),
-            false => Ok(()),
+        if self.shared.durable.load(SeqCst) < kept {
+            self.shared.sync();
         }
     }
 
@@ -186,7 +190,7 @@ impl Journal {
     pub fn forget(&self, before: u64) -> Result<(), Fault> {
         let shared = &*self.shared;
         let last = lock(&shared.place).segment.number;
-        self.settle_copies()?;
+        self.settle_copies();
         for number in segment::numbers(&shared.folder)? {
             if number < before && number < last {
                 shared.disk.remove(&segment::path(&shared.folder, number))?;

@@ -8,13 +8,15 @@ mod judge;
 #[cfg(test)]
 mod numbers;
 pub mod outbox;
+#[cfg(test)]
+mod power;
 mod records;
 mod room;
 mod segment;
 
 pub use dead::Dead;
 #[cfg(test)]
-pub(crate) use disk::Disk;
+pub(crate) use disk::{Call, Disk};
 pub use folder::{Folder, FolderFault, MOST_SLOTS};
 pub use journal::{Journal, Post, Ticket};
 pub use outbox::{Outbox, Series};

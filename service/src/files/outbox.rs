@@ -309,8 +309,11 @@ impl Outbox {
     /// Deletes the segments that no waiting request is in, once it is durable that the sink has theirs.
     fn sweep(&self) -> Result<(), Fault> {
         let mut writer = lock(&self.writer);
+        writer.begin()?;
         writer.segment.sync()?;
-        self.delete_taken(&writer)
+        self.delete_taken(&writer)?;
+        writer.failed = false;
+        Ok(())
     }
 
     fn delete_taken(&self, writer: &Writer) -> Result<(), Fault> {

@@ -2,7 +2,7 @@
 //!
 //! It is a barrier: no post is on its way while the gateway is flushed and the journal turns to a new segment. So a
 //! group is exactly the posts of the segments before its commit. The rest is done while posts go on: the group is
-//! committed once all its posts are durable, and then the segments before are deleted.
+//! committed once all its posts are on the disk, whatever was asked for them, and then the segments before are deleted.
 
 use super::recovery::Recovered;
 use super::run::Next;
@@ -22,6 +22,7 @@ const TRIES: usize = 3;
 /// What a barrier brought: all posts of the segments before `next` that are in no group yet.
 struct Flushed {
     bodies: Vec<Vec<u8>>,
+    posts: u64,
     first: u64,
     next: u64,
     /// For all before the turn.
@@ -126,32 +127,34 @@ impl Keeper {
         bodies.extend(fresh);
         let first = self.slot.outbox.journal();
         let (next, turned) = self.slot.journal.turn();
-        self.slot.set_ungrouped(0);
         self.released = false;
         Ok(Flushed {
             bodies,
+            posts: self.slot.ungrouped(),
             first,
             next,
             turned,
         })
     }
 
-    /// Journal first, then outbox: a group is committed once all its posts are durable.
+    /// Journal first, then outbox: a group is committed once all its posts are on the disk.
     async fn commit(&mut self, flushed: Flushed) -> Result<u64, Fault> {
         let Flushed {
             bodies,
+            posts,
             first,
             next,
             turned,
         } = flushed;
         let requests = bodies.len() as u64;
-        self.slot.journal.durable(turned).await;
+        self.slot.journal.settled(turned).await;
         let held = self.slot.outbox.quarantined();
         if !held.is_empty() {
             self.copy_posts_of(held, first, next).await?;
         }
         let outbox = self.slot.outbox.clone();
         blocking(move || outbox.commit(&bodies, next)).await?;
+        self.slot.count_grouped(posts);
         self.slot.metrics.forwarded_requests.inc_by(requests);
         self.find_owners(first, next).await?;
         self.forget_segments(next).await?;
@@ -175,7 +178,8 @@ impl Keeper {
             for post in &kept {
                 journal.append_copy(post);
             }
-            journal.settle_copies()
+            journal.settle_copies();
+            Ok(())
         })
         .await
     }

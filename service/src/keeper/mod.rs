@@ -120,3 +120,6 @@ impl From<Doubt> for Trouble {
         Trouble::Gateway(doubt)
     }
 }
+
+#[cfg(test)]
+mod tests;

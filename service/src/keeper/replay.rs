@@ -9,7 +9,7 @@ use std::hash::{BuildHasher, RandomState};
 use std::sync::atomic::{AtomicU64, Ordering};
 use std::sync::Arc;
 use std::time::Duration;
-use tokio::sync::{mpsc, Mutex};
+use tokio::sync::{mpsc, RwLock};
 use tokio::task::JoinSet;
 
 const LANES: usize = 8;
@@ -62,8 +62,9 @@ pub(super) struct Replay {
     gateway: Arc<Gateway>,
     purpose: Use,
     done: AtomicU64,
-    /// What was flushed to make room. The lock is held over each flush, so that they are here in their order.
-    carried: Mutex<Vec<Vec<u8>>>,
+    /// What was flushed to make room, in its order. Who flushes has it alone: beside posts a flush would go on as long as
+    /// they come, and bring more requests than are taken at a time.
+    carried: RwLock<Vec<Vec<u8>>>,
 }
 
 impl Replay {
@@ -73,7 +74,7 @@ impl Replay {
             gateway,
             purpose,
             done: AtomicU64::new(0),
-            carried: Mutex::new(Vec::new()),
+            carried: RwLock::new(Vec::new()),
         }
     }
 
@@ -98,7 +99,7 @@ impl Replay {
         // A lane that failed has its own reason, and the feed stops by it without one.
         fed?;
         put?;
-        let carried = std::mem::take(&mut *replay.carried.lock().await);
+        let carried = std::mem::take(&mut *replay.carried.write().await);
         Ok((replay.done.load(Ordering::Relaxed), carried))
     }
 
@@ -139,13 +140,13 @@ impl Replay {
     }
 
     async fn put(&self, post: &Post) -> Result<(), Doubt> {
-        let mut answer = self.gateway.refill(&post.sender, &post.body).await?;
+        let mut answer = self.ask(post).await?;
         for _ in 1..TRIES {
             if answer.status != 503 {
                 break;
             }
             self.make_room().await?;
-            answer = self.gateway.refill(&post.sender, &post.body).await?;
+            answer = self.ask(post).await?;
         }
         match answer.status {
             200 if crate::slot::foreign_of(&answer) == Some(post.foreign) => Ok(()),
@@ -159,9 +160,14 @@ impl Replay {
         }
     }
 
+    async fn ask(&self, post: &Post) -> Result<Answer, Doubt> {
+        let _no_flush = self.carried.read().await;
+        self.gateway.refill(&post.sender, &post.body).await
+    }
+
     /// A fresh gateway has an entry more for each series than the one before, so a limit may be met a little sooner.
     async fn make_room(&self) -> Result<(), Doubt> {
-        let mut carried = self.carried.lock().await;
+        let mut carried = self.carried.write().await;
         carried.extend(self.gateway.flush_all().await?);
         Ok(())
     }

@@ -165,13 +165,16 @@ impl Keeper {
     /// Refuses posts from now on, and makes a last checkpoint.
     async fn finish(&mut self, stop: &mut watch::Receiver<bool>) -> Result<Next, Fault> {
         self.slot.gate.stop();
-        if let (_, None) = self.checkpoint(stop).await? {
-            tracing::warn!(
+        match self.checkpoint(stop).await? {
+            (_, Some(_)) => tracing::info!(
+                "slot {}: all that was taken is in the outbox",
+                self.slot.number()
+            ),
+            (_, None) => tracing::warn!(
                 "slot {}: the last flush did not come to its end. Nothing is lost: the next start puts in what the \
-                 journal has (posts: {})",
-                self.slot.number(),
-                self.slot.ungrouped()
-            );
+                 journal has",
+                self.slot.number()
+            ),
         }
         Ok(Next::Stopped)
     }

@@ -5,6 +5,7 @@
 //! the series whose owners post elsewhere by the number that is written: before that step, what was adopted; behind it,
 //! what the former slots know. So a kill leaves the old number or the new one, and never a mix.
 
+use super::running::LAST_CHANGES;
 use super::Ended;
 use crate::files::{Fault, Folder, Outbox, Series};
 use crate::gateway::Starter;
@@ -14,6 +15,8 @@ use crate::otlp::series::SeriesKey;
 use crate::slot::{slot_of, Slot};
 use anyhow::{anyhow, Context};
 use std::collections::BTreeMap;
+use std::future::Future;
+use std::pin::pin;
 use std::sync::Arc;
 use tokio::sync::watch;
 use tokio::task::JoinSet;
@@ -23,8 +26,33 @@ const MOST_SERIES: usize = 10_000;
 
 type Outboxes = BTreeMap<u16, Arc<Outbox>>;
 
-/// Brings the folder to as many slots as are wanted. Dropped before it returns, it leaves what a kill leaves.
-pub(super) async fn slots(folder: &Arc<Folder>, wanted: u16, settings: &Settings) -> Result<(), Ended> {
+/// Brings the folder to as many slots as are wanted: false where `ending` came first. What changes a file is then done
+/// to its end, so that its fault is told; and what is not done is as a kill leaves it.
+pub(super) async fn slots(
+    folder: &Arc<Folder>,
+    wanted: u16,
+    settings: &Settings,
+    ending: impl Future<Output = ()>,
+) -> Result<bool, Ended> {
+    let (stop, _) = watch::channel(false);
+    let mut changing = pin!(change(folder, wanted, settings, &stop));
+    tokio::select! {
+        changed = &mut changing => return changed.map(|()| true),
+        () = ending => {}
+    }
+    stop.send_replace(true);
+    match tokio::time::timeout(LAST_CHANGES, changing).await {
+        Ok(Err(Ended::Disk(fault))) => Err(fault.into()),
+        _ => Ok(false),
+    }
+}
+
+async fn change(
+    folder: &Arc<Folder>,
+    wanted: u16,
+    settings: &Settings,
+    stop: &watch::Sender<bool>,
+) -> Result<(), Ended> {
     let now = folder.slots();
     if now == wanted {
         return Ok(());
@@ -32,7 +60,7 @@ pub(super) async fn slots(folder: &Arc<Folder>, wanted: u16, settings: &Settings
     if folder.slots_with_files()?.is_empty() {
         return Ok(folder.set_slots(wanted)?);
     }
-    let outboxes = at_rest(folder, now, wanted, settings).await?;
+    let outboxes = at_rest(folder, now, wanted, settings, stop).await?;
     let moved = adopt(folder, outboxes, now, wanted)?;
     tracing::info!("the number of slots was {now} and is {wanted}; series with another slot: {moved}");
     Ok(())
@@ -53,6 +81,7 @@ async fn at_rest(
     now: u16,
     wanted: u16,
     settings: &Settings,
+    stop: &watch::Sender<bool>,
 ) -> Result<Outboxes, Ended> {
     let mut outboxes = Outboxes::new();
     let mut keepers = Vec::new();
@@ -86,26 +115,34 @@ async fn at_rest(
         leave_others(&outbox, number, now)?;
         outboxes.insert(number, Arc::new(outbox));
     }
-    drain(keepers).await?;
+    drain(keepers, stop).await?;
     Ok(outboxes)
 }
 
-async fn drain(keepers: Vec<Keeper>) -> Result<(), Ended> {
-    let (_never, stop) = watch::channel(false);
+/// Behind one that fails the others are told to stop: each ends what it changes in a file.
+async fn drain(keepers: Vec<Keeper>, stop: &watch::Sender<bool>) -> Result<(), Ended> {
     let mut draining = JoinSet::new();
     for keeper in keepers {
-        draining.spawn(keeper.drain(stop.clone()));
+        draining.spawn(keeper.drain(stop.subscribe()));
     }
+    let mut all = Ok(());
     while let Some(ended) = draining.join_next().await {
-        let drained = ended.map_err(|error| refused(format!("a keeper failed ({error})")))??;
-        if !drained {
-            return Err(refused(
+        let one = match ended {
+            Ok(Ok(true)) => continue,
+            Ok(Ok(false)) => refused(
                 "the number of slots is as it was, since a flush did not come to its end: the lines above say why"
                     .into(),
-            ));
-        }
+            ),
+            Ok(Err(fault)) => fault.into(),
+            Err(error) => refused(format!("a keeper failed ({error})")),
+        };
+        stop.send_replace(true);
+        all = match one {
+            Ended::Disk(_) => Err(one),
+            Ended::Other(_) => all.and(Err(one)),
+        };
     }
-    Ok(())
+    all
 }
 
 /// How many series have another slot.

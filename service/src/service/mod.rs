@@ -14,11 +14,12 @@ use crate::gateway::Options;
 use crate::keeper::Settings as Keeping;
 use crate::otlp::Reading;
 use crate::sinks::Address;
+use crate::slot::Slots;
 use anyhow::{anyhow, Context};
 use parts::Parts;
 use senders::{bind, local, Senders};
 use std::path::PathBuf;
-use std::sync::Arc;
+use std::sync::{Arc, OnceLock};
 use std::time::Duration;
 use supervisor::Supervisor;
 use tokio::signal::unix::{signal, Signal, SignalKind};
@@ -85,14 +86,16 @@ pub async fn run(settings: Settings) -> Result<(), Ended> {
         None => None,
     };
     let operators = bind("--operate", &settings.operate).await?;
+    let slots = Arc::new(OnceLock::<Arc<Slots>>::new());
+    let begun = slots.clone();
+    // Before the files are opened: that may take longer than a supervisor waits.
+    let is_ready = move || begun.get().is_some_and(|slots| slots.are_ready());
+    let watched = tokio::spawn(supervisor.clone().watch(is_ready));
     let folder = Arc::new(Folder::open(&settings.data, settings.durability)?);
     let keeping = settings.keeping();
-    tokio::select! {
-        changed = change::slots(&folder, settings.slots, &keeping) => changed?,
-        name = signals.received() => {
-            tracing::info!("{name}: ending");
-            return Ok(());
-        }
+    let ending = async { tracing::info!("{}: ending", signals.received().await) };
+    if !change::slots(&folder, settings.slots, &keeping, ending).await? {
+        return Ok(());
     }
     let parts = Parts::open(folder, &settings)?;
     tracing::info!(
@@ -108,8 +111,7 @@ pub async fn run(settings: Settings) -> Result<(), Ended> {
         local(&operators)
     );
     let mut running = parts.start(&settings, senders, operators);
-    let slots = running.slots.clone();
-    let watched = tokio::spawn(supervisor.clone().watch(move || slots.are_ready()));
+    slots.get_or_init(|| running.slots.clone());
     let ended = tokio::select! {
         cause = running.ended() => Err(cause),
         name = signals.received() => {

@@ -8,13 +8,14 @@ use std::sync::Arc;
 use std::time::Duration;
 use tokio::sync::watch;
 use tokio::task::{JoinError, JoinHandle, JoinSet};
+use tokio::time::Instant;
 
 /// How long posts that are under way are waited for at the end, and then the last checkpoints. The journals have what
 /// was taken, so what takes longer is left to the next start.
 const LAST_POSTS: Duration = Duration::from_secs(2);
-const LAST_CHECKPOINT: Duration = Duration::from_secs(6);
-/// How long the files that deliveries are changing are waited for: a fault there is told by the exit status.
-const LAST_CHANGES: Duration = Duration::from_secs(2);
+const LAST_CHECKPOINT: Duration = Duration::from_secs(5);
+/// How long what is changing a file is waited for: a fault there is told by the exit status.
+pub(super) const LAST_CHANGES: Duration = Duration::from_secs(2);
 
 /// The parts at work. The intake ends first, then the keepers; the others have nothing to end. All end where this is
 /// dropped.
@@ -45,44 +46,35 @@ impl Running {
         self.stop_intake.send_replace(true);
         let _ = tokio::time::timeout(LAST_POSTS, &mut self.intake).await; // who is slower was not answered
         self.stop_keepers.send_replace(true);
-        let ended = self.last_checkpoints().await;
-        ended.and(self.last_deliveries().await)
-    }
-
-    /// What is sent meanwhile is sent again by the next start.
-    async fn last_deliveries(&mut self) -> Result<(), Ended> {
+        let in_time = last(&mut self.keepers, "a keeper", Instant::now() + LAST_CHECKPOINT).await;
+        // What is sent meanwhile is sent again by the next start. A keeper that is late may be changing a file too.
         self.stop_deliveries.send_replace(true);
-        let until = tokio::time::Instant::now() + LAST_CHANGES;
-        let mut ended = Ok(());
-        while let Ok(Some(end)) = tokio::time::timeout_at(until, self.deliveries.join_next()).await {
-            if let Ok(Err(fault)) = end {
-                ended = ended.and(Err(Ended::Disk(fault)));
-            }
+        let until = Instant::now() + LAST_CHANGES;
+        let (late, deliveries) = tokio::join!(
+            last(&mut self.keepers, "a keeper", until),
+            last(&mut self.deliveries, "a delivery", until)
+        );
+        let ended = in_time.and(late).and(deliveries);
+        match self.keepers.is_empty() {
+            true if ended.is_ok() => tracing::info!("ended"),
+            true => {}
+            false => tracing::warn!(
+                "ended without a last flush: what was taken is in the journal for the next start"
+            ),
         }
         ended
     }
+}
 
-    async fn last_checkpoints(&mut self) -> Result<(), Ended> {
-        let until = tokio::time::Instant::now() + LAST_CHECKPOINT;
-        let mut ended = Ok(());
-        loop {
-            match tokio::time::timeout_at(until, self.keepers.join_next()).await {
-                Ok(None) => break,
-                Ok(Some(Ok(Ok(())))) => {}
-                Ok(Some(end)) => ended = ended.and(Err(cause("a keeper", end))),
-                Err(_) => {
-                    tracing::warn!(
-                        "ended without a last flush: what was taken is in the journal for the next start"
-                    );
-                    return ended;
-                }
-            }
+/// Waits so long for parts that were told to end: a fault of one of them.
+async fn last(parts: &mut JoinSet<Result<(), Fault>>, part: &str, until: Instant) -> Result<(), Ended> {
+    let mut ended = Ok(());
+    while let Ok(Some(end)) = tokio::time::timeout_at(until, parts.join_next()).await {
+        if !matches!(end, Ok(Ok(()))) {
+            ended = ended.and(Err(cause(part, end)));
         }
-        if ended.is_ok() {
-            tracing::info!("ended: all that was taken is in the outbox");
-        }
-        ended
     }
+    ended
 }
 
 impl Drop for Running {
@@ -98,5 +90,44 @@ fn cause(part: &str, end: Result<Result<(), Fault>, JoinError>) -> Ended {
         Ok(Err(fault)) => Ended::Disk(fault),
         Ok(Ok(())) => Ended::Other(anyhow!("{part} has ended by itself: this is a fault of totxegun")),
         Err(error) => Ended::Other(anyhow!("{part} failed ({error}): this is a fault of totxegun")),
+    }
+}
+
+#[cfg(test)]
+mod tests {
+    use super::*;
+    use crate::switch::Switch;
+
+    /// Parts of which a keeper ends by a fault so long behind the end of the time for last checkpoints.
+    fn running(late: Duration) -> Running {
+        let (stop_intake, _) = watch::channel(false);
+        let (stop_keepers, mut stopped) = watch::channel(false);
+        let (stop_deliveries, _) = watch::channel(false);
+        let mut keepers = JoinSet::new();
+        keepers.spawn(async move {
+            stopped.wait_true().await;
+            tokio::time::sleep(LAST_CHECKPOINT + late).await;
+            Err(Fault::Io {
+                path: "/outbox".into(),
+                source: std::io::Error::other("no disk"),
+            })
+        });
+        Running {
+            intake: tokio::spawn(async {}),
+            keepers,
+            deliveries: JoinSet::new(),
+            operate: tokio::spawn(async {}),
+            stop_intake,
+            stop_keepers,
+            stop_deliveries,
+            slots: Slots::new(Vec::new()),
+        }
+    }
+
+    /// It is in the middle of a change of its files, as a rule of a commit.
+    #[tokio::test]
+    async fn a_fault_of_a_keeper_that_is_late_is_told() {
+        let ended = running(Duration::from_millis(200)).stop().await;
+        assert!(matches!(ended, Err(Ended::Disk(_))), "{ended:?}");
     }
 }

@@ -192,6 +192,11 @@ impl Slot {
         self.ungrouped.store(posts, Ordering::Relaxed);
     }
 
+    /// So many more are in a group.
+    pub(crate) fn count_grouped(&self, posts: u64) {
+        self.ungrouped.fetch_sub(posts, Ordering::Relaxed);
+    }
+
     pub(crate) fn ungrouped(&self) -> u64 {
         self.ungrouped.load(Ordering::Relaxed)
     }

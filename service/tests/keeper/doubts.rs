@@ -152,6 +152,30 @@ async fn a_replay_makes_room_by_a_flush() {
     assert_eq!(sum, 6);
 }
 
+/// Else the flush would go on as long as posts come, and bring more requests than are taken at a time.
+#[tokio::test(flavor = "multi_thread")]
+async fn a_replay_makes_room_while_no_post_is_put() {
+    let place = Place::of_fake();
+    let run = place.run().await;
+    for number in 1..=40 {
+        let posts = ('A'..='P').map(|sender| {
+            let body = point(&sender.to_string(), number * 10, number * 10 + 10, 1);
+            run.begin_post(&sender.to_string(), vec![body])
+        });
+        for post in posts.collect::<Vec<_>>() {
+            assert_eq!(post.await.unwrap(), all());
+        }
+    }
+    place.tell("post-full-behind-another", 1);
+    assert!(run.kill_gateway());
+    assert_eq!(run.post_until_answered("Q", point("Q", 10, 20, 1)).await, all());
+    assert_eq!(run.recoveries(), 2);
+    let requests = run.checkpoint().await;
+    assert!(requests <= 3, "{requests} requests");
+    let taken = run.stop().await;
+    assert_eq!(taken.values().map(|(sum, _)| sum).sum::<i64>(), 16 * 40 + 1);
+}
+
 #[tokio::test(flavor = "multi_thread")]
 async fn a_stop_does_not_wait_for_a_start() {
     for what in ["start-fails", "hangs-at-start"] {

@@ -1,7 +1,11 @@
 //! What an operator is told.
 
-use crate::support::{points, until, Place, PROGRAM};
+use crate::support::{points, until, Place, NO_SINK, PROGRAM};
+use nix::fcntl::{flock, FlockArg};
+use std::os::fd::AsRawFd;
+use std::os::unix::net::UnixDatagram;
 use std::process::Command;
+use std::time::Duration;
 
 #[test]
 fn a_quarantined_sender_that_names_none_is_shown() {
@@ -29,6 +33,25 @@ fn a_wrong_key_is_that_of_no_request() {
         let said = service.said(&["dead", what, "0-a-1"]);
         assert!(said.contains("no such request"), "{what}: {said}");
     }
+}
+
+/// A supervisor that hears of it only then ends a start that takes long, again and again.
+#[test]
+fn a_start_asks_for_time_before_its_files_are_open() {
+    let place = Place::new();
+    std::fs::create_dir(place.data()).unwrap();
+    let lock = std::fs::File::create(place.data().join("lock")).unwrap();
+    flock(lock.as_raw_fd(), FlockArg::LockExclusive).unwrap();
+    let path = place.folder.path().join("notify");
+    let supervisor = UnixDatagram::bind(&path).unwrap();
+    supervisor.set_read_timeout(Some(Duration::from_secs(5))).unwrap();
+    let mut command = Command::new(PROGRAM);
+    command.env("NOTIFY_SOCKET", &path);
+    let mut service = place.begin_by(command, &["--sink", NO_SINK]);
+    assert_eq!(service.status_of_end(), Some(1), "another has its files");
+    let mut told = [0; 100];
+    let length = supervisor.recv(&mut told).expect("it was told nothing");
+    assert!(told[..length].starts_with(b"EXTEND_TIMEOUT_USEC="));
 }
 
 /// A start of the program with a small disk of its own in the place of the folder.

@@ -59,7 +59,7 @@ impl Journal {
             work: Condvar::new(),
             syncing: Mutex::new(()),
         });
-        shared.sync()?;
+        shared.try_sync()?;
         let run = shared.clone();
         let syncer = std::thread::Builder::new()
             .name("journal".into())
@@ -113,6 +113,8 @@ fn cut(disk: &Disk, folder: &Path, found: &mut Vec<Found>, torn: usize) -> Resul
         );
         disk.remove(&segment::path(folder, later.size.number))?;
     }
+    // Before the torn one looks whole: what follows it would count again where its name came back.
+    disk.sync_folder(folder)?;
     if end == 0 {
         disk.remove(&path)?;
         found.pop();

@@ -62,9 +62,17 @@ impl Shared {
         }
     }
 
-    /// Makes all durable that was appended until now.
-    pub fn sync(&self) -> Result<(), Fault> {
+    /// Makes all durable that was appended until now. Where that fails the process ends while nobody else can sync:
+    /// behind a sync that failed the next one says yes to what the disk has not.
+    pub fn sync(&self) {
         let _one = lock(&self.syncing);
+        if let Err(fault) = self.try_sync() {
+            self.disk.end(&fault);
+        }
+    }
+
+    /// The same, for who has the journal alone.
+    pub(super) fn try_sync(&self) -> Result<(), Fault> {
         let (ended, file, path, number, at, named, ticket) = {
             let mut place = lock(&self.place);
             let ended = std::mem::take(&mut place.ended);
@@ -152,9 +160,7 @@ impl Shared {
 
     pub fn run(self: Arc<Self>) {
         while self.wait() {
-            if let Err(fault) = self.sync() {
-                self.disk.end(&fault);
-            }
+            self.sync();
         }
     }
 }
@@ -167,12 +173,11 @@ impl Drop for Journal {
         if let Some(syncer) = self.syncer.take() {
             let _ = syncer.join();
         }
-        let ended = self
-            .shared
-            .sync()
-            .and_then(|()| lock(&self.shared.place).segment.end());
-        if let Err(fault) = ended.and_then(|()| self.shared.sync()) {
+        self.shared.sync();
+        let ended = lock(&self.shared.place).segment.end();
+        if let Err(fault) = ended {
             self.shared.disk.end(&fault);
         }
+        self.shared.sync();
     }
 }

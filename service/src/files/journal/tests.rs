@@ -1,6 +1,7 @@
 //! What is kept comes back, over any calls and starts; `damage` and `syncs` have what goes wrong.
 
 mod damage;
+mod power;
 mod syncs;
 
 use super::*;

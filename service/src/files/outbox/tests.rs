@@ -2,6 +2,7 @@
 
 mod damage;
 mod model;
+mod power;
 mod size;
 
 use super::*;

@@ -1,10 +1,12 @@
 use super::*;
-use crate::files::{Disk, Durability};
+use crate::files::{Call, Disk, Durability, Post};
 use crate::gateway::Options;
 use std::collections::HashMap;
+use std::future::pending;
 use std::path::{Path, PathBuf};
 use std::sync::atomic::{AtomicUsize, Ordering::SeqCst};
 use std::time::Duration;
+use tokio::sync::Notify;
 
 /// No gateway is started: all is in the outboxes.
 fn settings() -> Settings {
@@ -109,7 +111,9 @@ fn copy(from: &Path, to: &Path) {
 
 async fn change(path: &Path, slots: u16) -> Result<(), Ended> {
     let folder = Arc::new(Folder::open(path, Durability::Process)?);
-    super::slots(&folder, slots, &settings()).await
+    super::slots(&folder, slots, &settings(), pending())
+        .await
+        .map(|done| assert!(done))
 }
 
 #[tokio::test]
@@ -147,7 +151,7 @@ async fn a_kill_at_any_call_leaves_the_old_number_or_the_new_one() {
             Ok(())
         });
         let folder = Arc::new(Folder::open_on(disk, &path, Durability::Process).unwrap());
-        super::slots(&folder, to, &settings()).await.unwrap();
+        assert!(super::slots(&folder, to, &settings(), pending()).await.unwrap());
         drop(folder);
         let calls = count.load(SeqCst);
         let mut found = Vec::new();
@@ -207,4 +211,53 @@ async fn a_quarantine_and_a_full_slot_are_named() {
     let text = change(&path, 1).await.unwrap_err().to_string();
     assert!(text.contains("slot 0 would have 10012 series"), "{text}");
     assert_eq!(Folder::open(&path, Durability::Process).unwrap().slots(), 2);
+}
+
+/// As at a SIGTERM: the fault would else be lost, and the status say that all is well. Of two gateways one hangs, so
+/// its keeper ends before the other's.
+#[tokio::test(flavor = "multi_thread")]
+async fn what_changes_a_file_is_done_before_it_stops_and_its_fault_is_told() {
+    for slots in [1, 2] {
+        let place = place();
+        let path = place.path().join("data");
+        let folder = Folder::open(&path, Durability::Process).unwrap();
+        folder.set_slots(slots).unwrap();
+        for slot in 0..slots {
+            let (journal, _outbox) = folder.slot(slot).unwrap();
+            journal.append(&Post {
+                sender: "A".into(),
+                foreign: 0,
+                body: request("a", 10).into(),
+            });
+        }
+        drop(folder);
+        let (commits, begun, failed) = (Arc::new(Notify::new()), AtomicUsize::new(0), AtomicUsize::new(0));
+        let committing = commits.clone();
+        let disk = Disk::failing(move |call, path| {
+            let text = path.to_string_lossy();
+            if call == Call::Create && text.contains("journal") {
+                begun.fetch_add(1, SeqCst);
+            }
+            // Behind a flush: its journal has turned.
+            let is_commit =
+                call == Call::Sync && text.contains("outbox") && begun.load(SeqCst) > usize::from(slots);
+            if is_commit && failed.fetch_add(1, SeqCst) == 0 {
+                committing.notify_one();
+                std::thread::sleep(Duration::from_millis(1200));
+                return Err(std::io::Error::other("no disk"));
+            }
+            Ok(())
+        });
+        let folder = Arc::new(Folder::open_on(disk, &path, Durability::Process).unwrap());
+        let mut settings = settings();
+        settings.gateway.program = place.path().join("gateway");
+        let fake = Path::new(env!("CARGO_MANIFEST_DIR")).join("tests/keeper/fake_gateway.py");
+        std::fs::copy(fake, &settings.gateway.program).unwrap();
+        if slots > 1 {
+            std::fs::write(place.path().join("hangs-at-start"), "1").unwrap();
+        }
+        let ended = super::slots(&folder, 3, &settings, commits.notified()).await;
+        assert!(matches!(ended, Err(Ended::Disk(_))), "{slots} slots: {ended:?}");
+        assert_eq!(folder.slots(), slots);
+    }
 }

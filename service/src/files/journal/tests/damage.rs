@@ -114,30 +114,30 @@ fn a_later_version_and_a_missing_segment_are_refused_by_name() {
     open(folder.path());
 }
 
-/// A power loss between a turn and the next sync.
+/// As a power loss between a turn and the next sync may leave it: the first segment is torn, the second is whole.
+fn torn_before_its_last(folder: &Path, durable: bool) {
+    let journal = open(folder);
+    let held = lock(&journal.shared.syncing);
+    ["first", "second"].iter().for_each(|text| append(&journal, text));
+    journal.turn();
+    journal.append(&post("third"));
+    drop(held);
+    if durable {
+        journal.shared.sync();
+        journal.append(&post("fourth"));
+    }
+    kill(journal);
+    let path = segment::path(folder, 1);
+    let length = bytes(&path).len() as u64;
+    let file = File::options().write(true).open(&path).unwrap();
+    file.set_len(length - 20).unwrap();
+}
+
 #[test]
 fn what_follows_a_torn_segment_goes_with_it_unless_it_was_durable() {
     for durable in [false, true] {
         let folder = tempfile::tempdir().unwrap();
-        let journal = open(folder.path());
-        let held = lock(&journal.shared.syncing);
-        ["first", "second"].iter().for_each(|text| append(&journal, text));
-        journal.turn();
-        journal.append(&post("third"));
-        drop(held);
-        if durable {
-            journal.shared.sync().unwrap();
-            journal.append(&post("fourth"));
-        }
-        kill(journal);
-        let path = segment::path(folder.path(), 1);
-        let length = bytes(&path).len();
-        File::options()
-            .write(true)
-            .open(&path)
-            .unwrap()
-            .set_len(length as u64 - 20)
-            .unwrap();
+        torn_before_its_last(folder.path(), durable);
         let opened = open_on(&Disk::default(), folder.path(), Durability::Process);
         if durable {
             assert!(damaged_at(opened).is_some());
@@ -145,4 +145,24 @@ fn what_follows_a_torn_segment_goes_with_it_unless_it_was_durable() {
             assert_eq!(texts(&opened.unwrap(), 1), ["first"]);
         }
     }
+}
+
+/// A second power loss, by which the name is there again that the start had deleted.
+#[test]
+fn what_follows_a_torn_segment_is_gone_for_good_before_that_one_is_closed() {
+    let folder = tempfile::tempdir().unwrap();
+    torn_before_its_last(folder.path(), false);
+    let second = segment::path(folder.path(), 2);
+    let found = bytes(&second);
+    let removed = AtomicBool::new(false);
+    let disk = Disk::failing(move |call, _| {
+        removed.fetch_or(call == Call::Remove, SeqCst);
+        match call == Call::SyncFolder && removed.load(SeqCst) {
+            true => Err(std::io::Error::other("the power is lost")),
+            false => Ok(()),
+        }
+    });
+    assert!(open_on(&disk, folder.path(), Durability::Process).is_err());
+    std::fs::write(&second, found).unwrap();
+    assert_eq!(texts(&open(folder.path()), 1), ["first"]);
 }

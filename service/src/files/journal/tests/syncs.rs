@@ -110,7 +110,7 @@ fn copies_are_durable_before_they_count_where_posts_are_only_written() {
     journal.turn();
     let copied = journal.append_copy(&post("a"));
     assert!(durable() < ticket.0);
-    journal.settle_copies().unwrap();
+    journal.settle_copies();
     assert!(durable() >= copied.0);
 }
 
@@ -149,6 +149,38 @@ async fn after_a_failed_sync_nobody_is_told_and_nothing_is_tried_again() {
     );
     assert!(told.recv().unwrap().contains("no disk"));
     assert_eq!(calls.load(SeqCst), 1);
+    std::mem::forget(journal);
+}
+
+/// Behind a sync that failed the next one says yes to what the disk has not, whoever asks for it.
+#[tokio::test(flavor = "multi_thread")]
+async fn after_a_failed_sync_of_copies_nobody_is_told_either() {
+    let folder = tempfile::tempdir().unwrap();
+    let fails = Arc::new(AtomicBool::new(false));
+    let failing = fails.clone();
+    let (tell, told) = mpsc::channel();
+    let disk = Disk::failing(
+        move |call, _| match call == Call::Sync && failing.swap(false, SeqCst) {
+            true => Err(std::io::Error::other("no disk")),
+            false => Ok(()),
+        },
+    );
+    let disk = disk.ending(move |fault| tell.send(fault.to_string()).unwrap());
+    let journal = Arc::new(open_on(&disk, folder.path(), Durability::Disk).unwrap());
+    journal.append_copy(&post("a"));
+    fails.store(true, SeqCst);
+    let settling = journal.clone();
+    std::thread::spawn(move || settling.settle_copies());
+    while fails.load(SeqCst) {
+        tokio::time::sleep(Duration::from_millis(1)).await;
+    }
+    let ticket = journal.append(&post("b"));
+    let durable = tokio::time::timeout(Duration::from_millis(1500), journal.durable(ticket));
+    assert!(durable.await.is_err(), "who waits is told of what may be lost");
+    assert!(told
+        .recv_timeout(Duration::from_secs(5))
+        .unwrap()
+        .contains("no disk"));
     std::mem::forget(journal);
 }
 

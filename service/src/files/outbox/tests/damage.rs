@@ -129,6 +129,29 @@ fn after_a_failed_sync_nothing_is_tried_again() {
     assert_eq!(calls.load(SeqCst), done);
 }
 
+/// Behind a sync that failed the next one says yes to what the disk has not.
+#[test]
+fn after_a_failed_sync_no_segment_is_deleted_and_none_goes_on() {
+    type Succeeds = fn(&Outbox) -> bool;
+    let deletes: Succeeds = |outbox| outbox.sweep().is_ok();
+    let commits: Succeeds = |outbox| outbox.commit(&[body(&[("a", 1)], "")], 2).is_ok();
+    for [first, second] in [[commits, deletes], [deletes, commits]] {
+        let folder = tempfile::tempdir().unwrap();
+        let fails = Arc::new(AtomicBool::new(false));
+        let failing = fails.clone();
+        let disk = Disk::failing(
+            move |call, _| match call == Call::Sync && failing.swap(false, SeqCst) {
+                true => Err(io::Error::other("no disk")),
+                false => Ok(()),
+            },
+        );
+        let outbox = open_on(&disk, folder.path(), "e", SEGMENT).unwrap();
+        fails.store(true, SeqCst);
+        assert!(!first(&outbox));
+        assert!(!second(&outbox), "behind a sync that failed");
+    }
+}
+
 /// Each call fails once, in turn; a start then shows what was before, or what was to be.
 #[test]
 fn whichever_call_fails_a_start_finds_the_state_before_or_behind() {

@@ -1,0 +1,131 @@
+//! Losses of power in the middle of any call, and another one at each call of the start behind.
+
+use super::*;
+use crate::files::power::{copy, disk, place, seeds, Shadow};
+use std::collections::BTreeMap;
+
+enum Step {
+    Commit(Vec<Vec<u8>>),
+    Own,
+    Hold(bool),
+    Acknowledge,
+}
+
+/// Requests of up to three series, of which some are longer than a sector.
+fn steps(chance: &mut Numbers) -> Vec<Step> {
+    let mut end = 0;
+    let mut request = |chance: &mut Numbers| {
+        end += 1;
+        let series = ["a", "b", "c"][chance.below(3) as usize];
+        let noise = (0..chance.below(1500)).map(|_| char::from(b'a' + chance.below(26) as u8));
+        body(&[(series, end)], &noise.collect::<String>())
+    };
+    let mut step = |chance: &mut Numbers| match chance.below(10) {
+        0..=3 => Step::Commit((0..chance.below(4)).map(|_| request(chance)).collect()),
+        4 => Step::Own,
+        5 => Step::Hold(chance.below(2) == 0),
+        _ => Step::Acknowledge,
+    };
+    (0..12).map(|_| step(chance)).collect()
+}
+
+/// Whether all is durable then.
+fn make(outbox: &Outbox, step: &Step) -> Result<bool, Fault> {
+    match step {
+        Step::Commit(bodies) => outbox.commit(bodies, outbox.journal() + 1)?,
+        Step::Own => outbox.own(
+            outbox
+                .series()
+                .into_keys()
+                .map(|key| (key, "me".into()))
+                .collect(),
+        )?,
+        Step::Hold(true) => outbox.quarantine("me")?,
+        Step::Hold(false) => outbox.lift("me")?,
+        Step::Acknowledge => {
+            if let Some(first) = outbox.waiting().2 {
+                outbox.acknowledge(first.number)?;
+            }
+            return Ok(false);
+        }
+    }
+    Ok(matches!(step, Step::Commit(_)))
+}
+
+/// What it says, but times.
+fn said(outbox: &Outbox) -> String {
+    let series: BTreeMap<_, _> = outbox.series().into_iter().collect();
+    let series: Vec<_> = series
+        .iter()
+        .map(|(key, it)| (&key.0, it.frontier, &it.owner))
+        .collect();
+    let (count, bytes, first) = outbox.waiting();
+    let first = first.map(|first| first.number);
+    format!(
+        "{} {:?} {count} {bytes} {first:?} {series:?}",
+        outbox.journal(),
+        outbox.quarantined()
+    )
+}
+
+/// Of a run up to a loss of power: what may be said behind it.
+fn run(at: impl Fn(&str) -> PathBuf, chance: &mut Numbers) -> Vec<String> {
+    let steps = steps(chance);
+    for name in ["run", "whole"] {
+        std::fs::create_dir(at(name)).unwrap();
+    }
+    let whole = open_on(&Disk::default(), &at("whole"), "e", 3000).unwrap();
+    let shadow = Arc::new(Mutex::new(Shadow::of(&at("run"))));
+    let mut may_be = vec![said(&whole)];
+    let opened = open_on(&disk(&shadow, 8 + chance.below(60)), &at("run"), "e", 3000);
+    if let Ok(outbox) = opened {
+        for step in &steps {
+            make(&whole, step).unwrap();
+            may_be.push(said(&whole));
+            match make(&outbox, step) {
+                Ok(true) => drop(may_be.drain(..may_be.len() - 1)),
+                Ok(false) => {}
+                Err(_) => break,
+            }
+        }
+        kill(outbox);
+    }
+    lock(&shadow).lose_power(&at("left"), chance);
+    may_be
+}
+
+#[tokio::test]
+async fn what_was_durable_is_there_and_of_the_rest_what_was_made_first() {
+    for seed in 0..seeds(45) {
+        let place = place();
+        let at = |name: &str| place.path().join(name);
+        let mut chance = Numbers(seed);
+        let may_be = run(at, &mut chance);
+        for calls in 0.. {
+            let (again, left) = (at(&format!("again-{calls}")), at(&format!("left-{calls}")));
+            copy(&at("left"), &again);
+            let shadow = Arc::new(Mutex::new(Shadow::of(&again)));
+            let is_whole = open_on(&disk(&shadow, calls), &again, "e", 3000)
+                .map(kill)
+                .is_ok();
+            lock(&shadow).lose_power(&left, &mut chance);
+            let outbox = open_on(&Disk::default(), &left, "e", 3000);
+            let outbox = outbox.unwrap_or_else(|fault| panic!("seed {seed} call {calls}: {fault}"));
+            let found = said(&outbox);
+            assert!(
+                may_be.contains(&found),
+                "seed {seed} call {calls}: {found}\n{may_be:#?}"
+            );
+            while outbox.waiting().0 > 0 {
+                take(&outbox).await;
+            }
+            kill(outbox);
+            for folder in [again, left] {
+                std::fs::remove_dir_all(folder).unwrap();
+            }
+            if is_whole {
+                break;
+            }
+        }
+    }
+}

@@ -1,0 +1,129 @@
+//! Losses of power, for tests: of what was not synced any sectors are left, and of the names that were made and deleted
+//! since the folder was synced the first ones.
+
+use super::disk::{Call, Disk};
+use super::lock;
+use super::numbers::Numbers;
+use std::collections::{BTreeMap, HashMap};
+use std::os::unix::fs::MetadataExt;
+use std::path::{Path, PathBuf};
+use std::sync::atomic::{AtomicU64, Ordering::SeqCst};
+use std::sync::{Arc, Mutex};
+
+const SECTOR: usize = 512;
+
+/// With the inodes, by which files are told.
+type Names = BTreeMap<PathBuf, u64>;
+
+fn names(folder: &Path) -> Names {
+    let entries = std::fs::read_dir(folder).unwrap().map(|entry| entry.unwrap());
+    entries
+        .map(|entry| (entry.file_name().into(), entry.metadata().unwrap().ino()))
+        .collect()
+}
+
+/// What is known of a folder's disk.
+pub(super) struct Shadow {
+    folder: PathBuf,
+    /// Files as they were when they were synced.
+    synced: HashMap<u64, Vec<u8>>,
+    /// Files that were deleted, as they were then.
+    deleted: HashMap<u64, Vec<u8>>,
+    /// The names at the last sync of the folder, and behind each change since.
+    names: Vec<Names>,
+}
+
+impl Shadow {
+    /// Of a folder of which all is durable.
+    pub fn of(folder: &Path) -> Shadow {
+        let now = names(folder);
+        let file = |(name, inode): (&PathBuf, &u64)| (*inode, std::fs::read(folder.join(name)).unwrap());
+        Shadow {
+            folder: folder.into(),
+            synced: now.iter().map(file).collect(),
+            deleted: HashMap::new(),
+            names: vec![now],
+        }
+    }
+
+    /// Before a call.
+    fn see(&mut self, call: Call, path: &Path) {
+        let now = names(&self.folder);
+        if self.names.last() != Some(&now) {
+            self.names.push(now);
+        }
+        let file = || {
+            (
+                std::fs::metadata(path).unwrap().ino(),
+                std::fs::read(path).unwrap(),
+            )
+        };
+        match call {
+            Call::Sync => self.synced.extend([file()]),
+            Call::Remove => self.deleted.extend([file()]),
+            Call::Rename if path.exists() => self.deleted.extend([file()]),
+            Call::SyncFolder => drop(self.names.drain(..self.names.len() - 1)),
+            _ => {}
+        }
+    }
+
+    /// Puts what a loss of power leaves into another folder.
+    pub fn lose_power(&mut self, left: &Path, chance: &mut Numbers) {
+        std::fs::create_dir(left).unwrap();
+        self.see(Call::Write, &self.folder.clone());
+        let some = chance.below(self.names.len() as u64) as usize;
+        for (name, inode) in &self.names[some] {
+            let now = self.names.last().into_iter().flatten();
+            let now = match now.into_iter().find(|(_, it)| *it == inode) {
+                Some((name, _)) => std::fs::read(self.folder.join(name)).unwrap(),
+                None => self.deleted[inode].clone(),
+            };
+            let synced = self.synced.get(inode).cloned().unwrap_or_default();
+            std::fs::write(left.join(name), mixed(&synced, &now, chance)).unwrap();
+        }
+    }
+}
+
+/// The length is the former one or the new one, and so is each sector.
+fn mixed(synced: &[u8], now: &[u8], chance: &mut Numbers) -> Vec<u8> {
+    let mut mixed = vec![0; [synced, now][chance.below(2) as usize].len()];
+    let new = [0, 1, 2, 3, 3, 3][chance.below(6) as usize];
+    for (number, sector) in mixed.chunks_mut(SECTOR).enumerate() {
+        let from = if chance.below(3) < new { now } else { synced };
+        let from = from.get(number * SECTOR..).unwrap_or_default();
+        let length = sector.len().min(from.len());
+        sector[..length].copy_from_slice(&from[..length]);
+    }
+    mixed
+}
+
+/// A disk that is seen, and gone behind so many calls.
+pub(super) fn disk(shadow: &Arc<Mutex<Shadow>>, calls: u64) -> Disk {
+    let (shadow, left) = (shadow.clone(), AtomicU64::new(calls));
+    Disk::failing(move |call, path| {
+        let mut shadow = lock(&shadow);
+        match left.fetch_update(SeqCst, SeqCst, |left| left.checked_sub(1)) {
+            Ok(_) => shadow.see(call, path),
+            Err(_) => return Err(std::io::Error::other("the power is lost")),
+        }
+        Ok(())
+    })
+}
+
+/// A folder of memory, where that can be.
+pub(super) fn place() -> tempfile::TempDir {
+    tempfile::tempdir_in("/dev/shm").unwrap_or_else(|_| tempfile::tempdir().unwrap())
+}
+
+/// The files of a folder in another one that is made.
+pub(super) fn copy(from: &Path, to: &Path) {
+    std::fs::create_dir(to).unwrap();
+    for name in names(from).into_keys() {
+        std::fs::copy(from.join(&name), to.join(&name)).unwrap();
+    }
+}
+
+/// How many runs a test makes: more of them where it is told so.
+pub(super) fn seeds(most: u64) -> u64 {
+    std::env::var("TOTXEGUN_SEEDS").map_or(most, |seeds| seeds.parse().unwrap())
+}

@@ -1,0 +1,140 @@
+//! What a keeper does while a disk is slow, and in which order. What it does with a gateway is tried in `tests/keeper`.
+
+use super::*;
+use crate::files::{Call, Disk, Durability, Folder};
+use crate::metrics::Metrics;
+use crate::otlp::Outcome;
+use std::path::{Path, PathBuf};
+use std::sync::atomic::{AtomicBool, Ordering::SeqCst};
+use std::sync::Mutex;
+use tokio::sync::watch;
+use tokio::task::JoinHandle;
+
+const CONNECTIONS: u64 = 100;
+
+struct Run {
+    slot: Arc<Slot>,
+    orders: Orders,
+    stop: watch::Sender<bool>,
+    running: JoinHandle<Result<(), Fault>>,
+}
+
+impl Run {
+    /// A slot that takes posts, in a folder of its own.
+    async fn begin(place: &Path, disk: Disk) -> Run {
+        let folder = Folder::open_on(disk, &place.join("data"), Durability::Process).unwrap();
+        let (journal, outbox) = folder.slot(0).unwrap();
+        let metrics = Arc::new(Metrics::new().unwrap());
+        let slot = Slot::new(0, Arc::new(folder), journal, Arc::new(outbox), metrics);
+        let (keeper, orders) = Keeper::new(slot.clone(), Starter::new().unwrap(), settings(place));
+        let (stop, stopped) = watch::channel(false);
+        let running = tokio::spawn(keeper.run(stopped));
+        while !slot.is_ready() {
+            tokio::time::sleep(Duration::from_millis(5)).await;
+        }
+        Run {
+            slot,
+            orders,
+            stop,
+            running,
+        }
+    }
+
+    /// A point of a series behind those before.
+    async fn post(&self, number: u64) -> Outcome {
+        let body = format!(
+            "{{\"resourceMetrics\":[{{\"scopeMetrics\":[{{\"metrics\":[{{\"name\":\"a\",\"sum\":{{\
+             \"aggregationTemporality\":1,\"dataPoints\":[{{\"asInt\":\"1\",\
+             \"startTimeUnixNano\":\"{number}\",\"timeUnixNano\":\"{}\"}}]}}}}]}}]}}]}}",
+            number + 1
+        );
+        self.slot.post("A".into(), vec![body.into()]).await
+    }
+
+    async fn end(self) {
+        self.stop.send(true).unwrap();
+        self.running.await.unwrap().unwrap();
+    }
+}
+
+fn settings(place: &Path) -> Settings {
+    let program = place.join("gateway");
+    let fake = Path::new(env!("CARGO_MANIFEST_DIR")).join("tests/keeper/fake_gateway.py");
+    std::fs::copy(fake, &program).unwrap();
+    Settings {
+        gateway: Options {
+            program,
+            connections: CONNECTIONS,
+            receivers: 1,
+            flushers: 1,
+            round: 100,
+            memory: None,
+            allocator: None,
+        },
+        every: Duration::from_secs(3600),
+        forget: None,
+    }
+}
+
+fn is_in(part: &str, path: &Path) -> bool {
+    path.to_string_lossy().contains(part)
+}
+
+/// Else a loss of power leaves a group of a series whose owner nobody knows any more, and a repeat is counted again.
+#[tokio::test(flavor = "multi_thread")]
+async fn a_group_is_committed_once_its_posts_are_on_the_disk_also_where_posts_are_only_written() {
+    let place = tempfile::tempdir().unwrap();
+    let syncs = Arc::new(Mutex::new(Vec::<PathBuf>::new()));
+    let seen = syncs.clone();
+    let disk = Disk::failing(move |call, path| {
+        if call == Call::Sync {
+            seen.lock().unwrap().push(path.into());
+        }
+        Ok(())
+    });
+    let run = Run::begin(place.path(), disk).await;
+    syncs.lock().unwrap().clear();
+    assert_eq!(run.post(1).await, Outcome::taken(0));
+    let done = run.orders.order(Order::Checkpoint).await;
+    assert_eq!(done, Some(Done::Flushed { requests: 1 }));
+    let first = |part| {
+        let syncs = syncs.lock().unwrap();
+        syncs.iter().position(|path| is_in(part, path)).unwrap()
+    };
+    assert!(first("journal/000000000001.seg") < first("outbox"), "{syncs:?}");
+    run.end().await;
+}
+
+/// A service that is killed before the commit puts all of them into a gateway, which has as many connections.
+#[tokio::test(flavor = "multi_thread")]
+async fn posts_are_in_no_group_until_it_is_committed() {
+    let place = tempfile::tempdir().unwrap();
+    let (is_held, waits) = (Arc::new(AtomicBool::new(false)), Arc::new(AtomicBool::new(false)));
+    let (holding, waiting) = (is_held.clone(), waits.clone());
+    let disk = Disk::failing(move |call, path| {
+        while call == Call::Sync && is_in("outbox", path) && holding.load(SeqCst) {
+            waiting.store(true, SeqCst);
+            std::thread::sleep(Duration::from_millis(1));
+        }
+        Ok(())
+    });
+    let run = Run::begin(place.path(), disk).await;
+    for number in 1..=CONNECTIONS / 3 {
+        assert_eq!(run.post(number).await, Outcome::taken(0));
+    }
+    is_held.store(true, SeqCst);
+    let orders = run.orders.clone();
+    let checkpoint = tokio::spawn(async move { orders.order(Order::Checkpoint).await });
+    while !waits.load(SeqCst) {
+        tokio::time::sleep(Duration::from_millis(1)).await;
+    }
+    let mut taken = CONNECTIONS / 3;
+    while run.post(taken + 1).await == Outcome::taken(0) && taken < CONNECTIONS {
+        taken += 1;
+    }
+    is_held.store(false, SeqCst);
+    assert_eq!(checkpoint.await.unwrap(), Some(Done::Flushed { requests: 1 }));
+    assert_eq!(taken, CONNECTIONS / 2);
+    assert_eq!(run.post(taken + 1).await, Outcome::taken(0));
+    run.end().await;
+}
