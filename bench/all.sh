@@ -19,7 +19,8 @@ part() {
 }
 
 part service service.py --runs 3 --seconds 0.7
-part plain gateway.py --beside plain,plain-answers,plain-fast --allocators service --receivers 4 --seconds 0.7
+part plain gateway.py --beside plain,plain-tree,plain-answers,plain-fast --allocators service --receivers 4 --runs 7 --seconds 0.6
+part instructions instructions.py
 part allocators gateway.py --allocators libc,mimalloc --seconds 0.7
 part kill service_times.py --times 5 kill
 part checkpoint service_times.py --times 5 checkpoint

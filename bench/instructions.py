@@ -119,14 +119,14 @@ def main():
     programs = {"gateway": [arguments.gateway, "serve", "--connections", "1000000"]}
     programs |= {name: [path, "serve"] for name in arguments.beside if (path := plain.build(name))}
     rows = [(kind, points) for kind in arguments.kinds for points in arguments.points or []] or ROWS
-    print(f"{'instructions a point':24}{'':16}{'all':>9}{'tree made':>11}{'given back':>12}{'filled':>8}")
+    print(f"{'instructions a point':26}{'':16}{'all':>9}{'tree made':>11}{'given back':>12}{'filled':>8}")
     for kind, points in rows:
         for name, words in programs.items():
             counts, whole = count(words, kind, points)
             each = Counts(*(f"{it / whole:,.0f}" for it in counts))
             tree = f"{each.made:>11}{each.given_back:>12}" if name == "gateway" else " " * 23
             row = f"{kind}s, {points:,} a request"
-            print(f"{row:24}{name:16}{each.whole:>9}{tree}{each.filled:>8}", flush=True)
+            print(f"{row:26}{name:16}{each.whole:>9}{tree}{each.filled:>8}", flush=True)
 
 
 if __name__ == "__main__":
