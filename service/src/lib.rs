@@ -6,6 +6,9 @@
 //! `operate` is the operator's address, `command` the command line, `service` all of it as one process; `switch` tells a
 //! part of it to stop.
 
+// What may be missing is handled; in a test these two are the check.
+#![cfg_attr(not(test), deny(clippy::unwrap_used, clippy::expect_used))]
+
 pub mod command;
 pub mod files;
 pub mod gateway;

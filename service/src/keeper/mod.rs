@@ -122,4 +122,4 @@ impl From<Doubt> for Trouble {
 }
 
 #[cfg(test)]
-mod tests;
+pub(crate) mod tests;

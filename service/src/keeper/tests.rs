@@ -26,7 +26,11 @@ impl Run {
         let (journal, outbox) = folder.slot(0).unwrap();
         let metrics = Arc::new(Metrics::new().unwrap());
         let slot = Slot::new(0, Arc::new(folder), journal, Arc::new(outbox), metrics);
-        let (keeper, orders) = Keeper::new(slot.clone(), Starter::new().unwrap(), settings(place));
+        let (keeper, orders) = Keeper::new(
+            slot.clone(),
+            Starter::new().unwrap(),
+            settings(fake_gateway(place)),
+        );
         let (stop, stopped) = watch::channel(false);
         let running = tokio::spawn(keeper.run(stopped));
         while !slot.is_ready() {
@@ -57,10 +61,8 @@ impl Run {
     }
 }
 
-fn settings(place: &Path) -> Settings {
-    let program = place.join("gateway");
-    let fake = Path::new(env!("CARGO_MANIFEST_DIR")).join("tests/keeper/fake_gateway.py");
-    std::fs::copy(fake, &program).unwrap();
+/// A keeper whose gateway is this program, and that orders nothing by itself.
+pub(crate) fn settings(program: PathBuf) -> Settings {
     Settings {
         gateway: Options {
             program,
@@ -74,6 +76,14 @@ fn settings(place: &Path) -> Settings {
         every: Duration::from_secs(3600),
         forget: None,
     }
+}
+
+/// The gateway that fails as it is told, in a folder.
+pub(crate) fn fake_gateway(place: &Path) -> PathBuf {
+    let program = place.join("gateway");
+    let fake = Path::new(env!("CARGO_MANIFEST_DIR")).join("tests/keeper/fake_gateway.py");
+    std::fs::copy(fake, &program).unwrap();
+    program
 }
 
 fn is_in(part: &str, path: &Path) -> bool {

@@ -1,6 +1,6 @@
 use super::*;
 use crate::files::{Call, Disk, Durability, Post};
-use crate::gateway::Options;
+use crate::keeper::tests::{fake_gateway, settings};
 use std::collections::HashMap;
 use std::future::pending;
 use std::path::{Path, PathBuf};
@@ -9,20 +9,8 @@ use std::time::Duration;
 use tokio::sync::Notify;
 
 /// No gateway is started: all is in the outboxes.
-fn settings() -> Settings {
-    Settings {
-        gateway: Options {
-            program: "/nowhere/gateway".into(),
-            connections: 100,
-            receivers: 1,
-            flushers: 1,
-            round: 100,
-            memory: None,
-            allocator: None,
-        },
-        every: Duration::from_secs(3600),
-        forget: None,
-    }
+fn without_gateway() -> Settings {
+    settings("/nowhere/gateway".into())
 }
 
 fn senders() -> Vec<String> {
@@ -111,7 +99,7 @@ fn copy(from: &Path, to: &Path) {
 
 async fn change(path: &Path, slots: u16) -> Result<(), Ended> {
     let folder = Arc::new(Folder::open(path, Durability::Process)?);
-    super::slots(&folder, slots, &settings(), pending())
+    super::slots(&folder, slots, &without_gateway(), pending())
         .await
         .map(|done| assert!(done))
 }
@@ -151,7 +139,9 @@ async fn a_kill_at_any_call_leaves_the_old_number_or_the_new_one() {
             Ok(())
         });
         let folder = Arc::new(Folder::open_on(disk, &path, Durability::Process).unwrap());
-        assert!(super::slots(&folder, to, &settings(), pending()).await.unwrap());
+        assert!(super::slots(&folder, to, &without_gateway(), pending())
+            .await
+            .unwrap());
         drop(folder);
         let calls = count.load(SeqCst);
         let mut found = Vec::new();
@@ -249,10 +239,7 @@ async fn what_changes_a_file_is_done_before_it_stops_and_its_fault_is_told() {
             Ok(())
         });
         let folder = Arc::new(Folder::open_on(disk, &path, Durability::Process).unwrap());
-        let mut settings = settings();
-        settings.gateway.program = place.path().join("gateway");
-        let fake = Path::new(env!("CARGO_MANIFEST_DIR")).join("tests/keeper/fake_gateway.py");
-        std::fs::copy(fake, &settings.gateway.program).unwrap();
+        let settings = settings(fake_gateway(place.path()));
         if slots > 1 {
             std::fs::write(place.path().join("hangs-at-start"), "1").unwrap();
         }
