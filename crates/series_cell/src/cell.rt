@@ -53,6 +53,7 @@ impl Cell {
         ensures none { IfOk result (λ c. Stands c []) }
         ensures owner { IfOk result (λ c. c.owner ≡ owner) }
         ensures id { IfOk result (λ c. c.id ≡ id) }
+        ensures asked { IfOk result (λ c. c.asked ≡ 0) }
     {
         Cell::of_shared(alloc, owner, SharedId::new(alloc, id)?)
     }
@@ -62,6 +63,7 @@ impl Cell {
         ensures none { IfOk result (λ c. Stands c []) }
         ensures owner { IfOk result (λ c. c.owner ≡ owner) }
         ensures id { IfOk result (λ c. c.id ≡ id) }
+        ensures asked { IfOk result (λ c. c.asked ≡ 0) }
     {
         let n = id.as_series().row_len();
         let accepted = zero_row(alloc, n)?;
@@ -139,6 +141,8 @@ impl Cell {
         ensures flush { self.new.flush ≡ self.old.flush }
         ensures room { 1 ≤ self.old.spare → IsOk result }
         ensures spare { self.old.spare ≤ self.new.spare + 1 }
+        ensures asked { OnOk result (self.new.asked ≡ 0) }
+        ensures rest { OnErr result (self.new.asked ≡ self.old.asked) }
         ensures err { OnErr result ((qs : List Accepted) → Stands self.old qs
             → Stands self.new qs) }
     {
@@ -158,6 +162,7 @@ impl Cell {
         ensures same { IsOfSame self.old self.new }
         ensures flush { self.new.flush ≡ self.old.flush }
         ensures spare { self.old.spare ≤ self.new.spare + 1 }
+        ensures asked { self.new.asked ≡ 0 }
     {
         let kept = self.kept.as_mut();
         add_into(&mut kept.accepted, point.row());
@@ -180,6 +185,7 @@ impl Cell {
         ensures same { IsOfSame self.old self.new }
         ensures flush { self.new.flush ≡ self.old.flush }
         ensures spare { self.old.spare ≤ self.new.spare + 1 }
+        ensures asked { self.new.asked ≡ 0 }
     {
         let kept = self.kept.as_mut();
         let span = point.span();
@@ -210,6 +216,7 @@ impl Cell {
             → Stands self.new (before ++ after) }
         ensures same { IsOfSame self.old self.new }
         ensures spare { self.old.spare ≤ self.new.spare }
+        ensures asked { self.new.asked ≡ self.old.asked }
     {
         // Only the contract needs it.
         let _batch = batch;
@@ -228,6 +235,7 @@ impl Cell {
             → Stands self.new (before ++ after) }
         ensures same { IsOfSame self.old self.new }
         ensures spare { self.old.spare ≤ self.new.spare }
+        ensures asked { self.new.asked ≡ self.old.asked }
     {
         // Only the contract needs it.
         let _batch = batch;
@@ -245,6 +253,7 @@ impl Cell {
         ensures same { IsOfSame self.old self.new }
         ensures flush { self.new.flush ≡ flush }
         ensures spare { self.old.spare ≤ self.new.spare }
+        ensures asked { self.new.asked ≡ self.old.asked }
     {
         let kept = self.kept.as_mut();
         move_into(&mut kept.in_flight, &mut kept.stored);
@@ -258,6 +267,7 @@ impl Cell {
             → Stands self.new (map (landed self.old.flush Home) qs) }
         ensures same { IsOfSame self.old self.new }
         ensures spare { self.old.spare ≤ self.new.spare }
+        ensures asked { self.new.asked ≡ self.old.asked }
     {
         let kept = self.kept.as_mut();
         move_into(&mut kept.stored, &mut kept.in_flight);
@@ -270,6 +280,7 @@ impl Cell {
             → Stands self.new (map (landed self.old.flush Acknowledged) qs) }
         ensures same { IsOfSame self.old self.new }
         ensures spare { self.old.spare ≤ self.new.spare }
+        ensures asked { self.new.asked ≡ self.old.asked }
     {
         let kept = self.kept.as_mut();
         move_into(&mut kept.acknowledged, &mut kept.in_flight);
@@ -284,6 +295,7 @@ impl Cell {
             → Stands self.new (map (landed self.old.flush Dropped) qs) }
         ensures same { IsOfSame self.old self.new }
         ensures spare { self.old.spare ≤ self.new.spare }
+        ensures asked { self.new.asked ≡ self.old.asked }
     {
         let kept = self.kept.as_mut();
         move_into(&mut kept.dropped, &mut kept.in_flight);
@@ -303,6 +315,7 @@ impl Cell {
         ensures none { Stands self.old [] → Stands self.new [] }
         ensures same { IsOfSame self.old self.new }
         ensures spare { self.old.spare ≤ self.new.spare }
+        ensures asked { self.new.asked ≡ self.old.asked }
     {
         let frontier = self.frontier();
         let kept = self.kept.as_mut();
