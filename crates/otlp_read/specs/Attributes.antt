@@ -8,12 +8,8 @@ use Rattle.series_id.specs.Sorting.{sorted_by_key}
 use Rattle.otlp_read.specs.Rules.{unless}
 use Rattle.otlp_read.specs.Fields.{field, text_in}
 use Rattle.otlp_read.specs.Containers.{is_object}
-use Rattle.otlp_read.specs.Lists.{list_in}
+use Rattle.otlp_read.specs.Lists.{◌>>=◌, list_in}
 use Rattle.otlp_read.specs.Values.{value_in}
-
-infixl 10 ◌>>=◌
-abbrev pub ◌>>=◌ : {A B : Type 0} → Option A → (A → Option B) → Option B
-o >>= f = option_and_then f o
 
 -- the key, a text within the limit, and the value
 abbrev pub key_and_value : Data → Option (List ℕ × AttrValue)

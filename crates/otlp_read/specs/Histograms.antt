@@ -1,6 +1,6 @@
 -- Points of histograms.
 use Rattle.std.specs.Prelude.{ℕ, if◌then◌else◌, Option, Some, None, codes}
-use Rattle.std.specs.Prelude.{option_map, option_and_then}
+use Rattle.std.specs.Prelude.{option_map}
 use Rattle.std.specs.Result.{result_ok}
 use Rattle.serde_json.specs.Data.{Data}
 use Rattle.series_id.specs.declared.limits.TheConstants.{MAX_BOUND}
@@ -11,13 +11,9 @@ use Rattle.metric_events.specs.NewPoints.{point_of_histogram}
 use Rattle.metric_events.specs.PointFaults.{histogram_fault}
 use Rattle.otlp_read.specs.Integers.{unsigned_64, signed_in}
 use Rattle.otlp_read.specs.Fields.{field, flags_fit, nanos_in}
-use Rattle.otlp_read.specs.Lists.{list_in}
+use Rattle.otlp_read.specs.Lists.{◌>>=◌, list_in}
 use Rattle.otlp_read.specs.Rules.{unless}
 use Rattle.otlp_read.specs.Streams.{Stream, series_of}
-
-infixl 10 ◌>>=◌
-abbrev pub ◌>>=◌ : {A B : Type 0} → Option A → (A → Option B) → Option B
-o >>= f = option_and_then f o
 
 -- count: a whole number of 64 bits; absent is 0
 unfoldable pub count_in : Option Data → Option ℕ

@@ -1,5 +1,5 @@
 -- The parts of an identity that points share: resource, scope and metric; and series.
-use Rattle.std.specs.Prelude.{ℕ, Bool, List, Option, Some, None, if◌then◌else◌, option_and_then}
+use Rattle.std.specs.Prelude.{ℕ, Bool, List, Option, Some, None, if◌then◌else◌}
 use Rattle.std.specs.Prelude.{codes}
 use Rattle.std.specs.Result.{result_ok}
 use Rattle.serde_json.specs.Data.{Data}
@@ -9,10 +9,7 @@ use Rattle.series_id.specs.Identity.{Identity}
 use Rattle.series_id.specs.Checks.{checked_identity}
 use Rattle.otlp_read.specs.Fields.{field, text_in, truth_in, is_delta}
 use Rattle.otlp_read.specs.Attributes.{attributes_in}
-
-infixl 10 ◌>>=◌
-abbrev pub ◌>>=◌ : {A B : Type 0} → Option A → (A → Option B) → Option B
-o >>= f = option_and_then f o
+use Rattle.otlp_read.specs.Lists.{◌>>=◌}
 
 -- the resource's attributes, and the scope
 pub record Scope : Type 0 where

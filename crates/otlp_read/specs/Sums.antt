@@ -1,6 +1,6 @@
 -- Points of sums.
 use Rattle.std.specs.Prelude.{ℕ, ℤ, Bool, not, ◌&&◌, if◌then◌else◌, codes}
-use Rattle.std.specs.Prelude.{Option, Some, None, option_and_then, is_some}
+use Rattle.std.specs.Prelude.{Option, Some, None, is_some}
 use Rattle.serde_json.specs.Data.{Data}
 use Rattle.series_id.specs.declared.kinds.Kind.TheVariants.{Sum}
 use Rattle.metric_events.specs.DataPoint.{DataPoint}
@@ -10,10 +10,7 @@ use Rattle.otlp_read.specs.Integers.{signed_64}
 use Rattle.otlp_read.specs.Fields.{field, flags_fit, nanos_in}
 use Rattle.otlp_read.specs.Rules.{unless}
 use Rattle.otlp_read.specs.Streams.{SumStream, series_of}
-
-infixl 10 ◌>>=◌
-abbrev pub ◌>>=◌ : {A B : Type 0} → Option A → (A → Option B) → Option B
-o >>= f = option_and_then f o
+use Rattle.otlp_read.specs.Lists.{◌>>=◌}
 
 -- asInt: a whole number of 64 bits; that it is within its limit, and not negative in a monotonic
 -- sum, is a rule of points
