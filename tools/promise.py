@@ -224,8 +224,9 @@ class Promise:
             if file in seen:
                 return
             seen.add(file)
-            for lower in {below.file for it in wanted[file] for below in self.needed(file.names, it.code, file)}:
-                add(lower)
+            lower = {below.file for it in wanted[file] for below in self.needed(file.names, it.code, file)}
+            for it in sorted(lower, key=lambda it: it.module):
+                add(it)
             ordered.append(file)
 
         for file in wanted:
