@@ -32,7 +32,9 @@ NUMBERED = "stands on {definitions:,} definitions, {lines:,} lines in {files} fi
 
 IMPORT = re.compile(r"^\s*(?:ghost |pub )*use Rattle\.([\w.]+)(?:\.\{([^}]*)\}| as (\w+))?;?$", re.MULTILINE)
 DEFINED = re.compile(r"^(?:(?:abbrev|unfoldable|pub|record|data) )*([^\s:({]+)")
-DIRECTIVE = re.compile(r"(pub )?(use|mod) |infix[lr]? ")
+DIRECTIVE = re.compile(r"(pub )?(use|mod) ")
+# What stands before the code of a definition: its comment, and how its operator binds.
+BEFORE = re.compile(r"\s*(--|infix[lr]? )")
 # What begins at the margin of a file of src/, with what it may have further in.
 ITEM = re.compile(r"^(?P<public>pub )?(?:(?P<kind>fn|trait) (?P<name>\w+)|impl\b(?P<head>[^{]*)\{)", re.MULTILINE)
 METHOD = re.compile(r"^    (?P<public>pub )?fn (?P<name>\w+)", re.MULTILINE)
@@ -86,7 +88,7 @@ class Definition:
         self.file = file
         self.line = line
         self.lines = text.count("\n") + 1
-        self.code = "\n".join(it for it in text.split("\n") if not it.lstrip().startswith("--"))
+        self.code = "\n".join(it for it in text.split("\n") if not BEFORE.match(it))
         self.name = DEFINED.match(self.code).group(1)
 
 
@@ -103,7 +105,7 @@ class Specs:
         self.definitions = {}
         line = 1
         for block in text.split("\n\n"):
-            code = [it for it in block.split("\n") if it and not it.startswith("--")]
+            code = [it for it in block.split("\n") if it and not BEFORE.match(it)]
             if code and not DIRECTIVE.match(code[0]):
                 # A blank line before it was split off.
                 it = Definition(self, line, block.strip("\n"))
@@ -224,8 +226,9 @@ class Promise:
             if file in seen:
                 return
             seen.add(file)
-            for lower in {below.file for it in wanted[file] for below in self.needed(file.names, it.code, file)}:
-                add(lower)
+            lower = {below.file for it in wanted[file] for below in self.needed(file.names, it.code, file)}
+            for it in sorted(lower, key=lambda it: it.module):
+                add(it)
             ordered.append(file)
 
         for file in wanted:
