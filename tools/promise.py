@@ -182,8 +182,8 @@ class Promise:
         return self.found(target.names, parts_of(name)[0]) if target.names.meant(parts_of(name)[0]) else None
 
     def needed(self, names, text, file=None):
-        """The definitions that a text names."""
-        found = (self.found(names, word, file) for word in WORD.findall(text))
+        """The definitions that a text names; a step with an arrow names its operator."""
+        found = (self.found(names, word, file) for word in WORD.findall(text.replace("←", ">>=")))
         return {it for it in found if it}
 
     def below(self, definitions):
