@@ -2,6 +2,5 @@ pub mod Answering
 pub mod Ended
 pub mod Marked
 pub mod PointSteps
-pub mod Putting
 pub mod Splitting
 pub mod Wording

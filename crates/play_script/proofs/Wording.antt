@@ -13,26 +13,22 @@ use Rattle.play_script.specs.Commands as spec
 pub some_words : (line : List ℕ) → 0 < length (words line)
 some_words line = omega (arith, length-slice_split (λ b. eqb b 32) line)
 
-no_number : (word : List ℕ) (more : List (List ℕ)) → 0 < length more → None ≡ spec.only_number (word ∷ more)
-no_number word [] h = absurd (omega arith)
-no_number word (next ∷ more) h = refl
-
-no_name : (word : List ℕ) (more : List (List ℕ)) → 0 < length more → None ≡ spec.only_name (word ∷ more)
-no_name word [] h = absurd (omega arith)
-no_name word (next ∷ more) h = refl
-
-none_more : (line : spec.Asked) (more : List (List ℕ)) → 0 < length more → spec.BadLine ≡ spec.nothing_more line more
-none_more line [] h = absurd (omega arith)
-none_more line (next ∷ more) h = refl
+-- there is a first word
+pub first_word : (line : List ℕ) → (word : List ℕ) × (more : List (List ℕ)) × (words line ≡ word ∷ more)
+first_word line = by (words line) (some_words line)
+  where
+    by : (ws : List (List ℕ)) → 0 < length ws → (word : List ℕ) × (more : List (List ℕ)) × (ws ≡ word ∷ more)
+    by [] h = absurd (omega arith)
+    by (word ∷ more) h = (word, more, refl)
 
 pub only_number_more : (all : List (List ℕ)) (word rest : List ℕ) → all ≡ word ∷ words rest → None ≡ spec.only_number all
-only_number_more all word rest h = rw h (no_number word (words rest) (some_words rest))
+only_number_more all word rest h = rw (h, (first_word rest).2) refl
 
 pub only_name_more : (all : List (List ℕ)) (word rest : List ℕ) → all ≡ word ∷ words rest → None ≡ spec.only_name all
-only_name_more all word rest h = rw h (no_name word (words rest) (some_words rest))
+only_name_more all word rest h = rw (h, (first_word rest).2) refl
 
 pub nothing_more : (line : spec.Asked) (rest : List ℕ) → spec.BadLine ≡ spec.nothing_more line (words rest)
-nothing_more line rest = none_more line (words rest) (some_words rest)
+nothing_more line rest = rw (first_word rest).2 refl
 
 good_words : (sender : List ℕ) (points : List PointWords) → is_sender_name sender ≡ true → 0 < length points → spec.AdmitLine sender points ≡ spec.admit_line (name_of sender) (Some points)
 good_words sender [] named some = absurd (omega arith)
@@ -62,24 +58,14 @@ points_take_memory all sender points h named some =
     ap takes_memory (sym (good_points all sender (words points) (p ∷ ps) h named is (omega arith)))
 
 -- the words of a text, with their spaces, are the text
-words_joined : (text : List ℕ) → join_with_byte 32 (words text) ≡ text
-words_joined text = join_with_byte-slice_split 32 text
-
-some_body : (sender : List ℕ) (ws : List (List ℕ)) → 0 < length ws → spec.post_words (sender ∷ ws) ≡ spec.post_line (name_of sender) (join_with_byte 32 ws)
-some_body sender [] h = absurd (omega arith)
-some_body sender (w ∷ ws) h = refl
-
-post_more : (all : List (List ℕ)) (sender body : List ℕ) → all ≡ sender ∷ words body → spec.post_words all ≡ spec.post_line (name_of sender) body
-post_more all sender body h = ap spec.post_words h ∙ some_body sender (words body) (some_words body) ∙ ap (spec.post_line (name_of sender)) (words_joined body)
-
 pub good_post : (all : List (List ℕ)) (sender body : List ℕ) → all ≡ sender ∷ words body → is_sender_name sender ≡ true → spec.PostLine sender body ≡ spec.post_words all
-good_post all sender body h named = sym (post_more all sender body h ∙ rw named refl)
-
-no_answer : (code word : List ℕ) (more : List (List ℕ)) → 0 < length more → None ≡ spec.answer_in (code ∷ word ∷ more)
-no_answer code [] [] h = absurd (omega arith)
-no_answer code (b ∷ bs) [] h = absurd (omega arith)
-no_answer code [] (next ∷ more) h = refl
-no_answer code (b ∷ bs) (next ∷ more) h = refl
+good_post all sender body h named =
+    let (word, more, is) = first_word body in
+    ap (spec.PostLine sender) (sym (join_with_byte-slice_split 32 body) ∙ ap (join_with_byte 32) is) ∙ rw (h, is, named) refl
 
 pub answer_in_more : (code : List ℕ) (all : List (List ℕ)) (word rest : List ℕ) → all ≡ word ∷ words rest → None ≡ spec.answer_in (code ∷ all)
-answer_in_more code all word rest h = rw h (no_answer code word (words rest) (some_words rest))
+answer_in_more code all word rest h = rw (h, (first_word rest).2) (by word)
+  where
+    by : (word : List ℕ) → None ≡ spec.answer_in (code ∷ word ∷ (first_word rest).0 ∷ (first_word rest).1)
+    by [] = refl
+    by (b ∷ bs) = refl

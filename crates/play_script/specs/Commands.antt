@@ -4,7 +4,10 @@ use Rattle.std.specs.declared.option.Option.{Option}
 use Rattle.std.specs.List.{join_with_byte}
 use Rattle.std.specs.Str.{bytes_eq}
 use Rattle.std.specs.Option.{option_map, option_and_then}
-use Rattle.back_answers.specs.Answers.{answer_of}
+use Rattle.back_answers.specs.Answers.{answer_of, act_of}
+use Rattle.back_answers.specs.Waits.{asked_wait}
+use Rattle.back_answers.specs.declared.answer.Act.{Act}
+use Rattle.back_answers.specs.declared.answer.Act.TheVariants.{Settle, GiveBack, DropFlush}
 use Rattle.back_answers.specs.declared.answer.Answer.{Answer}
 use Rattle.back_answers.specs.declared.answer.Answer.TheVariants.{Unknown}
 use Rattle.play_script.specs.Pieces.{words}
@@ -16,19 +19,16 @@ use Rattle.metric_events.specs.declared.limits.TheConstants.{MAX_TAKEN}
 pub data Asked : Type 0 where
   AdmitLine : (sender : List ℕ) (points : List PointWords) → Asked
   TakeLine : (max : ℕ) → Asked
-  OkLine : (flush : ℕ) → Asked
-  BackLine : (flush : ℕ) → Asked
+  EndLine : (flush : ℕ) (by : Act) (wait : Option ℕ) → Asked
   ReportLine : Asked
   UndoLine : (batch : ℕ) → Asked
   ConfirmLine : (batch : ℕ) → Asked
-  DropLine : (flush : ℕ) → Asked
   QuarantineLine : (sender : List ℕ) → Asked
   LiftLine : (sender : List ℕ) → Asked
   PostLine : (sender : List ℕ) (body : List ℕ) → Asked
   RoundLine : Asked
   PastLine : Asked
   WireLine : (max : ℕ) → Asked
-  AnswerLine : (flush : ℕ) (answer : Answer) → Asked
   BadLine : Asked
 
 -- a number that is the one word
@@ -43,13 +43,10 @@ only_name [] = None
 only_name (word ∷ []) = name_of word
 only_name (word ∷ next ∷ more) = None
 
-abbrev pub numbered : (ℕ → Asked) → Option ℕ → Asked
-numbered line None = BadLine
-numbered line (Some n) = line n
-
-abbrev pub named : (List ℕ → Asked) → Option (List ℕ) → Asked
-named line None = BadLine
-named line (Some name) = line name
+-- a line of what was read, where it can be
+abbrev pub line_with : {T : Type 0} → (T → Asked) → Option T → Asked
+line_with line None = BadLine
+line_with line (Some what) = line what
 
 -- at least one series, and not too many
 abbrev pub within_taken : ℕ → Option ℕ
@@ -68,15 +65,12 @@ abbrev pub admit_words : List (List ℕ) → Asked
 admit_words [] = BadLine
 admit_words (sender ∷ points) = admit_line (name_of sender) (point_words points)
 
-abbrev pub post_line : Option (List ℕ) → List ℕ → Asked
-post_line None body = BadLine
-post_line (Some sender) body = PostLine sender body
-
 -- a sender, and the rest of the line as it is
 abbrev pub post_words : List (List ℕ) → Asked
 post_words [] = BadLine
 post_words (sender ∷ []) = BadLine
-post_words (sender ∷ word ∷ more) = post_line (name_of sender) (join_with_byte SPACE (word ∷ more))
+post_words (sender ∷ word ∷ more) =
+    line_with (λ name. PostLine name (join_with_byte SPACE (word ∷ more))) (name_of sender)
 
 -- an answer with this status, where it is one, and this value of `Retry-After`
 abbrev pub with_status : Option ℕ → Option (List ℕ) → Option Answer
@@ -91,15 +85,19 @@ answer_in (word ∷ [] ∷ []) = None
 answer_in (word ∷ (b ∷ bs) ∷ []) = with_status (status word) (Some (b ∷ bs))
 answer_in (word ∷ next ∷ more ∷ others) = None
 
-abbrev pub answer_line : Option ℕ → Option Answer → Asked
-answer_line None answer = BadLine
-answer_line (Some flush) None = BadLine
-answer_line (Some flush) (Some answer) = AnswerLine flush answer
+-- a flush ends as the back end's answer says
+abbrev pub answered : Option Answer → ℕ → Asked
+answered None flush = BadLine
+answered (Some answer) flush = EndLine flush (act_of answer) (asked_wait answer)
 
 -- a flush, and the back end's answer to its request
 abbrev pub answer_words : List (List ℕ) → Asked
 answer_words [] = BadLine
-answer_words (flush ∷ answer) = answer_line (number flush) (answer_in answer)
+answer_words (flush ∷ answer) = line_with (answered (answer_in answer)) (number flush)
+
+-- a flush, which ends by an act
+abbrev pub end_words : Act → List (List ℕ) → Asked
+end_words by rest = line_with (λ flush. EndLine flush by None) (only_number rest)
 
 abbrev pub nothing_more : Asked → List (List ℕ) → Asked
 nothing_more line [] = line
@@ -108,8 +106,8 @@ nothing_more line (word ∷ more) = BadLine
 -- by the first word and those after it: on senders and rounds, and the report
 abbrev pub other_command : List ℕ → List (List ℕ) → Asked
 other_command word rest =
-    if bytes_eq word (codes "hold") then named QuarantineLine (only_name rest)
-    else (if bytes_eq word (codes "lift") then named LiftLine (only_name rest)
+    if bytes_eq word (codes "hold") then line_with QuarantineLine (only_name rest)
+    else (if bytes_eq word (codes "lift") then line_with LiftLine (only_name rest)
     else (if bytes_eq word (codes "report") then nothing_more ReportLine rest
     else (if bytes_eq word (codes "round") then nothing_more RoundLine rest
     else (if bytes_eq word (codes "past") then nothing_more PastLine rest else BadLine))))
@@ -117,19 +115,19 @@ other_command word rest =
 -- on flushes, or one of those
 abbrev pub flush_command : List ℕ → List (List ℕ) → Asked
 flush_command word rest =
-    if bytes_eq word (codes "take") then numbered TakeLine (only_taken rest)
-    else (if bytes_eq word (codes "wire") then numbered WireLine (only_taken rest)
-    else (if bytes_eq word (codes "ok") then numbered OkLine (only_number rest)
-    else (if bytes_eq word (codes "back") then numbered BackLine (only_number rest)
-    else (if bytes_eq word (codes "drop") then numbered DropLine (only_number rest)
+    if bytes_eq word (codes "take") then line_with TakeLine (only_taken rest)
+    else (if bytes_eq word (codes "wire") then line_with WireLine (only_taken rest)
+    else (if bytes_eq word (codes "ok") then end_words Settle rest
+    else (if bytes_eq word (codes "back") then end_words GiveBack rest
+    else (if bytes_eq word (codes "drop") then end_words DropFlush rest
     else (if bytes_eq word (codes "answer") then answer_words rest
     else other_command word rest)))))
 
 -- on batches that are there, or one of those
 abbrev pub batch_command : List ℕ → List (List ℕ) → Asked
 batch_command word rest =
-    if bytes_eq word (codes "undo") then numbered UndoLine (only_number rest)
-    else (if bytes_eq word (codes "confirm") then numbered ConfirmLine (only_number rest)
+    if bytes_eq word (codes "undo") then line_with UndoLine (only_number rest)
+    else (if bytes_eq word (codes "confirm") then line_with ConfirmLine (only_number rest)
     else flush_command word rest)
 
 -- on a new batch, or one of those

@@ -1,12 +1,11 @@
 -- What is read and written.
 use Rattle.std.specs.Prelude.{◌≡◌, ℕ, ◌+◌, ◌<◌, ◌≤◌, Bool, true, false, List, ◌++◌, length}
-use Rattle.std.specs.Prelude.{Ok, Err}
+use Rattle.std.specs.Prelude.{Err}
 use Rattle.std.specs.declared.option.Option.{Option}
 use Rattle.std.specs.declared.result.Result.{Result}
 use Rattle.std.specs.Io.KnownBytes.{Appends, Consumes}
 use Rattle.play_script.specs.declared.fault.PlayFault.{PlayFault}
 use Rattle.play_script.specs.declared.fault.PlayFault.TheVariants.{CannotRead, TooLong, CannotWrite}
-use Rattle.play_script.specs.declared.fault.PlayFault.TheVariants.{NoMemory}
 use Rattle.play_script.specs.declared.input.TheConstants.{MAX_INPUT, MAX_PIECE}
 
 -- known bytes grow by a front part of the text
@@ -16,30 +15,18 @@ AppendsPart old new text =
 
 -- the fault is that of a reader, or of a writer
 abbrev pub cannot_read : {T : Type 0} → Result T PlayFault → Bool
-cannot_read (Ok x) = false
 cannot_read (Err CannotRead) = true
-cannot_read (Err TooLong) = false
-cannot_read (Err CannotWrite) = false
-cannot_read (Err NoMemory) = false
+cannot_read other = false
 
 abbrev pub cannot_write : {T : Type 0} → Result T PlayFault → Bool
-cannot_write (Ok x) = false
-cannot_write (Err CannotRead) = false
-cannot_write (Err TooLong) = false
 cannot_write (Err CannotWrite) = true
-cannot_write (Err NoMemory) = false
+cannot_write other = false
 
 -- so many bytes were read of an input, by the outcome: over the limit where it is too long, and
 -- there alone
-abbrev pub FaultPasses : PlayFault → ℕ → Type 0
-FaultPasses CannotRead count = count ≤ MAX_INPUT
-FaultPasses TooLong count = MAX_INPUT < count
-FaultPasses CannotWrite count = count ≤ MAX_INPUT
-FaultPasses NoMemory count = count ≤ MAX_INPUT
-
 abbrev pub PassesLimit : {T : Type 0} → Result T PlayFault → ℕ → Type 0
-PassesLimit (Ok x) count = count ≤ MAX_INPUT
-PassesLimit (Err e) count = FaultPasses e count
+PassesLimit (Err TooLong) count = MAX_INPUT < count
+PassesLimit other count = count ≤ MAX_INPUT
 
 -- what was read before the last call is within the limit, and so is what was read in all, but where
 -- the input is too long: there the last call, of at most a piece, passed the limit, and nothing was

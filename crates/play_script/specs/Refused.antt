@@ -12,73 +12,68 @@ use Rattle.delta_book.specs.declared.faults.RoundFault.{RoundFault}
 use Rattle.delta_book.specs.declared.faults.RoundFault.TheVariants as round
 use Rattle.metric_events.specs.declared.point.PointFault.{PointFault}
 use Rattle.metric_events.specs.declared.point.PointFault.TheVariants as point
+use Rattle.otlp_read.specs.declared.fault.ReadFault.{ReadFault}
+use Rattle.otlp_read.specs.declared.fault.ReadFault.TheVariants as read
 use Rattle.play_script.specs.declared.refusal.Refusal.{Refusal}
-use Rattle.play_script.specs.declared.refusal.Refusal.TheVariants.{BadSpan, PointTooLarge}
-use Rattle.play_script.specs.declared.refusal.Refusal.TheVariants.{Quarantined, Full, OtherWriter}
-use Rattle.play_script.specs.declared.refusal.Refusal.TheVariants.{OutOfOrder, TooManySeries}
-use Rattle.play_script.specs.declared.refusal.Refusal.TheVariants.{TooLarge, NotOpen, Taken}
-use Rattle.play_script.specs.declared.refusal.Refusal.TheVariants.{NotLive, Already, NotQuarantined}
-use Rattle.play_script.specs.declared.refusal.Refusal.TheVariants.{NotJson, WrongShape, BatchOpen}
-use Rattle.play_script.specs.declared.refusal.Refusal.TheVariants.{FlushLive, LastRound, NoMemory}
+use Rattle.play_script.specs.declared.refusal.Refusal.TheVariants.{Point, Read, Admit, Take, Undo}
+use Rattle.play_script.specs.declared.refusal.Refusal.TheVariants.{Quarantine, Round, NotOpen}
+use Rattle.play_script.specs.declared.refusal.Refusal.TheVariants.{NotLive, NotQuarantined}
+use Rattle.play_script.specs.declared.refusal.Refusal.TheVariants.{NoMemory}
+
+abbrev pub point_text : PointFault → List ℕ
+point_text point.BadSpan = codes "bad-span"
+point_text point.NegativeMonotonic = codes "point-too-large"
+point_text point.BucketMismatch = codes "point-too-large"
+point_text point.TooLarge = codes "point-too-large"
+point_text point.NoMemory = codes "no-memory"
+
+abbrev pub read_text : ReadFault → List ℕ
+read_text read.NotJson = codes "not-json"
+read_text (read.WrongShape place) = codes "wrong-shape"
+read_text read.NoMemory = codes "no-memory"
 
 -- a point's index, and the frontier of its series
 abbrev pub place_text : ℕ → ℕ → List ℕ
 place_text i frontier = decimal i ++ codes " " ++ decimal frontier
 
 -- a point is named by its index in its batch, from 0
-unfoldable pub refusal_text : Refusal → List ℕ
-refusal_text BadSpan = codes "bad-span"
-refusal_text PointTooLarge = codes "point-too-large"
-refusal_text Quarantined = codes "quarantined"
-refusal_text Full = codes "full"
-refusal_text (OtherWriter i) = codes "other-writer " ++ decimal i
-refusal_text (OutOfOrder i frontier) = codes "out-of-order " ++ place_text i frontier
-refusal_text TooManySeries = codes "too-many-series"
-refusal_text TooLarge = codes "too-large"
+abbrev pub admit_text : AdmitFault → List ℕ
+admit_text admit.Quarantined = codes "quarantined"
+admit_text admit.Full = codes "full"
+admit_text (admit.OtherWriter i) = codes "other-writer " ++ decimal i
+admit_text (admit.OutOfOrder i frontier) = codes "out-of-order " ++ place_text i frontier
+admit_text admit.TooManySeries = codes "too-many-series"
+admit_text admit.TooLarge = codes "too-large"
+admit_text admit.NoMemory = codes "no-memory"
+
+abbrev pub take_text : TakeFault → List ℕ
+take_text take.Full = codes "full"
+take_text take.NoMemory = codes "no-memory"
+
+abbrev pub undo_text : UndoFault → List ℕ
+undo_text undo.NotOpen = codes "not-open"
+undo_text undo.Taken = codes "taken"
+
+abbrev pub quarantine_text : QuarantineFault → List ℕ
+quarantine_text hold.Already = codes "already"
+quarantine_text hold.Full = codes "full"
+quarantine_text hold.NoMemory = codes "no-memory"
+
+abbrev pub round_text : RoundFault → List ℕ
+round_text round.BatchOpen = codes "batch-open"
+round_text round.FlushLive = codes "flush-live"
+round_text round.LastRound = codes "last-round"
+round_text round.NoMemory = codes "no-memory"
+
+abbrev pub refusal_text : Refusal → List ℕ
+refusal_text (Point fault) = point_text fault
+refusal_text (Read fault) = read_text fault
+refusal_text (Admit fault) = admit_text fault
+refusal_text (Take fault) = take_text fault
+refusal_text (Undo fault) = undo_text fault
+refusal_text (Quarantine fault) = quarantine_text fault
+refusal_text (Round fault) = round_text fault
 refusal_text NotOpen = codes "not-open"
-refusal_text Taken = codes "taken"
 refusal_text NotLive = codes "not-live"
-refusal_text Already = codes "already"
 refusal_text NotQuarantined = codes "not-held"
-refusal_text NotJson = codes "not-json"
-refusal_text WrongShape = codes "wrong-shape"
-refusal_text BatchOpen = codes "batch-open"
-refusal_text FlushLive = codes "flush-live"
-refusal_text LastRound = codes "last-round"
 refusal_text NoMemory = codes "no-memory"
-
--- the refusal of a point's fault
-abbrev pub of_point : PointFault → Refusal
-of_point point.BadSpan = BadSpan
-of_point point.NegativeMonotonic = PointTooLarge
-of_point point.BucketMismatch = PointTooLarge
-of_point point.TooLarge = PointTooLarge
-of_point point.NoMemory = NoMemory
-
-abbrev pub of_admit : AdmitFault → Refusal
-of_admit admit.Quarantined = Quarantined
-of_admit admit.Full = Full
-of_admit (admit.OtherWriter i) = OtherWriter i
-of_admit (admit.OutOfOrder i frontier) = OutOfOrder i frontier
-of_admit admit.TooManySeries = TooManySeries
-of_admit admit.TooLarge = TooLarge
-of_admit admit.NoMemory = NoMemory
-
-abbrev pub of_take : TakeFault → Refusal
-of_take take.Full = Full
-of_take take.NoMemory = NoMemory
-
-abbrev pub of_undo : UndoFault → Refusal
-of_undo undo.NotOpen = NotOpen
-of_undo undo.Taken = Taken
-
-abbrev pub of_quarantine : QuarantineFault → Refusal
-of_quarantine hold.Already = Already
-of_quarantine hold.Full = Full
-of_quarantine hold.NoMemory = NoMemory
-
-abbrev pub of_round : RoundFault → Refusal
-of_round round.BatchOpen = BatchOpen
-of_round round.FlushLive = FlushLive
-of_round round.LastRound = LastRound
-of_round round.NoMemory = NoMemory

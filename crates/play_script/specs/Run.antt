@@ -3,9 +3,6 @@ use Rattle.std.specs.Prelude.{ℕ, ◌+◌, Bool, true, false, ◌&&◌, List, [
 use Rattle.std.specs.Prelude.{codes, decimal, Some, None, Ok, Err}
 use Rattle.std.specs.declared.option.Option.{Option}
 use Rattle.std.specs.declared.result.Result.{Result}
-use Rattle.back_answers.specs.Answers.{act_of}
-use Rattle.back_answers.specs.Waits.{asked_wait}
-use Rattle.back_answers.specs.declared.answer.Answer.{Answer as BackAnswer}
 use Rattle.back_answers.specs.declared.answer.Act.{Act}
 use Rattle.back_answers.specs.declared.answer.Act.TheVariants.{Settle, GiveBack, DropFlush}
 use Rattle.metric_events.specs.History.{History, Start, Opened, ◌▸◌}
@@ -17,6 +14,7 @@ use Rattle.metric_events.specs.declared.event.Event.TheVariants as event
 use Rattle.metric_events.specs.declared.point.PointFault.{PointFault}
 use Rattle.metric_events.specs.DataPoint.{DataPoint}
 use Rattle.otlp_read.specs.declared.place.Place.{Place}
+use Rattle.otlp_read.specs.declared.fault.ReadFault.TheVariants.{NotJson, WrongShape}
 use Rattle.otlp_read.specs.Tallies.{Tally}
 use Rattle.otlp_read.specs.Reading.{text_reading}
 use Rattle.delta_book.specs.Journal.{admits, takes}
@@ -27,20 +25,17 @@ use Rattle.delta_book.specs.Totals.{totals_rows}
 use Rattle.delta_book.specs.Rounds.{round_refusal}
 use Rattle.delta_book.specs.PastRows.{past_rows}
 use Rattle.play_script.specs.PointLines.{PointWords, point_of, first_fault}
-use Rattle.play_script.specs.Commands.{Asked, AdmitLine, TakeLine, OkLine, BackLine, ReportLine}
-use Rattle.play_script.specs.Commands.{UndoLine, ConfirmLine, DropLine, QuarantineLine, LiftLine}
-use Rattle.play_script.specs.Commands.{PostLine, RoundLine, PastLine, WireLine, AnswerLine, BadLine}
-use Rattle.play_script.specs.Commands.{command}
-use Rattle.play_script.specs.Refused.{refusal_text, of_point, of_admit, of_take, of_undo}
-use Rattle.play_script.specs.Refused.{of_quarantine, of_round}
+use Rattle.play_script.specs.Commands.{Asked, AdmitLine, TakeLine, EndLine, ReportLine, UndoLine}
+use Rattle.play_script.specs.Commands.{ConfirmLine, QuarantineLine, LiftLine, PostLine, RoundLine}
+use Rattle.play_script.specs.Commands.{PastLine, WireLine, BadLine, command}
+use Rattle.play_script.specs.Refused.{refusal_text}
 use Rattle.play_script.specs.Replies.{said, batch_and_foreign, flush_text, wired_text}
 use Rattle.play_script.specs.Replies.{flush_and_wait}
 use Rattle.out_texts.specs.Report.{report_text}
 use Rattle.out_texts.specs.Past.{past_text}
 use Rattle.out_texts.specs.Request.{request_text}
 use Rattle.play_script.specs.declared.refusal.Refusal.{Refusal}
-use Rattle.play_script.specs.declared.refusal.Refusal.TheVariants.{NotOpen, NotLive, NotQuarantined}
-use Rattle.play_script.specs.declared.refusal.Refusal.TheVariants.{NotJson, WrongShape, NoMemory}
+use Rattle.play_script.specs.declared.refusal.Refusal.TheVariants as why
 
 -- the reply to a line, and the history after it
 pub record Answer : Type 0 where
@@ -63,26 +58,14 @@ happens E e text = record { text = text; after = E ▸ e }
 
 -- what a reply says of a fault
 abbrev pub fault_text : (call : book.Asked) → book.Fault call → List ℕ
-fault_text (book.Admit body) fault = refused_text (of_admit fault)
+fault_text (book.Admit body) fault = refused_text (why.Admit fault)
 fault_text (book.Take max) None = codes "nothing\n"
-fault_text (book.Take max) (Some fault) = refused_text (of_take fault)
-fault_text (book.End act f) fault = refused_text NotLive
-fault_text (book.Undo b) fault = refused_text (of_undo fault)
-fault_text (book.Confirm b) fault = refused_text NotOpen
-fault_text (book.Quarantine s) fault = refused_text (of_quarantine fault)
-fault_text (book.Lift s) fault = refused_text NotQuarantined
-
--- what it says of an event after a history: of a flush that is taken, its points
-abbrev pub event_text : History → Event → List ℕ
-event_text E (event.Admit b body) = said (codes "batch ") (decimal b)
-event_text E (event.Undo b) = said (codes "undone ") (decimal b)
-event_text E (event.Confirm b) = said (codes "confirmed ") (decimal b)
-event_text E (event.Take f series) = flush_text f (flush_points (E ▸ event.Take f series) f)
-event_text E (event.Settle f) = said (codes "settled ") (decimal f)
-event_text E (event.Drop f) = said (codes "dropped ") (decimal f)
-event_text E (event.GiveBack f) = said (codes "returned ") (decimal f)
-event_text E (event.Quarantine s) = said (codes "held ") s
-event_text E (event.Lift s) = said (codes "lifted ") s
+fault_text (book.Take max) (Some fault) = refused_text (why.Take fault)
+fault_text (book.End act f) fault = refused_text why.NotLive
+fault_text (book.Undo b) fault = refused_text (why.Undo fault)
+fault_text (book.Confirm b) fault = refused_text why.NotOpen
+fault_text (book.Quarantine s) fault = refused_text (why.Quarantine fault)
+fault_text (book.Lift s) fault = refused_text why.NotQuarantined
 
 -- the texts of a fault and of an event, by which of them is the outcome
 abbrev pub answer_by : {F : Type 0} → History → (F → List ℕ) → (Event → List ℕ) → Result Event F
@@ -94,37 +77,40 @@ answer_by E of_fault of_event (Err fault) = only_says E (of_fault fault)
 abbrev pub called_as : History → (Event → List ℕ) → book.Asked → Answer
 called_as E text call = answer_by E (fault_text call) text (book.outcome E call)
 
-abbrev pub called : History → book.Asked → Answer
-called E call = called_as E (event_text E) call
+-- the same where the text does not depend on the event
+abbrev pub called : History → List ℕ → book.Asked → Answer
+called E text call = called_as E (λ e. text) call
 
 abbrev pub body_of : List ℕ → List PointWords → Batch
 body_of sender points = record { sender = sender; points = map point_of points }
 
 -- a point that can't be made is refused before the book is asked
 abbrev pub made_or : History → Batch → Option PointFault → Answer
-made_or E body (Some fault) = refused E (of_point fault)
-made_or E body None = called E (book.Admit body)
+made_or E body (Some fault) = refused E (why.Point fault)
+made_or E body None =
+    called E (said (codes "batch ") (decimal (admits E + 1))) (book.Admit body)
 
 abbrev pub posted_batch : List ℕ → List DataPoint → Batch
 posted_batch sender points = record { sender = sender; points = points }
-
--- the batch of a body, and how many of its points are none of it
-abbrev pub posted_text : ℕ → ℕ → Event → List ℕ
-posted_text b foreign e = said (codes "batch ") (batch_and_foreign b foreign)
 
 -- the points of the profile are one batch; without any the book is not asked
 abbrev pub posted : History → List ℕ → List DataPoint → ℕ → Answer
 posted E sender [] foreign = only_says E (said (codes "nothing foreign ") (decimal foreign))
 posted E sender (p ∷ ps) foreign =
-    called_as E (posted_text (admits E + 1) foreign) (book.Admit (posted_batch sender (p ∷ ps)))
+    called E (said (codes "batch ") (batch_and_foreign (admits E + 1) foreign))
+    (book.Admit (posted_batch sender (p ∷ ps)))
 
 -- a body that can't be read is refused before the book is asked
 abbrev pub read_or : History → List ℕ → Option (Result Tally Place) → Answer
-read_or E sender None = refused E NotJson
-read_or E sender (Some (Err place)) = refused E WrongShape
+read_or E sender None = refused E (why.Read NotJson)
+read_or E sender (Some (Err place)) = refused E (why.Read (WrongShape place))
 read_or E sender (Some (Ok t)) = posted E sender t.points t.foreign
 
--- the request of the flush that an event takes
+-- the points of the flush that an event takes
+abbrev pub taken_text : History → ℕ → Event → List ℕ
+taken_text E f e = flush_text f (flush_points (E ▸ e) f)
+
+-- its request
 abbrev pub request_after : History → ℕ → Event → List ℕ
 request_after E f e = wired_text f (request_text (flush_points (E ▸ e) f))
 
@@ -135,32 +121,26 @@ act_text GiveBack None f = said (codes "returned ") (decimal f)
 act_text GiveBack (Some seconds) f = said (codes "returned ") (flush_and_wait f seconds)
 act_text DropFlush wait f = said (codes "dropped ") (decimal f)
 
-abbrev pub ended_text : BackAnswer → ℕ → Event → List ℕ
-ended_text back f e = act_text (act_of back) (asked_wait back) f
-
 -- a round that may be closed is, and the next one begins
 abbrev pub closed_or : History → Option RoundFault → Answer
-closed_or E (Some fault) = refused E (of_round fault)
+closed_or E (Some fault) = refused E (why.Round fault)
 closed_or E None =
     record { text = said (codes "round ") (decimal (close E).round); after = Opened (close E) }
 
 -- what a command answers after a history
 abbrev pub answer : History → Asked → Answer
 answer E (AdmitLine sender points) = made_or E (body_of sender points) (first_fault points)
-answer E (TakeLine max) = called E (book.Take max)
-answer E (OkLine f) = called E (book.End Settle f)
-answer E (BackLine f) = called E (book.End GiveBack f)
+answer E (TakeLine max) = called_as E (taken_text E (takes E + 1)) (book.Take max)
+answer E (EndLine f by wait) = called E (act_text by wait f) (book.End by f)
 answer E ReportLine = only_says E (report_text (totals_rows E))
-answer E (UndoLine b) = called E (book.Undo b)
-answer E (ConfirmLine b) = called E (book.Confirm b)
-answer E (DropLine f) = called E (book.End DropFlush f)
-answer E (QuarantineLine s) = called E (book.Quarantine s)
-answer E (LiftLine s) = called E (book.Lift s)
+answer E (UndoLine b) = called E (said (codes "undone ") (decimal b)) (book.Undo b)
+answer E (ConfirmLine b) = called E (said (codes "confirmed ") (decimal b)) (book.Confirm b)
+answer E (QuarantineLine s) = called E (said (codes "held ") s) (book.Quarantine s)
+answer E (LiftLine s) = called E (said (codes "lifted ") s) (book.Lift s)
 answer E (PostLine sender body) = read_or E sender (text_reading body)
 answer E RoundLine = closed_or E (round_refusal E)
 answer E PastLine = only_says E (past_text (past_rows E))
 answer E (WireLine max) = called_as E (request_after E (takes E + 1)) (book.Take max)
-answer E (AnswerLine f back) = called_as E (ended_text back f) (book.End (act_of back) f)
 answer E BadLine = only_says E (codes "bad command\n")
 
 -- whether the allocations of a line went well: all, not all, or not that of a request after its
@@ -173,7 +153,7 @@ pub data Mark : Type 0 where
 -- a flush f that an event takes is given back, without memory for its request
 abbrev pub returned_by : History → ℕ → (Option TakeFault → List ℕ) → Result Event (Option TakeFault)
     → Answer
-returned_by E f of_fault (Ok e) = refused (E ▸ e ▸ event.GiveBack f) NoMemory
+returned_by E f of_fault (Ok e) = refused (E ▸ e ▸ event.GiveBack f) why.NoMemory
 returned_by E f of_fault (Err fault) = only_says E (of_fault fault)
 
 abbrev pub without_text : History → Asked → Answer
@@ -184,15 +164,12 @@ without_text E asked = answer E asked
 -- what a command answers, with the memory that it found
 abbrev pub marked_answer : History → Asked → Mark → Answer
 marked_answer E asked Found = answer E asked
-marked_answer E asked Missed = refused E NoMemory
+marked_answer E asked Missed = refused E why.NoMemory
 marked_answer E asked MissedText = without_text E asked
 
 -- the commands that may find no memory
 abbrev pub takes_memory : Asked → Bool
-takes_memory (OkLine f) = false
-takes_memory (BackLine f) = false
-takes_memory (DropLine f) = false
-takes_memory (AnswerLine f back) = false
+takes_memory (EndLine f by wait) = false
 takes_memory (UndoLine b) = false
 takes_memory (ConfirmLine b) = false
 takes_memory BadLine = false

@@ -1,5 +1,4 @@
 pub mod Views
-pub mod Refused
 pub mod Ends
 pub mod Run
 pub mod Answered

@@ -16,11 +16,9 @@ ghost use Rattle.play_script.specs.inner.Views.{asked_by, words_of_each, IsReady
 use crate::command::Command;
 use crate::point_line::PointLine;
 use crate::points::make_points;
-use crate::refusal::{
-    Refusal, of_admit, of_point, of_quarantine, of_read, of_round, of_take, of_undo,
-};
+use crate::refusal::Refusal;
 use crate::reply::Reply;
-use back_answers::{Act, Answer, act};
+use back_answers::Act;
 use delta_book::book::Book;
 use delta_book::faults::NotLive;
 use delta_book::flush::Flush;
@@ -45,11 +43,11 @@ fn admit(alloc: Global, book: &mut Book, sender: &[u8], lines: &[PointLine<'_>])
     };
     let points = match make_points(alloc, lines) {
         Ok(points) => points,
-        Err(fault) => return Reply::Refused(of_point(fault)),
+        Err(fault) => return Reply::Refused(Refusal::Point(fault)),
     };
     match book.admit(SEAT, Batch { sender, points }) {
         Ok(batch) => return Reply::Batch(batch),
-        Err((fault, _)) => return Reply::Refused(of_admit(fault)),
+        Err((fault, _)) => return Reply::Refused(Refusal::Admit(fault)),
     }
 }
 
@@ -60,7 +58,7 @@ fn post(alloc: Global, book: &mut Book, sender: &[u8], body: &[u8]) -> Reply<'st
 {
     let reading = match read_request(alloc, body) {
         Ok(reading) => reading,
-        Err(fault) => return Reply::Refused(of_read(fault)),
+        Err(fault) => return Reply::Refused(Refusal::Read(fault)),
     };
     let foreign = reading.foreign;
     if reading.points.as_slice().is_empty() {
@@ -72,7 +70,7 @@ fn post(alloc: Global, book: &mut Book, sender: &[u8], body: &[u8]) -> Reply<'st
     let points = reading.points;
     match book.admit(SEAT, Batch { sender, points }) {
         Ok(batch) => return Reply::Posted { batch, foreign },
-        Err((fault, _)) => return Reply::Refused(of_admit(fault)),
+        Err((fault, _)) => return Reply::Refused(Refusal::Admit(fault)),
     }
 }
 
@@ -85,37 +83,7 @@ fn take(book: &mut Book, max: u64) -> Reply<'static>
     match book.take(SEAT, max as usize) {
         Ok(None) => Reply::Nothing,
         Ok(Some(flush)) => Reply::Flushed(flush),
-        Err(fault) => Reply::Refused(of_take(fault)),
-    }
-}
-
-fn settle(book: &mut Book, flush: u64) -> Reply<'static>
-    ensures { IsReply (history book.old) (asked.OkLine flush) (reply_text result)
-        (history book.new) }
-{
-    match book.settle(SEAT, flush) {
-        Ok(()) => Reply::Settled(flush),
-        Err(_) => Reply::Refused(Refusal::NotLive),
-    }
-}
-
-fn give_back(book: &mut Book, flush: u64) -> Reply<'static>
-    ensures { IsReply (history book.old) (asked.BackLine flush) (reply_text result)
-        (history book.new) }
-{
-    match book.give_back(SEAT, flush) {
-        Ok(()) => Reply::Returned(flush),
-        Err(_) => Reply::Refused(Refusal::NotLive),
-    }
-}
-
-fn discard(book: &mut Book, flush: u64) -> Reply<'static>
-    ensures { IsReply (history book.old) (asked.DropLine flush) (reply_text result)
-        (history book.new) }
-{
-    match book.drop_flush(SEAT, flush) {
-        Ok(()) => Reply::Dropped(flush),
-        Err(_) => Reply::Refused(Refusal::NotLive),
+        Err(fault) => Reply::Refused(Refusal::Take(fault)),
     }
 }
 
@@ -125,7 +93,7 @@ fn undo(book: &mut Book, batch: u64) -> Reply<'static>
 {
     match book.undo(SEAT, batch) {
         Ok(()) => Reply::Undone(batch),
-        Err(fault) => Reply::Refused(of_undo(fault)),
+        Err(fault) => Reply::Refused(Refusal::Undo(fault)),
     }
 }
 
@@ -149,7 +117,7 @@ fn quarantine<'a>(alloc: Global, book: &mut Book, sender: &'a [u8]) -> Reply<'a>
     };
     match book.quarantine(SEAT, name) {
         Ok(()) => Reply::Quarantined(sender),
-        Err(fault) => Reply::Refused(of_quarantine(fault)),
+        Err(fault) => Reply::Refused(Refusal::Quarantine(fault)),
     }
 }
 
@@ -181,7 +149,7 @@ fn round(book: &mut Book) -> Reply<'static>
 {
     match book.close_round() {
         Ok(round) => Reply::Round(round),
-        Err(fault) => Reply::Refused(of_round(fault)),
+        Err(fault) => Reply::Refused(Refusal::Round(fault)),
     }
 }
 
@@ -231,7 +199,7 @@ fn wire(alloc: Global, book: &mut Book, most: u64) -> Reply<'static>
     match book.take(SEAT, most as usize) {
         Ok(None) => Reply::Nothing,
         Ok(Some(flush)) => forward(alloc, book, &flush),
-        Err(fault) => Reply::Refused(of_take(fault)),
+        Err(fault) => Reply::Refused(Refusal::Take(fault)),
     }
 }
 
@@ -261,13 +229,12 @@ fn end_reply(flush: u64, by: Act, wait: Option<u64>) -> Reply<'static>
     }
 }
 
-fn answer_flush(book: &mut Book, flush: u64, answer: Answer) -> Reply<'static>
-    ensures { IsReply (history book.old) (asked.AnswerLine flush answer) (reply_text result)
+fn end(book: &mut Book, flush: u64, by: Act, wait: Option<u64>) -> Reply<'static>
+    ensures { IsReply (history book.old) (asked.EndLine flush by wait) (reply_text result)
         (history book.new) }
 {
-    let by = act(answer);
     match end_flush(book, flush, by) {
-        Ok(()) => end_reply(flush, by, answer.asked_wait()),
+        Ok(()) => end_reply(flush, by, wait),
         Err(_) => Reply::Refused(Refusal::NotLive),
     }
 }
@@ -281,18 +248,15 @@ pub fn reply_to<'a>(alloc: Global, book: &mut Book, command: Command<'a>) -> Rep
     match command {
         Command::Admit { sender, points } => admit(alloc, book, sender, points.as_slice()),
         Command::Take(max) => take(book, max),
-        Command::Settle(flush) => settle(book, flush),
-        Command::GiveBack(flush) => give_back(book, flush),
+        Command::End { flush, by, wait } => end(book, flush, by, wait),
         Command::Report => report(book),
         Command::Undo(batch) => undo(book, batch),
         Command::Confirm(batch) => confirm(book, batch),
-        Command::Discard(flush) => discard(book, flush),
         Command::Quarantine(sender) => quarantine(alloc, book, sender),
         Command::Lift(sender) => lift(alloc, book, sender),
         Command::Post { sender, body } => post(alloc, book, sender, body),
         Command::Round => round(book),
         Command::Past => past(book),
         Command::Wire(max) => wire(alloc, book, max),
-        Command::Answered { flush, answer } => answer_flush(book, flush, answer),
     }
 }

@@ -12,7 +12,7 @@ use crate::numbers::{number, status};
 use crate::pieces::cut_word;
 use crate::point_line::PointLine;
 use crate::points::read_points;
-use back_answers::{Answer, classify};
+use back_answers::{Act, Answer, act, classify};
 use metric_events::limits::MAX_TAKEN;
 use metric_events::sender_name::is_sender_name;
 use std::alloc::{AllocError, Global};
@@ -27,12 +27,15 @@ pub enum Command<'a> {
     },
     /// Take a flush of at most so many series.
     Take(u64),
-    Settle(u64),
-    GiveBack(u64),
+    /// End a flush by this act. The back end asks to wait so many seconds.
+    End {
+        flush: u64,
+        by: Act,
+        wait: Option<u64>,
+    },
     Report,
     Undo(u64),
     Confirm(u64),
-    Discard(u64),
     Quarantine(&'a [u8]),
     Lift(&'a [u8]),
     /// Admit the points of a request's body, which is the rest of the line.
@@ -46,11 +49,6 @@ pub enum Command<'a> {
     Past,
     /// Take a flush of at most so many series and reply with the request that forwards it.
     Wire(u64),
-    /// End a flush as the back end's answer says.
-    Answered {
-        flush: u64,
-        answer: Answer,
-    },
 }
 
 /// The number, where the rest of the line is one word.
@@ -148,7 +146,24 @@ fn answer(rest: Option<&[u8]>) -> Option<Command<'_>>
     let word = cut_word(rest?);
     let flush = number(word.first)?;
     let answer = answer_of(word.rest?)?;
-    Some(Command::Answered { flush, answer })
+    Some(Command::End {
+        flush,
+        by: act(answer),
+        wait: answer.asked_wait(),
+    })
+}
+
+/// The end of a flush by an act, without any wait.
+fn end(by: Act, rest: Option<&[u8]>) -> Option<Command<'_>>
+    ensures asks { asked_by result ≡ spec.end_words by (rest_words rest.entry) }
+    ensures ready { IsReady result }
+{
+    let flush = only_number(rest)?;
+    Some(Command::End {
+        flush,
+        by,
+        wait: None,
+    })
 }
 
 /// A command that has no further words.
@@ -221,13 +236,13 @@ fn flush_command<'a>(word: &[u8], rest: Option<&'a [u8]>) -> Option<Command<'a>>
         return Some(Command::Wire(only_taken(rest)?));
     }
     if is(word, b"ok") {
-        return Some(Command::Settle(only_number(rest)?));
+        return end(Act::Settle, rest);
     }
     if is(word, b"back") {
-        return Some(Command::GiveBack(only_number(rest)?));
+        return end(Act::GiveBack, rest);
     }
     if is(word, b"drop") {
-        return Some(Command::Discard(only_number(rest)?));
+        return end(Act::DropFlush, rest);
     }
     if is(word, b"answer") {
         return answer(rest);

@@ -1,8 +1,7 @@
-//! Why a command is refused.
+//! Why a command is refused, and the texts that say so.
 
 ghost use Rattle.std.specs.Prelude.{◌≡◌, ◌++◌, OnOk};
 ghost use Rattle.play_script.specs.Refused as spec;
-ghost use Rattle.play_script.specs.inner.Refused as inner;
 
 use delta_book::faults::{AdmitFault, QuarantineFault, RoundFault, TakeFault, UndoFault};
 use metric_events::point::PointFault;
@@ -10,45 +9,48 @@ use otlp_read::ReadFault;
 use out_texts::put_number;
 use std::alloc::AllocError;
 
-/// Why a command is refused. A point is named by its index in its batch, from 0.
+/// Why a command is refused.
 #[derive(Clone, Copy, Debug, PartialEq, Eq)]
 pub enum Refusal {
-    /// A point's start is 0, or its end is not after its start.
-    BadSpan,
-    /// A point is over a limit by itself.
-    PointTooLarge,
-    /// The sender is quarantined.
-    Quarantined,
-    /// Too many batches are open, flushes live or senders quarantined, or the journal is full.
-    Full,
-    /// The point's series has another sender.
-    OtherWriter(usize),
-    /// The point starts before its series' frontier, in nanoseconds.
-    OutOfOrder(usize, u64),
-    TooManySeries,
-    /// A sum of a series would be over a limit.
-    TooLarge,
+    /// A point can't be made.
+    Point(PointFault),
+    /// A body can't be read.
+    Read(ReadFault),
+    Admit(AdmitFault),
+    Take(TakeFault),
+    Undo(UndoFault),
+    Quarantine(QuarantineFault),
+    Round(RoundFault),
     /// No such batch is open.
     NotOpen,
-    /// A point of the batch is not pending.
-    Taken,
     /// No such flush is live.
     NotLive,
-    /// The sender is quarantined already.
-    Already,
     /// The sender is not quarantined.
     NotQuarantined,
-    /// The body is no JSON text.
-    NotJson,
-    /// A container of the body has another type.
-    WrongShape,
-    /// A batch is open.
-    BatchOpen,
-    /// A flush is live.
-    FlushLive,
-    /// No round may follow.
-    LastRound,
     NoMemory,
+}
+
+/// The fault of a plain sum is never `NegativeMonotonic` or `BucketMismatch`.
+fn point_text(fault: PointFault) -> &'static str
+    ensures { result.now ≡ spec.point_text fault }
+{
+    match fault {
+        PointFault::BadSpan => "bad-span",
+        PointFault::NegativeMonotonic => "point-too-large",
+        PointFault::BucketMismatch => "point-too-large",
+        PointFault::TooLarge => "point-too-large",
+        PointFault::NoMemory => "no-memory",
+    }
+}
+
+fn read_text(fault: ReadFault) -> &'static str
+    ensures { result.now ≡ spec.read_text fault }
+{
+    match fault {
+        ReadFault::NotJson => "not-json",
+        ReadFault::WrongShape(_) => "wrong-shape",
+        ReadFault::NoMemory => "no-memory",
+    }
 }
 
 /// Puts a point's index and its series' frontier.
@@ -60,112 +62,82 @@ fn put_place(out: &mut Vec<u8>, point: u64, frontier: u64) -> Result<(), AllocEr
     put_number(out, frontier)
 }
 
-/// Puts the reason after the text.
-#[tactic(auto, unfolding(crate::specs::Refused::refusal_text))]
-pub fn put_refusal(out: &mut Vec<u8>, refusal: Refusal) -> Result<(), AllocError>
-    ensures { OnOk result (out.new.items ≡ out.old.items ++ spec.refusal_text refusal) }
+/// A point is named by its index in its batch, from 0.
+fn put_admit(out: &mut Vec<u8>, fault: AdmitFault) -> Result<(), AllocError>
+    ensures { OnOk result (out.new.items ≡ out.old.items ++ spec.admit_text fault) }
 {
-    match refusal {
-        Refusal::BadSpan => out.extend_from_slice(b"bad-span"),
-        Refusal::PointTooLarge => out.extend_from_slice(b"point-too-large"),
-        Refusal::Quarantined => out.extend_from_slice(b"quarantined"),
-        Refusal::Full => out.extend_from_slice(b"full"),
-        Refusal::OtherWriter(point) => {
+    match fault {
+        AdmitFault::Quarantined => out.extend_from_slice(b"quarantined"),
+        AdmitFault::Full => out.extend_from_slice(b"full"),
+        AdmitFault::OtherWriter(point) => {
             out.extend_from_slice(b"other-writer ")?;
             put_number(out, point as u64)
         }
-        Refusal::OutOfOrder(point, frontier) => {
+        AdmitFault::OutOfOrder(point, frontier) => {
             out.extend_from_slice(b"out-of-order ")?;
             put_place(out, point as u64, frontier)
         }
-        Refusal::TooManySeries => out.extend_from_slice(b"too-many-series"),
-        Refusal::TooLarge => out.extend_from_slice(b"too-large"),
-        Refusal::NotOpen => out.extend_from_slice(b"not-open"),
-        Refusal::Taken => out.extend_from_slice(b"taken"),
-        Refusal::NotLive => out.extend_from_slice(b"not-live"),
-        Refusal::Already => out.extend_from_slice(b"already"),
-        Refusal::NotQuarantined => out.extend_from_slice(b"not-held"),
-        Refusal::NotJson => out.extend_from_slice(b"not-json"),
-        Refusal::WrongShape => out.extend_from_slice(b"wrong-shape"),
-        Refusal::BatchOpen => out.extend_from_slice(b"batch-open"),
-        Refusal::FlushLive => out.extend_from_slice(b"flush-live"),
-        Refusal::LastRound => out.extend_from_slice(b"last-round"),
-        Refusal::NoMemory => out.extend_from_slice(b"no-memory"),
+        AdmitFault::TooManySeries => out.extend_from_slice(b"too-many-series"),
+        AdmitFault::TooLarge => out.extend_from_slice(b"too-large"),
+        AdmitFault::NoMemory => out.extend_from_slice(b"no-memory"),
     }
 }
 
-/// The refusal of a point. That of a plain sum is never `NegativeMonotonic` or `BucketMismatch`.
-pub fn of_point(fault: PointFault) -> Refusal
-    ensures { result ≡ spec.of_point fault }
+fn take_text(fault: TakeFault) -> &'static str
+    ensures { result.now ≡ spec.take_text fault }
 {
     match fault {
-        PointFault::BadSpan => Refusal::BadSpan,
-        PointFault::NegativeMonotonic => Refusal::PointTooLarge,
-        PointFault::BucketMismatch => Refusal::PointTooLarge,
-        PointFault::TooLarge => Refusal::PointTooLarge,
-        PointFault::NoMemory => Refusal::NoMemory,
+        TakeFault::Full => "full",
+        TakeFault::NoMemory => "no-memory",
     }
 }
 
-pub fn of_admit(fault: AdmitFault) -> Refusal
-    ensures { result ≡ spec.of_admit fault }
+fn undo_text(fault: UndoFault) -> &'static str
+    ensures { result.now ≡ spec.undo_text fault }
 {
     match fault {
-        AdmitFault::Quarantined => Refusal::Quarantined,
-        AdmitFault::Full => Refusal::Full,
-        AdmitFault::OtherWriter(point) => Refusal::OtherWriter(point),
-        AdmitFault::OutOfOrder(point, frontier) => Refusal::OutOfOrder(point, frontier),
-        AdmitFault::TooManySeries => Refusal::TooManySeries,
-        AdmitFault::TooLarge => Refusal::TooLarge,
-        AdmitFault::NoMemory => Refusal::NoMemory,
+        UndoFault::NotOpen => "not-open",
+        UndoFault::Taken => "taken",
     }
 }
 
-pub fn of_take(fault: TakeFault) -> Refusal
-    ensures { result ≡ spec.of_take fault }
+fn quarantine_text(fault: QuarantineFault) -> &'static str
+    ensures { result.now ≡ spec.quarantine_text fault }
 {
     match fault {
-        TakeFault::Full => Refusal::Full,
-        TakeFault::NoMemory => Refusal::NoMemory,
+        QuarantineFault::Already => "already",
+        QuarantineFault::Full => "full",
+        QuarantineFault::NoMemory => "no-memory",
     }
 }
 
-pub fn of_undo(fault: UndoFault) -> Refusal
-    ensures { result ≡ spec.of_undo fault }
+fn round_text(fault: RoundFault) -> &'static str
+    ensures { result.now ≡ spec.round_text fault }
 {
     match fault {
-        UndoFault::NotOpen => Refusal::NotOpen,
-        UndoFault::Taken => Refusal::Taken,
+        RoundFault::BatchOpen => "batch-open",
+        RoundFault::FlushLive => "flush-live",
+        RoundFault::LastRound => "last-round",
+        RoundFault::NoMemory => "no-memory",
     }
 }
 
-pub fn of_quarantine(fault: QuarantineFault) -> Refusal
-    ensures { result ≡ spec.of_quarantine fault }
+/// Puts the reason after the text.
+pub fn put_refusal(out: &mut Vec<u8>, refusal: Refusal) -> Result<(), AllocError>
+    ensures { OnOk result (out.new.items ≡ out.old.items ++ spec.refusal_text refusal) }
 {
-    match fault {
-        QuarantineFault::Already => Refusal::Already,
-        QuarantineFault::Full => Refusal::Full,
-        QuarantineFault::NoMemory => Refusal::NoMemory,
-    }
-}
-
-pub fn of_round(fault: RoundFault) -> Refusal
-    ensures { result ≡ spec.of_round fault }
-{
-    match fault {
-        RoundFault::BatchOpen => Refusal::BatchOpen,
-        RoundFault::FlushLive => Refusal::FlushLive,
-        RoundFault::LastRound => Refusal::LastRound,
-        RoundFault::NoMemory => Refusal::NoMemory,
-    }
-}
-
-pub fn of_read(fault: ReadFault) -> Refusal
-    ensures { result ≡ inner.of_read fault }
-{
-    match fault {
-        ReadFault::NotJson => Refusal::NotJson,
-        ReadFault::WrongShape(_) => Refusal::WrongShape,
-        ReadFault::NoMemory => Refusal::NoMemory,
-    }
+    let text = match refusal {
+        Refusal::Admit(fault) => return put_admit(out, fault),
+        Refusal::Point(fault) => point_text(fault),
+        Refusal::Read(fault) => read_text(fault),
+        Refusal::Take(fault) => take_text(fault),
+        Refusal::Undo(fault) => undo_text(fault),
+        Refusal::Quarantine(fault) => quarantine_text(fault),
+        Refusal::Round(fault) => round_text(fault),
+        Refusal::NotOpen => "not-open",
+        Refusal::NotLive => "not-live",
+        Refusal::NotQuarantined => "not-held",
+        Refusal::NoMemory => "no-memory",
+    };
+    out.extend_from_slice(text.as_bytes())
 }

@@ -6,16 +6,15 @@ use Rattle.std.specs.declared.alloc.Global.{Global}
 use denote.Ref.{Bor}
 use Rattle.play_script.specs.Pieces.{words}
 use Rattle.play_script.specs.PointLines.{PointWords, point_words}
-use Rattle.play_script.specs.Commands.{Asked, AdmitLine, TakeLine, OkLine, BackLine, ReportLine}
-use Rattle.play_script.specs.Commands.{UndoLine, ConfirmLine, DropLine, QuarantineLine, LiftLine}
-use Rattle.play_script.specs.Commands.{PostLine, RoundLine, PastLine, WireLine, AnswerLine, BadLine}
+use Rattle.play_script.specs.Commands.{Asked, AdmitLine, TakeLine, EndLine, ReportLine, UndoLine}
+use Rattle.play_script.specs.Commands.{ConfirmLine, QuarantineLine, LiftLine, PostLine, RoundLine}
+use Rattle.play_script.specs.Commands.{PastLine, WireLine, BadLine}
 use Rattle.metric_events.specs.declared.limits.TheConstants.{MAX_TAKEN}
 use Rattle.play_script.specs.declared.point_line.PointLine.{PointLine}
 use Rattle.play_script.specs.declared.command.Command.{Command}
-use Rattle.play_script.specs.declared.command.Command.TheVariants.{Admit, Take, Settle, GiveBack}
-use Rattle.play_script.specs.declared.command.Command.TheVariants.{Report, Undo, Confirm, Discard}
-use Rattle.play_script.specs.declared.command.Command.TheVariants.{Quarantine, Lift, Post, Round}
-use Rattle.play_script.specs.declared.command.Command.TheVariants.{Past, Wire, Answered}
+use Rattle.play_script.specs.declared.command.Command.TheVariants.{Admit, Take, End, Report}
+use Rattle.play_script.specs.declared.command.Command.TheVariants.{Undo, Confirm, Quarantine, Lift}
+use Rattle.play_script.specs.declared.command.Command.TheVariants.{Post, Round, Past, Wire}
 
 abbrev pub words_of : PointLine → PointWords
 words_of p = record { name = p.name.now; start = p.start; end = p.end; value = p.value }
@@ -42,19 +41,16 @@ abbrev pub asked_by : Option Command → Asked
 asked_by None = BadLine
 asked_by (Some (Admit sender points)) = AdmitLine sender.now (words_of_each points.items)
 asked_by (Some (Take max)) = TakeLine max
-asked_by (Some (Settle flush)) = OkLine flush
-asked_by (Some (GiveBack flush)) = BackLine flush
+asked_by (Some (End flush by wait)) = EndLine flush by wait
 asked_by (Some Report) = ReportLine
 asked_by (Some (Undo batch)) = UndoLine batch
 asked_by (Some (Confirm batch)) = ConfirmLine batch
-asked_by (Some (Discard flush)) = DropLine flush
 asked_by (Some (Quarantine sender)) = QuarantineLine sender.now
 asked_by (Some (Lift sender)) = LiftLine sender.now
 asked_by (Some (Post sender body)) = PostLine sender.now body.now
 asked_by (Some Round) = RoundLine
 asked_by (Some Past) = PastLine
 asked_by (Some (Wire max)) = WireLine max
-asked_by (Some (Answered flush answer)) = AnswerLine flush answer
 
 -- the parts of a command are in their ranges
 abbrev pub IsReady : Option Command → Type 0
