@@ -1,5 +1,6 @@
 //! The command line, by the program itself: what it prints, and the status that it ends with.
 
+use std::io::{Read, Write};
 use std::process::{Command, Output};
 
 fn totxegun(words: &[&str]) -> Output {
@@ -79,8 +80,76 @@ fn a_faulty_line_has_status_2() {
     refused(&["serve"], 2, "--data");
     refused(&["serve", "--data", "d", "--slots", "65"], 2, "1..=64");
     refused(&["serve", "--data", "d", "--flush-every", "10"], 2, "10s");
+    refused(
+        &["serve", "--data", "d", "--sink", "localhost:4318"],
+        2,
+        "no sink is known for `localhost:`",
+    );
     refused(&["quarantine", "no name"], 2, "1 to 64");
     refused(&["dead"], 2, "Usage");
+}
+
+#[test]
+fn a_password_of_the_sink_is_not_shown() {
+    for sink in ["postgres://u:secret@h", "http://u:secret@h/", "secret://h"] {
+        for words in [&["serve", "--data", "d"][..], &["totals"]] {
+            let mut command = Command::new(env!("CARGO_BIN_EXE_totxegun"));
+            let by_variable = command.args(words).env("TOTXEGUN_SINK", sink).output().unwrap();
+            let by_option = totxegun(&[words, &["--sink", sink]].concat());
+            for output in [by_variable, by_option] {
+                let text = String::from_utf8_lossy(&output.stderr).into_owned();
+                let is_told =
+                    text.contains("--sink") && !text.contains(":secret@") && !text.contains("'secret:");
+                assert!(output.status.code() == Some(2) && is_told, "{text}");
+            }
+        }
+    }
+    let mut command = Command::new(env!("CARGO_BIN_EXE_totxegun"));
+    command
+        .args(["serve", "--data", "d"])
+        .env("TOTXEGUN_SINK_HEADER", "secret");
+    let text = String::from_utf8_lossy(&command.output().unwrap().stderr).into_owned();
+    assert!(
+        text.contains("a name, a colon") && !text.contains("secret"),
+        "{text}"
+    );
+    for command in ["serve", "totals"] {
+        let mut command_line = Command::new(env!("CARGO_BIN_EXE_totxegun"));
+        command_line
+            .args([command, "--help"])
+            .env("TOTXEGUN_SINK", "postgres://u:secret@h/d");
+        let help = String::from_utf8_lossy(&command_line.output().unwrap().stdout).into_owned();
+        assert!(
+            help.contains("TOTXEGUN_SINK") && !help.contains("secret"),
+            "{help}"
+        );
+    }
+}
+
+/// Another server may answer 200 to everything.
+#[test]
+fn a_flush_is_done_once_somebody_says_so() {
+    for (answer, wanted) in [
+        (
+            "HTTP/1.1 200 OK\r\nContent-Length: 2\r\n\r\n{}",
+            "no operator's address",
+        ),
+        (
+            "HTTP/1.1 404 Not Found\r\nContent-Length: 26\r\n\r\n{\"message\":\"no such path\"}",
+            "no operator's address",
+        ),
+        ("", "without an answer"),
+    ] {
+        let listener = std::net::TcpListener::bind("127.0.0.1:0").unwrap();
+        let address = listener.local_addr().unwrap().to_string();
+        let server = std::thread::spawn(move || {
+            let (mut stream, _) = listener.accept().unwrap();
+            assert!(stream.read(&mut [0; 1000]).unwrap() > 0);
+            stream.write_all(answer.as_bytes()).unwrap();
+        });
+        refused(&["flush", "--operate", &address], 1, wanted);
+        server.join().unwrap();
+    }
 }
 
 /// Connections on which nobody posts would else take the files that a journal and a gateway need.
@@ -122,7 +191,12 @@ fn what_is_not_possible_has_status_1_and_is_named() {
     refused(
         &[&serve[..], &["--listen", &address]].concat(),
         1,
-        &format!("--listen {address}"),
+        &format!("--listen {address} can't be listened on: end what listens there"),
+    );
+    refused(
+        &[&serve[..], &["--listen", "4318"]].concat(),
+        1,
+        "write HOST:PORT",
     );
     refused(
         &[&serve[..], &["--listen", "127.0.0.1:0", "--operate", &address]].concat(),

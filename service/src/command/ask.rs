@@ -1,8 +1,8 @@
 //! Orders to the running service: flush, renew, quarantine, lift.
 
-use super::{client, Form};
+use super::{client, values::counted, Form};
 use crate::slot::is_sender;
-use anyhow::Result;
+use anyhow::{Context, Result};
 use clap::Args;
 
 /// Where the running service is asked.
@@ -42,15 +42,21 @@ fn sender(text: &str) -> Result<String, String> {
     Err("a sender's name is 1 to 64 of A-Z a-z 0-9 . _ -".to_string())
 }
 
-/// Gives an order, and prints what came of it.
+/// Gives an order.
 pub fn order(at: &Address, path: &str) -> Result<()> {
+    client::ask(&at.operate, "POST", path)?;
+    println!("done");
+    Ok(())
+}
+
+/// Gives an order that flushes, and prints what came of it.
+pub fn flush(at: &Address, path: &str) -> Result<()> {
     let body = client::ask(&at.operate, "POST", path)?;
-    let read: serde_json::Value = serde_json::from_slice(&body)?;
-    match read["requests"].as_u64() {
-        Some(0) => println!("done: there was nothing to put into the outbox"),
-        Some(1) => println!("done: 1 request went into the outbox"),
-        Some(requests) => println!("done: {requests} requests went into the outbox"),
-        None => println!("done"),
+    let read: serde_json::Value = serde_json::from_slice(&body).unwrap_or_default();
+    let requests = read["requests"].as_u64();
+    match requests.with_context(|| client::another(&at.operate))? {
+        0 => println!("done: there was nothing to put into the outbox"),
+        requests => println!("done: {} went into the outbox", counted(requests, "request")),
     }
     Ok(())
 }

@@ -6,12 +6,13 @@ use super::table::Table;
 use super::{values, Failure, Form};
 use crate::files::{Durability, Fault, Folder, FolderFault, Journal, Outbox};
 use crate::slot::slot_of;
-use anyhow::{bail, Context};
+use anyhow::{anyhow, bail, Context};
 use clap::Args;
 use nix::fcntl::{flock, FlockArg};
 use serde::Serialize;
 use std::collections::HashSet;
 use std::fs::{DirBuilder, File};
+use std::io::ErrorKind;
 use std::os::fd::AsRawFd;
 use std::os::unix::fs::DirBuilderExt;
 use std::path::{Path, PathBuf};
@@ -68,8 +69,14 @@ impl Options {
 /// Keeps a service from starting on the folder while it is copied. Nothing is written.
 fn lock(data: &Path) -> anyhow::Result<File> {
     let path = data.join("lock");
-    let file = File::open(&path)
-        .with_context(|| format!("{} is no folder of totxegun: {}", data.display(), path.display()))?;
+    let file = File::open(&path).map_err(|error| match error.kind() {
+        ErrorKind::NotFound => anyhow!(
+            "{} is no folder of totxegun: there is no {}",
+            data.display(),
+            path.display()
+        ),
+        _ => anyhow!("{} can't be read: {error}", path.display()),
+    })?;
     if flock(file.as_raw_fd(), FlockArg::LockSharedNonblock).is_err() {
         bail!(
             "{} is in use by a running service: `totxegun status` shows how it is",

@@ -9,6 +9,11 @@ const CONNECT: Duration = Duration::from_secs(5);
 
 /// A flush of many series, or a sink that takes its time.
 const ANSWER: Duration = Duration::from_secs(120);
+/// When somebody is told that there is no answer yet.
+const SOON: Duration = Duration::from_secs(3);
+
+/// What who listens says of a path that it does not have: an operator's address has all that are asked for here.
+const NO_PATH: &str = "no such path";
 
 /// What is read of an answer at most.
 const MOST: u64 = 256 << 20;
@@ -24,10 +29,10 @@ pub fn ask(address: &str, method: &str, path: &str) -> Result<Vec<u8>> {
     let reply = reply(address, method, path, ANSWER)?;
     match reply.status {
         200 => Ok(reply.body),
-        status => bail!(
-            "the service at {address} answered {status}: {}",
-            message(&reply.body)
-        ),
+        status => match message(&reply.body) {
+            said if said == NO_PATH => bail!(another(address)),
+            said => bail!("the service at {address} answered {status}: {said}"),
+        },
     }
 }
 
@@ -35,30 +40,61 @@ fn reply(address: &str, method: &str, path: &str, patience: Duration) -> Result<
     let mut stream = connected(address).with_context(|| {
         format!("no service answers at {address}: start it, or give its operator's address by --operate")
     })?;
-    stream.set_read_timeout(Some(patience))?;
     let request = format!(
         "{method} {path} HTTP/1.1\r\nHost: {address}\r\nContent-Length: 0\r\nConnection: close\r\n\r\n"
     );
     stream
         .write_all(request.as_bytes())
         .with_context(|| format!("the service at {address} is gone"))?;
+    let bytes = answer(stream, patience, || {
+        eprintln!(
+            "totxegun: {address} has not answered yet: `totxegun status` and the log say what it waits for"
+        );
+    });
+    let bytes = bytes.map_err(|error| unanswered(address, method, patience, error))?;
+    if bytes.is_empty() {
+        bail!("{address} ended the connection without an answer: the log of the service says why");
+    }
+    parsed(&bytes).with_context(|| another(address))
+}
+
+/// What is said of somebody else who listens there, such as the service to its senders.
+pub fn another(address: &str) -> String {
+    format!("what listens at {address} is no operator's address of totxegun: give that by --operate")
+}
+
+/// What comes until the connection ends. Who waits is told so once: an order waits for a gateway that is not there.
+fn answer(stream: TcpStream, patience: Duration, tell: impl FnOnce()) -> std::io::Result<Vec<u8>> {
     let mut bytes = Vec::new();
-    stream
-        .take(MOST)
-        .read_to_end(&mut bytes)
-        .map_err(|error| unanswered(address, method, patience, error))?;
-    parsed(&bytes).with_context(|| format!("what listens at {address} is no operator's address of totxegun"))
+    let soon = patience.min(SOON);
+    stream.set_read_timeout(Some(soon))?;
+    let mut coming = (&stream).take(MOST);
+    match coming.read_to_end(&mut bytes) {
+        Err(error) if is_late(error.kind()) && soon < patience => {
+            tell();
+            stream.set_read_timeout(Some(patience - soon))?;
+            coming.read_to_end(&mut bytes)?;
+        }
+        ended => {
+            ended?;
+        }
+    }
+    Ok(bytes)
+}
+
+fn is_late(kind: ErrorKind) -> bool {
+    matches!(kind, ErrorKind::WouldBlock | ErrorKind::TimedOut)
 }
 
 /// Why there is no whole answer. An order goes on in the service though nobody waits for it.
 fn unanswered(address: &str, method: &str, patience: Duration, error: Error) -> anyhow::Error {
     let seconds = patience.as_secs();
-    match (error.kind(), method) {
-        (ErrorKind::WouldBlock | ErrorKind::TimedOut, "POST") => anyhow!(
+    match (is_late(error.kind()), method) {
+        (true, "POST") => anyhow!(
             "the service at {address} did not answer in {seconds} seconds. It goes on with the order: \
              `totxegun status` shows how it is"
         ),
-        (ErrorKind::WouldBlock | ErrorKind::TimedOut, _) => {
+        (true, _) => {
             anyhow!("the service at {address} did not answer in {seconds} seconds: ask again")
         }
         _ => anyhow!("the service at {address} did not answer whole: {error}"),
@@ -130,6 +166,21 @@ mod tests {
         ] {
             assert!(parsed(bytes).is_err(), "{}", String::from_utf8_lossy(bytes));
         }
+    }
+
+    #[test]
+    fn who_waits_is_told_once_and_gets_the_whole_answer() {
+        let listener = std::net::TcpListener::bind("127.0.0.1:0").unwrap();
+        let asking = TcpStream::connect(listener.local_addr().unwrap()).unwrap();
+        let (mut answering, _) = listener.accept().unwrap();
+        answering.write_all(b"a").unwrap();
+        let mut told = 0;
+        let bytes = answer(asking, ANSWER, || {
+            told += 1;
+            answering.write_all(b"b").unwrap();
+            drop(answering);
+        });
+        assert_eq!((bytes.unwrap().as_slice(), told), (&b"ab"[..], 1));
     }
 
     #[test]

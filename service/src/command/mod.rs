@@ -18,13 +18,14 @@ mod version;
 
 use crate::files::Fault;
 use crate::service::{init, Ended};
+use clap::error::{ContextKind, ContextValue};
 use clap::{Args, Parser, Subcommand};
 use std::process::ExitCode;
 
 const REFUSED: u8 = 1;
 const DISK: u8 = 70;
 
-/// Takes OTLP metrics, keeps a journal and an outbox around the proved gateway, and delivers to a sink.
+/// Takes OTLP delta metrics, adds them up by a gateway, keeps them on disk, and delivers the totals to a sink.
 #[derive(Parser)]
 #[command(name = "totxegun", version, about, max_term_width = 100)]
 struct Line {
@@ -43,18 +44,18 @@ enum Command {
     /// Puts all that was taken into the outbox now
     #[command(visible_alias = "checkpoint")]
     Flush(ask::Address),
-    /// Goes on with a fresh gateway
+    /// Flushes, and goes on with a fresh gateway
     Renew(ask::Address),
     /// Keeps a sender's points back, and refuses its posts
     Quarantine(ask::OfSender),
     /// Releases a quarantined sender
     Lift(ask::OfSender),
-    /// Requests that the sink refused for good
+    /// Shows requests that the sink refused for good, sends them again, throws them away
     #[command(subcommand)]
     Dead(letters::Command),
     /// Says what a start would find in a folder, and changes nothing
     Check(check::Options),
-    /// Says of each point of a request that was captured whether it is taken, and why not
+    /// Says of each point of a captured request whether it is taken, and why not
     Explain(explain::Options),
     /// Prints the version, and whether the gateway was proved
     Version(version::Options),
@@ -87,7 +88,8 @@ impl From<Ended> for Failure {
 
 /// Runs the command of this process' command line.
 pub fn run() -> ExitCode {
-    let line = Line::parse(); // a faulty one ends here, with status 2
+    // A faulty one ends here, with status 2.
+    let line = Line::try_parse().unwrap_or_else(|error| without_secrets(error).exit());
     if init::is_process_1() {
         return init::run().unwrap_or_else(|error| {
             eprintln!("totxegun: as process 1: {error}");
@@ -106,14 +108,26 @@ pub fn run() -> ExitCode {
     }
 }
 
+/// A sink's address and headers may have a password: what is wrong with them is said without them.
+fn without_secrets(mut error: clap::Error) -> clap::Error {
+    let is_secret = match error.get(ContextKind::InvalidArg) {
+        Some(ContextValue::String(option)) => option.starts_with("--sink"),
+        _ => false,
+    };
+    if is_secret {
+        error.insert(ContextKind::InvalidValue, ContextValue::String("..".into()));
+    }
+    error
+}
+
 impl Command {
     fn run(self) -> Result<(), Failure> {
         match self {
             Command::Serve(options) => options.run(),
             Command::Status(shown) => Ok(status::run(&shown)?),
             Command::Totals(options) => Ok(totals::run(&options)?),
-            Command::Flush(at) => Ok(ask::order(&at, "/flush")?),
-            Command::Renew(at) => Ok(ask::order(&at, "/renew")?),
+            Command::Flush(at) => Ok(ask::flush(&at, "/flush")?),
+            Command::Renew(at) => Ok(ask::flush(&at, "/renew")?),
             Command::Quarantine(of) => Ok(ask::order(&of.at, &format!("/quarantine/{}", of.sender))?),
             Command::Lift(of) => Ok(ask::order(&of.at, &format!("/lift/{}", of.sender))?),
             Command::Dead(command) => Ok(command.run()?),

@@ -68,7 +68,7 @@ pub struct Options {
     /// The gateway program [default: totxegun-gateway or gateway, beside this program or in PATH]
     #[arg(long, env = "TOTXEGUN_GATEWAY", value_name = "PATH")]
     gateway: Option<PathBuf>,
-    /// A series that nobody has posted to for so long is forgotten, or never
+    /// How long a series is known that nobody posts to, or `never` to forget none
     #[arg(long, env = "TOTXEGUN_FORGET_SERIES", value_name = "TIME", default_value = "7d", value_parser = time_or_never)]
     forget_series: MayBeNever,
     /// Writes the first N reasons why points are foreign to the log, for each sender
@@ -147,16 +147,16 @@ struct OfGateway {
     /// An allocator's library, preloaded; `none` is the C library's own [default: tcmalloc, where it is installed]
     #[arg(long, env = "TOTXEGUN_ALLOCATOR", value_name = "LIB")]
     allocator: Option<PathBuf>,
-    /// Its threads that take posts
+    /// Threads of a gateway that take posts
     #[arg(long, env = "TOTXEGUN_RECEIVERS", value_name = "N", default_value_t = 4, value_parser = value_parser!(u16).range(1..=8))]
     receivers: u16,
-    /// Its threads that flush
+    /// Threads of a gateway that flush
     #[arg(long, env = "TOTXEGUN_FLUSHERS", value_name = "N", default_value_t = 4, value_parser = value_parser!(u16).range(1..=4))]
     flushers: u16,
-    /// Connections that it serves before a fresh one is started
+    /// Connections that a gateway serves before a fresh one takes its place
     #[arg(long, env = "TOTXEGUN_CONNECTIONS", value_name = "N", default_value_t = 1_000_000, value_parser = value_parser!(u64).range(100..=1_000_000))]
     connections: u64,
-    /// Connections of one of its rounds
+    /// Connections of one round of a gateway
     #[arg(long, env = "TOTXEGUN_ROUND", value_name = "N", default_value_t = 32_000, value_parser = value_parser!(u32).range(1..=32_000))]
     round: u32,
 }

@@ -30,7 +30,7 @@ const IN_POSTGRES: &str =
 #[derive(Args)]
 pub struct Options {
     /// The sink's file, as sqlite:PATH; without it, the running service says where it is
-    #[arg(long, env = "TOTXEGUN_SINK", value_name = "ADDRESS")]
+    #[arg(long, env = "TOTXEGUN_SINK", value_name = "ADDRESS", hide_env_values = true)]
     sink: Option<Address>,
     #[command(flatten)]
     at: ask::Address,
@@ -89,6 +89,7 @@ impl Options {
 
 /// Beside a service that writes: nothing is changed, nobody waits.
 fn rows(path: &Path) -> Result<Vec<Vec<Value>>> {
+    std::fs::File::open(path)?; // it says in fewer words than SQLite why that can't be
     let file = Connection::open_with_flags(path, OpenFlags::SQLITE_OPEN_READ_ONLY)?;
     let mut query = file.prepare(&format!(
         "select {} from totals order by name, attributes, resource",
@@ -154,7 +155,8 @@ mod tests {
     fn a_file_that_is_not_there_is_not_made() {
         let folder = tempfile::tempdir().unwrap();
         let path = folder.path().join("none.db");
-        assert!(rows(&path).is_err());
+        let error = format!("{:#}", rows(&path).unwrap_err());
+        assert_eq!(error, "No such file or directory (os error 2)");
         assert!(!path.exists());
     }
 }

@@ -3,7 +3,7 @@
 use super::disk::io_fault;
 use super::Fault;
 use std::path::Path;
-use std::sync::atomic::{AtomicI64, AtomicU64, Ordering::Relaxed};
+use std::sync::atomic::{AtomicBool, AtomicI64, AtomicU64, Ordering::Relaxed};
 use std::time::Instant;
 
 /// How long a look at the disk counts, in milliseconds.
@@ -23,6 +23,8 @@ pub struct Room {
     looked: AtomicU64,
     /// What posts may still use.
     left: AtomicI64,
+    /// As it was found last, and told.
+    is_full: AtomicBool,
 }
 
 impl Room {
@@ -50,6 +52,7 @@ impl Room {
             began: Instant::now(),
             looked: AtomicU64::new(0),
             left: AtomicI64::new(0),
+            is_full: AtomicBool::new(false),
         };
         room.look_again();
         Ok(room)
@@ -76,14 +79,38 @@ impl Room {
 
     fn look_again(&self) {
         let left = match (self.look)() {
-            Ok((free, all, files)) if files >= FILES => free as i64 - (all / 20).clamp(LEAST, MOST) as i64,
-            Ok(_) => 0,
+            Ok((free, all, files)) => {
+                let kept = (all / 20).clamp(LEAST, MOST);
+                let left = if files >= FILES {
+                    free as i64 - kept as i64
+                } else {
+                    0
+                };
+                self.tell(left <= 0, free, kept, files);
+                left
+            }
             Err(error) => {
                 tracing::error!("the disk can't be asked for its room, so posts are refused: {error}");
                 0
             }
         };
         self.left.store(left, Relaxed);
+    }
+
+    /// In the log, once each time that it changes.
+    fn tell(&self, is_full: bool, free: u64, kept: u64, files: u64) {
+        if self.is_full.swap(is_full, Relaxed) == is_full {
+            return;
+        }
+        match is_full {
+            true => tracing::warn!(
+                "the disk has {} MiB free and room for {files} files: {} MiB and {FILES} files are kept to deliver what was \
+                 taken, so posts get 503 until there is more",
+                free >> 20,
+                kept >> 20
+            ),
+            false => tracing::info!("the disk has room again: posts are taken"),
+        }
     }
 }
 

@@ -4,15 +4,20 @@ use super::Ended;
 use crate::grpc;
 use crate::intake::connections::Limits;
 use crate::intake::{front, Intake, Taker, Threads};
-use anyhow::Context;
+use anyhow::anyhow;
+use std::io::ErrorKind;
 use std::sync::Arc;
 use tokio::net::TcpListener;
 use tokio::sync::watch;
 
 pub(super) async fn bind(option: &str, address: &str) -> Result<TcpListener, Ended> {
-    let bound = TcpListener::bind(address).await;
-    Ok(bound.with_context(|| {
-        format!("{option} {address} can't be listened on: end what listens there, or give another {option}")
+    Ok(TcpListener::bind(address).await.map_err(|error| {
+        let what = match error.kind() {
+            ErrorKind::AddrInUse => format!("end what listens there, or give another {option}"),
+            ErrorKind::InvalidInput => "write HOST:PORT".to_string(),
+            _ => format!("give another {option}"),
+        };
+        anyhow!("{option} {address} can't be listened on: {what}: {error}")
     })?)
 }
 

@@ -23,9 +23,9 @@ pub enum BadAddress {
     Empty,
     #[error("no sink is known for `{0}:`: write sqlite:PATH, postgres://USER@HOST:PORT/DB, http://HOST:PORT/PATH or https://HOST/PATH")]
     Unknown(String),
-    #[error("`{0}` is no URL of a sink: {1}")]
-    Url(String, String),
-    /// It shows no address, since that may have a password.
+    /// This and the next show no address, since that may have a password.
+    #[error("no URL of a sink: {0}; write http://HOST:PORT/PATH or https://HOST/PATH")]
+    Url(String),
     #[error("no address of a PostgreSQL sink: {0}; write postgres://USER@HOST:PORT/DB, or postgres://USER@/DB?host=/FOLDER")]
     Postgres(String),
 }
@@ -60,8 +60,9 @@ impl FromStr for Address {
             .find(|(known, _)| known.eq_ignore_ascii_case(scheme))
         {
             Some((_, read)) => read(rest),
-            None if rest.starts_with("//") => Err(BadAddress::Unknown(scheme.into())),
-            None => Ok(Address::Sqlite(text.into())),
+            None if scheme.contains('/') => Ok(Address::Sqlite(text.into())),
+            // Also HOST:PORT, which would else be a file.
+            None => Err(BadAddress::Unknown(scheme.into())),
         }
     }
 }
@@ -74,7 +75,7 @@ fn postgres(rest: &str) -> Result<Address, BadAddress> {
 
 /// A URL without a path is a collector's base, whose metrics are at `/v1/metrics`.
 fn otlp(url: String) -> Result<Address, BadAddress> {
-    let bad = |why: &str| BadAddress::Url(url.clone(), why.into());
+    let bad = |why: &str| BadAddress::Url(why.into());
     let uri: hyper::Uri = url.parse().map_err(|error| bad(&format!("{error}")))?;
     let authority = uri.authority().ok_or_else(|| bad("there is no host"))?;
     if authority.host().is_empty() {
@@ -135,13 +136,15 @@ mod tests {
             ("", "empty"),
             ("sqlite:", "empty"),
             ("kafka://h/db", "`kafka:`"),
+            ("localhost:4318", "`localhost:`"),
             ("http:/x", "no URL"),
             ("http://", "no URL"),
             ("http://a b/", "no URL"),
             ("http://user:secret@h/", "authorization"),
         ] {
             let error = text.parse::<Address>().expect_err(text);
-            assert!(error.to_string().contains(part), "{text}: {error}");
+            let said = error.to_string();
+            assert!(said.contains(part) && !said.contains("secret"), "{text}: {said}");
         }
     }
 }

@@ -231,9 +231,10 @@ impl<S: Store> Run<S> {
 
 /// Why a part of a request is kept: of all its points, or of those alone that the sink did not take.
 pub fn of_part(rejected: u64, reason: &str, is_known: bool) -> String {
+    let points = if rejected == 1 { "point" } else { "points" };
     match is_known {
-        true => format!("taken, but for these {rejected} points (do not send them again): {reason}"),
-        false => format!("taken, but {rejected} points rejected (do not send it again): {reason}"),
+        true => format!("taken, but for {rejected} {points}, kept here (do not send it again): {reason}"),
+        false => format!("taken, but {rejected} {points} rejected (do not send it again): {reason}"),
     }
 }
 

@@ -4,7 +4,10 @@ use super::*;
 fn what_is_no_folder_is_named() {
     let folder = tempfile::tempdir().unwrap();
     let error = format!("{:#}", lock(folder.path()).unwrap_err());
-    assert!(error.contains("no folder of totxegun"), "{error}");
+    assert!(error.contains("no folder of totxegun: there is no"), "{error}");
+    std::os::unix::fs::symlink("lock", folder.path().join("lock")).unwrap(); // it can't be opened, also by root
+    let error = lock(folder.path()).unwrap_err().to_string();
+    assert!(error.contains("lock can't be read"), "{error}");
 }
 
 #[test]

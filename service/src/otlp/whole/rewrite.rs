@@ -219,7 +219,7 @@ impl<'r> Rewriting<'r> {
         self.note(metric, value, what);
         if let Some(shown) = shown(value) {
             let mut text = String::new();
-            write_text(&mut text, &format!("{shown} {}", metric.rule.from));
+            write_text(&mut text, format!("{shown} {}", metric.rule.from).trim_end());
             self.put((value.range(), text));
         }
     }
@@ -231,8 +231,11 @@ impl<'r> Rewriting<'r> {
         let name = metric.name.and_then(Value::text).unwrap_or_default();
         let name: String = name.chars().take(NAME_SHOWN).collect();
         let Rule { from, to, .. } = metric.rule;
+        let value = format!("{what} {shown} {from}");
+        let unit = if to.is_empty() { "numbers" } else { to };
         self.unfit = Some(format!(
-            "{what} {shown} {from} of `{name}` can't be had in whole {to}"
+            "{} of `{name}` can't be had in whole {unit}",
+            value.trim_end()
         ));
     }
 }

@@ -166,6 +166,14 @@ fn sums_of_doubles_and_of_whole_numbers_are_taken() {
 }
 
 #[test]
+fn what_has_no_unit_is_named_without_one() {
+    let metric = sum(r#""asDouble":"NaN""#).replace(r#""unit":"s""#, r#""unit":"""#);
+    let (_, prepared) = prepared(&metric, &["="]);
+    let unfit = prepared.rounded.unfit.clone().unwrap_or_default();
+    assert_eq!(unfit, "the value NaN of `` can't be had in whole numbers");
+}
+
+#[test]
 fn what_can_not_be_had_stays_foreign_and_is_named() {
     let value = |point: &str| sum(point);
     for (metric, named) in [

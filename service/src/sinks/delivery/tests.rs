@@ -297,7 +297,7 @@ async fn of_what_is_taken_in_part_the_rest_alone_is_kept_where_it_is_known() {
         ("2-e-1-partial", &b"the rest"[..])
     );
     assert!(
-        dead[0].1.contains("these 2 points") && dead[0].1.contains("overlaps"),
+        dead[0].1.contains("2 points, kept here") && dead[0].1.contains("overlaps"),
         "{}",
         dead[0].1
     );
