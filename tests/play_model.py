@@ -1,7 +1,7 @@
 #!/usr/bin/env python3
 """The program play beside a model of its commands, on scripts that are drawn.
 
-Call: tests/play_model.py PROGRAM [SECONDS [SEED]], with the path of the built program; 10 seconds, seed 1.
+Call: tests/play_model.py PROGRAM [COUNT [SEED]], with the path of the built program; 300 scripts of seed 1.
 
 The model keeps no totals: each accepted point stands alone, with the place where it is, and rows are added up
 when they are asked for. It has all commands but `post`. Scripts go to the limits of numbers and of the store,
@@ -16,7 +16,6 @@ import random
 import re
 import subprocess
 import sys
-import time
 
 I64, U64 = 2**63 - 1, 2**64 - 1
 # Of a store: series, open batches, live flushes, quarantined senders, entries of a round.
@@ -386,16 +385,14 @@ def fault(program, script):
     return f"{found[:3]} behind the last reply, {ran}" if found or ran.stderr or ran.returncode else None
 
 
-def main(program, seconds=10, seed=1):
-    end = time.monotonic() + seconds
-    count = failed = 0
-    while time.monotonic() < end:
-        drawn = Draw(f"{seed} {count}")
-        wrong = fault(program, drawn.limits() if count % 20 == 19 else drawn.history())
+def main(program, count=300, seed=1):
+    failed = 0
+    for script in range(count):
+        drawn = Draw(f"{seed} {script}")
+        wrong = fault(program, drawn.limits() if script % 20 == 19 else drawn.history())
         if wrong:
             failed += 1
-            print(f"failed: script {count} of seed {seed}: {wrong}", flush=True)
-        count += 1
+            print(f"failed: script {script} of seed {seed}: {wrong}", flush=True)
     print(f"{count - failed} passed, {failed} failed")
     return 1 if failed else 0
 
