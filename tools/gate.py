@@ -30,6 +30,7 @@ STEPS = (
     ("alloc_failures_play.py", PLAY, 20, False),
     ("protobuf_bodies.py", GATEWAY, 10, False),
     ("alloc_failures_gateway.py", GATEWAY, 10, False),
+    ("play_model.py", PLAY, 10, False),
     ("alloc_failures_libraries.py", ALLOC_FAILURES, 5, False),
     ("gateway_rehearses.py", GATEWAY, 5, False),
     ("hostile_input.py", GATEWAY, 5, False),
