@@ -1,5 +1,6 @@
 //! Ends a connection that floods: too long a block of headers, or too many frames that cost the sender nothing. A ping for
-//! each message that came is none of these: gRPC's client for Go measures the connection so, behind each answer.
+//! each message that came is none of these: gRPC's client for Go measures the connection so, behind each answer. Nor is an
+//! empty frame that ends a call, one for each.
 //!
 //! The library's own bounds on these are younger than the release that is used here, so the frames are counted where
 //! their bytes are read: what a frame is and how long, no more. What is no HTTP/2 at all is left to the library.
@@ -197,11 +198,11 @@ mod tests {
     fn calls_go_on_and_floods_end() {
         let call = [frame(HEADERS, 100), frame(DATA, 500), frame(WINDOW_UPDATE, 4)].concat();
         assert!(may_go_on(&vec![call.clone(); 3000]));
-        let mut end = frame(DATA, 0);
+        let (short, mut end) = ([frame(HEADERS, 30), frame(DATA, 5)].concat(), frame(DATA, 0));
         end[4] = END_STREAM;
-        assert!(may_go_on(&vec![[&call[..], &end].concat(); 3000]));
+        assert!(may_go_on(&vec![[&short[..], &end].concat(); 3000]));
         assert!(!may_go_on(&vec![
-            [&call[..], &end, &end].concat();
+            [&short[..], &end, &end].concat();
             IDLE_FRAMES + 1
         ]));
         assert!(may_go_on(&[frame(HEADERS, 16384), frame(CONTINUATION, 16384)]));
