@@ -23,7 +23,7 @@ BOUNDS = [1, 5, 25]
 JSON, PROTOBUF = "application/json", "application/x-protobuf"
 OUT_OF_ORDER = b"out of order"
 # Answers behind which a post is repeated.
-AGAIN = (403, 408, 425, 429, 502, 503, 504)
+AGAIN = (403, 429, 502, 503, 504)
 
 
 def ask(port, method, path, body=b"", headers=None, seconds=20, host="127.0.0.1"):

@@ -66,7 +66,7 @@ func (e *exporter) deliver(body []byte) error {
 	for attempt := 0; ; attempt++ {
 		status, text, err := e.attempt(body)
 		switch {
-		case err != nil || status == 429 || status == 408 || (status >= 502 && status <= 504):
+		case err != nil || status == 429 || (status >= 502 && status <= 504):
 			e.repeats++
 			time.Sleep(wait)
 			if wait *= 2; wait > lastWait {

@@ -2,8 +2,8 @@
 
 use super::answer;
 use super::guard::Guarded;
-use crate::intake::connections::{accepted, Limits};
-use crate::intake::{Intake, Place, Taker, Threads};
+use crate::intake::connections::{spread, Limits, Room};
+use crate::intake::{Intake, Taker, Threads};
 use crate::switch::Switch;
 use hyper::server::conn::Http;
 use hyper::service::service_fn;
@@ -11,8 +11,7 @@ use std::convert::Infallible;
 use std::sync::{Arc, Mutex, PoisonError};
 use std::time::{Duration, Instant};
 use tokio::net::{TcpListener, TcpStream};
-use tokio::sync::{watch, OwnedSemaphorePermit, Semaphore};
-use tokio::task::JoinSet;
+use tokio::sync::watch;
 
 /// Calls of a connection at a time.
 const CALLS: u32 = 100;
@@ -73,39 +72,29 @@ pub async fn serve<T: Taker>(
     limits: Limits,
     intake: Arc<Intake<T>>,
     threads: Arc<Threads>,
-    mut stop: watch::Receiver<bool>,
+    stop: watch::Receiver<bool>,
 ) {
-    let room = Arc::new(Semaphore::new(limits.connections));
-    let mut open = JoinSet::new();
-    let stopped = stop.clone();
-    loop {
-        tokio::select! {
-            _ = stop.wait_true() => break,
-            Some(_) = open.join_next(), if !open.is_empty() => {}
-            (stream, permit) = accepted(&listener, &room) => {
-                // Its thread's runtime takes it over from this one.
-                let Ok(stream) = stream.into_std() else { continue };
-                let (thread, place) = threads.place();
-                let task = connection(stream, (permit, place), limits.clone(), intake.clone(), stopped.clone());
-                open.spawn_on(task, &thread);
-            }
-        }
-    }
-    drop(listener);
-    while open.join_next().await.is_some() {}
+    let room = Room::new(limits.connections);
+    let (of_each, stopped) = (room.clone(), stop.clone());
+    let serving = move |stream| {
+        connection(
+            stream,
+            limits.clone(),
+            of_each.clone(),
+            intake.clone(),
+            stopped.clone(),
+        )
+    };
+    spread(listener, room, threads, stop, serving).await;
 }
 
 async fn connection<T: Taker>(
-    stream: std::net::TcpStream,
-    _held: (Option<OwnedSemaphorePermit>, Place),
+    stream: TcpStream,
     limits: Limits,
+    room: Arc<Room>,
     intake: Arc<Intake<T>>,
     mut stop: watch::Receiver<bool>,
 ) {
-    let Ok(stream) = TcpStream::from_std(stream) else {
-        return;
-    };
-    let _ = stream.set_nodelay(true); // an answer is one write already
     let calls = Calls::new();
     let of_calls = calls.clone();
     let service = service_fn(move |request| {
@@ -126,6 +115,7 @@ async fn connection<T: Taker>(
         .http2_keep_alive_timeout(TO_ANSWER);
     let mut served = http.serve_connection(Guarded::new(stream), service);
     let mut ending: Option<Instant> = None;
+    let look = limits.head / 4;
     loop {
         tokio::select! {
             biased;
@@ -134,9 +124,10 @@ async fn connection<T: Taker>(
                 ending = Some(Instant::now());
                 std::pin::Pin::new(&mut served).graceful_shutdown();
             }
-            _ = tokio::time::sleep(limits.head / 4) => match ending {
+            _ = tokio::time::sleep(look) => match ending {
                 Some(since) if since.elapsed() >= TO_END && calls.idle() >= TO_END => return,
-                None if calls.idle() >= limits.idle => {
+                // Sooner while others wait for its place.
+                None if calls.idle() >= limits.idle || room.is_full() && calls.idle() >= look => {
                     ending = Some(Instant::now());
                     std::pin::Pin::new(&mut served).graceful_shutdown();
                 }

@@ -1,5 +1,6 @@
 //! Ends a connection that floods: too long a block of headers, or too many frames that cost the sender nothing. A ping for
-//! each message that came is none of these: gRPC's client for Go measures the connection so, behind each answer.
+//! each message that came is none of these: gRPC's client for Go measures the connection so, behind each answer. Nor is an
+//! empty frame that ends a call, one for each.
 //!
 //! The library's own bounds on these are younger than the release that is used here, so the frames are counted where
 //! their bytes are read: what a frame is and how long, no more. What is no HTTP/2 at all is left to the library.
@@ -25,6 +26,8 @@ const IDLE_FRAMES: usize = 1000;
 const WITHIN: Duration = Duration::from_secs(10);
 
 const DATA: u8 = 0;
+/// A flag of data. Some clients say by an empty frame that a message was all: one for each call.
+const END_STREAM: u8 = 1;
 const HEADERS: u8 = 1;
 const PING: u8 = 6;
 const WINDOW_UPDATE: u8 = 8;
@@ -42,6 +45,8 @@ struct Frames {
     since: Instant,
     /// How many pings may come for messages that came.
     pings: usize,
+    /// How many empty frames may end calls that began.
+    ends: usize,
 }
 
 impl Frames {
@@ -55,6 +60,7 @@ impl Frames {
             idle: 0,
             since: Instant::now(),
             pings: 0,
+            ends: 0,
         }
     }
 
@@ -79,16 +85,20 @@ impl Frames {
     }
 
     fn frame(&mut self) -> bool {
-        let [a, b, c, kind, ..] = self.head;
+        let [a, b, c, kind, flags, ..] = self.head;
         let length = u32::from_be_bytes([0, a, b, c]) as usize;
         self.passed_over = length;
         match kind {
-            HEADERS => (self.block, self.block_frames) = (length, 1),
+            HEADERS => {
+                (self.block, self.block_frames) = (length, 1);
+                self.ends = IDLE_FRAMES.min(self.ends + 1);
+            }
             CONTINUATION => {
                 self.block += length;
                 self.block_frames += 1;
             }
             DATA if length > 0 => self.pings = IDLE_FRAMES.min(self.pings + 1),
+            DATA if flags & END_STREAM != 0 && self.ends > 0 => self.ends -= 1,
             PING if self.pings > 0 => self.pings -= 1,
             WINDOW_UPDATE => {}
             _ => {
@@ -188,6 +198,13 @@ mod tests {
     fn calls_go_on_and_floods_end() {
         let call = [frame(HEADERS, 100), frame(DATA, 500), frame(WINDOW_UPDATE, 4)].concat();
         assert!(may_go_on(&vec![call.clone(); 3000]));
+        let (short, mut end) = ([frame(HEADERS, 30), frame(DATA, 5)].concat(), frame(DATA, 0));
+        end[4] = END_STREAM;
+        assert!(may_go_on(&vec![[&short[..], &end].concat(); 3000]));
+        assert!(!may_go_on(&vec![
+            [&short[..], &end, &end].concat();
+            IDLE_FRAMES + 1
+        ]));
         assert!(may_go_on(&[frame(HEADERS, 16384), frame(CONTINUATION, 16384)]));
         for (kind, length) in [(DATA, 0), (3, 4), (4, 0), (6, 8)] {
             assert!(may_go_on(&vec![frame(kind, length); IDLE_FRAMES]), "{kind}");

@@ -93,7 +93,7 @@ pub(super) fn code(status: u16) -> i32 {
         400 => 3,              // INVALID_ARGUMENT
         403 => 7,              // PERMISSION_DENIED
         404 | 405 | 415 => 12, // UNIMPLEMENTED: another method, another encoding
-        408 | 504 => 4,        // DEADLINE_EXCEEDED
+        504 => 4,              // DEADLINE_EXCEEDED
         413 => 8,              // RESOURCE_EXHAUSTED; without RetryInfo it is not tried again
         503 => 14,             // UNAVAILABLE
         _ => 2,                // UNKNOWN

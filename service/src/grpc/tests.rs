@@ -201,7 +201,7 @@ async fn what_a_slot_says_is_said_as_grpc_does() {
             assert_eq!(retry.retry_delay.unwrap().seconds, 1);
         }
     }
-    assert_eq!([408, 413, 504, 500].map(code), [4, 8, 4, 2]);
+    assert_eq!([413, 504, 500].map(code), [8, 4, 2]);
 }
 
 #[tokio::test]
@@ -265,6 +265,25 @@ async fn a_deadline_ends_the_call_and_not_the_post() {
         (4, "the deadline has passed")
     );
     assert_eq!(served.kept.posts.lock().unwrap().len(), 1);
+}
+
+/// They may be long, and no budget counts them.
+#[tokio::test]
+async fn headers_are_dropped_while_a_message_comes() {
+    let (kept, metrics) = (Served::start().await.kept, Arc::new(Metrics::new().unwrap()));
+    let intake = Intake::new(kept, Reading::default(), Budget::new(1 << 20), metrics);
+    let (with_headers, (_sender, body)) = (Arc::new(()), Body::channel());
+    let are_there = Arc::downgrade(&with_headers);
+    let request = Request::post(METHOD).header("content-type", "application/grpc");
+    let request = request.extension(with_headers).body(body).unwrap();
+    let answering = tokio::spawn(answer(Arc::new(intake), request));
+    for _ in 0..500 {
+        if are_there.upgrade().is_none() {
+            break;
+        }
+        tokio::time::sleep(Duration::from_millis(10)).await;
+    }
+    assert!(are_there.upgrade().is_none() && !answering.is_finished());
 }
 
 const PREFACE: &[u8] = b"PRI * HTTP/2.0\r\n\r\nSM\r\n\r\n";

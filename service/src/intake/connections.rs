@@ -1,13 +1,15 @@
-//! The connections of the operators' address: their number is bounded, each serves many requests, slow and idle ones are
-//! closed. The senders' are in `front`.
+//! How connections of an address are accepted, in a bounded number; and those of the operators' address: each serves many
+//! requests, slow and idle ones are closed. The senders' are in `front`.
 
 use super::pace::{Overdue, Pace, Watched};
+use super::Threads;
 use crate::switch::Switch;
 use hyper::server::conn::Http;
 use hyper::service::service_fn;
 use hyper::{Body, Request, Response};
 use std::convert::Infallible;
 use std::future::{poll_fn, Future};
+use std::sync::atomic::{AtomicBool, Ordering::Relaxed};
 use std::sync::Arc;
 use std::time::Duration;
 use tokio::io::AsyncWriteExt;
@@ -22,7 +24,7 @@ const READ_AHEAD: usize = 64 << 10;
 const NO_CONNECTION: Duration = Duration::from_millis(100);
 
 /// The answer to a head that did not come whole. How it would be answered is not known yet, so it is JSON.
-pub(super) const LATE: &[u8] =
+const LATE: &[u8] =
     b"HTTP/1.1 408 Request Timeout\r\ncontent-type: application/json\r\ncontent-length: 44\r\n\
 connection: close\r\n\r\n{\"message\":\"the request did not come whole\"}";
 
@@ -42,49 +44,129 @@ pub struct Limits {
     pub idle: Duration,
 }
 
-/// Serves until `stop` is true or its sender is gone: then nothing more is accepted, requests that are under way are
-/// answered, and it returns behind the last of them.
-pub async fn serve<H: Handler>(
+/// The places of an address's connections.
+pub(crate) struct Room {
+    places: Arc<Semaphore>,
+    most: usize,
+    is_full: AtomicBool,
+    was_full: AtomicBool,
+}
+
+/// A connection's place, until it is dropped.
+type Held = Option<OwnedSemaphorePermit>;
+
+impl Room {
+    pub fn new(most: usize) -> Arc<Room> {
+        Arc::new(Room {
+            places: Arc::new(Semaphore::new(most)),
+            most,
+            is_full: AtomicBool::new(false),
+            was_full: AtomicBool::new(false),
+        })
+    }
+
+    /// Whether somebody may wait for a place. Who has one and does not need it now leaves it then.
+    pub fn is_full(&self) -> bool {
+        self.is_full.load(Relaxed)
+    }
+
+    async fn place(&self, listener: &TcpListener) -> Held {
+        let free = self.places.clone().try_acquire_owned();
+        self.is_full.store(free.is_err(), Relaxed);
+        if let Ok(place) = free {
+            return Some(place);
+        }
+        if let (false, Ok(address)) = (self.was_full.swap(true, Relaxed), listener.local_addr()) {
+            let most = self.most;
+            tracing::warn!("all {most} connections are taken that {address} may have: further ones wait");
+        }
+        let place = self.places.clone().acquire_owned().await.ok(); // it is never closed
+        self.is_full.store(false, Relaxed);
+        place
+    }
+
+    async fn accepted(&self, listener: &TcpListener) -> (TcpStream, Held) {
+        let place = self.place(listener).await;
+        loop {
+            match listener.accept().await {
+                Ok((stream, _)) => return (stream, place),
+                Err(error) => {
+                    tracing::warn!("no connection could be accepted: {error}");
+                    tokio::time::sleep(NO_CONNECTION).await;
+                }
+            }
+        }
+    }
+}
+
+/// Accepts until `stop` is true or its sender is gone, and returns behind the end of the last connection.
+async fn accept(
     listener: TcpListener,
-    limits: Limits,
-    handler: Arc<H>,
+    room: Arc<Room>,
     mut stop: watch::Receiver<bool>,
+    begin: impl Fn(&mut JoinSet<()>, TcpStream, Held),
 ) {
-    let room = Arc::new(Semaphore::new(limits.connections));
     let mut open = JoinSet::new();
-    let stopped = stop.clone();
     loop {
         tokio::select! {
             _ = stop.wait_true() => break,
             Some(_) = open.join_next(), if !open.is_empty() => {}
-            (stream, permit) = accepted(&listener, &room) => {
-                open.spawn(connection(stream, permit, limits.clone(), handler.clone(), stopped.clone()));
-            }
+            (stream, held) = room.accepted(&listener) => begin(&mut open, stream, held),
         }
     }
     drop(listener);
     while open.join_next().await.is_some() {}
 }
 
-pub(crate) async fn accepted(
-    listener: &TcpListener,
-    room: &Arc<Semaphore>,
-) -> (TcpStream, Option<OwnedSemaphorePermit>) {
-    let permit = room.clone().acquire_owned().await.ok(); // it is never closed
-    loop {
-        match listener.accept().await {
-            Ok((stream, _)) => return (stream, permit),
-            Err(error) => {
-                tracing::warn!("no connection could be accepted: {error}");
-                tokio::time::sleep(NO_CONNECTION).await;
+/// The same, with each connection on one of the threads.
+pub(crate) async fn spread<F: Future<Output = ()> + Send + 'static>(
+    listener: TcpListener,
+    room: Arc<Room>,
+    threads: Arc<Threads>,
+    stop: watch::Receiver<bool>,
+    connection: impl Fn(TcpStream) -> F + Clone + Send + Sync + 'static,
+) {
+    let begin = |open: &mut JoinSet<()>, stream: TcpStream, held: Held| {
+        // Its thread's runtime takes it over from this one.
+        let Ok(stream) = stream.into_std() else { return };
+        let (thread, place) = threads.place();
+        let connection = connection.clone();
+        let serving = async move {
+            if let Ok(stream) = TcpStream::from_std(stream) {
+                let _ = stream.set_nodelay(true); // an answer is one write already
+                connection(stream).await;
             }
-        }
-    }
+            drop((held, place));
+        };
+        open.spawn_on(serving, &thread);
+    };
+    accept(listener, room, stop, begin).await;
+}
+
+/// Serves until `stop` is true or its sender is gone: then nothing more is accepted, requests that are under way are
+/// answered, and it returns behind the last of them.
+pub async fn serve<H: Handler>(
+    listener: TcpListener,
+    limits: Limits,
+    handler: Arc<H>,
+    stop: watch::Receiver<bool>,
+) {
+    let stopped = stop.clone();
+    let begin = |open: &mut JoinSet<()>, stream: TcpStream, held: Held| {
+        open.spawn(connection(
+            stream,
+            held,
+            limits.clone(),
+            handler.clone(),
+            stopped.clone(),
+        ));
+    };
+    accept(listener, Room::new(limits.connections), stop, begin).await;
 }
 
 async fn connection<H: Handler>(
     stream: TcpStream,
-    _permit: Option<OwnedSemaphorePermit>,
+    _held: Held,
     limits: Limits,
     handler: Arc<H>,
     mut stop: watch::Receiver<bool>,

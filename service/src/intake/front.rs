@@ -1,10 +1,10 @@
 //! The senders' address: its connections are bounded and spread over threads, each serves many requests one after
 //! another, slow and idle ones are closed.
 
-use super::connections::{accepted, Limits, LATE};
+use super::connections::{spread, Limits, Room};
 use super::head::{self, Connection};
 use super::refusal::Refusal;
-use super::threads::{Place, Threads};
+use super::threads::Threads;
 use super::wire::Wire;
 use super::{answer, Intake, Taker};
 use crate::otlp::{Encoding, Outcome};
@@ -16,8 +16,7 @@ use std::sync::Arc;
 use std::task::Poll;
 use std::time::Duration;
 use tokio::net::{TcpListener, TcpStream};
-use tokio::sync::{watch, OwnedSemaphorePermit, Semaphore};
-use tokio::task::JoinSet;
+use tokio::sync::watch;
 use tokio::time::{Instant, Sleep};
 
 /// How often within the time of a head it is looked whether it has come.
@@ -30,50 +29,28 @@ pub async fn serve<T: Taker>(
     limits: Limits,
     intake: Arc<Intake<T>>,
     threads: Arc<Threads>,
-    mut stop: watch::Receiver<bool>,
-) {
-    let room = Arc::new(Semaphore::new(limits.connections));
-    let mut open = JoinSet::new();
-    let stopped = stop.clone();
-    loop {
-        tokio::select! {
-            _ = stop.wait_true() => break,
-            Some(_) = open.join_next(), if !open.is_empty() => {}
-            (stream, permit) = accepted(&listener, &room) => {
-                // Its thread's runtime takes it over from this one.
-                let Ok(stream) = stream.into_std() else { continue };
-                let (thread, place) = threads.place();
-                let task = connection(stream, (permit, place), limits.clone(), intake.clone(), stopped.clone());
-                open.spawn_on(task, &thread);
-            }
-        }
-    }
-    drop(listener);
-    while open.join_next().await.is_some() {}
-}
-
-async fn connection<T: Taker>(
-    stream: std::net::TcpStream,
-    _held: (Option<OwnedSemaphorePermit>, Place),
-    limits: Limits,
-    intake: Arc<Intake<T>>,
     stop: watch::Receiver<bool>,
 ) {
-    let Ok(stream) = TcpStream::from_std(stream) else {
-        return;
+    let room = Room::new(limits.connections);
+    let (of_each, stopped) = (room.clone(), stop.clone());
+    let serving = move |stream| {
+        connection(
+            stream,
+            Waiting::new(&limits, of_each.clone(), stopped.clone()),
+            intake.clone(),
+        )
     };
-    let _ = stream.set_nodelay(true); // an answer is one write already
+    spread(listener, room, threads, stop, serving).await;
+}
+
+async fn connection<T: Taker>(stream: TcpStream, mut waiting: Waiting, intake: Arc<Intake<T>>) {
     let mut wire = Wire::new(stream);
-    let mut waiting = Waiting::new(&limits, stop);
     while let Some(asked) = next(&mut wire, &mut waiting).await {
         let goes_on = match asked {
             Ok(asked) => served(&mut wire, &intake, asked, &mut waiting).await,
             Err(refusal) => {
                 intake.count(&refusal);
-                let outcome = Outcome::from(&refusal);
-                let sent =
-                    wire.answer(|out| answer::write(out, &outcome, Encoding::Json, Connection::Closed));
-                let _ = within(waiting.idle, sent).await; // who does not read it has gone
+                refused(&mut wire, &refusal, waiting.idle).await;
                 false
             }
         };
@@ -85,6 +62,13 @@ async fn connection<T: Taker>(
     wire.end().await;
 }
 
+/// Answers what has no head that can be read. How it would be answered is not known, so it is JSON.
+async fn refused(wire: &mut Wire<TcpStream>, refusal: &Refusal, patience: Duration) {
+    let outcome = Outcome::from(refusal);
+    let sent = wire.answer(|out| answer::write(out, &outcome, Encoding::Json, Connection::Closed));
+    let _ = within(patience, sent).await; // who does not read it has gone
+}
+
 /// Serves a request. Whether a next one may follow.
 async fn served<T: Taker>(
     wire: &mut Wire<TcpStream>,
@@ -94,7 +78,7 @@ async fn served<T: Taker>(
 ) -> bool {
     wire.body_begins(asked.body, asked.waits);
     let outcome = intake.outcome(asked.head, wire).await;
-    let connection = match wire.is_whole() && !waiting.is_stopped() {
+    let connection = match wire.is_whole() && waiting.may_go_on() {
         true => asked.connection,
         false => Connection::Closed,
     };
@@ -134,10 +118,7 @@ async fn next(wire: &mut Wire<TcpStream>, waiting: &mut Waiting) -> Option<Resul
         match waiting.for_bytes(wire).await {
             Came::Bytes => {}
             Came::Nothing => return None,
-            Came::TooLate => {
-                let _ = within(waiting.idle, wire.send(LATE)).await; // who does not read it has gone
-                return None;
-            }
+            Came::TooLate => return Some(Err(Refusal::Late)),
         }
     }
 }
@@ -172,10 +153,11 @@ struct Waiting {
     stop: Pin<Box<dyn Future<Output = ()> + Send>>,
     stopped: watch::Receiver<bool>,
     ending: bool,
+    room: Arc<Room>,
 }
 
 impl Waiting {
-    fn new(limits: &Limits, stop: watch::Receiver<bool>) -> Waiting {
+    fn new(limits: &Limits, room: Arc<Room>, stop: watch::Receiver<bool>) -> Waiting {
         let period = (limits.head / LOOKS).max(Duration::from_millis(1));
         let mut switch = stop.clone();
         Waiting {
@@ -187,6 +169,7 @@ impl Waiting {
             stop: Box::pin(async move { switch.wait_true().await }),
             stopped: stop,
             ending: false,
+            room,
         }
     }
 
@@ -195,8 +178,18 @@ impl Waiting {
         self.looks = 0;
     }
 
-    fn is_stopped(&self) -> bool {
-        *self.stopped.borrow() || self.stopped.has_changed().is_err()
+    /// Whether a next request may come behind an answer.
+    fn may_go_on(&self) -> bool {
+        let is_stopped = *self.stopped.borrow() || self.stopped.has_changed().is_err();
+        !is_stopped && !self.room.is_full()
+    }
+
+    /// How often it looks for a next request: only once while others wait for its place.
+    fn most_idle(&self) -> u32 {
+        match self.room.is_full() {
+            true => 1,
+            false => self.most_idle,
+        }
     }
 
     async fn for_bytes(&mut self, wire: &mut Wire<TcpStream>) -> Came {
@@ -219,7 +212,7 @@ impl Waiting {
                 self.look.as_mut().reset(Instant::now() + self.period);
                 self.looks += 1; // the first of them may have come at once
                 match was_empty {
-                    true if self.looks > self.most_idle => return Poll::Ready(Came::Nothing),
+                    true if self.looks > self.most_idle() => return Poll::Ready(Came::Nothing),
                     false if self.looks > LOOKS => return Poll::Ready(Came::TooLate),
                     _ => {}
                 }
@@ -245,5 +238,20 @@ mod tests {
         assert_eq!(reads.collect::<Vec<_>>(), [1, head.len()]);
         assert!(may_be_whole(b"GET / HTTP/1.1\n\n", 15));
         assert!(!may_be_whole(b"", 0));
+    }
+
+    /// Else it would have its place for ever.
+    #[tokio::test]
+    async fn an_answer_to_a_bad_head_that_nobody_reads_ends() {
+        let listener = TcpListener::bind("127.0.0.1:0").await.unwrap();
+        let _sender = TcpStream::connect(listener.local_addr().unwrap()).await.unwrap();
+        let (stream, _) = listener.accept().await.unwrap();
+        let short = Duration::from_millis(50);
+        while tokio::time::timeout(short, stream.writable()).await.is_ok() {
+            let _ = stream.try_write(&[0; 64 << 10]); // until all buffers are full
+        }
+        let mut wire = Wire::new(stream);
+        let refused = refused(&mut wire, &Refusal::Malformed, short);
+        assert!(tokio::time::timeout(400 * short, refused).await.is_ok());
     }
 }

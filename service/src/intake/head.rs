@@ -55,6 +55,10 @@ pub fn read(input: &[u8]) -> Result<Option<(usize, Asked)>, Refusal> {
         Err(_) => return Err(Refusal::Malformed),
     };
     let is_old = request.version == Some(0);
+    // Without it, or with two, nobody knows for whom it is: a server has to refuse it (RFC 9112, 3.2).
+    if !is_old && named(request.headers, "host").count() != 1 {
+        return Err(Refusal::Malformed);
+    }
     let head = Head::read(&request);
     let asked = Asked {
         encoding: match &head {

@@ -17,7 +17,6 @@ mod wire;
 
 pub(crate) use body::MOST;
 pub use connections::Limits;
-pub(crate) use threads::Place;
 pub use threads::Threads;
 pub use weight::Budget;
 pub(crate) use weight::Hold;

@@ -18,7 +18,8 @@ pub enum Refusal {
     /// Nothing says how long its body is.
     #[error("no length of the body: Content-Length, or chunks")]
     NoLength,
-    /// It was not there within its time.
+    /// It was not there within its time. Nothing was taken, so it is to be sent again: senders of OTLP repeat 503, and drop
+    /// what is 408.
     #[error("the request did not come whole")]
     Late,
     /// Its framing is wrong, or its connection ended within it.
@@ -47,12 +48,11 @@ impl Refusal {
             Refusal::NoSuchPath => 404,
             Refusal::WrongMethod => 405,
             Refusal::ContentType | Refusal::ContentEncoding => 415,
-            Refusal::Late => 408,
             Refusal::NoLength => 411,
             Refusal::BadSender | Refusal::Malformed | Refusal::BadGzip | Refusal::Unreadable(_) => 400,
             Refusal::TooLong | Refusal::TooLongForMemory => 413,
             Refusal::HeadTooLong => 431,
-            Refusal::TooManyBytes => 503,
+            Refusal::Late | Refusal::TooManyBytes => 503,
         }
     }
 

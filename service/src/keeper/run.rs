@@ -24,6 +24,7 @@ enum Event {
     Look,
     Doubted,
     Crowded,
+    Overfull,
     Ordered(Order, oneshot::Sender<Done>),
     Stop,
 }
@@ -88,6 +89,7 @@ impl Keeper {
             () = slot.trouble.notified() => Event::Doubted,
             Some((order, to)) = self.orders.recv() => Event::Ordered(order, to),
             () = slot.crowded.notified() => Event::Crowded,
+            () = slot.overfull.notified() => Event::Overfull,
             _ = looks.tick() => Event::Look,
         }
     }
@@ -97,7 +99,8 @@ impl Keeper {
             Event::Look => self.look(stop).await,
             Event::Doubted => self.recover_if_doubted(stop).await,
             Event::Crowded if self.forgetting_helps() => self.renew(stop).await.map(|(next, _)| next),
-            Event::Crowded => Ok(Next::GoOn),
+            Event::Overfull if self.may_renew() => self.renew(stop).await.map(|(next, _)| next),
+            Event::Crowded | Event::Overfull => Ok(Next::GoOn),
             Event::Ordered(order, to) => {
                 let (next, done) = self.carry_out(order, stop).await?;
                 if let Some(done) = done {
@@ -153,13 +156,17 @@ impl Keeper {
         }
         self.last_look_at_ages = Instant::now();
         let before = seconds_before_now(age);
-        self.last_renewal.elapsed() > BETWEEN_RENEWALS
+        self.may_renew()
             && self
                 .slot
                 .outbox
                 .series()
                 .values()
                 .any(|series| series.seen < before)
+    }
+
+    fn may_renew(&self) -> bool {
+        self.last_renewal.elapsed() > BETWEEN_RENEWALS
     }
 
     /// Refuses posts from now on, and makes a last checkpoint.

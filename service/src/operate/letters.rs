@@ -60,7 +60,7 @@ impl Desk {
                 reason,
                 left,
             } => return self.keep_part(&request, rejected, &reason, left.as_deref()),
-            Fate::Again { reason, .. } | Fate::Refused { reason } => Some(reason),
+            Fate::Again { reason, .. } | Fate::Failed { reason } | Fate::Refused { reason } => Some(reason),
         };
         if reason.is_none() {
             if let Err(fault) = self.dead.drop_letter(key) {

@@ -7,7 +7,7 @@
 use crate::files::Outbox;
 use crate::intake::Taker;
 use crate::otlp::series::SeriesKey;
-use crate::otlp::{foreign_points, series_of_point, Outcome};
+use crate::otlp::{foreign_points, series_of_point, Explained, Outcome};
 use bytes::Bytes;
 use std::collections::{HashMap, HashSet};
 use std::future::Future;
@@ -16,6 +16,9 @@ use std::sync::{Arc, Mutex, PoisonError};
 
 /// How many senders and series are remembered as told.
 const REMEMBERED: usize = 1000;
+
+/// How much of a metric's name is told.
+const NAME_SHOWN: usize = 100;
 
 /// How many posts of a sender are read for reasons that are new.
 const MOST_READ: usize = 100;
@@ -112,20 +115,23 @@ impl<T: Taker> Remarks<T> {
         }
     }
 
+    /// Nobody who posts waits while bodies are read: one at a time is.
     fn tell_reasons(&self, sender: &str, bodies: &[Bytes]) {
+        let known = |told: &Told| told.foreign.get(sender).map(|of| of.reasons.clone());
+        let mut reasons = known(&self.told()).unwrap_or_default();
+        for body in bodies {
+            foreign_points(body, |point| {
+                let reason = reason(&point);
+                if reasons.insert(reason.clone()) {
+                    tracing::warn!("points of {sender} are not taken: {reason}");
+                }
+                reasons.len() >= self.log_foreign
+            });
+        }
         let mut told = self.told();
         let of = told.foreign.entry(sender.to_string()).or_default();
         of.read += 1;
-        for body in bodies {
-            foreign_points(body, |point| {
-                let why = point.foreign.unwrap_or_default();
-                let reason = format!("{} `{}`: {why}", point.kind, point.metric);
-                if of.reasons.insert(reason.clone()) {
-                    tracing::warn!("points of {sender} are not taken: {reason}");
-                }
-                of.reasons.len() >= self.log_foreign
-            });
-        }
+        of.reasons = reasons;
     }
 
     fn tell_owner(&self, sender: &str, series: SeriesKey) {
@@ -145,6 +151,13 @@ impl<T: Taker> Remarks<T> {
         );
         self.told().series.insert(series);
     }
+}
+
+/// Why a point is foreign: one short line, whatever its sender wrote.
+fn reason(point: &Explained) -> String {
+    let name: String = point.metric.chars().take(NAME_SHOWN).collect();
+    let why = point.foreign.as_deref().unwrap_or_default();
+    format!("{} `{name}`: {why}", point.kind).replace(char::is_control, " ")
 }
 
 impl<T: Taker> Taker for Remarks<T> {

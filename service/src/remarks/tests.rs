@@ -69,6 +69,19 @@ async fn the_first_reasons_of_a_sender_are_told() {
     assert_eq!(told(foreign, None, 9, &many).await.1, MOST_READ);
 }
 
+/// Else a sender could fill the memory, and write lines of the log.
+#[tokio::test]
+async fn what_is_told_of_a_point_is_one_short_line() {
+    let name = "\\n2026-11-26 WARN a line of its own".to_string() + &"x".repeat(1 << 20);
+    let long = body(&format!(r#"{{"name":"{name}","gauge":{{"dataPoints":[{{}}]}}}}"#));
+    let (reasons, _, _) = told(Outcome::taken(1), None, 9, &[long]).await;
+    assert!(
+        reasons[0].len() < 300 && !reasons[0].contains('\n'),
+        "{}",
+        reasons[0]
+    );
+}
+
 #[tokio::test]
 async fn a_series_of_another_is_told_once_it_is_known() {
     let point = r#"{"startTimeUnixNano":"1","timeUnixNano":"2","asInt":"1"}"#;

@@ -7,7 +7,13 @@ use crate::metrics::Metrics;
 use crate::switch::Switch;
 use std::future::Future;
 use std::sync::{Arc, Mutex, PoisonError};
+use std::time::{Duration, Instant};
 use tokio::sync::watch;
+
+/// How long a request is sent again at which the sink fails. What OTLP says is to send it no more; but a sink says so
+/// also while a part of it is down, and then each request of that time would be put aside. For ever would hold up all
+/// behind a request that no sink can take, until the disk is full.
+const FAILING: Duration = Duration::from_secs(3600);
 
 /// The state of a delivery, for `status`.
 #[derive(Clone, Debug, Default, PartialEq, Eq, serde::Serialize, serde::Deserialize)]
@@ -36,6 +42,7 @@ pub async fn deliver(
         sink,
         metrics,
         state,
+        failing: FAILING,
         stop,
     }
     .until_it_ends()
@@ -99,6 +106,8 @@ struct Run<S> {
     sink: Arc<dyn Sink>,
     metrics: Arc<Metrics>,
     state: Arc<Mutex<Delivery>>,
+    /// How long a request is sent again at which the sink fails.
+    failing: Duration,
     stop: watch::Receiver<bool>,
 }
 
@@ -139,8 +148,10 @@ impl<S: Store> Run<S> {
 
     /// Sends a request, the same bytes under the same key, until its fate is known; what is not taken whole is kept.
     async fn settle(&self, request: Forwarded) -> Result<(), End> {
+        let mut failing = None;
         loop {
-            match self.unless_stopped(self.sink.deliver(&request)).await? {
+            let fate = self.unless_stopped(self.sink.deliver(&request)).await?;
+            match self.with_patience(fate, &mut failing) {
                 Fate::Taken => {
                     self.ended("taken");
                     return Ok(());
@@ -150,7 +161,7 @@ impl<S: Store> Run<S> {
                     let wait = backoff::wait(tries, after);
                     self.unless_stopped(tokio::time::sleep(wait)).await?;
                 }
-                Fate::Refused { reason } => {
+                Fate::Refused { reason } | Fate::Failed { reason } => {
                     let (sink, key) = (self.sink.name(), request.key());
                     tracing::error!("{sink} refused request {key} for good: {reason}; it is kept in dead/");
                     self.files.keep(key, reason, request.body).await?;
@@ -162,6 +173,20 @@ impl<S: Store> Run<S> {
                     reason,
                     left,
                 } => return Ok(self.keep_part(request, rejected, reason, left).await?),
+            }
+        }
+    }
+
+    /// What the sink fails at is sent again, until it has done so for long, one time after the other.
+    fn with_patience(&self, fate: Fate, failing: &mut Option<Instant>) -> Fate {
+        match fate {
+            Fate::Failed { reason } if failing.get_or_insert_with(Instant::now).elapsed() < self.failing => {
+                Fate::again(reason)
+            }
+            Fate::Failed { .. } => fate,
+            other => {
+                *failing = None;
+                other
             }
         }
     }

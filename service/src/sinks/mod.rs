@@ -37,6 +37,10 @@ pub enum Fate {
         reason: String,
         after: Option<Duration>,
     },
+    /// The sink says that it has failed, not whether that passes. It is sent again for a while, and then put aside.
+    Failed {
+        reason: String,
+    },
     /// It is never taken: it is put aside.
     Refused {
         reason: String,

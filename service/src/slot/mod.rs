@@ -52,6 +52,8 @@ pub struct Slot {
     pub(crate) trouble: Notify,
     /// The gateway said that it has too many series.
     pub(crate) crowded: Notify,
+    /// The gateway said that a series has all that it adds up in a round; a fresh one begins at zero.
+    pub(crate) overfull: Notify,
 }
 
 impl Slot {
@@ -87,6 +89,7 @@ impl Slot {
             ungrouped: AtomicU64::new(0),
             trouble: Notify::new(),
             crowded: Notify::new(),
+            overfull: Notify::new(),
         })
     }
 

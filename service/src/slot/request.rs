@@ -155,8 +155,10 @@ impl Slot {
                 Put::Journalled(one)
             }
             Ok(Said::Refused(refusal)) => {
-                if refusal.message == "too many series" {
-                    self.crowded.notify_one();
+                match refusal.message.as_str() {
+                    "too many series" => self.crowded.notify_one(),
+                    "too large" => self.overfull.notify_one(),
+                    _ => {}
                 }
                 Put::Journalled(refusal.journal(&self.journal))
             }

@@ -76,7 +76,7 @@ async fn a_sender_that_has_said_all_is_answered() {
     );
     assert!(client.ends().await);
     let mut within = served.client().await;
-    within.write(b"POST /v1/metrics HTTP/1.1\r\n").await;
+    within.write(b"POST /v1/metrics HTTP/1.1\r\nHost: a\r\n").await;
     within.stream.shutdown().await.unwrap();
     assert!(within.ends().await, "half a head is no request");
 }
@@ -105,9 +105,16 @@ async fn many_connections_at_once() {
 #[tokio::test]
 async fn what_is_no_request_is_refused_and_ends_the_connection() {
     let served = Served::start().await;
-    let long = format!("POST /v1/metrics HTTP/1.1\r\na: {}\r\n\r\n", "a".repeat(70 << 10));
-    let many = format!("POST /v1/metrics HTTP/1.1\r\n{}\r\n", "a: b\r\n".repeat(200));
-    let both = "POST /v1/metrics HTTP/1.1\r\nContent-Length: 2\r\nTransfer-Encoding: chunked\r\n\r\n{}";
+    let long = format!(
+        "POST /v1/metrics HTTP/1.1\r\nHost: a\r\na: {}\r\n\r\n",
+        "a".repeat(70 << 10)
+    );
+    let many = format!(
+        "POST /v1/metrics HTTP/1.1\r\nHost: a\r\n{}\r\n",
+        "a: b\r\n".repeat(200)
+    );
+    let both =
+        "POST /v1/metrics HTTP/1.1\r\nHost: a\r\nContent-Length: 2\r\nTransfer-Encoding: chunked\r\n\r\n{}";
     let cases = [
         ("SSH-2.0-OpenSSH_9.2\r\n\r\n", 400, "malformed request"),
         (both, 400, "malformed request"),
@@ -123,7 +130,7 @@ async fn what_is_no_request_is_refused_and_ends_the_connection() {
         assert!(answer.has("connection: close"), "{}", answer.head);
         assert!(client.ends().await);
     }
-    let bad = "POST /v1/metrics HTTP/1.1\r\nContent-Type: application/json\r\nTransfer-Encoding: chunked\r\n\r\nx\r\n";
+    let bad = "POST /v1/metrics HTTP/1.1\r\nHost: a\r\nContent-Type: application/json\r\nTransfer-Encoding: chunked\r\n\r\nx\r\n";
     let mut client = served.client().await;
     client.write(bad.as_bytes()).await;
     assert_eq!(client.answer().await.status, 400);
@@ -170,7 +177,7 @@ async fn a_sender_that_asks_for_the_end_gets_it_behind_its_answer() {
     assert_eq!(client.answer().await.status, 200);
     assert!(client.ends().await);
     let mut late = served.client().await;
-    late.write(b"POST /v1/metrics HTTP/1.1\r\nContent-Type: text/plain\r\nExpect: 100-continue\r\nContent-Length: 5\r\n\r\n")
+    late.write(b"POST /v1/metrics HTTP/1.1\r\nHost: a\r\nContent-Type: text/plain\r\nExpect: 100-continue\r\nContent-Length: 5\r\n\r\n")
         .await;
     assert_eq!(late.answer().await.status, 415);
     assert!(late.ends().await, "whether the body comes is not known");

@@ -37,16 +37,26 @@ async fn a_slow_head_and_a_slow_body_are_ended() {
     let served = Served::impatient().await;
     let mut head = served.client().await;
     head.write(b"POST /v1/metrics HTTP/1.1\r\nHost:").await;
-    assert_eq!(head.answer().await.status, 408);
+    let late = head.answer().await;
+    assert_eq!(
+        (late.status, late.message().as_str()),
+        (503, "the request did not come whole"),
+        "senders of OTLP drop what is 408"
+    );
+    assert!(
+        late.has("retry-after: 1") && late.has("connection: close"),
+        "{}",
+        late.head
+    );
     assert!(head.ends().await);
     let mut body = served.client().await;
     let begun = Instant::now();
-    body.write(b"POST /v1/metrics HTTP/1.1\r\nContent-Type: application/json\r\nContent-Length: 9\r\n\r\n{")
+    body.write(b"POST /v1/metrics HTTP/1.1\r\nHost: a\r\nContent-Type: application/json\r\nContent-Length: 9\r\n\r\n{")
         .await;
     let answer = body.answer().await;
     assert_eq!(
         (answer.status, answer.message().as_str()),
-        (408, "the request did not come whole")
+        (503, "the request did not come whole")
     );
     assert!(begun.elapsed() >= LATE);
     assert!(body.ends().await);
@@ -61,7 +71,7 @@ async fn a_cut_body_is_no_post() {
     client.write(&json(BODY.as_bytes())[..80]).await;
     drop(client);
     let mut half = served.client().await;
-    half.write(b"POST /v1/metrics HTTP/1.1\r\nContent-Type: application/json\r\nContent-Length: 9\r\n\r\n{}")
+    half.write(b"POST /v1/metrics HTTP/1.1\r\nHost: a\r\nContent-Type: application/json\r\nContent-Length: 9\r\n\r\n{}")
         .await;
     half.stream.shutdown().await.unwrap();
     assert_eq!(half.answer().await.status, 400);
@@ -98,15 +108,35 @@ async fn what_is_over_the_bytes_of_all_posts_is_refused_for_good() {
 #[tokio::test]
 async fn connections_over_the_bound_wait() {
     let served = Served::with(Outcome::taken(0), 1 << 20, 1).await;
+    let request = json(BODY.as_bytes());
     let mut first = served.client().await;
-    first.write(&json(BODY.as_bytes())).await;
-    assert_eq!(first.answer().await.status, 200);
+    first.write(&request[..request.len() - 1]).await;
     let mut second = served.client().await;
-    second.write(&json(BODY.as_bytes())).await;
+    second.write(&request).await;
     tokio::time::sleep(LATE / 4).await;
-    assert_eq!(served.bodies().len(), 1);
-    drop(first);
+    assert!(served.bodies().is_empty());
+    first.write(&request[request.len() - 1..]).await;
+    let answer = first.answer().await;
+    assert!(
+        answer.status == 200 && answer.has("connection: close"),
+        "who waits would wait for ever: {}",
+        answer.head
+    );
     assert_eq!(second.answer().await.status, 200);
+}
+
+#[tokio::test]
+async fn idle_connections_leave_their_places_to_those_that_wait() {
+    let patience = 10 * LATE;
+    let served = Served::within(patience, Outcome::taken(0), 1 << 20, 1).await;
+    let _idle = served.client().await;
+    let begun = Instant::now();
+    assert_eq!(served.ask(&json(BODY.as_bytes())).await.status, 200);
+    assert!(
+        begun.elapsed() < 2 * patience,
+        "alone it is kept for {:?}",
+        3 * patience
+    );
 }
 
 #[tokio::test]

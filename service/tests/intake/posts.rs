@@ -235,7 +235,9 @@ async fn an_answer_to_head_has_no_body() {
 async fn a_post_says_how_long_its_body_is() {
     let served = Served::start().await;
     for version in ["1.0", "1.1"] {
-        let head = format!("POST /v1/metrics HTTP/{version}\r\nContent-Type: application/x-protobuf\r\n\r\n");
+        let head = format!(
+            "POST /v1/metrics HTTP/{version}\r\nHost: a\r\nContent-Type: application/x-protobuf\r\n\r\n"
+        );
         let answer = served.ask(&[head.as_bytes(), b"\x0a\x00"].concat()).await;
         let status = Status::decode(answer.body.as_slice()).expect("google.rpc.Status");
         assert_eq!((answer.status, status.code), (411, 3), "{}", status.message);

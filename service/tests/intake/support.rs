@@ -56,7 +56,12 @@ impl Served {
         Served::within(LATE, Outcome::taken(0), 64 << 20, 8).await
     }
 
-    async fn within(patience: Duration, outcome: Outcome, most_bytes: usize, connections: usize) -> Served {
+    pub async fn within(
+        patience: Duration,
+        outcome: Outcome,
+        most_bytes: usize,
+        connections: usize,
+    ) -> Served {
         let kept = Arc::new(Kept {
             posts: Mutex::new(Vec::new()),
             outcome,

@@ -153,6 +153,22 @@ async fn series_are_forgotten_for_their_age_alone() {
     assert_eq!(sums(&run.stop().await), [("a", 10), ("b", 10)]);
 }
 
+/// Else its sender would be told 503 until the gateway's round ends, for hours: no flush cures it.
+#[tokio::test(flavor = "multi_thread")]
+async fn a_series_that_has_all_that_a_gateway_adds_up_is_taken_by_a_fresh_one() {
+    let Some(place) = Place::of_real() else { return };
+    let run = place.run().await;
+    for (start, value) in [(10, i64::MAX), (20, -9)] {
+        assert_eq!(run.post("A", point("a", start, start + 10, value)).await, all());
+    }
+    assert_eq!(run.checkpoint().await, 1);
+    let more = point("a", 30, 40, 5);
+    assert_eq!(message(&run.post("A", more.clone()).await), (503, "too large"));
+    assert_eq!(run.post_until_answered("A", more).await, all());
+    assert_eq!(run.metrics.renewals.get(), 1);
+    assert_eq!(sums(&run.stop().await), [("a", i64::MAX - 4)]);
+}
+
 /// Senders that repeat until they are answered, for a while; how much they posted to each series.
 async fn load(run: Arc<Run>, senders: usize, posts: u64) -> Arc<AtomicU64> {
     let sum = Arc::new(AtomicU64::new(0));

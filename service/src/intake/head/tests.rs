@@ -1,7 +1,7 @@
 use super::*;
 
 fn text(method: &str, path: &str, headers: &[(&str, &str)]) -> String {
-    let mut text = format!("{method} {path} HTTP/1.1\r\n");
+    let mut text = format!("{method} {path} HTTP/1.1\r\nHost: a\r\n");
     for (name, value) in headers {
         text.push_str(&format!("{name}: {value}\r\n"));
     }
@@ -132,7 +132,9 @@ fn a_head_is_read_once_it_is_whole() {
 
 #[test]
 fn what_could_be_read_in_two_ways_is_refused() {
-    let body = |headers: &str| asked(&format!("POST / HTTP/1.1\r\n{headers}\r\n")).map(|asked| asked.body);
+    let body = |headers: &str| {
+        asked(&format!("POST / HTTP/1.1\r\nHost: a\r\n{headers}\r\n")).map(|asked| asked.body)
+    };
     let cases: &[(&str, Result<Body, u16>)] = &[
         ("", Ok(Body::Length(0))),
         ("Content-Length: 7\r\n", Ok(Body::Length(7))),
@@ -151,6 +153,7 @@ fn what_could_be_read_in_two_ways_is_refused() {
             Err(400),
         ),
         ("Content-Length : 7\r\n", Err(400)),
+        ("Host: a\r\n", Err(400)),
         ("A: b\r\n c\r\n", Err(400)),
     ];
     for (headers, expected) in cases {
@@ -160,13 +163,21 @@ fn what_could_be_read_in_two_ways_is_refused() {
         asked("POST / HTTP/1.0\r\nTransfer-Encoding: chunked\r\n\r\n").err(),
         Some(400)
     );
+    assert_eq!(asked("POST / HTTP/1.1\r\n\r\n").err(), Some(400), "no host");
+    assert!(asked("POST / HTTP/1.0\r\n\r\n").is_ok());
     assert_eq!(asked("no head\r\n\r\n").err(), Some(400));
     let many = "a: b\r\n".repeat(HEADERS + 1);
-    assert_eq!(asked(&format!("POST / HTTP/1.1\r\n{many}\r\n")).err(), Some(431));
-    let long = "a".repeat(READ_AHEAD);
-    assert_eq!(asked(&format!("POST / HTTP/1.1\r\na: {long}")).err(), Some(431));
     assert_eq!(
-        asked(&format!("POST / HTTP/1.1\r\na: {long}\r\n\r\n")).err(),
+        asked(&format!("POST / HTTP/1.1\r\nHost: a\r\n{many}\r\n")).err(),
+        Some(431)
+    );
+    let long = "a".repeat(READ_AHEAD);
+    assert_eq!(
+        asked(&format!("POST / HTTP/1.1\r\nHost: a\r\na: {long}")).err(),
+        Some(431)
+    );
+    assert_eq!(
+        asked(&format!("POST / HTTP/1.1\r\nHost: a\r\na: {long}\r\n\r\n")).err(),
         Some(431)
     );
 }
@@ -182,13 +193,15 @@ fn what_becomes_of_the_connection() {
         ("1.0", "Connection: Keep-Alive\r\n", Connection::KeptIfSaid),
     ];
     for (version, headers, expected) in cases {
-        let asked = asked(&format!("POST / HTTP/{version}\r\n{headers}\r\n")).unwrap();
+        let asked = asked(&format!("POST / HTTP/{version}\r\nHost: a\r\n{headers}\r\n")).unwrap();
         assert_eq!(asked.connection, expected, "{version} {headers}");
     }
     let waits = |version: &str| {
-        asked(&format!("POST / HTTP/{version}\r\nExpect: 100-Continue\r\n\r\n"))
-            .unwrap()
-            .waits
+        asked(&format!(
+            "POST / HTTP/{version}\r\nHost: a\r\nExpect: 100-Continue\r\n\r\n"
+        ))
+        .unwrap()
+        .waits
     };
     assert!(waits("1.1") && !waits("1.0"));
 }

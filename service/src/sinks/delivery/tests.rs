@@ -3,7 +3,6 @@
 use super::*;
 use std::collections::VecDeque;
 use std::pin::Pin;
-use std::time::{Duration, Instant};
 
 /// Says these fates, then `Taken`.
 #[derive(Default)]
@@ -138,6 +137,7 @@ async fn run_until(
         sink: sink.clone(),
         metrics: metrics.clone(),
         state: state.clone(),
+        failing: Duration::from_millis(400),
         stop,
     };
     let end = run.until_it_ends().await;
@@ -246,6 +246,33 @@ async fn what_is_refused_is_kept_and_the_next_goes_on() {
             tried.outcome("refused")
         ),
         (1, 1, 1)
+    );
+}
+
+/// A sink that is down for a moment takes it then; one that never can is not asked for ever.
+#[tokio::test]
+async fn what_a_sink_fails_at_is_sent_again_for_a_while() {
+    let failed = || Fate::Failed { reason: "500".into() };
+    let memory = waiting([1]);
+    let tried = run(&memory, vec![failed(), failed()]).await;
+    assert_eq!((tried.outcome("taken"), tried.outcome("again")), (1, 2));
+    assert!(memory.dead.lock().expect("dead").is_empty());
+    let memory = waiting([1, 2]);
+    let before = vec![failed(), again(Some(Duration::from_millis(500)))];
+    let fates = before.into_iter().chain((0..100).map(|_| failed()));
+    let tried = run(&memory, fates.collect()).await;
+    let dead: Vec<String> = memory
+        .dead
+        .lock()
+        .expect("dead")
+        .iter()
+        .map(|letter| letter.0.clone())
+        .collect();
+    assert_eq!(dead, ["2-e-1", "2-e-2"]);
+    let of_first = tried.keys().iter().filter(|key| *key == "2-e-1").count();
+    assert!(
+        of_first > 4,
+        "it was put aside although it had not failed for long: {of_first}"
     );
 }
 

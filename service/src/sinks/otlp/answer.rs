@@ -3,8 +3,12 @@
 //! | answer | the request |
 //! |---|---|
 //! | 2xx | is taken; where a partial success names rejected points, taken in part |
-//! | 408, 425, 429, 5xx | is sent again, by `Retry-After` where it is there |
+//! | 408, 425, 429, 502, 503, 504 | is sent again, by `Retry-After` where it is there |
+//! | any other 5xx | is sent again for a while, and then refused for good |
 //! | any other | is refused for good |
+//!
+//! OTLP names 429, 502, 503 and 504 as those to repeat. 408 and 425 say the same of themselves: nothing was taken. The
+//! other 5xx are of a sink that failed, which may pass (`delivery`).
 
 use crate::otlp::{partial_success, Encoding, ExportMetricsServiceResponse};
 use crate::sinks::Fate;
@@ -47,12 +51,15 @@ pub(super) async fn fate(response: Response<Body>, sent: Encoding, deadline: Ins
     };
     match head.status.as_u16() {
         200..=299 => taken(body, encoding),
-        408 | 425 | 429 | 500..=599 => Fate::Again {
+        408 | 425 | 429 | 502..=504 => Fate::Again {
             reason: join(&head.status.to_string(), &message(body, encoding)),
             after: head
                 .headers
                 .get(RETRY_AFTER)
                 .and_then(|value| after(value.to_str().ok()?)),
+        },
+        500..=599 => Fate::Failed {
+            reason: join(&head.status.to_string(), &message(body, encoding)),
         },
         300..=399 => {
             let location = head
