@@ -13,7 +13,7 @@ use tokio::sync::watch;
 /// How long a request is sent again at which the sink fails. What OTLP says is to send it no more; but a sink says so
 /// also while a part of it is down, and then each request of that time would be put aside. For ever would hold up all
 /// behind a request that no sink can take, until the disk is full.
-const FAILING: Duration = Duration::from_secs(3600);
+const FAILING: Duration = Duration::from_secs(24 * 3600);
 
 /// The state of a delivery, for `status`.
 #[derive(Clone, Debug, Default, PartialEq, Eq, serde::Serialize, serde::Deserialize)]
