@@ -75,7 +75,7 @@ impl Disk {
     pub fn end(&self, fault: &Fault) -> ! {
         match &self.end {
             None => {
-                eprintln!("totxegun: the disk failed, so the service ends: {fault}");
+                crate::complain(format_args!("the disk failed, so the service ends: {fault}"));
                 std::process::exit(FAILED)
             }
             Some(end) => {
