@@ -1,12 +1,12 @@
 //! What an operator orders.
 
 use super::run::Next;
-use super::work::blocking;
 use super::{Done, Keeper, Order};
 use crate::files::Fault;
 use crate::gateway::{Answer, Doubt};
 use crate::otlp::Outcome;
 use crate::slot::is_sender;
+use crate::work::blocking;
 use tokio::sync::watch;
 
 /// Which of the two it is.

@@ -1,7 +1,6 @@
 //! Waits for what is to be done, and does one thing after the other.
 
 use super::recovery::Recovered;
-use super::work::seconds_before_now;
 use super::{Done, Keeper, Order};
 use crate::files::Fault;
 use crate::switch::Switch;
@@ -152,14 +151,7 @@ impl Keeper {
             return false;
         }
         self.last_look_at_ages = Instant::now();
-        let before = seconds_before_now(age);
-        self.last_renewal.elapsed() > BETWEEN_RENEWALS
-            && self
-                .slot
-                .outbox
-                .series()
-                .values()
-                .any(|series| series.seen < before)
+        self.last_renewal.elapsed() > BETWEEN_RENEWALS && self.slot.outbox.has_any_of(age)
     }
 
     /// Refuses posts from now on, and makes a last checkpoint.
