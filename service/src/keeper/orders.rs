@@ -50,6 +50,13 @@ impl Keeper {
             };
             return Ok((Next::GoOn, Some(Done::Answered(bad))));
         }
+        // What a refill has flushed is in no group yet, and would be copied too.
+        if matches!(change, Change::Quarantine) && !self.carried.is_empty() {
+            match self.checkpoint(stop).await? {
+                (Next::GoOn, Some(_)) => {}
+                (next, _) => return Ok((next, Some(Done::Answered(recovering())))),
+            }
+        }
         match self.ask_for(change, &sender).await {
             Ok(Answer { status: 200, .. }) => {
                 self.note(change, sender).await?;
