@@ -16,10 +16,14 @@ or in those that are named:
     did not sync is gone, unless the start has synced it;
   - held: the call is a sync of the journal, and is held back; meanwhile the service goes on up to a sync of another file,
     behind which the power is lost. Where none comes it is lost five seconds later.
-A last run forgets what was synced, and has to fail: so a loss of power is seen.
 Then the service is started without the library, and the run goes on where it was: each sender repeats what was not
 answered, each order is given again. At the end the sink, a SQLite file, has each point once that a sender was told is
 taken, and refused none that it has already; late repeats are refused, and the service has found nothing that must not be.
+
+These runs have one slot. Others, of each sixth of such calls, are on a folder that had two slots when its service was
+killed: the start that is interrupted makes three of them, moves the series, and goes on. Where no power is lost, posts are
+only written there.
+A last run forgets what was synced, and has to fail: so a loss of power is seen.
 
 A line for each run that failed; the last line counts those that passed and failed, and the status is 0 where none failed.
 """
@@ -99,6 +103,18 @@ def synced_names(folder, shadow):
     return {name: int(inode) for inode, name in lines}
 
 
+def keep_all(folder, shadow):
+    """Notes that all of a folder is durable, as the library notes it."""
+    names = {name: os.stat(f"{folder}/{name}").st_ino for name in os.listdir(folder)}
+    with open(f"{shadow}/folder-{os.stat(folder).st_ino}", "w", encoding="utf-8") as file:
+        file.writelines(f"{inode} {name}\n" for name, inode in names.items())
+    for name, inode in names.items():
+        if os.path.isdir(f"{folder}/{name}"):
+            keep_all(f"{folder}/{name}", shadow)
+        else:
+            shutil.copyfile(f"{folder}/{name}", f"{shadow}/file-{inode}")
+
+
 def read(path):
     try:
         with open(path, "rb") as file:
@@ -129,13 +145,15 @@ def left_bytes(path, kept):
 class Run:
     """One run of the script, in a folder of its own."""
 
-    def __init__(self, programs, library, folder, at, way):
-        self.folder, self.at, self.way = folder, at, way
+    def __init__(self, programs, library, folder, at, way, changes):
+        self.folder, self.at, self.way, self.changes = folder, at, way, changes
         self.data, self.shadow, self.log = f"{folder}/data", f"{folder}/shadow", f"{folder}/calls"
         os.mkdir(self.data)
         os.mkdir(self.shadow)
         self.sink = SqliteSink(f"{folder}/sink.db")
-        self.service = Service(*programs, self.data, self.sink.address, "--durable", "disk", "--flush-every", "1h")
+        durable = "process" if changes and way not in POWER else "disk"
+        self.service = Service(*programs, self.data, self.sink.address, "--durable", durable, "--flush-every", "1h",
+                               "--slots", "2" if changes else "1")
         self.senders = {name: Sender(self.service, name, seconds=5) for name in SENDERS}
         self.library = library
         # The call at which each start is interrupted; later starts are without the library.
@@ -143,6 +161,19 @@ class Run:
         self.stages = [at, second[way]] if way in second else [at]
         self.until = time.monotonic() + SECONDS
         self.reviving = threading.Lock()
+
+    def fill(self):
+        """Another number of slots, each with a group and a post that only the journal has."""
+        self.service.start()
+        self.service.wait_ready(SECONDS)
+        for sender in self.senders.values():
+            self.post(sender)
+        self.order("/flush")
+        for sender in self.senders.values():
+            self.post(sender)
+        self.service.kill()
+        self.service.words[-1] = "3"
+        keep_all(self.data, self.shadow)
 
     def start(self):
         environment = {"LD_PRELOAD": self.library, "INTERRUPT_FOLDER": self.data, "INTERRUPT_LOG": self.log}
@@ -204,6 +235,8 @@ class Run:
 
     def make(self):
         """The whole run. Raises Failed."""
+        if self.changes:
+            self.fill()
         self.start()
         self.service.wait_ready(SECONDS)
         for step in SCRIPT:
@@ -249,16 +282,16 @@ class Runs:
         self.lock = threading.Lock()
         self.passed = self.failed = self.interrupted = 0
 
-    def one(self, at, way):
+    def one(self, at, way, changes):
         """Makes a run and counts it. Returns its calls."""
-        calls, fault = self.made(at, way)
-        self.count(at, way, calls, fault)
+        calls, fault = self.made(at, way, changes)
+        self.count(at, f"{way}, of a change of slots," if changes else way, calls, fault)
         return calls
 
-    def made(self, at, way):
+    def made(self, at, way, changes=False):
         """Makes a run: its calls, and what is wrong with it."""
         folder = tempfile.mkdtemp(dir=self.folder)
-        run = Run(self.programs, self.library, folder, at, way)
+        run = Run(self.programs, self.library, folder, at, way, changes)
         fault = None
         try:
             run.make()
@@ -298,10 +331,12 @@ def places_of(calls, every, ways):
 def main(program, gateway, every=1, ways=WAYS):
     with tempfile.TemporaryDirectory(dir=FOLDERS, prefix="interrupted-") as folder:
         runs = Runs((program, gateway), build(folder), folder)
-        calls = runs.one(0, "before")
-        print(f"note: {len(calls)} calls in a run without interruption", flush=True)
+        calls, of_change = (runs.one(0, "before", changes) for changes in (False, True))
+        print(f"note: {len(calls)} calls in a run without interruption, {len(of_change)} where slots change", flush=True)
+        places = [(*place, False) for place in places_of(calls, every, ways)]
+        places += [(*place, True) for place in places_of(of_change, every * 6, ways)]
         with concurrent.futures.ThreadPoolExecutor(os.cpu_count()) as pool:
-            list(pool.map(lambda place: runs.one(*place), places_of(calls, every, ways)))
+            list(pool.map(lambda place: runs.one(*place), places))
         runs.forgetful(len(calls) * 3 // 4)
     print(f"note: {runs.interrupted} runs were interrupted")
     print(f"{runs.passed} passed, {runs.failed} failed", flush=True)

@@ -54,7 +54,7 @@ CARGO_STEPS = (
 # Behind the program's name: further words, and about how many seconds it takes.
 SERVICE_STEPS = (
     ("service_load.py", ["60"], 120),
-    ("service_interrupted.py", ["9"], 150),
+    ("service_interrupted.py", ["9"], 300),
     ("behind_proxies.py", [], 60),
     ("two_services.py", ["0", "1", "--sink", "one"], 40),
     ("demo.py", ["25"], 60),

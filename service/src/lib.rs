@@ -4,10 +4,13 @@
 //! journal and outbox (`files`). A `keeper` starts, flushes, replaces and restores the `gateway`. What was flushed
 //! is delivered to one of the `sinks`. `remarks` tells in the log what an operator may want to know of posts.
 //! `operate` is the operator's address, `command` the command line, `service` all of it as one process; `switch` tells a
-//! part of it to stop.
+//! part of it to stop, `work` is done beside the runtime.
 
-// What may be missing is handled; in a test these two are the check.
-#![cfg_attr(not(test), deny(clippy::unwrap_used, clippy::expect_used))]
+// What may be missing is handled; in a test these two are the check. `eprintln!` panics where nobody reads: see `complain`.
+#![cfg_attr(
+    not(test),
+    deny(clippy::unwrap_used, clippy::expect_used, clippy::print_stderr)
+)]
 
 pub mod command;
 pub mod files;
@@ -23,3 +26,11 @@ pub mod service;
 pub mod sinks;
 pub mod slot;
 pub mod switch;
+mod work;
+
+/// Says on standard error why the program ends, or what it could not do. The status counts also where that can't be
+/// written: the log may be on the disk that failed.
+fn complain(what: std::fmt::Arguments) {
+    use std::io::Write;
+    let _ = writeln!(std::io::stderr(), "totxegun: {what}");
+}

@@ -118,7 +118,7 @@ impl Copy {
 impl Drop for Copy {
     fn drop(&mut self) {
         if let Err(error) = std::fs::remove_dir_all(&self.0) {
-            eprintln!("totxegun: {} could not be removed: {error}", self.0.display());
+            crate::complain(format_args!("{} could not be removed: {error}", self.0.display()));
         }
     }
 }

@@ -92,14 +92,14 @@ pub fn run() -> ExitCode {
     let line = Line::try_parse().unwrap_or_else(|error| without_secrets(error).exit());
     if init::is_process_1() {
         return init::run().unwrap_or_else(|error| {
-            eprintln!("totxegun: as process 1: {error}");
+            crate::complain(format_args!("as process 1: {error}"));
             ExitCode::from(REFUSED)
         });
     }
     match line.command.run() {
         Ok(()) => ExitCode::SUCCESS,
         Err(failure) => {
-            eprintln!("totxegun: {failure}");
+            crate::complain(format_args!("{failure}"));
             ExitCode::from(match failure {
                 Failure::Refused(_) => REFUSED,
                 Failure::Disk(_) => DISK,

@@ -166,6 +166,7 @@ impl Options {
         tracing_subscriber::fmt()
             .with_writer(std::io::stderr)
             .with_target(false)
+            .log_internal_errors(false) // it tells them by a panic, where a log's disk is full or nobody reads it
             .init();
         let most_files = raise_open_files();
         tracing::info!("{}", Versions::of(self.gateway.as_deref()));

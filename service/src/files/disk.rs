@@ -75,7 +75,7 @@ impl Disk {
     pub fn end(&self, fault: &Fault) -> ! {
         match &self.end {
             None => {
-                eprintln!("totxegun: the disk failed, so the service ends: {fault}");
+                crate::complain(format_args!("the disk failed, so the service ends: {fault}"));
                 std::process::exit(FAILED)
             }
             Some(end) => {
@@ -98,21 +98,18 @@ impl Disk {
         })
     }
 
-    /// The same, with a name that is durable, as those of the folders above that are made with it.
+    /// The same, with a name that is durable, as those of the folders above.
     pub fn make_lasting_folder(&self, path: &Path) -> Result<(), Fault> {
         let made = path.ancestors().take_while(|folder| !folder.exists()).count();
         self.make_folder(path)?;
-        let above: Vec<&Path> = path.ancestors().skip(1).collect();
-        match made {
+        for (number, folder) in path.ancestors().skip(1).enumerate() {
+            let synced = self.sync_folder(folder);
             // An earlier start may have ended behind making it. Of a folder that others made it may not be allowed.
-            0 => above
-                .first()
-                .map_or(Ok(()), |folder| self.sync_folder(folder).or(Ok(()))),
-            _ => above
-                .iter()
-                .take(made)
-                .try_for_each(|folder| self.sync_folder(folder)),
+            if number < made {
+                synced?;
+            }
         }
+        Ok(())
     }
 
     /// Makes a file that is not there yet.

@@ -99,7 +99,10 @@ impl Folder {
     }
 
     pub(crate) fn open_on(disk: Disk, path: &Path, durability: Durability) -> Result<Folder, FolderFault> {
-        disk.make_lasting_folder(path)?;
+        // Where that file is, an earlier start has made the folder to its end.
+        if !path.join("version").exists() {
+            disk.make_lasting_folder(path)?;
+        }
         let (lock, itself) = locked(path)?;
         let room = Arc::new(Room::new(path)?);
         let known = Version::read(path)?;

@@ -9,19 +9,21 @@ mod open;
 mod rows;
 mod state;
 
-use super::disk::{io_fault, Disk};
+use super::disk::Disk;
 use super::records::Which;
 use super::room::Room;
 use super::segment::{self, Ahead, Segment};
 use super::{lock, seconds, Fault};
 use crate::otlp::series::{self, NotForwarded, SeriesKey};
+use crate::work::blocking;
 use changes::{Change, Group};
 use rows::Snapshot;
-use state::State;
+use state::{Age, State};
 use std::collections::{BTreeSet, HashMap, HashSet};
 use std::io;
 use std::path::{Path, PathBuf};
 use std::sync::{Arc, Mutex};
+use std::time::{Duration, Instant};
 use tokio::sync::Notify;
 
 /// A segment that is as long is followed by another.
@@ -146,6 +148,7 @@ impl Outbox {
                 first: state.next,
                 epoch: state.next_epoch.clone(),
                 since: seconds(),
+                heard: Some(Instant::now()),
                 journal,
                 ends,
             };
@@ -197,10 +200,22 @@ impl Outbox {
             .map(drop)
     }
 
-    /// Leaves out the series that were last seen before this second, but those in `keep`. Which these were. A
-    /// series whose owner is unknown stays: the journal may still have its owner's posts.
-    pub fn forget(&self, before: u64, keep: &HashSet<SeriesKey>) -> Result<Vec<SeriesKey>, Fault> {
-        self.leave_out(|key, series| series.seen < before && series.owner.is_some() && !keep.contains(key))
+    /// Leaves out the series that no group had for so long, but those in `keep`. Which these were.
+    pub fn forget(&self, age: Duration, keep: &HashSet<SeriesKey>) -> Result<Vec<SeriesKey>, Fault> {
+        self.forget_of(Age::from_now(age), keep)
+    }
+
+    fn forget_of(&self, age: Age, keep: &HashSet<SeriesKey>) -> Result<Vec<SeriesKey>, Fault> {
+        self.leave_out(|key, known| known.may_be_forgotten(age) && !keep.contains(key))
+    }
+
+    /// Whether there may be a series to forget.
+    pub fn has_any_of(&self, age: Duration) -> bool {
+        let age = Age::from_now(age);
+        lock(&self.state)
+            .series
+            .values()
+            .any(|known| known.may_be_forgotten(age))
     }
 
     /// How many requests wait, how many bytes they take on disk, and the first of them.
@@ -224,10 +239,8 @@ impl Outbox {
             };
             let waiting = front.waiting.clone();
             let path = segment::path(&self.folder, front.segment);
-            let folder = self.folder.clone();
-            let read = tokio::task::spawn_blocking(move || rows::read_item(&path, &front)).await;
-            let ended = |error: tokio::task::JoinError| io_fault(&folder)(io::Error::other(error));
-            return Ok((waiting, read.map_err(ended)??));
+            let body = blocking(move || rows::read_item(&path, &front)).await?;
+            return Ok((waiting, body));
         }
     }
 

@@ -6,11 +6,11 @@
 
 use super::recovery::Recovered;
 use super::run::Next;
-use super::work::{blocking, seconds_before_now};
 use super::{Keeper, Trouble};
 use crate::files::{Fault, Ticket};
 use crate::gateway::{Doubt, Gateway};
 use crate::slot::Barrier;
+use crate::work::blocking;
 use std::collections::{BTreeSet, HashSet};
 use std::sync::Arc;
 use std::time::Instant;
@@ -203,7 +203,7 @@ impl Keeper {
                 keep.extend(posted.into_iter().flat_map(|posted| posted.series.into_keys()));
                 true
             })?;
-            let forgotten = slot.outbox.forget(seconds_before_now(age), &keep)?;
+            let forgotten = slot.outbox.forget(age, &keep)?;
             slot.give_up(&forgotten);
             Ok(forgotten.len())
         });

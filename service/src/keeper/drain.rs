@@ -1,9 +1,9 @@
 //! Brings a slot to rest without serving: all that was taken is in groups then, and the journal has nothing more.
 
 use super::recovery::Recovered;
-use super::work::blocking;
 use super::Keeper;
 use crate::files::Fault;
+use crate::work::blocking;
 use tokio::sync::watch;
 
 impl Keeper {

@@ -11,7 +11,6 @@ mod recovery;
 mod refill;
 mod replay;
 mod run;
-mod work;
 
 use crate::files::Fault;
 use crate::gateway::{Doubt, Gateway, Options, Starter};

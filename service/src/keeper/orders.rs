@@ -1,12 +1,12 @@
 //! What an operator orders.
 
 use super::run::Next;
-use super::work::blocking;
 use super::{Done, Keeper, Order};
 use crate::files::Fault;
 use crate::gateway::{Answer, Doubt};
 use crate::otlp::Outcome;
 use crate::slot::is_sender;
+use crate::work::blocking;
 use tokio::sync::watch;
 
 /// Which of the two it is.
@@ -49,6 +49,13 @@ impl Keeper {
                 message: "bad sender".into(),
             };
             return Ok((Next::GoOn, Some(Done::Answered(bad))));
+        }
+        // What a refill has flushed is in no group yet, and would be copied too.
+        if matches!(change, Change::Quarantine) && !self.carried.is_empty() {
+            match self.checkpoint(stop).await? {
+                (Next::GoOn, Some(_)) => {}
+                (next, _) => return Ok((next, Some(Done::Answered(recovering())))),
+            }
         }
         match self.ask_for(change, &sender).await {
             Ok(Answer { status: 200, .. }) => {

@@ -3,11 +3,11 @@
 //! A post is read for this alone. The gateway's own count of foreign points shows whether it was read as the gateway
 //! reads it.
 
-use super::work::blocking;
 use super::Keeper;
 use crate::files::{Fault, Post};
 use crate::otlp::series::{posted, SeriesKey};
 use crate::slot::Slot;
+use crate::work::blocking;
 use std::collections::{HashMap, HashSet};
 
 /// How many segments before the first that is replayed are looked through at the start. There is one, as a rule.

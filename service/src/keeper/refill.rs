@@ -6,11 +6,11 @@
 //! forward, so a late repeat is refused as before.
 
 use super::replay::{Replay, Use};
-use super::work::blocking;
 use super::{Keeper, Trouble};
 use crate::files::{Outbox, Post};
 use crate::gateway::{Doubt, Gateway};
 use crate::otlp::series::{zeros, NotForwarded, SeriesKey};
+use crate::work::blocking;
 use std::collections::{BTreeMap, BTreeSet};
 use std::sync::Arc;
 

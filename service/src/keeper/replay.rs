@@ -1,10 +1,10 @@
 //! Puts posts to a fresh gateway, several senders side by side, each sender's posts in order.
 
-use super::work::blocking;
 use super::Trouble;
 use crate::files::{Fault, Post};
 use crate::gateway::{Answer, Doubt, Gateway};
 use crate::slot::Slot;
+use crate::work::blocking;
 use std::hash::{BuildHasher, RandomState};
 use std::sync::atomic::{AtomicU64, Ordering};
 use std::sync::Arc;

@@ -1,7 +1,6 @@
 //! Waits for what is to be done, and does one thing after the other.
 
 use super::recovery::Recovered;
-use super::work::seconds_before_now;
 use super::{Done, Keeper, Order};
 use crate::files::Fault;
 use crate::switch::Switch;
@@ -155,14 +154,7 @@ impl Keeper {
             return false;
         }
         self.last_look_at_ages = Instant::now();
-        let before = seconds_before_now(age);
-        self.may_renew()
-            && self
-                .slot
-                .outbox
-                .series()
-                .values()
-                .any(|series| series.seen < before)
+        self.may_renew() && self.slot.outbox.has_any_of(age)
     }
 
     fn may_renew(&self) -> bool {

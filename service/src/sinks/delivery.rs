@@ -5,6 +5,7 @@ use crate::files::outbox::Waiting;
 use crate::files::{Dead, Fault, Outbox};
 use crate::metrics::Metrics;
 use crate::switch::Switch;
+use crate::work::blocking;
 use std::future::Future;
 use std::sync::{Arc, Mutex, PoisonError};
 use std::time::{Duration, Instant};
@@ -79,24 +80,12 @@ impl Store for Files {
 
     async fn acknowledge(&self, number: u64) -> Result<(), Fault> {
         let outbox = self.outbox.clone();
-        off_the_runtime(move || outbox.acknowledge(number)).await
+        blocking(move || outbox.acknowledge(number)).await
     }
 
     async fn keep(&self, key: String, reason: String, body: Vec<u8>) -> Result<(), Fault> {
         let dead = self.dead.clone();
-        off_the_runtime(move || dead.keep(&key, &reason, &body)).await
-    }
-}
-
-/// Calls of files may wait for the disk.
-async fn off_the_runtime(call: impl FnOnce() -> Result<(), Fault> + Send + 'static) -> Result<(), Fault> {
-    match tokio::task::spawn_blocking(call).await {
-        Ok(done) => done,
-        Err(error) => match error.try_into_panic() {
-            Ok(panic) => std::panic::resume_unwind(panic),
-            // The runtime is ending, and this task with it.
-            Err(_) => std::future::pending().await,
-        },
+        blocking(move || dead.keep(&key, &reason, &body)).await
     }
 }
 

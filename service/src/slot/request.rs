@@ -21,6 +21,7 @@ use super::{is_sender, Phase, Slot};
 use crate::files::Ticket;
 use crate::otlp::series::{first_places, SeriesKey};
 use crate::otlp::Outcome;
+use crate::work::blocking;
 use bytes::Bytes;
 use std::time::{Duration, Instant};
 
@@ -180,14 +181,7 @@ impl Slot {
             return first_places(body).unwrap_or_default();
         }
         let body = body.clone();
-        let read = tokio::task::spawn_blocking(move || first_places(&body).unwrap_or_default());
-        match read.await {
-            Ok(read) => read,
-            Err(ended) => match ended.try_into_panic() {
-                Ok(panic) => std::panic::resume_unwind(panic),
-                Err(_) => std::future::pending().await, // the runtime is ending
-            },
-        }
+        blocking(move || first_places(&body).unwrap_or_default()).await
     }
 
     async fn claimed(&self, series: Vec<(SeriesKey, u64)>) -> Result<Option<Claimed<'_>>, NotClaimed> {

@@ -99,6 +99,27 @@ async fn room_in_a_replay_is_not_made_by_what_is_quarantined() {
     );
 }
 
+/// Else they are in a group and copied, and the next recovery finds them out of order.
+#[tokio::test(flavor = "multi_thread")]
+async fn what_a_replay_has_flushed_is_not_copied() {
+    let place = Place::of_fake();
+    let run = place.run().await;
+    for sender in ["A", "B"] {
+        assert_eq!(run.post(sender, point(sender, 10, 20, 5)).await, all());
+    }
+    place.tell("post-full-behind-another", 1);
+    assert!(run.kill_gateway());
+    run.post_until_answered("C", point("C", 10, 20, 5)).await;
+    for sender in ["A", "B"] {
+        run.order(Order::Quarantine(sender.into())).await;
+    }
+    run.checkpoint().await;
+    assert!(run.kill_gateway());
+    run.post_until_answered("C", point("C", 20, 30, 5)).await;
+    assert_eq!(run.metrics.faults.with_label_values(&["replay"]).get(), 0);
+    assert_eq!(sums(&run.stop().await), [("A", 5), ("B", 5), ("C", 10)]);
+}
+
 #[tokio::test(flavor = "multi_thread")]
 async fn a_sender_is_replayed_in_its_order() {
     let place = Place::of_fake();

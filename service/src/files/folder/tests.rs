@@ -154,12 +154,22 @@ fn a_folder_that_is_made_has_a_name_that_lasts() {
         }
         Ok(())
     });
-    let path = place.path().join("new/folder");
-    for _ in 0..2 {
+    let (above, place) = (place.path().join("new"), place.path().to_path_buf());
+    let path = above.join("folder");
+    for is_left in [false, true] {
+        if is_left {
+            // As an earlier start has left it that ended behind making it.
+            std::fs::remove_dir_all(&above).unwrap();
+            std::fs::create_dir_all(&path).unwrap();
+        }
         drop(Folder::open_on(disk.clone(), &path, Durability::Disk).unwrap());
         let synced = std::mem::take(&mut *super::super::lock(&synced));
-        assert!(synced.contains(&place.path().join("new")), "{synced:?}");
-        assert_eq!(synced.contains(&place.path().into()), synced.contains(&path));
+        let first = |folder| synced.iter().position(|one| one == folder);
+        assert!(first(&above).is_some() && first(&place).is_some(), "{synced:?}");
+        assert!(
+            first(&path) > first(&above).max(first(&place)),
+            "its version is the last"
+        );
     }
 }
 

@@ -4,6 +4,7 @@ use crate::otlp::series::SeriesKey;
 use std::collections::HashMap;
 use std::ops::Range;
 use std::sync::Arc;
+use std::time::Instant;
 
 #[derive(Debug)]
 pub enum Change {
@@ -31,6 +32,8 @@ pub struct Group {
     pub first: u64,
     pub epoch: Arc<str>,
     pub since: u64,
+    /// The same by a clock that nobody sets, where this run has made it.
+    pub heard: Option<Instant>,
     /// Posts of the journal's segments before it are in this group or in earlier ones.
     pub journal: u64,
     /// Where the last point of each of its series ends.

@@ -1,6 +1,7 @@
 //! Series that leave an outbox, and series that another slot had.
 
 use super::changes::Change;
+use super::state::Known;
 use super::{Outbox, Series};
 use crate::files::{lock, Fault};
 use crate::otlp::series::SeriesKey;
@@ -8,7 +9,7 @@ use crate::otlp::series::SeriesKey;
 impl Outbox {
     /// Leaves out the series whose owners post to another slot: how many.
     pub fn leave(&self, is_others: impl Fn(&str) -> bool) -> Result<usize, Fault> {
-        let left = self.leave_out(|_, series| series.owner.as_deref().is_some_and(&is_others));
+        let left = self.leave_out(|_, known| known.series.owner.as_deref().is_some_and(&is_others));
         left.map(|left| left.len())
     }
 
@@ -28,14 +29,11 @@ impl Outbox {
 
     pub(super) fn leave_out(
         &self,
-        is_left: impl Fn(&SeriesKey, &Series) -> bool,
+        is_left: impl Fn(&SeriesKey, &Known) -> bool,
     ) -> Result<Vec<SeriesKey>, Fault> {
         let mut left = Vec::new();
         self.change(true, |state| {
-            let all = state
-                .series
-                .iter()
-                .filter(|(key, known)| is_left(key, &known.series));
+            let all = state.series.iter().filter(|(key, known)| is_left(key, known));
             left = all.map(|(key, _)| key.clone()).collect();
             (!left.is_empty()).then(|| Change::Forget(left.clone()))
         })?;

@@ -315,6 +315,7 @@ impl Reading {
             first: head.first,
             epoch: head.epoch.as_str().into(),
             since: head.since,
+            heard: None,
             journal,
             ends,
         };

@@ -122,6 +122,7 @@ impl Snapshot {
                     owner,
                     seen,
                 },
+                heard: None,
             };
             state.series.insert(SeriesKey(key.into()), known);
             state.next_id += 1;

@@ -6,11 +6,40 @@ use super::{Series, Waiting};
 use crate::otlp::series::SeriesKey;
 use std::collections::{BTreeSet, HashMap, VecDeque};
 use std::sync::Arc;
+use std::time::{Duration, Instant, SystemTime, UNIX_EPOCH};
 
 pub struct Known {
     /// How the records of the segment name it.
     pub id: u32,
     pub series: Series,
+    /// When a group of this run last had a point of it. A clock that is set says nothing of that.
+    pub heard: Option<Instant>,
+}
+
+/// How long ago something was.
+#[derive(Clone, Copy)]
+pub struct Age {
+    /// Before this second since 1970.
+    pub before: u64,
+    /// And by a clock that nobody sets, where it was in this run.
+    pub age: Duration,
+}
+
+impl Age {
+    pub fn from_now(age: Duration) -> Age {
+        let now = SystemTime::now().duration_since(UNIX_EPOCH).unwrap_or_default();
+        let before = now.saturating_sub(age).as_secs();
+        Age { before, age }
+    }
+}
+
+impl Known {
+    /// One whose owner is unknown stays: the journal may still have its owner's posts.
+    pub fn may_be_forgotten(&self, age: Age) -> bool {
+        self.series.owner.is_some()
+            && self.series.seen < age.before
+            && self.heard.is_none_or(|heard| heard.elapsed() >= age.age)
+    }
 }
 
 /// Requests of a group that wait, in the order of their numbers.
@@ -125,7 +154,7 @@ impl State {
             } => {
                 self.journal = group.journal;
                 self.next = group.first + count;
-                self.advance(group.ends, group.since);
+                self.advance(group.ends, group.since, group.heard);
                 if count > 0 {
                     let (first, epoch, since) = (group.first, group.epoch, group.since);
                     self.wait(Batch {
@@ -158,11 +187,12 @@ impl State {
         for (key, series) in series {
             let id = self.next_id;
             self.next_id += 1;
-            self.series.insert(key, Known { id, series });
+            let heard = None;
+            self.series.insert(key, Known { id, series, heard });
         }
     }
 
-    fn advance(&mut self, ends: HashMap<SeriesKey, u64>, seen: u64) {
+    fn advance(&mut self, ends: HashMap<SeriesKey, u64>, seen: u64, heard: Option<Instant>) {
         // New ones in the order of their keys, as the commit has them.
         let mut ends: Vec<_> = ends.into_iter().collect();
         ends.sort_unstable();
@@ -177,10 +207,12 @@ impl State {
                         owner: None,
                         seen,
                     },
+                    heard,
                 }
             });
             known.series.frontier = known.series.frontier.max(end);
             known.series.seen = seen;
+            known.heard = heard;
         }
     }
 

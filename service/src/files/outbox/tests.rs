@@ -10,7 +10,12 @@ use crate::files::disk::Call;
 use crate::files::numbers::Numbers;
 use std::fs::File;
 use std::sync::atomic::{AtomicBool, AtomicUsize, Ordering::SeqCst};
-use std::time::Duration;
+
+/// Of everything.
+const AT_ONCE: Age = Age {
+    before: u64::MAX,
+    age: Duration::ZERO,
+};
 
 /// Bodies of these tests: `[[[key, end], ..], filling]`.
 fn body(ends: &[(&str, u64)], filling: &str) -> Vec<u8> {
@@ -174,6 +179,23 @@ async fn what_waits_keeps_its_epoch() {
     assert_eq!(outbox.epoch(), "f");
 }
 
+/// Else a late repeat is counted again behind a renewal, where the clock was set by more than the age of a series.
+#[test]
+fn a_clock_that_is_set_forgets_no_series_of_this_run() {
+    let folder = tempfile::tempdir().unwrap();
+    let outbox = open(folder.path());
+    outbox.commit(&[body(&[("a", 1)], "")], 2).unwrap();
+    outbox.own(HashMap::from([(key_of("a"), "me".into())])).unwrap();
+    let far_ahead = Age {
+        before: u64::MAX,
+        age: Duration::from_secs(3600),
+    };
+    assert_eq!(outbox.forget_of(far_ahead, &HashSet::new()).unwrap(), []);
+    drop(outbox);
+    let later = open(folder.path()).forget_of(far_ahead, &HashSet::new());
+    assert_eq!(later.unwrap(), [key_of("a")], "a later run goes by the clock");
+}
+
 #[test]
 fn a_series_without_an_owner_is_never_forgotten() {
     let folder = tempfile::tempdir().unwrap();
@@ -183,11 +205,9 @@ fn a_series_without_an_owner_is_never_forgotten() {
         .unwrap();
     let owner = |key| (key_of(key), "me".to_string());
     outbox.own(HashMap::from([owner("a"), owner("b")])).unwrap();
-    assert_eq!(outbox.forget(0, &HashSet::new()).unwrap(), []);
-    assert_eq!(
-        outbox.forget(u64::MAX, &HashSet::from([key_of("b")])).unwrap(),
-        [key_of("a")]
-    );
+    assert_eq!(outbox.forget(Duration::MAX, &HashSet::new()).unwrap(), []);
+    let keep = HashSet::from([key_of("b")]);
+    assert_eq!(outbox.forget_of(AT_ONCE, &keep).unwrap(), [key_of("a")]);
     drop(outbox);
     let outbox = open(folder.path());
     assert_eq!(outbox.series_count(), 2);

@@ -43,7 +43,7 @@ impl Model {
                 let keep = HashSet::from([key_of(&key)]);
                 let count = self.series.len();
                 self.series.retain(|one, known| known.1.is_none() || *one == key);
-                let forgotten = outbox.forget(u64::MAX, &keep).unwrap();
+                let forgotten = outbox.forget_of(AT_ONCE, &keep).unwrap();
                 assert_eq!(forgotten.len(), count - self.series.len());
             }
         }

@@ -91,6 +91,7 @@ fn commit_without_sync(outbox: &Outbox, bodies: &[Vec<u8>], journal: u64) {
             first: state.next,
             epoch: state.next_epoch.clone(),
             since: 1,
+            heard: None,
             journal,
             ends,
         };
