@@ -28,8 +28,8 @@ pub mod slot;
 pub mod switch;
 mod work;
 
-/// Says on standard error why the program ends, or what it could not do. The status counts also where that can't be
-/// written: the log may be on the disk that failed.
+/// Says on standard error why the program ends or waits, or what it could not do. The status counts also where that
+/// can't be written: the log may be on the disk that failed.
 fn complain(what: std::fmt::Arguments) {
     use std::io::Write;
     let _ = writeln!(std::io::stderr(), "totxegun: {what}");

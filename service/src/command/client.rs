@@ -47,9 +47,9 @@ fn reply(address: &str, method: &str, path: &str, patience: Duration) -> Result<
         .write_all(request.as_bytes())
         .with_context(|| format!("the service at {address} is gone"))?;
     let bytes = answer(stream, patience, || {
-        eprintln!(
-            "totxegun: {address} has not answered yet: `totxegun status` and the log say what it waits for"
-        );
+        crate::complain(format_args!(
+            "{address} has not answered yet: `totxegun status` and the log say what it waits for"
+        ));
     });
     let bytes = bytes.map_err(|error| unanswered(address, method, patience, error))?;
     if bytes.is_empty() {
