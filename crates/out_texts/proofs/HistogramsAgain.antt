@@ -30,7 +30,7 @@ use Rattle.otlp_read.specs.Histograms.{count_in, total_in, histogram_fields, kin
 use Rattle.otlp_read.specs.Tallies.{Tally, add_metric}
 use Rattle.otlp_read.specs.Metrics.{part, parts, is_single, add_profile, add_parts, metric}
 use Rattle.out_texts.specs.Attributes.{attributes_value, attribute_value}
-use Rattle.out_texts.specs.Points.{total_of, histogram_data, counts_value, bounds_value, histogram_point_value, point_of_kind, point_value}
+use Rattle.out_texts.specs.Points.{total_of, histogram_with, counts_value, bounds_value, histogram_point_value, point_of_kind, point_value}
 use Rattle.out_texts.specs.Request.{metric_of_kind}
 use Rattle.out_texts.specs.Back.{point_read, row_read}
 use Rattle.out_texts.proofs.Grouping.{Adds, each_point_again, elements_of_items, all_again}
@@ -113,35 +113,27 @@ number_again : (n : ℕ) → n ≤ MAX_SUM → unsigned_in (2 ^ 64 - 1) (number 
 unfolding unsigned_in
 number_again n h = rw (le-leb n (2 ^ 64 - 1) (omega (arith, h))) refl
 
-fields_again : (attributes counts bounds : Data) (count start end : ℕ) (total : Option ℕ) → count < 2 ^ 64 → start < 2 ^ 64 → end < 2 ^ 64 → IsSmall total
-    → histogram_fields (histogram_data attributes counts (decimal count) bounds (decimal start) total (decimal end)) ≡ Some (record { start = start; end = end; count = count; total = total })
-unfolding histogram_fields histogram_data nanos_in count_in total_in field flags_fit
-fields_again attributes counts bounds count start end None c s e small = rw (unsigned_again start s, unsigned_again end e, unsigned_again count c) refl
-fields_again attributes counts bounds count start end (Some n) c s e small = rw (unsigned_again start s, unsigned_again end e, unsigned_again count c, number_again n small) refl
+fields_again : (bs : List ℤ) (p : DataPoint) (total : Option ℕ) → sum (buckets_of p.row) < 2 ^ 64 → p.span.start < 2 ^ 64 → p.span.end < 2 ^ 64 → IsSmall total
+    → histogram_fields (histogram_with total bs p) ≡ Some (record { start = p.span.start; end = p.span.end; count = sum (buckets_of p.row); total = total })
+unfolding histogram_fields nanos_in count_in total_in field flags_fit
+fields_again bs p None c s e small = rw (unsigned_again p.span.start s, unsigned_again p.span.end e, unsigned_again (sum (buckets_of p.row)) c) refl
+fields_again bs p (Some n) c s e small = rw (unsigned_again p.span.start s, unsigned_again p.span.end e, unsigned_again (sum (buckets_of p.row)) c, number_again n small) refl
 
-bounds_field : (attributes : Data) (counts : List ℕ) (bs : List ℤ) (count start end : List ℕ) (total : Option ℕ)
-    → field (codes "explicitBounds") (histogram_data attributes (counts_value counts) count (bounds_value bs) start total end) ≡ Some (bounds_value bs)
-unfolding histogram_data field
-bounds_field attributes counts bs count start end None = refl
-bounds_field attributes counts bs count start end (Some n) = refl
+bounds_field : (bs : List ℤ) (p : DataPoint) (total : Option ℕ) → field (codes "explicitBounds") (histogram_with total bs p) ≡ Some (bounds_value bs)
+unfolding field
+bounds_field bs p total = refl
 
-counts_field : (attributes : Data) (counts : List ℕ) (bounds : Data) (count start end : List ℕ) (total : Option ℕ)
-    → field (codes "bucketCounts") (histogram_data attributes (counts_value counts) count bounds start total end) ≡ Some (counts_value counts)
-unfolding histogram_data field
-counts_field attributes counts bounds count start end None = refl
-counts_field attributes counts bounds count start end (Some n) = refl
+counts_field : (bs : List ℤ) (p : DataPoint) (total : Option ℕ) → field (codes "bucketCounts") (histogram_with total bs p) ≡ Some (counts_value (buckets_of p.row))
+unfolding field
+counts_field bs p total = refl
 
-attributes_field : (p : DataPoint) (counts bounds : Data) (count start end : List ℕ) (total : Option ℕ)
-    → field (codes "attributes") (histogram_data (attributes_value p.series.attrs) counts count bounds start total end) ≡ Some (array (items_of (map attribute_value p.series.attrs)))
-unfolding histogram_data field attributes_value
-attributes_field p counts bounds count start end None = refl
-attributes_field p counts bounds count start end (Some n) = refl
+attributes_field : (bs : List ℤ) (p : DataPoint) (total : Option ℕ) → field (codes "attributes") (histogram_with total bs p) ≡ Some (array (items_of (map attribute_value p.series.attrs)))
+unfolding field attributes_value
+attributes_field bs p total = refl
 
-kind_again : (bs : List ℤ) → IsBounds bs → (attributes : Data) (counts : List ℕ) (count start end : List ℕ) (total : Option ℕ)
-    → kind_in (histogram_data attributes (counts_value counts) count (bounds_value bs) start total end) ≡ Some (Histogram bs)
+kind_again : (bs : List ℤ) (p : DataPoint) (total : Option ℕ) → IsBounds bs → kind_in (histogram_with total bs p) ≡ Some (Histogram bs)
 unfolding kind_in
-kind_again bs h attributes counts count start end total =
-    rw (bounds_field attributes counts bs count start end total, bounds_read bs (recursion_from_All IsBound bs h.small), bounds_again bs h) refl
+kind_again bs p total h = rw (bounds_field bs p total, bounds_read bs (recursion_from_All IsBound bs h.small), bounds_again bs h) refl
 
 pub histogram_again : (p : DataPoint) (bs : List ℤ) → p.series.kind ≡ Histogram bs → IsMerged p → histogram_point (stream_of p.series) (histogram_point_value bs p) ≡ Some (point_read p)
 unfolding histogram_point series_of
@@ -161,11 +153,11 @@ histogram_again p bs k h =
     ∙ ap (λ (buckets : List ℕ). histogram_row (total_of p.row) buckets) whole
     ∙ ap (λ (kind : Kind). row_read kind p.row) (sym k) in
     rw (
-      fields_again (attributes_value p.series.attrs) (counts_value (buckets_of p.row)) (bounds_value bs) (sum (buckets_of p.row)) p.span.start p.span.end (total_of p.row) count (start_fits p.span h.span) h.span.fits small,
-      kind_again bs bounds (attributes_value p.series.attrs) (buckets_of p.row) (decimal (sum (buckets_of p.row))) (decimal p.span.start) (decimal p.span.end) (total_of p.row),
-      counts_field (attributes_value p.series.attrs) (buckets_of p.row) (bounds_value bs) (decimal (sum (buckets_of p.row))) (decimal p.span.start) (decimal p.span.end) (total_of p.row),
+      fields_again bs p (total_of p.row) count (start_fits p.span h.span) h.span.fits small,
+      kind_again bs p (total_of p.row) bounds,
+      counts_field bs p (total_of p.row),
       counts_read (buckets_of p.row) (words_small (buckets_of p.row) is.words),
-      attributes_field p (counts_value (buckets_of p.row)) (bounds_value bs) (decimal (sum (buckets_of p.row))) (decimal p.span.start) (decimal p.span.end) (total_of p.row),
+      attributes_field bs p (total_of p.row),
       attributes_again p.series.attrs h.named.attrs,
       series_again p.series (Histogram bs) h.named k,
       unfaulted,

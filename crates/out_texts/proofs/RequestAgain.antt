@@ -1,5 +1,5 @@
 -- Reading a request that was written.
-use Rattle.std.proofs.Common.{◌≡◌, ℕ, ◌≤◌, true, List, length, map, Option, Some, None, refl, ap, ◌∙◌, subst}
+use Rattle.std.proofs.Common.{◌≡◌, ℕ, ◌≤◌, true, List, length, map, Some, refl, ap, ◌∙◌, subst}
 use Rattle.std.specs.List.{AllByRecursion}
 use Rattle.std.proofs.lemmas.Bool.{le-leb}
 use Rattle.serde_json.specs.Data.{Data}
@@ -22,7 +22,7 @@ use Rattle.out_texts.specs.declared.level.Level.TheVariants as level
 use Rattle.out_texts.specs.Groups.{members, groups}
 use Rattle.out_texts.specs.Attributes.{attributes_value}
 use Rattle.out_texts.specs.Sharing.{same}
-use Rattle.out_texts.specs.Points.{point_of_kind, point_value, histogram_data, total_of}
+use Rattle.out_texts.specs.Points.{point_of_kind, point_value}
 use Rattle.out_texts.specs.Request.{metric_of_kind, metric_value, scope_value, resource_value, request_value}
 use Rattle.out_texts.specs.Back.{ReadsBack}
 use Rattle.out_texts.specs.inner.Back.{IsTextOf}
@@ -34,18 +34,13 @@ use Rattle.out_texts.proofs.HistogramsAgain.{histogram_metric_again}
 
 -- ---- objects
 
-data_is_object : (attributes counts bounds : Data) (count start end : List ℕ) (total : Option ℕ) → is_object (histogram_data attributes counts count bounds start total end) ≡ true
-unfolding histogram_data
-data_is_object attributes counts bounds count start end None = refl
-data_is_object attributes counts bounds count start end (Some n) = refl
-
 point_is_object : (p : DataPoint) → is_object (point_value p) ≡ true
 unfolding point_value
 point_is_object p = by p.series.kind
   where
     by : (k : Kind) → is_object (point_of_kind k p) ≡ true
     by (Sum m) = refl
-    by (Histogram bs) = data_is_object _ _ _ _ _ _ (total_of p.row)
+    by (Histogram bs) = refl
 
 metric_is_object : (x : Identity) (ps : List DataPoint) → is_object (metric_value x ps) ≡ true
 unfolding metric_value

@@ -1,7 +1,8 @@
 -- The bodies of responses to senders and to flush orders.
-use Rattle.std.specs.Prelude.{ℕ, List, codes, decimal, if◌then◌else◌, ◌==◌, Option, Some, None}
+use Rattle.std.specs.Prelude.{ℕ, List, codes, decimal, if◌then◌else◌, ◌==◌, Option, option_map}
 use Rattle.serde_json.specs.Data.{Data, string, object, no_members, member}
 use Rattle.serde_json.specs.Written.{compact_text}
+use Rattle.out_texts.specs.Members.{member_if}
 use Rattle.back_answers.specs.declared.answer.Act.{Act}
 use Rattle.back_answers.specs.declared.answer.Act.TheVariants.{Settle, GiveBack, DropFlush}
 
@@ -35,15 +36,11 @@ act_name GiveBack = codes "returned"
 
 -- what was done with a flush, its number, how many points it had, and the seconds to wait, if known
 unfoldable pub turn_value : ℕ → ℕ → Act → Option ℕ → Data
-turn_value flush points act None = object (
-    member (codes "act") (string (act_name act)) (
-    member (codes "flush") (string (decimal flush)) (
-    member (codes "points") (string (decimal points)) no_members)))
-turn_value flush points act (Some seconds) = object (
+turn_value flush points act after = object (
     member (codes "act") (string (act_name act)) (
     member (codes "flush") (string (decimal flush)) (
     member (codes "points") (string (decimal points)) (
-    member (codes "retryAfter") (string (decimal seconds)) no_members))))
+    member_if (codes "retryAfter") (option_map (λ s. string (decimal s)) after) no_members))))
 
 abbrev pub turn_text : ℕ → ℕ → Act → Option ℕ → List ℕ
 turn_text flush points act after = compact_text (turn_value flush points act after)

@@ -7,6 +7,7 @@ pub mod Answers
 pub mod Groups
 pub mod Sharing
 pub mod Attributes
+pub mod Members
 pub mod Points
 pub mod Request
 pub mod Back

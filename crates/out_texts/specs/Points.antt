@@ -1,6 +1,6 @@
 -- Points as JSON.
 use Rattle.std.specs.Prelude.{ℕ, ℤ, pos, ◌-ℤ◌, ◌==◌, List, map, sum, codes, decimal, slice_index}
-use Rattle.std.specs.Prelude.{if◌then◌else◌, Option, Some, None}
+use Rattle.std.specs.Prelude.{if◌then◌else◌, Option, Some, None, option_map}
 use Rattle.std.specs.Fmt.{signed_decimal}
 use Rattle.serde_json.specs.Data.{Data, number, unsigned, string, array, object, no_members, member}
 use Rattle.serde_json.specs.Find.{of_integer}
@@ -10,6 +10,7 @@ use Rattle.series_id.specs.declared.kinds.Kind.TheVariants.{Sum, Histogram}
 use Rattle.metric_events.specs.DataPoint.{DataPoint}
 use Rattle.metric_events.specs.Rows.{buckets_of}
 use Rattle.out_texts.specs.Attributes.{attributes_value}
+use Rattle.out_texts.specs.Members.{member_if}
 
 -- the value of a sum's row: the positive values less the negative ones
 abbrev pub sum_of : List ℕ → ℤ
@@ -35,31 +36,20 @@ bounds_value bounds = array (items_of (map (λ b. number (of_integer b)) bounds)
 unfoldable pub total_of : List ℕ → Option ℕ
 total_of row = if slice_index row 1 == 0 then Some (slice_index row 2) else None
 
--- a histogram's point of these parts, without the sum if it is absent
-unfoldable pub histogram_data : Data → Data → List ℕ → Data → List ℕ → Option ℕ → List ℕ → Data
-histogram_data attributes counts count bounds start None end = object (
-    member (codes "attributes") attributes (
-    member (codes "bucketCounts") counts (
-    member (codes "count") (string count) (
-    member (codes "explicitBounds") bounds (
-    member (codes "startTimeUnixNano") (string start) (
-    member (codes "timeUnixNano") (string end) no_members))))))
-histogram_data attributes counts count bounds start (Some total) end = object (
-    member (codes "attributes") attributes (
-    member (codes "bucketCounts") counts (
-    member (codes "count") (string count) (
-    member (codes "explicitBounds") bounds (
-    member (codes "startTimeUnixNano") (string start) (
-    member (codes "sum") (number (unsigned total)) (
-    member (codes "timeUnixNano") (string end) no_members)))))))
-
 -- a histogram's point: its attributes, its buckets, their sum as its count, its bounds, its span
--- and its sum
+-- and this sum, if it has one
+abbrev pub histogram_with : Option ℕ → List ℤ → DataPoint → Data
+histogram_with total bounds p = object (
+    member (codes "attributes") (attributes_value p.series.attrs) (
+    member (codes "bucketCounts") (counts_value (buckets_of p.row)) (
+    member (codes "count") (string (decimal (sum (buckets_of p.row)))) (
+    member (codes "explicitBounds") (bounds_value bounds) (
+    member (codes "startTimeUnixNano") (string (decimal p.span.start)) (
+    member_if (codes "sum") (option_map (λ n. number (unsigned n)) total) (
+    member (codes "timeUnixNano") (string (decimal p.span.end)) no_members)))))))
+
 abbrev pub histogram_point_value : List ℤ → DataPoint → Data
-histogram_point_value bounds p =
-    histogram_data (attributes_value p.series.attrs) (counts_value (buckets_of p.row))
-    (decimal (sum (buckets_of p.row))) (bounds_value bounds) (decimal p.span.start) (total_of p.row)
-    (decimal p.span.end)
+histogram_point_value bounds p = histogram_with (total_of p.row) bounds p
 
 -- the point of a series of this kind
 abbrev pub point_of_kind : Kind → DataPoint → Data

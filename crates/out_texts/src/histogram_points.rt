@@ -1,16 +1,17 @@
 //! Builds the points of histograms as JSON (`HistogramDataPoint` of
 //! `opentelemetry/proto/metrics/v1/metrics.proto`).
 
-ghost use Rattle.std.specs.Prelude.{◌≡◌, ◌≤◌, length, map, sum, decimal, string_bytes, IfOk};
-ghost use Rattle.serde_json.specs.Data.{array, number, string};
+ghost use Rattle.std.specs.Prelude.{◌≡◌, ◌≤◌, length, sum, decimal, IfOk};
+ghost use Rattle.serde_json.specs.Data.{number, string};
 ghost use Rattle.serde_json.specs.Find.{of_integer};
-ghost use Rattle.serde_json.specs.View.{view, items_view, items_of};
+ghost use Rattle.serde_json.specs.View.{view};
 ghost use Rattle.metric_events.specs.declared.limits.TheConstants.{MAX_COUNT};
 ghost use Rattle.metric_events.specs.PointFaults.{IsHistogram};
 ghost use Rattle.out_texts.specs.Points as spec;
 
 use crate::attributes::attributes_value;
 use crate::objects::Object;
+use crate::values::{HasValue, values_of};
 use delta_book::flush::FlushPoint;
 use serde_json::Value;
 use std::alloc::{AllocError, Global};
@@ -27,28 +28,22 @@ fn count_of(buckets: &[u64]) -> u64
     total as u64
 }
 
-/// The counts, as texts.
-fn count_values(alloc: Global, counts: &[u64]) -> Result<Vec<Value>, AllocError>
-    ensures { IfOk result (λ vs. items_view vs.items ≡ items_of
-        (map (λ n. string (decimal n)) counts.now)) }
-{
-    let mut values = Vec::new(alloc);
-    for count in counts {
-        values.push(Value::from(count.to_string(alloc)?))?;
+impl HasValue for u64 {
+    ghost value_of = { λ n. string (decimal n) };
+
+    /// A count, as a text.
+    fn value(&self, alloc: Global) -> Result<Value, AllocError> {
+        Ok(Value::from(self.to_string(alloc)?))
     }
-    Ok(values)
 }
 
-/// The bounds, as numbers.
-fn bound_values(alloc: Global, bounds: &[i64]) -> Result<Vec<Value>, AllocError>
-    ensures { IfOk result (λ vs. items_view vs.items ≡ items_of
-        (map (λ b. number (of_integer b)) bounds.now)) }
-{
-    let mut values = Vec::new(alloc);
-    for bound in bounds {
-        values.push(Value::from(*bound))?;
+impl HasValue for i64 {
+    ghost value_of = { λ b. number (of_integer b) };
+
+    /// A bound, as a number.
+    fn value(&self, _alloc: Global) -> Result<Value, AllocError> {
+        Ok(Value::from(*self))
     }
-    Ok(values)
 }
 
 /// The sum of a histogram's row, if each of its points had one. The row is the count of points, the
@@ -61,36 +56,8 @@ fn total_of(row: &[u64]) -> Option<u64>
     if row[1] == 0 { Some(row[2]) } else { None }
 }
 
-/// The point of these parts, without the sum if `total` is `None`.
-#[tactic(auto, unfolding(crate::specs::Points::histogram_data))]
-fn histogram_data(
-    alloc: Global,
-    attributes: Value,
-    counts: Vec<Value>,
-    count: String,
-    bounds: Vec<Value>,
-    start: String,
-    total: Option<u64>,
-    end: String,
-) -> Result<Value, AllocError>
-    ensures { IfOk result (λ v. view v ≡ spec.histogram_data (view attributes)
-        (array (items_view counts.items)) (string_bytes count) (array (items_view bounds.items))
-        (string_bytes start) total (string_bytes end)) }
-{
-    let point = Object::new(alloc)
-        .value("attributes", attributes)
-        .value("bucketCounts", Value::from(counts))
-        .value("count", Value::from(count))
-        .value("explicitBounds", Value::from(bounds))
-        .value("startTimeUnixNano", Value::from(start))
-        .value("timeUnixNano", Value::from(end));
-    match total {
-        None => point.finish(),
-        Some(sum) => point.value("sum", Value::from(sum)).finish(),
-    }
-}
-
 /// A point of a histogram with these bounds.
+#[tactic(auto, unfolding(crate::specs::Points::total_of))]
 pub(crate) fn histogram_point_value(
     alloc: Global,
     bounds: &[i64],
@@ -102,19 +69,17 @@ pub(crate) fn histogram_point_value(
     let row = point.row();
     let buckets = &row[3..];
     let attributes = attributes_value(alloc, point.series().attrs())?;
-    let counts = count_values(alloc, buckets)?;
-    let count = count_of(buckets).to_string(alloc)?;
-    let bounds = bound_values(alloc, bounds)?;
-    let start = point.span().start().to_string(alloc)?;
-    let end = point.span().end().to_string(alloc)?;
-    histogram_data(
-        alloc,
-        attributes,
-        counts,
-        count,
-        bounds,
-        start,
-        total_of(row),
-        end,
-    )
+    let counts = values_of(alloc, buckets)?;
+    let bounds = values_of(alloc, bounds)?;
+    let value = Object::new(alloc)
+        .value("attributes", attributes)
+        .value("bucketCounts", Value::from(counts))
+        .decimal("count", count_of(buckets))
+        .value("explicitBounds", Value::from(bounds))
+        .decimal("startTimeUnixNano", point.span().start())
+        .decimal("timeUnixNano", point.span().end());
+    match total_of(row) {
+        None => value.finish(),
+        Some(sum) => value.value("sum", Value::from(sum)).finish(),
+    }
 }

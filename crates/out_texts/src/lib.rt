@@ -20,6 +20,7 @@ mod status;
 mod success;
 mod sum_points;
 mod turn;
+mod values;
 mod words;
 
 pub use past::{past_text, put_past};

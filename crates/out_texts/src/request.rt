@@ -16,8 +16,8 @@ use crate::attributes::attributes_value;
 use crate::json_text::text_of;
 use crate::level::Level;
 use crate::objects::Object;
-use crate::points::point_values;
 use crate::runs::run;
+use crate::values::values_of;
 use delta_book::flush::{Flush, FlushPoint};
 use serde_json::{Value, json};
 use series_id::{Kind, SeriesId};
@@ -61,7 +61,7 @@ impl Element for Metric {
 
     #[tactic(auto, unfolding(crate::specs::Request::metric_value))]
     fn build(alloc: Global, series: &SeriesId, points: &[FlushPoint]) -> Result<Value, AllocError> {
-        let values = point_values(alloc, points)?;
+        let values = values_of(alloc, points)?;
         let metric = Object::new(alloc)
             .text("name", series.name().as_str())
             .text("unit", series.unit().as_str());
