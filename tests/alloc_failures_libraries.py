@@ -24,7 +24,7 @@ from alloc_failures import HERE, Run, program_named, refuse_each
 MARK = "no memory: "
 CUT = "the calls end here"
 # What a call is made on. Its growths are those of calls that have lines of their own.
-SHARED = {"the value", "the batch", "the sender", "Book::totals", "Book::past", "SharedBook::totals"}
+SHARED = {"the value", "the batch", "the sender", "totals", "past"}
 
 
 def ends_of(lines):

@@ -31,58 +31,32 @@ pub const SUMS: &[u8] = br#"{"resourceMetrics":[{"scopeMetrics":[{"metrics":[
     {"name":"z","sum":{"aggregationTemporality":1,"dataPoints":[
     {"asInt":-3,"startTimeUnixNano":"10","timeUnixNano":"20"}]}}]}]}]}"#;
 
-/// A body with a point of a fourth sum.
-pub const FOURTH: &[u8] = br#"{"resourceMetrics":[{"scopeMetrics":[{"metrics":[
-    {"name":"w","sum":{"aggregationTemporality":1,"dataPoints":[
-    {"asInt":4,"startTimeUnixNano":"10","timeUnixNano":"20"}]}}]}]}]}"#;
-
 /// A body that is no JSON.
 pub const NO_JSON: &[u8] = br#"{"resourceMetrics":[{"a":"b"}"#;
 
 /// A body of another shape than a request.
 pub const NO_REQUEST: &[u8] = br#"{"resourceMetrics":[null]}"#;
 
-/// A request in chunks.
-pub const CHUNKED: &[u8] = b"POST /v1/metrics HTTP/1.1\r\n\
-        Content-Type: application/json\r\n\
-        x-sender: A\r\n\
-        Transfer-Encoding: chunked\r\n\r\n\
-        1\r\n\
-        {\r\n\
-        1\r\n\
-        }\r\n\
-        0\r\n\r\n";
-
 /// What a back end answers that asks to wait.
 pub const WAIT: &[u8] = b"HTTP/1.1 503 Service Unavailable\r\nRetry-After: 2\r\n\r\n";
 
-/// A post without points.
-pub const NO_POINTS: &[u8] = b"POST /v1/metrics HTTP/1.1\r\n\
-        Content-Type: application/json\r\n\
-        Content-Length: 2\r\n\r\n\
-        {}";
+/// A body without points.
+pub const NO_POINTS: &[u8] = b"{}";
 
-/// A post of a point of 5 in (10, 20] of the sum `a`, and of three points that are foreign.
-pub const FOREIGN: &[u8] = b"POST /v1/metrics HTTP/1.1\r\n\
-        Content-Type: application/json\r\n\
-        Content-Length: 242\r\n\r\n\
-        {\"resourceMetrics\":[{\"scopeMetrics\":[{\"metrics\":[{\"name\":\"a\",\"sum\":{\
-        \"aggregationTemporality\":1,\"isMonotonic\":true,\"dataPoints\":[{\"asInt\":\"5\",\
-        \"startTimeUnixNano\":\"10\",\"timeUnixNano\":\"20\"}]}},{\"name\":\"g\",\"gauge\":{\
-        \"dataPoints\":[{},{},{}]}}]}]}]}";
+/// A body with a point of 5 in (10, 20] of the sum `a`, and three points that are foreign.
+pub const FOREIGN: &[u8] = br#"{"resourceMetrics":[{"scopeMetrics":[{"metrics":[
+    {"name":"a","sum":{"aggregationTemporality":1,"isMonotonic":true,"dataPoints":[
+    {"asInt":"5","startTimeUnixNano":"10","timeUnixNano":"20"}]}},
+    {"name":"g","gauge":{"dataPoints":[{},{},{}]}}]}]}]}"#;
 
-/// A post of two points of the sum `a`, which together are too large.
-pub const TOO_LARGE: &[u8] = b"POST /v1/metrics HTTP/1.1\r\n\
-        Content-Type: application/json\r\n\
-        Content-Length: 272\r\n\r\n\
-        {\"resourceMetrics\":[{\"scopeMetrics\":[{\"metrics\":[{\"name\":\"a\",\"sum\":{\
-        \"aggregationTemporality\":1,\"isMonotonic\":true,\"dataPoints\":[{\
-        \"asInt\":\"9223372036854775807\",\"startTimeUnixNano\":\"10\",\
-        \"timeUnixNano\":\"20\"},{\"asInt\":\"1\",\"startTimeUnixNano\":\"20\",\
-        \"timeUnixNano\":\"30\"}]}}]}]}]}";
+/// A body with two points of the sum `a`, which together are too large.
+pub const TOO_LARGE: &[u8] = br#"{"resourceMetrics":[{"scopeMetrics":[{"metrics":[
+    {"name":"a","sum":{"aggregationTemporality":1,"isMonotonic":true,"dataPoints":[
+    {"asInt":"9223372036854775807","startTimeUnixNano":"10","timeUnixNano":"20"},
+    {"asInt":"1","startTimeUnixNano":"20","timeUnixNano":"30"}]}}]}]}]}"#;
 
 /// A post of a point of 5 in (10, 20] of the sum `a`, in two chunks.
-pub const CHUNKED_POINT: &[u8] = b"POST /v1/metrics HTTP/1.1\r\n\
+pub const CHUNKED: &[u8] = b"POST /v1/metrics HTTP/1.1\r\n\
         Content-Type: application/json\r\n\
         Transfer-Encoding: chunked\r\n\r\n\
         5f\r\n\

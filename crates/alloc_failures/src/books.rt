@@ -1,156 +1,81 @@
-//! Calls of a book: where one is out of memory, the journal and the totals are as before, and the
-//! same call is accepted when it is made again.
-ghost use Rattle.std.specs.Prelude.{◌≤◌};
+//! Calls of a book that no other thread has, over two rounds.
 
-use crate::bodies::{LATER, MIXED, SUMS};
-use crate::lines::{no_memory, print_bytes, print_number, print_right};
-use crate::making::{batch_of, name_of};
-use crate::tables;
+use crate::bodies::{LATER, SUMS};
+use crate::caller::{Caller, is_as_before, look_at};
+use crate::lines::{no_memory, print_number, print_right};
+use crate::making::text_of;
+use crate::values::answer;
 use delta_book::book::Book;
-use delta_book::faults::{AdmitFault, QuarantineFault, RoundFault, TakeFault};
-use delta_book::flush::Flush;
-use out_texts::{past_text, report_text, request_text};
+use delta_book::faults::RoundFault;
+use delta_book::totals::all_totals;
+use gate_workers::SeatedBook;
+use out_texts::{past_text, put_past, put_report, report_text};
 use std::alloc::{AllocError, Global};
 
-/// The seat of all events.
-const SEAT: u16 = 0;
+type BookCaller<'a, R> = Caller<'a, R, SeatedBook>;
 
-/// What a book shows: how many entries it has, and its report.
-#[derive(Drop)]
-pub struct Shown {
-    entries: usize,
-    report: Vec<u8>,
-}
-
-fn report_of(alloc: Global, book: &Book) -> Result<Vec<u8>, AllocError> {
-    let rows = book.totals()?;
-    report_text(alloc, rows.as_slice())
-}
-
-/// What a book shows. Where there is no memory for the report, it is asked for again.
-pub fn look_at(rt: &impl Print, alloc: Global, book: &Book) -> Result<Shown, AllocError> {
-    let report = twice!(rt, "Book::totals", report_of(alloc, book))?;
-    let entries = book.journal().len();
-    Ok(Shown { entries, report })
-}
-
-/// Whether a book is as before. Reports are compared where there is memory for this one.
-pub fn is_as_before(alloc: Global, book: &Book, before: &Shown) -> bool {
-    let is_same = match report_of(alloc, book) {
-        Ok(report) => report == before.report,
-        Err(_) => true,
-    };
-    is_same && book.journal().len() == before.entries
-}
-
-fn made(rt: &impl Print, alloc: Global) -> Result<Book, AllocError> {
+/// A caller of a new book.
+fn made<R: Print>(rt: &R, alloc: Global) -> Result<BookCaller<'_, R>, AllocError> {
     let book = twice!(rt, "Book::new", Book::new(alloc))?;
     print_right(rt, "Book::new", book.journal().is_empty());
-    Ok(book)
+    Ok(Caller::new(rt, alloc, SeatedBook { book, seat: 0 }))
 }
 
-fn admit(rt: &impl Print, alloc: Global, book: &mut Book, body: &[u8]) -> Result<(), AllocError> {
-    let before = look_at(rt, alloc, book)?;
-    let mut batch = twice!(rt, "the batch", batch_of(alloc, body))?;
-    let copy = twice!(rt, "the batch", batch.copy(alloc))?;
-    let admitted = twice!(rt, "Book::admit", {
-        if batch.points.as_slice().is_empty() {
-            return Err(AllocError);
-        }
-        book.admit(SEAT, batch)
-    }, (AdmitFault::NoMemory, back) => {
-        batch = back;
-        batch.is_same(&copy) && is_as_before(alloc, book, &before)
-    }, _);
-    print_number(rt, "Book::admit", admitted?);
+/// Whether the journal has an entry for each accepted call.
+fn is_counted<R: Print>(caller: &BookCaller<'_, R>) -> bool {
+    caller.store.book.journal().len() == caller.accepted
+}
+
+fn close_round<R: Print>(caller: &mut BookCaller<'_, R>) -> Result<(), AllocError> {
+    let before = look_at(caller.rt, caller.alloc, &mut caller.store)?;
+    let round = twice!(caller.rt, "Book::close_round", {
+        caller.store.book.close_round()
+    }, RoundFault::NoMemory => {
+        is_counted(caller) && is_as_before(caller.alloc, &mut caller.store, &before)
+    }, _)?;
+    print_number(caller.rt, "Book::close_round", round);
+    caller.accepted = 0;
     Ok(())
 }
 
-fn take(rt: &impl Print, alloc: Global, book: &mut Book, most: usize) -> Result<Flush, AllocError>
-    requires low { 1 ≤ most }
-    requires high { most ≤ 1000 }
-{
-    let before = look_at(rt, alloc, book)?;
-    let taken = twice!(rt, "Book::take", book.take(SEAT, most), TakeFault::NoMemory => {
-        is_as_before(alloc, book, &before)
-    }, _);
-    let flush = taken?.ok_or(AllocError)?;
-    print_number(rt, "Book::take", flush.number);
-    Ok(flush)
-}
-
-fn quarantine(rt: &impl Print, alloc: Global, book: &mut Book) -> Result<(), AllocError> {
-    let before = look_at(rt, alloc, book)?;
-    twice!(rt, "Book::quarantine", {
-        let sender = twice!(rt, "the sender", name_of(alloc, b"H"))?;
-        book.quarantine(SEAT, sender)
-    }, QuarantineFault::NoMemory => is_as_before(alloc, book, &before), _)?;
-    print_right(rt, "Book::quarantine", true);
+/// All calls on a book's rows. The totals of its cells are as if no sender were quarantined.
+fn print_rows(rt: &impl Print, alloc: Global, book: &Book) -> Result<(), AllocError> {
+    let cells = twice!(rt, "all_totals", all_totals(alloc, book.cells(), &[]))?;
+    print_number(rt, "all_totals", cells.len() as u64);
+    let totals = twice!(rt, "totals", book.totals())?;
+    let past = twice!(rt, "past", book.past())?;
+    calls!(answer, rt;
+        "report_text" => text_of(alloc, report_text(alloc, totals.as_slice())?),
+        "put_report" => put!(alloc, put_report, totals.as_slice()),
+        "past_text" => text_of(alloc, past_text(alloc, past.as_slice())?),
+        "put_past" => put!(alloc, put_past, past.as_slice()),
+    );
     Ok(())
 }
 
-fn close_round(rt: &impl Print, alloc: Global, book: &mut Book) -> Result<(), AllocError> {
-    let before = look_at(rt, alloc, book)?;
-    let round = twice!(rt, "Book::close_round", book.close_round(), RoundFault::NoMemory => {
-        is_as_before(alloc, book, &before)
-    }, _);
-    print_number(rt, "Book::close_round", round?);
-    Ok(())
+fn make_calls<R: Print>(caller: &mut BookCaller<'_, R>) -> Result<(), AllocError> {
+    caller.one_round(1)?;
+    close_round(caller)?;
+    caller.admit(LATER)?;
+    let _ = caller.take(1000)?;
+    print_rows(caller.rt, caller.alloc, &caller.store.book)
 }
 
-/// Prints the request of a flush.
-fn print_request(rt: &impl Print, alloc: Global, flush: &Flush) -> Result<(), AllocError> {
-    let request = twice!(rt, "request_text", request_text(alloc, flush))?;
-    print_bytes(rt, "request_text", request.as_slice());
-    Ok(())
-}
-
-fn print_report(rt: &impl Print, alloc: Global, book: &Book) -> Result<(), AllocError> {
-    let now = look_at(rt, alloc, book)?;
-    print_bytes(rt, "report_text", now.report.as_slice());
-    Ok(())
-}
-
-fn past_of(alloc: Global, book: &Book) -> Result<Vec<u8>, AllocError> {
-    let rows = book.past()?;
-    past_text(alloc, rows.as_slice())
-}
-
-fn print_past(rt: &impl Print, alloc: Global, book: &Book) -> Result<(), AllocError> {
-    let past = twice!(rt, "Book::past", past_of(alloc, book))?;
-    print_bytes(rt, "past_text", past.as_slice());
-    Ok(())
-}
-
-/// The first round: a batch is taken and settled.
-fn first_round(rt: &impl Print, alloc: Global, book: &mut Book) -> Result<(), AllocError> {
-    admit(rt, alloc, book, MIXED)?;
-    print_right(rt, "Book::confirm", book.confirm(SEAT, 1).is_ok());
-    let flush = take(rt, alloc, book, 1)?;
-    print_request(rt, alloc, &flush)?;
-    print_right(rt, "Book::settle", book.settle(SEAT, 1).is_ok());
-    print_report(rt, alloc, book)
-}
-
-/// All calls, over two rounds.
+/// All calls. Then the journal's entries are counted, also where a call is out of memory twice.
 pub fn two_rounds(rt: &impl Print, alloc: Global) -> Result<(), AllocError> {
-    let mut book = made(rt, alloc)?;
-    first_round(rt, alloc, &mut book)?;
-    quarantine(rt, alloc, &mut book)?;
-    close_round(rt, alloc, &mut book)?;
-    admit(rt, alloc, &mut book, LATER)?;
-    let flush = take(rt, alloc, &mut book, 1000)?;
-    print_request(rt, alloc, &flush)?;
-    print_past(rt, alloc, &book)?;
-    print_report(rt, alloc, &book)?;
-    tables::make_all(rt, alloc, &book)
+    let mut caller = made(rt, alloc)?;
+    let calls = make_calls(&mut caller);
+    if !is_counted(&caller) {
+        print_right(rt, "the journal is", false);
+    }
+    calls
 }
 
 /// A book whose second round has no entry yet.
-pub fn second_round(rt: &impl Print, alloc: Global) -> Result<Book, AllocError> {
-    let mut book = made(rt, alloc)?;
-    admit(rt, alloc, &mut book, SUMS)?;
-    print_right(rt, "Book::confirm", book.confirm(SEAT, 1).is_ok());
-    close_round(rt, alloc, &mut book)?;
-    Ok(book)
+pub fn second_round(rt: &impl Print, alloc: Global) -> Result<SeatedBook, AllocError> {
+    let mut caller = made(rt, alloc)?;
+    caller.admit(SUMS)?;
+    close_round(&mut caller)?;
+    let Caller { store, .. } = caller;
+    Ok(store)
 }

@@ -2,24 +2,23 @@
 //! and the same call with the same value goes through when it is made again.
 ghost use Rattle.std.specs.Prelude.{◌≡◌};
 
-use crate::bodies::{MIXED, SUMS};
+use crate::bodies::{MIXED, NO_POINTS, SUMS};
 use crate::lines::{no_memory, print_right};
 use crate::making::{first_point, name_of, own_series, points_of};
 use bucket_lanes::{fits, is_zero};
-use metric_events::point::Point;
 use metric_events::points::Points;
 use series_cell::cell::Cell;
-use series_id::SharedId;
+use series_id::{SeriesId, SharedId};
 use std::alloc::{AllocError, Global};
 
 /// All calls. Where there is no memory for the value of one, that value is made again.
 pub fn make_all(rt: &impl Print, alloc: Global) -> Result<(), AllocError> {
     twice!(rt, "the value", share(rt, alloc))?;
     twice!(rt, "the value", push(rt, alloc))?;
-    twice!(rt, "the value", reserve_points(rt, alloc))?;
+    twice!(rt, "the value", reserve_points(rt, alloc, NO_POINTS))?;
+    twice!(rt, "the value", reserve_points(rt, alloc, SUMS))?;
     twice!(rt, "the value", put(rt, alloc))?;
-    twice!(rt, "the value", ask(rt, alloc))?;
-    twice!(rt, "the value", reserve(rt, alloc))
+    twice!(rt, "the value", ask_and_reserve(rt, alloc))
 }
 
 /// An identity that is handed back is shared by the second call.
@@ -47,32 +46,24 @@ fn push(rt: &impl Print, alloc: Global) -> Result<(), AllocError> {
     Ok(())
 }
 
-/// Points without memory for more are as before, both where there are none and where there are some.
-fn reserve_points(rt: &impl Print, alloc: Global) -> Result<(), AllocError> {
-    let mut none = Points::new(alloc);
-    let mut sums = points_of(alloc, SUMS)?;
-    reserve_more(rt, &mut none)?;
-    reserve_more(rt, &mut sums)?;
-    let are_as_before = none.as_slice().is_empty() && sums.as_slice().len() == 3;
-    print_right(rt, "Points::reserve", are_as_before);
+/// The points of a body, without memory for more, are as before.
+fn reserve_points(rt: &impl Print, alloc: Global, body: &[u8]) -> Result<(), AllocError> {
+    let same = points_of(alloc, body)?;
+    let mut points = points_of(alloc, body)?;
+    twice!(rt, "Points::reserve", points.reserve(100), _ => points.is_same(&same))?;
+    print_right(rt, "Points::reserve", points.is_same(&same));
     Ok(())
 }
 
-fn reserve_more(rt: &impl Print, points: &mut Points) -> Result<(), AllocError> {
-    let before = points.as_slice().len();
-    let call = "Points::reserve";
-    twice!(rt, call, points.reserve(100), _ => points.as_slice().len() == before)
-}
-
-/// A cell without an accepted point, for the series of this one.
-fn cell_of(alloc: Global, point: &Point) -> Result<Cell, AllocError> {
-    Cell::new(alloc, name_of(alloc, b"A")?, point.series().copy(alloc)?)
+/// A cell of this series without an accepted point.
+fn cell_of(alloc: Global, series: SeriesId) -> Result<Cell, AllocError> {
+    Cell::new(alloc, name_of(alloc, b"A")?, series)
 }
 
 /// A cell without memory for a point is as before.
 fn put(rt: &impl Print, alloc: Global) -> Result<(), AllocError> {
     let point = first_point(alloc, MIXED)?;
-    let mut cell = cell_of(alloc, &point)?;
+    let mut cell = cell_of(alloc, point.series().copy(alloc)?)?;
     twice!(rt, "Cell::put", {
         if !cell.id().is_same(point.series())
             || cell.frontier() > point.span().start()
@@ -88,17 +79,11 @@ fn put(rt: &impl Print, alloc: Global) -> Result<(), AllocError> {
     Ok(())
 }
 
-/// A cell without memory for a point that is asked for is as before.
-fn ask(rt: &impl Print, alloc: Global) -> Result<(), AllocError> {
-    let mut cell = Cell::new(alloc, name_of(alloc, b"A")?, own_series(alloc)?)?;
+/// A cell without memory for a point that is asked for, or for more points, is as before.
+fn ask_and_reserve(rt: &impl Print, alloc: Global) -> Result<(), AllocError> {
+    let mut cell = cell_of(alloc, own_series(alloc)?)?;
     twice!(rt, "Cell::ask", cell.ask(), _ => is_zero(cell.accepted()))?;
     print_right(rt, "Cell::ask", is_zero(cell.accepted()));
-    Ok(())
-}
-
-/// A cell without memory for more points is as before.
-fn reserve(rt: &impl Print, alloc: Global) -> Result<(), AllocError> {
-    let mut cell = Cell::new(alloc, name_of(alloc, b"A")?, own_series(alloc)?)?;
     twice!(rt, "Cell::reserve", cell.reserve(100), _ => is_zero(cell.accepted()))?;
     print_right(rt, "Cell::reserve", is_zero(cell.accepted()));
     Ok(())

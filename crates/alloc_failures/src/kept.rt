@@ -1,66 +1,59 @@
-//! A book that is made before the calls. After them its batches and flushes end, and its
-//! quarantined sender is released, by calls that allocate nothing.
-ghost use Rattle.std.specs.Prelude.{◌≤◌};
+//! A book and a shared one, which are made before the calls and get the same entries. After the
+//! calls their batches and flushes end, and their quarantined sender is released, by calls that
+//! allocate nothing.
+ghost use Rattle.std.specs.Prelude.{◌≡◌, ◌≤◌};
+ghost use Rattle.metric_events.specs.Opening.{first_opening};
 
-use crate::bodies::{FOURTH, MIXED, SUMS};
+use crate::bodies::{FOREIGN, MIXED, SUMS};
 use crate::lines::{print_number, print_right};
+use crate::make_calls;
 use crate::making::{batch_of, first_point, name_of};
 use delta_book::book::Book;
+use gate_workers::{SeatedBook, SharedKeeper, Store};
 use metric_events::sender_name::SenderName;
 use series_cell::cell::Cell;
 use series_id::SharedId;
+use shared_book::audit::{AuditFault, check};
+use shared_book::round::Round;
+use shared_book::seat::Seat;
+use shared_book::shared::SharedBook;
 use std::alloc::{AllocError, Global};
+use std::sync::Wait;
+use std::sync::ledger::Blank;
 
-/// The seat of all events.
-const SEAT: u16 = 0;
-
-/// A book with two open batches, three live flushes of the first, and a quarantined sender; and a
-/// shared identity, with one attribute of its resource.
-#[derive(Drop)]
-pub struct Kept {
-    book: Book,
-    quarantined: SenderName,
-    shared: SharedId,
-}
-
-fn admit(alloc: Global, book: &mut Book, body: &[u8]) -> Result<(), AllocError> {
+fn admit(alloc: Global, store: &mut impl Store, body: &[u8]) -> Result<(), AllocError> {
     let batch = batch_of(alloc, body)?;
     if batch.points.as_slice().is_empty() {
         return Err(AllocError);
     }
-    book.admit(SEAT, batch).map_err(|_| AllocError)?;
+    store.admit(batch).map_err(|_| AllocError)?;
     Ok(())
 }
 
-fn take_one(book: &mut Book) -> Result<(), AllocError> {
-    match book.take(SEAT, 1) {
-        Ok(Some(_)) => Ok(()),
-        _ => Err(AllocError),
-    }
-}
-
-/// Makes the book.
-pub fn prepare(alloc: Global) -> Result<Kept, AllocError> {
-    let mut book = Book::new(alloc)?;
-    admit(alloc, &mut book, SUMS)?;
+/// Two open batches, three live flushes of the first, and a quarantined sender.
+fn fill(alloc: Global, store: &mut impl Store) -> Result<(), AllocError> {
+    admit(alloc, store, SUMS)?;
     for _ in 0..3 {
-        take_one(&mut book)?;
+        let Ok(Some(_)) = store.take(1) else {
+            return Err(AllocError);
+        };
     }
-    admit(alloc, &mut book, FOURTH)?;
+    admit(alloc, store, FOREIGN)?;
     let sender = name_of(alloc, b"H")?;
-    book.quarantine(SEAT, sender).map_err(|_| AllocError)?;
-    let quarantined = name_of(alloc, b"H")?;
-    let shared = first_point(alloc, MIXED)?.shared_series().share()?;
-    Ok(Kept {
-        book,
-        quarantined,
-        shared,
-    })
+    store.quarantine(sender).map_err(|_| AllocError)
 }
 
-/// How many points were acknowledged, at most as many as 64 bits can count.
-fn acknowledged(book: &Book) -> u64 {
-    u64::try_from(book.acknowledged()).unwrap_or(u64::MAX)
+/// Ends all that is open, and prints each answer.
+fn end(rt: &impl Print, store: &mut impl Store, quarantined: &SenderName) {
+    print_right(rt, "end: settle", store.settle(1).is_ok());
+    print_right(rt, "end: drop_flush", store.drop_flush(2).is_ok());
+    print_right(rt, "end: give_back", store.give_back(3).is_ok());
+    print_right(rt, "end: undo", store.undo(2).is_ok());
+    let refused = store.undo(1).is_err();
+    print_right(rt, "end: undo of a taken batch", refused);
+    print_right(rt, "end: confirm", store.confirm(1).is_ok());
+    print_right(rt, "end: lift", store.lift(quarantined).is_ok());
+    print_right(rt, "end: settle again", store.settle(1).is_err());
 }
 
 /// Whether these cells are those of the first batch's points: the first settled, the second
@@ -84,25 +77,67 @@ fn is_copied(alloc: Global, shared: &SharedId) -> bool {
     }
 }
 
-/// Ends all that is open, prints each answer, and returns the book.
-pub fn end(rt: &impl Print, alloc: Global, kept: Kept) -> Book {
-    let Kept {
-        mut book,
-        quarantined,
-        shared,
-    } = kept;
-    print_right(rt, "end: settle", book.settle(SEAT, 1).is_ok());
-    print_right(rt, "end: drop_flush", book.drop_flush(SEAT, 2).is_ok());
-    print_right(rt, "end: give_back", book.give_back(SEAT, 3).is_ok());
-    print_right(rt, "end: undo", book.undo(SEAT, 2).is_ok());
-    let refused = book.undo(SEAT, 1).is_err();
-    print_right(rt, "end: undo of a taken batch", refused);
-    print_right(rt, "end: confirm", book.confirm(SEAT, 1).is_ok());
-    print_right(rt, "end: lift", book.lift(SEAT, &quarantined).is_ok());
-    print_right(rt, "end: settle again", book.settle(SEAT, 1).is_err());
-    print_number(rt, "end: journal", book.journal().len() as u64);
-    print_number(rt, "end: acknowledged", acknowledged(&book));
-    print_right(rt, "end: cells", are_ended(book.cells()));
-    print_right(rt, "end: copies of an identity", is_copied(alloc, &shared));
-    book
+/// Compares the first seat with the book, which has the same entries, and ends the sharing, which
+/// is refused without the second seat.
+fn finish<L: Round>(
+    rt: &impl Print,
+    book: &Book,
+    shared: SharedBook<L>,
+    seats: Vec<Seat<L>>,
+    idle: Seat<L>,
+) -> Result<(), AllocError> {
+    print_right(rt, "end: check", check(book, seats.as_slice()).is_ok());
+    let Err((AuditFault::SeatOut, shared, mut seats)) = shared.finish(seats) else {
+        return Err(AllocError);
+    };
+    let is_one = seats.len() == 1;
+    print_right(rt, "end: SharedBook::finish without a seat", is_one);
+    seats.push(idle)?;
+    let (book, audit) = shared.finish(seats).map_err(|_| AllocError)?;
+    let right = audit.events == book.journal().len() as u128
+        && audit.admitted == 4
+        && audit.acknowledged == 1;
+    print_right(rt, "end: SharedBook::finish", right);
+    Ok(())
+}
+
+/// Makes both, has all calls made, and ends both.
+pub fn run<L: Round, R: Print + Wait>(rt: &R, alloc: Global, blank: Blank) -> Result<(), AllocError>
+    requires name { blank.name ≡ L.name }
+    requires ledger { blank.parts ≡ L.parts }
+    requires parts { blank.parts ≡ 2 }
+    requires opening { L.opening ≡ first_opening }
+{
+    let book = Book::new(alloc)?;
+    let mut seated = SeatedBook { book, seat: 0 };
+    fill(alloc, &mut seated)?;
+    let Ok((shared, seats)) = SharedBook::<L>::new(alloc, Book::new(alloc)?, blank, 2) else {
+        return Err(AllocError);
+    };
+    let mut seats = seats;
+    let (Some(idle), Some(seat)) = (seats.pop(), seats.pop()) else {
+        return Err(AllocError);
+    };
+    let mut keeper = SharedKeeper::new(rt, alloc, &shared, seat, None);
+    fill(alloc, &mut keeper)?;
+    let quarantined = name_of(alloc, b"H")?;
+    let identity = first_point(alloc, MIXED)?.shared_series().share()?;
+    make_calls(rt, alloc);
+    end(rt, &mut seated, &quarantined);
+    let book = &seated.book;
+    print_number(rt, "end: Book::journal", book.journal().len() as u64);
+    print_right(rt, "end: Book::acknowledged", book.acknowledged() == 1);
+    print_right(rt, "end: Book::cells", are_ended(book.cells()));
+    print_right(
+        rt,
+        "end: copies of an identity",
+        is_copied(alloc, &identity),
+    );
+    end(rt, &mut keeper, &quarantined);
+    let seat = keeper.into_seat();
+    print_number(rt, "end: Seat::receipts", seat.receipts().len() as u64);
+    if seats.push(seat).is_err() || finish(rt, book, shared, seats, idle).is_err() {
+        print_right(rt, "end: SharedBook::finish", false);
+    }
+    Ok(())
 }

@@ -22,17 +22,31 @@ macro_rules! twice {
     };
 }
 
+/// Makes these calls in turn, and prints what each answers.
+macro_rules! calls {
+    ($answer:ident, $rt:expr; $($call:literal => $made:expr,)*) => {{
+        $($answer($rt, $call, || $made)?;)*
+    }};
+}
+
+/// The text that a call puts behind an empty one.
+macro_rules! put {
+    ($alloc:expr, $call:ident, $value:expr) => {{
+        let mut out = Vec::new($alloc);
+        $call(&mut out, $value)?;
+        text_of($alloc, out)
+    }};
+}
+
 mod bodies;
 mod books;
+mod caller;
 mod handed;
 mod kept;
 mod lines;
 mod making;
-mod parts;
 mod served;
 mod shared_calls;
-mod shared_kept;
-mod tables;
 mod values;
 
 use std::alloc::{AllocError, Global};
@@ -58,7 +72,7 @@ pub fn make_calls<R: Print + Wait>(rt: &R, alloc: Global) {
 }
 
 fn main(rt: HostRuntime) -> ExitCode {
-    match shared_kept::run::<Brand, _>(&rt, rt.alloc(), Blank::new(2)) {
+    match kept::run::<Brand, _>(&rt, rt.alloc(), Blank::new(2)) {
         Ok(()) => ExitCode::SUCCESS,
         Err(_) => {
             let _ = eprintln!(rt; "alloc_failures: no memory");

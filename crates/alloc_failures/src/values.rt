@@ -3,18 +3,20 @@
 use crate::bodies::{CHUNKED, LATER, MIXED, NO_JSON, NO_REQUEST, SUMS, WAIT};
 use crate::lines::{no_memory, print_text};
 use crate::making::{batch_of, first_point, name_of, own_series, points_of, text, text_of};
-use crate::parts;
 use back_answers::Act;
 use byte_ends::Script;
-use http_edge::{Decoder, HttpFault, read_message, read_response};
+use delta_book::totals::row_of;
+use http_edge::{Decoder, HttpFault, Request, read_message, read_response};
+use metric_events::row::Row;
+use metric_events::series_list::SeriesList;
 use otlp_read::{IdentityCache, ReadFault, Reading, read_request, read_request_with};
 use out_texts::{put_number, put_row, put_series_name, status_text, success_text, turn_text};
 use series_cell::cell::Cell;
-use series_id::{AttrFault, AttrSet, AttrValue, Scalar};
+use series_id::{AttrFault, AttrSet, AttrValue, Attribute, Kind, Scalar, Scalars};
 use std::alloc::{AllocError, Global};
 
 /// Makes a call, and prints what it answers.
-fn answer<F>(rt: &impl Print, call: &str, made: F) -> Result<(), AllocError>
+pub fn answer<F>(rt: &impl Print, call: &str, made: F) -> Result<(), AllocError>
 where
     F: Fn() -> Result<String, AllocError>,
     requires { F.IsAlwaysCallable made }
@@ -35,15 +37,13 @@ where
     Ok(())
 }
 
-/// Makes these calls in turn.
-macro_rules! calls {
-    ($answer:ident, $rt:expr; $($call:literal => $made:expr,)*) => {{
-        $($answer($rt, $call, || $made)?;)*
-    }};
-}
-
-/// Whether the copy of a value is the same, or that of what these calls lend of it.
+/// Whether the copy of a value is the same, or that of what these calls lend of it; or whether it
+/// is as this test of it says.
 macro_rules! copied {
+    ($alloc:expr, $whole:expr, $copy:ident => $is_right:expr) => {{
+        let $copy = $whole.copy($alloc)?;
+        Ok($is_right)
+    }};
     ($alloc:expr, $whole:expr $(, $part:ident)*) => {{
         let whole = $whole;
         let value = (&whole)$(.$part())*;
@@ -52,13 +52,55 @@ macro_rules! copied {
     }};
 }
 
-/// The text that a call puts behind an empty one.
-macro_rules! put {
-    ($alloc:expr, $call:ident, $value:expr) => {{
-        let mut out = Vec::new($alloc);
-        $call(&mut out, $value)?;
-        text_of($alloc, out)
-    }};
+/// The text as a value of an attribute.
+fn word(alloc: Global, word: &str) -> Result<Scalar, AllocError> {
+    Ok(Scalar::Text(text(alloc, word)?))
+}
+
+fn is_word(value: &Scalar, word: &str) -> bool {
+    matches!(value, Scalar::Text(found) if found.as_str() == word)
+}
+
+fn is_one_word(value: &AttrValue, word: &str) -> bool {
+    matches!(value, AttrValue::One(one) if is_word(one, word))
+}
+
+fn scalars_copy(alloc: Global) -> Result<bool, AllocError> {
+    let values = vec![in alloc; word(alloc, "x")?, word(alloc, "y")?]?;
+    let copy = Scalars::new(values).copy(alloc)?;
+    match copy.as_slice() {
+        [x, y] => Ok(is_word(x, "x") && is_word(y, "y")),
+        _ => Ok(false),
+    }
+}
+
+fn attribute_copy(alloc: Global) -> Result<bool, AllocError> {
+    let key = text(alloc, "k")?;
+    let value = AttrValue::One(word(alloc, "x")?);
+    copied!(alloc, Attribute { key, value }, copy => {
+        copy.key.as_str() == "k" && is_one_word(&copy.value, "x")
+    })
+}
+
+fn bounds_copy(alloc: Global) -> Result<bool, AllocError> {
+    match Kind::histogram(vec![in alloc; 0, 5, 10]?) {
+        Ok(Kind::Histogram { bounds }) => {
+            copied!(alloc, bounds, copy => copy.as_slice() == [0, 5, 10].as_slice())
+        }
+        _ => Ok(false),
+    }
+}
+
+fn series_list_copy(alloc: Global) -> Result<bool, AllocError> {
+    let mut series = Vec::new(alloc);
+    for point in points_of(alloc, MIXED)?.as_slice() {
+        series.push(point.shared_series().share()?)?;
+    }
+    let copy = SeriesList::new(series).copy(alloc)?;
+    match copy.as_slice() {
+        [h, m] => Ok(h.as_series().name().as_str() == "h" && m.as_series().name().as_str() == "m"),
+        _ => Ok(false),
+    }
 }
 
 /// Two attributes, of which the second comes first.
@@ -71,16 +113,6 @@ fn set_of_pairs(alloc: Global) -> Result<bool, AllocError> {
         Err(AttrFault::NoMemory) => Err(AllocError),
         Err(_) => Ok(false),
     }
-}
-
-fn sender_new(alloc: Global) -> Result<bool, AllocError> {
-    let sender = name_of(alloc, b"A")?;
-    Ok(sender.as_bytes() == b"A".as_slice())
-}
-
-fn has_row(alloc: Global, body: &[u8], row: &[u64]) -> Result<bool, AllocError> {
-    let point = first_point(alloc, body)?;
-    Ok(point.row() == row)
 }
 
 fn cell_new(alloc: Global) -> Result<bool, AllocError> {
@@ -102,13 +134,9 @@ fn reading(alloc: Global, answer: Result<Reading, ReadFault>) -> Result<String, 
     }
 }
 
-fn read(alloc: Global, body: &[u8]) -> Result<String, AllocError> {
-    reading(alloc, read_request(alloc, body))
-}
-
 /// A body that is read without a cache, and with one when it is new and when it comes again.
 fn readings(alloc: Global, body: &[u8]) -> Result<String, AllocError> {
-    let plain = read(alloc, body)?;
+    let plain = reading(alloc, read_request(alloc, body))?;
     let mut cache = IdentityCache::new(alloc);
     for _ in 0..2 {
         let with_cache = reading(alloc, read_request_with(alloc, body, &mut cache))?;
@@ -119,55 +147,50 @@ fn readings(alloc: Global, body: &[u8]) -> Result<String, AllocError> {
     Ok(plain)
 }
 
-fn message(alloc: Global) -> Result<String, AllocError> {
-    match read_message(alloc, &mut Script::new(CHUNKED, &[])) {
-        Ok(request) => format!(in alloc;
-            "headers {} body {}",
-            request.headers.len(),
-            request.body.len()
-        ),
+/// What was read, and none where there is another fault than no memory.
+fn heard<T: Drop>(read: Result<T, HttpFault>) -> Result<Option<T>, AllocError> {
+    match read {
+        Ok(message) => Ok(Some(message)),
         Err(HttpFault::NoMemory) => Err(AllocError),
-        Err(_) => String::from_str(alloc, "another fault"),
+        Err(_) => Ok(None),
     }
 }
 
-fn response(alloc: Global) -> Result<String, AllocError> {
-    match read_response(alloc, &mut Script::new(WAIT, &[])) {
-        Ok(reply) => format!(in alloc;
-            "status {} waits {}",
-            reply.status,
-            reply.retry_after.is_some()
-        ),
-        Err(HttpFault::NoMemory) => Err(AllocError),
-        Err(_) => String::from_str(alloc, "another fault"),
-    }
+/// Whether it is the request in chunks, of 95 and 100 bytes.
+fn is_chunked(request: &Option<Request>) -> bool {
+    matches!(request, Some(it) if it.headers.len() == 2 && it.body.len() == 195)
+}
+
+fn message(alloc: Global) -> Result<bool, AllocError> {
+    let request = heard(read_message(alloc, &mut Script::new(CHUNKED, &[])))?;
+    Ok(is_chunked(&request))
+}
+
+fn response(alloc: Global) -> Result<bool, AllocError> {
+    let reply = heard(read_response(alloc, &mut Script::new(WAIT, &[])))?;
+    Ok(matches!(&reply, Some(it) if it.status == 503 && it.retry_after.is_some()))
 }
 
 /// The request byte by byte. A decoder that was out of memory says so at each later call.
-fn decoded(alloc: Global) -> Result<String, AllocError> {
+fn decoded(alloc: Global) -> Result<bool, AllocError> {
     let mut decoder = Decoder::new(alloc);
     for byte in CHUNKED {
         if let Err(fault) = decoder.feed(&[*byte]) {
-            if decoder.feed(CHUNKED) != Err(fault) || decoder.held() > 0 {
-                return String::from_str(alloc, "the fault did not last");
-            }
-            return Err(AllocError);
+            let lasts = decoder.feed(CHUNKED) == Err(fault) && decoder.held() == 0;
+            return if lasts { Err(AllocError) } else { Ok(false) };
         }
     }
-    match decoder.finish() {
-        Ok(request) => format!(in alloc; "body {}", request.body.len()),
-        Err(HttpFault::NoMemory) => Err(AllocError),
-        Err(_) => String::from_str(alloc, "another fault"),
-    }
+    let request = heard(decoder.finish())?;
+    Ok(is_chunked(&request))
 }
 
-/// Bodies that are read, texts and messages.
+/// Bodies that are read, and texts.
 fn make_texts(rt: &impl Print, alloc: Global) -> Result<(), AllocError> {
     calls!(answer, rt;
-        "read_request" => read(alloc, MIXED),
-        "read_request of sums" => read(alloc, SUMS),
-        "read_request of no JSON" => read(alloc, NO_JSON),
-        "read_request of another shape" => read(alloc, NO_REQUEST),
+        "read_request" => reading(alloc, read_request(alloc, MIXED)),
+        "read_request of sums" => reading(alloc, read_request(alloc, SUMS)),
+        "read_request of no JSON" => reading(alloc, read_request(alloc, NO_JSON)),
+        "read_request of another shape" => reading(alloc, read_request(alloc, NO_REQUEST)),
         "read_request_with" => readings(alloc, MIXED),
         "read_request_with of sums" => readings(alloc, SUMS),
         "status_text" => text_of(alloc, status_text(alloc, "a \"message\"")?),
@@ -176,37 +199,43 @@ fn make_texts(rt: &impl Print, alloc: Global) -> Result<(), AllocError> {
         "put_series_name" => put!(alloc, put_series_name, first_point(alloc, MIXED)?.series()),
         "put_row" => put!(alloc, put_row, &[1, 20, 18_446_744_073_709_551_615]),
         "put_number" => put!(alloc, put_number, 12_345),
-        "read_message" => message(alloc),
-        "read_response" => response(alloc),
-        "Decoder::feed" => decoded(alloc),
     );
     Ok(())
 }
 
-/// All calls: first those that make identities, events and cells.
+/// All calls: first those that make identities, events and cells, and read messages.
 pub fn make_all(rt: &impl Print, alloc: Global) -> Result<(), AllocError> {
     calls!(same, rt;
-        "Text::copy" => parts::text_copy(alloc),
-        "Scalar::copy" => parts::scalar_copy(alloc),
-        "Scalars::copy" => parts::scalars_copy(alloc),
-        "Attribute::copy" => parts::attribute_copy(alloc),
-        "Bounds::copy" => parts::bounds_copy(alloc),
-        "Row::copy" => parts::row_copy(alloc),
-        "row_of" => parts::row_of_words(alloc),
-        "SeriesList::copy" => parts::series_list_copy(alloc),
+        "Text::copy" => copied!(alloc, text(alloc, "x")?, copy => copy.as_str() == "x"),
+        "Scalar::copy" => copied!(alloc, word(alloc, "x")?, copy => is_word(&copy, "x")),
+        "Scalars::copy" => scalars_copy(alloc),
+        "Attribute::copy" => attribute_copy(alloc),
+        "Bounds::copy" => bounds_copy(alloc),
+        "Row::copy" => copied!(alloc, Row::new(vec![in alloc; 1, 5, 0]?), copy => {
+            copy.as_slice() == [1, 5, 0].as_slice()
+        }),
+        "row_of" => Ok(row_of(alloc, &[1, 0, 3])?.as_slice() == [1, 0, 3].as_slice()),
+        "SeriesList::copy" => series_list_copy(alloc),
         "AttrSet::from_pairs" => set_of_pairs(alloc),
-        "AttrValue::copy" => parts::value_copy(alloc),
+        "AttrValue::copy" => copied!(alloc, AttrValue::One(word(alloc, "x")?), copy => {
+            is_one_word(&copy, "x")
+        }),
         "Kind::copy" => copied!(alloc, first_point(alloc, MIXED)?, series, kind),
         "SeriesId::copy" => copied!(alloc, own_series(alloc)?),
-        "SenderName::new" => sender_new(alloc),
+        "SenderName::new" => Ok(name_of(alloc, b"A")?.as_bytes() == b"A".as_slice()),
         "SenderName::copy" => copied!(alloc, name_of(alloc, b"A")?),
-        "Point::sum" => has_row(alloc, SUMS, &[1, 1, 0]),
-        "Point::histogram" => has_row(alloc, LATER, &[1, 1, 0, 1, 0, 0, 0]),
+        "Point::sum" => Ok(first_point(alloc, SUMS)?.row() == [1, 1, 0].as_slice()),
+        "Point::histogram" => {
+            Ok(first_point(alloc, LATER)?.row() == [1, 1, 0, 1, 0, 0, 0].as_slice())
+        },
         "Point::copy" => copied!(alloc, first_point(alloc, MIXED)?),
         "MergedPoint::copy" => copied!(alloc, first_point(alloc, MIXED)?, as_merged),
         "Points::copy" => copied!(alloc, points_of(alloc, MIXED)?),
         "Batch::copy" => copied!(alloc, batch_of(alloc, MIXED)?),
         "Cell::new" => cell_new(alloc),
+        "read_message" => message(alloc),
+        "read_response" => response(alloc),
+        "Decoder::feed" => decoded(alloc),
     );
     make_texts(rt, alloc)
 }

@@ -1,112 +1,22 @@
-//! What no contract says of the book: that each call succeeds with ample memory, and at which count
-//! each limit refuses.
+//! What no contract says of the book: at which count each limit refuses, and what shares an identity.
+//! That each call succeeds with ample memory is shown by the scripts of `tests/scripts`.
 
 ghost use Rattle.std.specs.Prelude.{◌≤◌};
 ghost use Rattle.metric_events.specs.declared.limits.TheConstants.{MAX_TAKEN};
 
 use crate::bodies::{batch_of, both_kinds, series};
-use crate::call::Call::{
-    Acknowledged, Close, Confirm, DropFlush, Entries, GiveBack, Lift, Ones, Quarantine, Round,
-    Settle, Single, Take, Undo,
-};
+use crate::call::Call::{Close, Confirm, Entries, GiveBack, Lift, Ones, Quarantine, Settle, Take};
 use crate::call::{Call, admit, run};
 use crate::look;
 use delta_book::book::Book;
-use delta_book::faults::{
-    AdmitFault, NotLive, NotOpen, NotQuarantined, QuarantineFault, RoundFault, TakeFault, UndoFault,
-};
-use delta_book::flush::{Flush, FlushPoint};
-use delta_book::totals::{PastTotals, SeriesTotals};
+use delta_book::faults::{AdmitFault, QuarantineFault, TakeFault};
+use delta_book::flush::FlushPoint;
 use metric_events::batch::Batch;
 use metric_events::limits::{MAX_ENTRIES, MAX_HELD, MAX_LIVE, MAX_OPEN, MAX_SERIES, MAX_TAKEN};
-use metric_events::row::Row;
-use metric_events::sender_name::SenderName;
-use series_cell::cell::Cell;
 use series_id::{Kind, SharedId};
 use std::alloc::Global;
 use std::process::Abort;
 use std::test::Fail;
-
-/// Batches 1 and 2 are admitted, and 2 is undone; a point that is too late is refused.
-const ADMIT_AND_UNDO: &[Call] = &[
-    Take(Ok(None)),
-    Ones(0, 2, 1, Ok(1)),
-    Ones(0, 1, 1, Err(AdmitFault::OutOfOrder(0, 2))),
-    Ones(2, 3, 1, Ok(2)),
-    Undo(2, Ok(())),
-    Undo(2, Err(UndoFault::NotOpen)),
-];
-
-/// Three flushes, which end in three ways; then batch 1 is confirmed.
-const TAKE_AND_END: &[Call] = &[
-    Take(Ok(Some(1))),
-    Undo(1, Err(UndoFault::Taken)),
-    GiveBack(1, Ok(())),
-    GiveBack(1, Err(NotLive)),
-    Take(Ok(Some(2))),
-    Undo(1, Err(UndoFault::Taken)),
-    Settle(2, Ok(())),
-    GiveBack(2, Err(NotLive)),
-    Take(Ok(Some(3))),
-    Undo(1, Err(UndoFault::Taken)),
-    DropFlush(3, Ok(())),
-    GiveBack(3, Err(NotLive)),
-    Confirm(1, Ok(())),
-    Confirm(1, Err(NotOpen)),
-];
-
-/// Sender 0 is quarantined and released.
-const QUARANTINE_AND_LIFT: &[Call] = &[
-    Quarantine(0, Ok(())),
-    Quarantine(0, Err(QuarantineFault::Already)),
-    Ones(0, 1, 5, Err(AdmitFault::Quarantined)),
-    Lift(0, Ok(())),
-    Lift(0, Err(NotQuarantined)),
-    Entries(12),
-];
-
-/// The sender's name is `sender.0`.
-fn expect_first_sender(rt: &impl Abort, name: &SenderName) {
-    assert_eq!(rt; name.as_bytes(), b"sender.0".as_slice());
-}
-
-fn expect_row(rt: &impl Abort, row: &Row, words: [u64; 3]) {
-    look::words(rt, row.as_slice(), &words, "of a series");
-}
-
-/// The totals after all that.
-fn expect_totals(rt: &impl Abort, totals: &[SeriesTotals]) {
-    assert_eq!(rt; totals.len(), 2);
-    expect_row(rt, &totals[0].accepted, [1, 1, 0]);
-    expect_row(rt, &totals[0].acknowledged, [1, 1, 0]);
-    expect_row(rt, &totals[0].stored, [0, 0, 0]);
-    expect_row(rt, &totals[1].dropped, [1, 1, 0]);
-    look::number(rt, totals[1].frontier, 2, "frontier");
-    expect_first_sender(rt, &totals[1].owner);
-}
-
-/// The cells after all that: the batch that was undone has none, nothing is pending or in flight.
-fn expect_cells(rt: &impl Abort, cells: &[Cell]) {
-    assert_eq!(rt; cells.len(), 2);
-    look::words(rt, cells[0].acknowledged(), &[1, 1, 0], "acknowledged");
-    look::words(rt, cells[0].stored(), &[0, 0, 0], "stored");
-    look::words(rt, cells[1].accepted(), &[1, 1, 0], "accepted");
-    look::words(rt, cells[1].dropped(), &[1, 1, 0], "dropped");
-    look::number(rt, cells[1].frontier(), 2, "frontier");
-    expect_first_sender(rt, cells[1].owner());
-}
-
-#[test]
-fn each_call_once(rt: HostRuntime) -> Result<(), Fail> {
-    let alloc = rt.alloc();
-    let mut book = Book::new(alloc)?;
-    run(&rt, alloc, &mut book, ADMIT_AND_UNDO)?;
-    run(&rt, alloc, &mut book, TAKE_AND_END)?;
-    run(&rt, alloc, &mut book, QUARANTINE_AND_LIFT)?;
-    expect_totals(&rt, book.totals()?.as_slice());
-    expect_cells(&rt, book.cells());
-    Ok(())
-}
 
 /// Makes the calls on a new book.
 fn run_anew(rt: &impl Abort, alloc: Global, calls: &[Call]) -> Result<(), Fail> {
@@ -238,99 +148,6 @@ fn quarantined_senders_have_a_limit(rt: HostRuntime) -> Result<(), Fail> {
     }
     let more = Quarantine(MAX_HELD, Err(QuarantineFault::Full));
     run(&rt, alloc, &mut book, &[more])
-}
-
-/// Batch 1 is admitted and settled; the round can't be closed before the batch is confirmed.
-const FIRST_ROUND: &[Call] = &[
-    Round(1),
-    Single(0, 10, 5, Ok(1)),
-    Take(Ok(Some(1))),
-    Acknowledged(0),
-    Settle(1, Ok(())),
-    Acknowledged(1),
-    Close(Err(RoundFault::BatchOpen)),
-    Confirm(1, Ok(())),
-    Close(Ok(2)),
-    Acknowledged(0),
-    Entries(0),
-];
-
-/// The series still has its owner and its frontier, and no points.
-fn expect_opened(rt: &impl Abort, totals: &[SeriesTotals]) {
-    assert_eq!(rt; totals.len(), 1);
-    expect_row(rt, &totals[0].accepted, [0, 0, 0]);
-    expect_first_sender(rt, &totals[0].owner);
-    look::number(rt, totals[0].frontier, 20, "frontier");
-}
-
-fn expect_wide(rt: &impl Abort, row: &[u128], words: [u128; 3]) {
-    assert_eq!(rt; row, words.as_slice());
-}
-
-/// What was acknowledged is past.
-fn expect_past(rt: &impl Abort, past: &[PastTotals]) {
-    assert_eq!(rt; past.len(), 1);
-    expect_wide(rt, past[0].acknowledged.as_slice(), [1, 5, 0]);
-    expect_wide(rt, past[0].dropped.as_slice(), [0, 0, 0]);
-}
-
-/// The second round continues where the first ended; it can't be closed while a flush is live.
-const SECOND_ROUND: &[Call] = &[
-    Single(0, 10, 5, Err(AdmitFault::OutOfOrder(0, 20))),
-    Single(0, 20, 7, Ok(2)),
-    Confirm(2, Ok(())),
-    Take(Ok(Some(2))),
-    Close(Err(RoundFault::FlushLive)),
-    GiveBack(2, Ok(())),
-    Quarantine(0, Ok(())),
-    Close(Ok(3)),
-];
-
-/// The sender is quarantined until it is released.
-const THIRD_ROUND: &[Call] = &[
-    Take(Ok(None)),
-    Lift(0, Ok(())),
-    Undo(2, Err(UndoFault::NotOpen)),
-    Single(0, 30, 2, Ok(3)),
-];
-
-/// The flush has what was pending and what was posted since.
-fn expect_both(rt: &impl Abort, flush: &Flush) {
-    look::number(rt, flush.number, 3, "flush");
-    let sent = flush.points.as_slice();
-    assert_eq!(rt; sent.len(), 1);
-    expect_point(rt, &sent[0], &[2, 9, 0], 20, 40);
-}
-
-#[test]
-fn rounds_follow_one_another(rt: HostRuntime) -> Result<(), Fail> {
-    let alloc = rt.alloc();
-    let mut book = Book::new(alloc)?;
-    run(&rt, alloc, &mut book, FIRST_ROUND)?;
-    expect_opened(&rt, book.totals()?.as_slice());
-    expect_past(&rt, book.past()?.as_slice());
-    run(&rt, alloc, &mut book, SECOND_ROUND)?;
-    run(&rt, alloc, &mut book, THIRD_ROUND)?;
-    expect_both(&rt, &book.take(7, 10)?.ok_or("nothing was taken")?);
-    Ok(())
-}
-
-// A series of the opening is listed without points, and no other sender may post it.
-#[test]
-fn a_series_of_the_opening_stays(rt: HostRuntime) -> Result<(), Fail> {
-    let alloc = rt.alloc();
-    let mut book = Book::new(alloc)?;
-    run(&rt, alloc, &mut book, FIRST_ROUND)?;
-    run(
-        &rt,
-        alloc,
-        &mut book,
-        &[Single(0, 20, 7, Ok(2)), Undo(2, Ok(()))],
-    )?;
-    expect_opened(&rt, book.totals()?.as_slice());
-    expect_past(&rt, book.past()?.as_slice());
-    let other = Single(1, 20, 7, Err(AdmitFault::OtherWriter(0)));
-    run(&rt, alloc, &mut book, &[other, Single(0, 20, 7, Ok(3))])
 }
 
 // The series of the opening count for the limit of series.

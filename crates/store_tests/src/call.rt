@@ -23,13 +23,10 @@ pub enum Call {
     /// A flush takes one series: its number.
     Take(Result<Option<u64>, TakeFault>),
     Settle(u64, Result<(), NotLive>),
-    DropFlush(u64, Result<(), NotLive>),
     GiveBack(u64, Result<(), NotLive>),
     Quarantine(usize, Result<(), QuarantineFault>),
     Lift(usize, Result<(), NotQuarantined>),
     Close(Result<u64, RoundFault>),
-    Round(u64),
-    Acknowledged(u128),
     /// How many entries the journal has.
     Entries(usize),
 }
@@ -64,13 +61,10 @@ fn has_result(rt: &impl Abort, alloc: Global, book: &mut Book, call: Call) -> Re
         Call::Confirm(batch, want) => book.confirm(7, batch) == want,
         Call::Take(want) => take_one(book) == want,
         Call::Settle(flush, want) => book.settle(7, flush) == want,
-        Call::DropFlush(flush, want) => book.drop_flush(7, flush) == want,
         Call::GiveBack(flush, want) => book.give_back(7, flush) == want,
         Call::Quarantine(name, want) => book.quarantine(7, sender(alloc, name)?) == want,
         Call::Lift(name, want) => book.lift(7, &sender(alloc, name)?) == want,
         Call::Close(want) => book.close_round() == want,
-        Call::Round(want) => book.round() == want,
-        Call::Acknowledged(want) => book.acknowledged() == want,
         Call::Entries(want) => book.journal().len() == want,
     })
 }

@@ -6,6 +6,7 @@ ghost use Rattle.metric_events.specs.Points.{admitted};
 ghost use Rattle.metric_events.specs.declared.accepted.Accepted.{Accepted};
 ghost use Rattle.series_cell.specs.Cells.{Stands, IsOfSame};
 
+use crate::bodies::{series, sum_point};
 use crate::look;
 use bucket_lanes::{fits, is_zero, total};
 use metric_events::point::Point;
@@ -13,31 +14,19 @@ use metric_events::sender_name::SenderName;
 use metric_events::span::Span;
 use series_cell::cell::Cell;
 use series_cell::laws::reading;
-use series_id::{AttrSet, Kind, SeriesId, Text};
+use series_id::{Kind, SeriesId};
 use std::alloc::Global;
 use std::process::Abort;
 use std::test::Fail;
 
-/// A series of this kind, and nothing else.
-fn series(alloc: Global, kind: Kind) -> Result<SeriesId, Fail>
-    ensures { IfOk result (λ x. x.kind ≡ kind) }
-{
-    Ok(SeriesId::new(
-        AttrSet::empty(alloc),
-        Text::new(String::new(alloc)),
-        Text::new(String::new(alloc)),
-        AttrSet::empty(alloc),
-        Text::new(String::from_str(alloc, "x")?),
-        Text::new(String::new(alloc)),
-        kind,
-        AttrSet::empty(alloc),
-    )?)
-}
+/// A row without an amount.
+const ZERO: [u64; 3] = [0; 3];
 
-/// A point of a sum.
-fn sum_point(alloc: Global, start: u64, end: u64, value: i64) -> Result<Point, Fail> {
-    let series = series(alloc, Kind::Sum { monotonic: false })?;
-    Ok(Point::sum(alloc, series, start, end, value)?)
+/// A cell of series 1, a sum.
+fn sum_cell(alloc: Global) -> Result<Cell, Fail>
+    ensures { IfOk result (λ c. Stands c []) }
+{
+    empty_cell(alloc, series(alloc, 1, Kind::Sum { monotonic: false })?)
 }
 
 /// The bounds from 0 to `count`, excluded.
@@ -58,7 +47,7 @@ fn buckets_between(alloc: Global, bounds: u32) -> Result<Kind, Fail>
 
 /// A point of a histogram with so many bounds: 3 in the first bucket and 1 in the last.
 fn spread(alloc: Global, bounds: u32, start: u64) -> Result<Point, Fail> {
-    let series = series(alloc, buckets_between(alloc, bounds)?)?;
+    let series = series(alloc, 1, buckets_between(alloc, bounds)?)?;
     let mut buckets = vec![in alloc; 3u64]?;
     for _ in 1..bounds {
         buckets.push(0)?;
@@ -116,28 +105,16 @@ fn give_back_and_undo(rt: &impl Abort, cell: &mut Cell, first: &Point, second: &
     assert!(rt; !cell.is_flying() && cell.has_stored());
     cell.lift_off(1);
     put(rt, cell, second, 2);
-    expect_rows(
-        rt,
-        cell,
-        [[2, 12, 0], [1, 7, 0], [1, 5, 0], [0, 0, 0], [0, 0, 0]],
-    );
+    expect_rows(rt, cell, [[2, 12, 0], [1, 7, 0], [1, 5, 0], ZERO, ZERO]);
     assert!(rt; !cell.can_remove(1) && cell.can_remove(2));
     expect_span(rt, cell.flight_span(), Some((10, 20)));
     expect_span(rt, cell.stored_span(), Some((20, 30)));
     cell.set_down();
-    expect_rows(
-        rt,
-        cell,
-        [[2, 12, 0], [2, 12, 0], [0, 0, 0], [0, 0, 0], [0, 0, 0]],
-    );
+    expect_rows(rt, cell, [[2, 12, 0], [2, 12, 0], ZERO, ZERO, ZERO]);
     expect_span(rt, cell.stored_span(), Some((10, 30)));
     assert!(rt; cell.can_remove(1));
     cell.remove(1, first);
-    expect_rows(
-        rt,
-        cell,
-        [[1, 7, 0], [1, 7, 0], [0, 0, 0], [0, 0, 0], [0, 0, 0]],
-    );
+    expect_rows(rt, cell, [[1, 7, 0], [1, 7, 0], ZERO, ZERO, ZERO]);
     expect_span(rt, cell.stored_span(), Some((20, 30)));
     assert_eq!(rt; cell.frontier(), 30);
 }
@@ -146,9 +123,9 @@ fn give_back_and_undo(rt: &impl Abort, cell: &mut Cell, first: &Point, second: &
 fn a_flush_comes_back_and_a_batch_is_undone(rt: HostRuntime) -> Result<(), Fail> {
     let alloc = rt.alloc();
     reading();
-    let first = sum_point(alloc, 10, 20, 5)?;
-    let second = sum_point(alloc, 20, 30, 7)?;
-    let mut cell = empty_cell(alloc, series(alloc, Kind::Sum { monotonic: false })?)?;
+    let first = sum_point(alloc, 1, 10, 10, 5)?;
+    let second = sum_point(alloc, 1, 20, 10, 7)?;
+    let mut cell = sum_cell(alloc)?;
     assert_eq!(&rt; cell.owner().as_bytes(), b"A".as_slice());
     assert_eq!(&rt; cell.frontier(), 0);
     give_back_and_undo(&rt, &mut cell, &first, &second);
@@ -194,7 +171,7 @@ fn land_twice(rt: &impl Abort, cell: &mut Cell, points: [&Point; 4]) {
     expect_rows(
         rt,
         cell,
-        [[4, 20, 1], [2, 12, 1], [0, 0, 0], [1, 5, 0], [1, 3, 0]],
+        [[4, 20, 1], [2, 12, 1], ZERO, [1, 5, 0], [1, 3, 0]],
     );
     look::number(rt, cell.frontier(), 60, "frontier");
 }
@@ -202,17 +179,13 @@ fn land_twice(rt: &impl Abort, cell: &mut Cell, points: [&Point; 4]) {
 /// The next round begins with the pending points, and the one after it with nothing.
 fn carry_twice(rt: &impl Abort, cell: &mut Cell) {
     carry(rt, cell);
-    expect_rows(
-        rt,
-        cell,
-        [[2, 12, 1], [2, 12, 1], [0, 0, 0], [0, 0, 0], [0, 0, 0]],
-    );
+    expect_rows(rt, cell, [[2, 12, 1], [2, 12, 1], ZERO, ZERO, ZERO]);
     expect_span(rt, cell.stored_span(), Some((30, 60)));
     look::number(rt, cell.frontier(), 60, "frontier");
     lift(rt, cell, 3);
     cell.acknowledge();
     carry(rt, cell);
-    expect_rows(rt, cell, [[0, 0, 0]; 5]);
+    expect_rows(rt, cell, [ZERO; 5]);
     look::holds(rt, !cell.has_stored(), "nothing is pending");
     look::number(rt, cell.frontier(), 60, "frontier");
 }
@@ -220,11 +193,11 @@ fn carry_twice(rt: &impl Abort, cell: &mut Cell) {
 #[test]
 fn a_round_begins_with_what_is_pending(rt: HostRuntime) -> Result<(), Fail> {
     let alloc = rt.alloc();
-    let a = sum_point(alloc, 10, 20, 5)?;
-    let b = sum_point(alloc, 20, 30, 3)?;
-    let c = sum_point(alloc, 30, 40, 12)?;
-    let d = sum_point(alloc, 50, 60, -1)?;
-    let mut cell = empty_cell(alloc, series(alloc, Kind::Sum { monotonic: false })?)?;
+    let a = sum_point(alloc, 1, 10, 10, 5)?;
+    let b = sum_point(alloc, 1, 20, 10, 3)?;
+    let c = sum_point(alloc, 1, 30, 10, 12)?;
+    let d = sum_point(alloc, 1, 50, 10, -1)?;
+    let mut cell = sum_cell(alloc)?;
     land_twice(&rt, &mut cell, [&a, &b, &c, &d]);
     carry_twice(&rt, &mut cell);
     Ok(())
@@ -234,15 +207,11 @@ fn a_round_begins_with_what_is_pending(rt: HostRuntime) -> Result<(), Fail> {
 #[test]
 fn room_is_reserved(rt: HostRuntime) -> Result<(), Fail> {
     let alloc = rt.alloc();
-    let point = sum_point(alloc, 10, 20, 5)?;
-    let mut cell = empty_cell(alloc, series(alloc, Kind::Sum { monotonic: false })?)?;
+    let point = sum_point(alloc, 1, 10, 10, 5)?;
+    let mut cell = sum_cell(alloc)?;
     bring(&rt, &mut cell, &point, 1);
     cell.reserve(100)?;
-    expect_rows(
-        &rt,
-        &cell,
-        [[1, 5, 0], [1, 5, 0], [0, 0, 0], [0, 0, 0], [0, 0, 0]],
-    );
+    expect_rows(&rt, &cell, [[1, 5, 0], [1, 5, 0], ZERO, ZERO, ZERO]);
     expect_span(&rt, cell.stored_span(), Some((10, 20)));
     Ok(())
 }
@@ -251,16 +220,12 @@ fn room_is_reserved(rt: HostRuntime) -> Result<(), Fail> {
 #[test]
 fn a_span_comes_without_its_words(rt: HostRuntime) -> Result<(), Fail> {
     let alloc = rt.alloc();
-    let whole = sum_point(alloc, 10, 20, 5)?;
-    let spanned = sum_point(alloc, 20, 30, 7)?;
-    let mut cell = empty_cell(alloc, series(alloc, Kind::Sum { monotonic: false })?)?;
+    let whole = sum_point(alloc, 1, 10, 10, 5)?;
+    let spanned = sum_point(alloc, 1, 20, 10, 7)?;
+    let mut cell = sum_cell(alloc)?;
     bring(&rt, &mut cell, &whole, 1);
     bring_span(&rt, &mut cell, &spanned, 2);
-    expect_rows(
-        &rt,
-        &cell,
-        [[1, 5, 0], [1, 5, 0], [0, 0, 0], [0, 0, 0], [0, 0, 0]],
-    );
+    expect_rows(&rt, &cell, [[1, 5, 0], [1, 5, 0], ZERO, ZERO, ZERO]);
     expect_span(&rt, cell.stored_span(), Some((10, 30)));
     assert_eq!(&rt; cell.frontier(), 30);
     Ok(())

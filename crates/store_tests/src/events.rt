@@ -1,5 +1,5 @@
 ghost use Rattle.std.specs.Prelude.{◌≡◌};
-ghost use Rattle.metric_events.specs.PointFaults.{IsHistogram, IsSum};
+ghost use Rattle.metric_events.specs.PointFaults.{IsHistogram};
 
 use crate::look;
 use metric_events::batch::Batch;
@@ -25,24 +25,17 @@ fn text(rt: &impl Abort, alloc: Global, text: &str) -> Text {
 fn series(rt: &impl Abort, alloc: Global, kind: Kind) -> SeriesId
     ensures { result.kind ≡ kind }
 {
-    let empty = text(rt, alloc, "");
-    let version = text(rt, alloc, "");
-    let name = text(rt, alloc, "x");
-    let unit = text(rt, alloc, "1");
-    let resource = AttrSet::empty(alloc);
-    let scope_attrs = AttrSet::empty(alloc);
-    let attrs = AttrSet::empty(alloc);
-    SeriesId::new(
-        resource,
-        empty,
-        version,
-        scope_attrs,
-        name,
-        unit,
+    let id = SeriesId::new(
+        AttrSet::empty(alloc),
+        text(rt, alloc, ""),
+        text(rt, alloc, ""),
+        AttrSet::empty(alloc),
+        text(rt, alloc, "x"),
+        text(rt, alloc, "1"),
         kind,
-        attrs,
-    )
-    .expect(rt, "short texts")
+        AttrSet::empty(alloc),
+    );
+    id.expect(rt, "short texts")
 }
 
 /// A point of a non-monotonic sum.
@@ -56,22 +49,6 @@ fn expect_row(rt: &impl Abort, point: &Point, row: &[u64]) {
     look::words(rt, point.row(), row, "of a sum");
     look::ends(rt, point.span(), (10, 20));
     look::text(rt, point.series().name().as_str(), "x");
-}
-
-/// Expects this fault of a sum's point with this value, or none.
-fn expect_fault(
-    rt: &impl Abort,
-    alloc: Global,
-    kind: Kind,
-    start: u64,
-    value: i64,
-    want: Option<PointFault>,
-)
-    requires { IsSum kind }
-{
-    let series = series(rt, alloc, kind);
-    let fault = Point::sum(alloc, series, start, 20, value).err();
-    assert_eq!(rt; fault, want, "at {start} {value}");
 }
 
 /// The kind of a histogram with these bounds.
@@ -96,20 +73,6 @@ fn histogram(
     let series = series(rt, alloc, kind);
     let buckets = buckets.to_vec(alloc).expect(rt, "memory");
     Point::histogram(alloc, series, start, 20, count, sum, buckets)
-}
-
-/// Compares the row of a histogram's point with these bounds, sum, buckets and count.
-fn expect_buckets(
-    rt: &impl Abort,
-    alloc: Global,
-    bounds: &[i64],
-    sum: Option<u64>,
-    buckets: &[u64],
-    count: u64,
-    row: &[u64],
-) {
-    let point = histogram(rt, alloc, bounds, 10, count, sum, buckets).expect(rt, "a point");
-    look::words(rt, point.row(), row, "of a histogram");
 }
 
 /// Expects this fault of a sender's name, or none.
@@ -215,43 +178,20 @@ fn rows_of_sums(rt: HostRuntime) {
 #[test]
 fn faults_of_sums(rt: HostRuntime) {
     let alloc = rt.alloc();
-    let falling = || Kind::Sum { monotonic: false };
-    let growing = || Kind::Sum { monotonic: true };
-    expect_fault(&rt, alloc, falling(), 20, 1, Some(PointFault::BadSpan));
-    expect_fault(
-        &rt,
-        alloc,
-        falling(),
-        0,
-        i64::MIN,
-        Some(PointFault::BadSpan),
-    );
-    expect_fault(
-        &rt,
-        alloc,
-        falling(),
-        10,
-        i64::MIN,
-        Some(PointFault::TooLarge),
-    );
-    expect_fault(&rt, alloc, growing(), 10, 5, None);
-    expect_fault(
-        &rt,
-        alloc,
-        growing(),
-        10,
-        -1,
-        Some(PointFault::NegativeMonotonic),
-    );
-    expect_fault(
-        &rt,
-        alloc,
-        growing(),
-        10,
-        i64::MIN,
-        Some(PointFault::NegativeMonotonic),
-    );
-    expect_fault(&rt, alloc, growing(), 0, -1, Some(PointFault::BadSpan));
+    let negative = PointFault::NegativeMonotonic;
+    for (monotonic, start, value, want) in [
+        (false, 20, 1, Some(PointFault::BadSpan)),
+        (false, 0, i64::MIN, Some(PointFault::BadSpan)),
+        (false, 10, i64::MIN, Some(PointFault::TooLarge)),
+        (true, 10, 5, None),
+        (true, 10, -1, Some(negative)),
+        (true, 10, i64::MIN, Some(negative)),
+        (true, 0, -1, Some(PointFault::BadSpan)),
+    ] {
+        let series = series(&rt, alloc, Kind::Sum { monotonic });
+        let fault = Point::sum(alloc, series, start, 20, value).err();
+        assert_eq!(rt; fault, want, "at {start} {value}");
+    }
 }
 
 #[test]
@@ -259,26 +199,22 @@ fn rows_of_histograms(rt: HostRuntime) {
     let alloc = rt.alloc();
     let most = 18446744073709551615;
     let sum = 9007199254740992;
-    expect_buckets(
-        &rt,
-        alloc,
-        &[1, 2, 3],
-        Some(20),
-        &[1, 2, 0, 4],
-        7,
-        &[1, 0, 20, 1, 2, 0, 4],
-    );
-    expect_buckets(&rt, alloc, &[-5], None, &[3, 0], 3, &[1, 1, 0, 3, 0]);
-    expect_buckets(&rt, alloc, &[], None, &[], 5, &[1, 1, 0, 5]);
-    expect_buckets(
-        &rt,
-        alloc,
-        &[],
-        Some(sum),
-        &[most],
-        most,
-        &[1, 0, sum, most],
-    );
+    let cases: [(&[i64], Option<u64>, &[u64], u64, &[u64]); 4] = [
+        (
+            &[1, 2, 3],
+            Some(20),
+            &[1, 2, 0, 4],
+            7,
+            &[1, 0, 20, 1, 2, 0, 4],
+        ),
+        (&[-5], None, &[3, 0], 3, &[1, 1, 0, 3, 0]),
+        (&[], None, &[], 5, &[1, 1, 0, 5]),
+        (&[], Some(sum), &[most], most, &[1, 0, sum, most]),
+    ];
+    for (bounds, sum, buckets, count, row) in cases {
+        let point = histogram(&rt, alloc, bounds, 10, count, sum, buckets).expect(&rt, "a point");
+        look::words(&rt, point.row(), row, "of a histogram");
+    }
 }
 
 #[test]
@@ -351,25 +287,6 @@ fn copies_of_lists(rt: HostRuntime) {
     let copy = list.copy(alloc).expect(&rt, "memory");
     look::count(&rt, copy.as_slice().len(), 1, "series");
     look::count(&rt, shared.owners(), 3, "owners");
-}
-
-#[test]
-fn copies_of_rows(rt: HostRuntime) {
-    let alloc = rt.alloc();
-    let words = [1, 2, 3].to_vec(alloc).expect(&rt, "memory");
-    let row = Row::new(words);
-    let copy = row.copy(alloc).expect(&rt, "memory");
-    look::words(&rt, copy.as_slice(), &[1, 2, 3], "of a copy");
-}
-
-#[test]
-fn copies_of_points(rt: HostRuntime) {
-    let alloc = rt.alloc();
-    let point = sum(&rt, alloc, 10, 20, 7);
-    let copy = point.copy(alloc).expect(&rt, "memory");
-    look::holds(&rt, point.is_same(&copy), "the same point");
-    let other = sum(&rt, alloc, 10, 20, -7);
-    look::holds(&rt, !point.is_same(&other), "another point");
 }
 
 #[test]

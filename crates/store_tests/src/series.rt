@@ -354,22 +354,6 @@ fn check_sets(rt: &impl Abort, id: &SeriesId) {
 }
 
 #[test]
-fn copies_are_the_same_series(rt: HostRuntime) {
-    let alloc = rt.alloc();
-    let id = series(
-        &rt,
-        alloc,
-        "h1",
-        "requests",
-        histogram(&rt, alloc, &[0, 5, 10]),
-    );
-    let copy = id.copy(alloc).expect(&rt, "memory");
-    look::holds(&rt, copy.is_same(&id), "the same series");
-    check_texts(&rt, &copy);
-    check_sets(&rt, &copy);
-}
-
-#[test]
 fn rows_fit_their_kind(rt: HostRuntime) {
     let alloc = rt.alloc();
     let sum = series(&rt, alloc, "h1", "requests", Kind::Sum { monotonic: true });
