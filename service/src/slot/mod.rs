@@ -156,21 +156,21 @@ impl Slot {
         }
         self.trouble.notify_one();
     }
-
-    /// Counts a post that is under way, unless there are as many already.
-    fn count_ungrouped(&self, most: u64) -> Option<Counted<'_>> {
-        let next = |posts| (posts < most).then_some(posts + 1);
-        let counted = self
-            .ungrouped
-            .fetch_update(Ordering::Relaxed, Ordering::Relaxed, next);
-        counted.is_ok().then_some(Counted(&self.ungrouped))
-    }
 }
 
 /// A post that is counted, and no more where this is dropped: so while the gate is held.
 struct Counted<'a>(&'a AtomicU64);
 
-impl Counted<'_> {
+impl<'a> Counted<'a> {
+    /// Counts a post, unless there are as many already.
+    fn below(most: u64, posts: &'a AtomicU64) -> Option<Counted<'a>> {
+        let next = |posts| (posts < most).then(|| posts + 1);
+        posts
+            .fetch_update(Ordering::Relaxed, Ordering::Relaxed, next)
+            .ok()?;
+        Some(Counted(posts))
+    }
+
     /// It is in the journal.
     fn stays(self) {
         std::mem::forget(self);
@@ -219,13 +219,28 @@ impl Slot {
 
 #[cfg(test)]
 mod tests {
+    use super::*;
+
+    #[test]
+    fn a_post_that_is_one_too_many_takes_nothing_away() {
+        let posts = AtomicU64::new(0);
+        let under_way = Counted::below(1, &posts).unwrap();
+        assert!(Counted::below(1, &posts).is_none());
+        assert_eq!(posts.load(Ordering::Relaxed), 1);
+        under_way.stays();
+        assert!(Counted::below(1, &posts).is_none());
+        assert_eq!(posts.load(Ordering::Relaxed), 1);
+        drop(Counted::below(2, &posts));
+        assert_eq!(posts.load(Ordering::Relaxed), 1);
+    }
+
     #[test]
     fn names_of_senders() {
         for name in ["-", "A", "a.b_c-9", &"x".repeat(64)] {
-            assert!(super::is_sender(name), "{name}");
+            assert!(is_sender(name), "{name}");
         }
         for name in ["", "a b", "a\r\nx: y", "a/b", "ä", &"x".repeat(65)] {
-            assert!(!super::is_sender(name), "{name}");
+            assert!(!is_sender(name), "{name}");
         }
     }
 }

@@ -17,7 +17,7 @@
 use super::claims::{Claimed, NotClaimed};
 use super::points::points;
 use super::verdict::{Journalled, Refusal, Said, Verdict};
-use super::{is_sender, Phase, Slot};
+use super::{is_sender, Counted, Phase, Slot};
 use crate::files::Ticket;
 use crate::otlp::series::{first_places, SeriesKey};
 use crate::otlp::Outcome;
@@ -133,7 +133,7 @@ impl Slot {
             }
         };
         // What is in no group has to fit into a fresh gateway, which has as many connections.
-        let Some(counted) = self.count_ungrouped(gateway.connections() / 2) else {
+        let Some(counted) = Counted::below(gateway.connections() / 2, &self.ungrouped) else {
             return Put::Not(Refusal::unavailable("a checkpoint is due"));
         };
         let answer = match gateway.post(sender, body).await {
