@@ -1,17 +1,16 @@
-//! The connections of gRPC: their number is bounded and that of their calls, silent and idle ones are closed.
+//! A connection of gRPC: the number of its calls is bounded, and it is closed where it is silent or idle.
 
 use super::answer;
 use super::guard::Guarded;
-use crate::intake::connections::{spread, Limits, Room};
-use crate::intake::{Intake, Taker, Threads};
+use crate::intake::connections::Shared;
+use crate::intake::Taker;
 use crate::switch::Switch;
 use hyper::server::conn::Http;
 use hyper::service::service_fn;
 use std::convert::Infallible;
 use std::sync::{Arc, Mutex, PoisonError};
 use std::time::{Duration, Instant};
-use tokio::net::{TcpListener, TcpStream};
-use tokio::sync::watch;
+use tokio::net::TcpStream;
 
 /// Calls of a connection at a time.
 const CALLS: u32 = 100;
@@ -65,36 +64,23 @@ impl Drop for Call {
     }
 }
 
-/// Serves until `stop` is true or its sender is gone: then nothing more is accepted, calls that are under way are
-/// answered, and it returns behind the last of them.
-pub async fn serve<T: Taker>(
-    listener: TcpListener,
-    limits: Limits,
-    intake: Arc<Intake<T>>,
-    threads: Arc<Threads>,
-    stop: watch::Receiver<bool>,
-) {
-    let room = Room::new(limits.connections);
-    let (of_each, stopped) = (room.clone(), stop.clone());
-    let serving = move |stream| {
-        connection(
-            stream,
-            limits.clone(),
-            of_each.clone(),
-            intake.clone(),
-            stopped.clone(),
-        )
-    };
-    spread(listener, room, threads, stop, serving).await;
+/// HTTP/2 within these bounds.
+fn bounded() -> Http {
+    let mut http = Http::new();
+    http.http2_only(true)
+        .http2_max_concurrent_streams(CALLS)
+        .http2_initial_stream_window_size(AHEAD)
+        .http2_initial_connection_window_size(AHEAD_ALL)
+        .http2_max_header_list_size(HEADERS)
+        .http2_keep_alive_interval(SILENT)
+        .http2_keep_alive_timeout(TO_ANSWER);
+    http
 }
 
-async fn connection<T: Taker>(
-    stream: TcpStream,
-    limits: Limits,
-    room: Arc<Room>,
-    intake: Arc<Intake<T>>,
-    mut stop: watch::Receiver<bool>,
-) {
+/// Serves its calls until it ends.
+pub async fn connection<T: Taker>(stream: TcpStream, shared: Arc<Shared<T>>) {
+    let Shared { limits, room, .. } = &*shared;
+    let (intake, mut stop) = (shared.intake.clone(), shared.stop.clone());
     let calls = Calls::new();
     let of_calls = calls.clone();
     let service = service_fn(move |request| {
@@ -105,15 +91,7 @@ async fn connection<T: Taker>(
             Ok::<_, Infallible>(response)
         }
     });
-    let mut http = Http::new();
-    http.http2_only(true)
-        .http2_max_concurrent_streams(CALLS)
-        .http2_initial_stream_window_size(AHEAD)
-        .http2_initial_connection_window_size(AHEAD_ALL)
-        .http2_max_header_list_size(HEADERS)
-        .http2_keep_alive_interval(SILENT)
-        .http2_keep_alive_timeout(TO_ANSWER);
-    let mut served = http.serve_connection(Guarded::new(stream), service);
+    let mut served = bounded().serve_connection(Guarded::new(stream), service);
     let mut ending: Option<Instant> = None;
     let look = limits.head / 4;
     loop {

@@ -10,7 +10,7 @@ mod message;
 mod reply;
 mod timeout;
 
-pub use connections::serve;
+pub use connections::connection;
 
 use crate::intake::head::{Head, Packing};
 use crate::intake::{Intake, Taker};

@@ -1,6 +1,6 @@
 use super::reply::{code, RetryInfo, Status};
 use super::*;
-use crate::intake::connections::Limits;
+use crate::intake::connections::{spread, Limits, Shared};
 use crate::intake::{Budget, Threads};
 use crate::metrics::Metrics;
 use crate::otlp::{a_request_of_test, Reading};
@@ -61,7 +61,8 @@ impl Served {
         };
         let (stop, stopped) = watch::channel(false);
         let threads = Arc::new(Threads::new(2).unwrap());
-        let task = tokio::spawn(serve(listener, limits, Arc::new(intake), threads, stopped));
+        let shared = Shared::new(limits, Arc::new(intake), stopped);
+        let task = tokio::spawn(spread(listener, shared, threads, connection));
         Served {
             address,
             kept,

@@ -2,7 +2,7 @@
 //! requests, slow and idle ones are closed. The senders' are in `front`.
 
 use super::pace::{Overdue, Pace, Watched};
-use super::Threads;
+use super::{Intake, Taker, Threads};
 use crate::switch::Switch;
 use hyper::server::conn::Http;
 use hyper::service::service_fn;
@@ -118,23 +118,43 @@ async fn accept(
     while open.join_next().await.is_some() {}
 }
 
-/// The same, with each connection on one of the threads.
-pub(crate) async fn spread<F: Future<Output = ()> + Send + 'static>(
+/// What the connections of an address of senders share.
+pub struct Shared<T> {
+    pub(crate) limits: Limits,
+    pub(crate) room: Arc<Room>,
+    pub(crate) intake: Arc<Intake<T>>,
+    pub(crate) stop: watch::Receiver<bool>,
+}
+
+impl<T: Taker> Shared<T> {
+    pub fn new(limits: Limits, intake: Arc<Intake<T>>, stop: watch::Receiver<bool>) -> Arc<Shared<T>> {
+        Arc::new(Shared {
+            room: Room::new(limits.connections),
+            limits,
+            intake,
+            stop,
+        })
+    }
+}
+
+/// Serves senders, with each connection on one of the threads, until `stop` is true or its sender is gone: then nothing
+/// more is accepted, requests that are under way are answered, and it returns behind the last of them.
+pub async fn spread<T: Taker, F: Future<Output = ()> + Send + 'static>(
     listener: TcpListener,
-    room: Arc<Room>,
+    shared: Arc<Shared<T>>,
     threads: Arc<Threads>,
-    stop: watch::Receiver<bool>,
-    connection: impl Fn(TcpStream) -> F + Clone + Send + Sync + 'static,
+    connection: fn(TcpStream, Arc<Shared<T>>) -> F,
 ) {
+    let (room, stop) = (shared.room.clone(), shared.stop.clone());
     let begin = |open: &mut JoinSet<()>, stream: TcpStream, held: Held| {
         // Its thread's runtime takes it over from this one.
         let Ok(stream) = stream.into_std() else { return };
         let (thread, place) = threads.place();
-        let connection = connection.clone();
+        let shared = shared.clone();
         let serving = async move {
             if let Ok(stream) = TcpStream::from_std(stream) {
                 let _ = stream.set_nodelay(true); // an answer is one write already
-                connection(stream).await;
+                connection(stream, shared).await;
             }
             drop((held, place));
         };
@@ -143,8 +163,7 @@ pub(crate) async fn spread<F: Future<Output = ()> + Send + 'static>(
     accept(listener, room, stop, begin).await;
 }
 
-/// Serves until `stop` is true or its sender is gone: then nothing more is accepted, requests that are under way are
-/// answered, and it returns behind the last of them.
+/// Serves operators, on the runtime that it is called on, with the same end.
 pub async fn serve<H: Handler>(
     listener: TcpListener,
     limits: Limits,

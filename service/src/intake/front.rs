@@ -1,10 +1,8 @@
-//! The senders' address: its connections are bounded and spread over threads, each serves many requests one after
-//! another, slow and idle ones are closed.
+//! A connection of a sender over HTTP: it serves many requests one after another, and is closed where it is slow or idle.
 
-use super::connections::{spread, Limits, Room};
+use super::connections::{Room, Shared};
 use super::head::{self, Connection};
 use super::refusal::Refusal;
-use super::threads::Threads;
 use super::wire::Wire;
 use super::{answer, Intake, Taker};
 use crate::otlp::{Encoding, Outcome};
@@ -15,39 +13,20 @@ use std::pin::{pin, Pin};
 use std::sync::Arc;
 use std::task::Poll;
 use std::time::Duration;
-use tokio::net::{TcpListener, TcpStream};
+use tokio::net::TcpStream;
 use tokio::sync::watch;
 use tokio::time::{Instant, Sleep};
 
 /// How often within the time of a head it is looked whether it has come.
 const LOOKS: u32 = 4;
 
-/// Serves until `stop` is true or its sender is gone: then nothing more is accepted, requests that are under way are
-/// answered, and it returns behind the last of them.
-pub async fn serve<T: Taker>(
-    listener: TcpListener,
-    limits: Limits,
-    intake: Arc<Intake<T>>,
-    threads: Arc<Threads>,
-    stop: watch::Receiver<bool>,
-) {
-    let room = Room::new(limits.connections);
-    let (of_each, stopped) = (room.clone(), stop.clone());
-    let serving = move |stream| {
-        connection(
-            stream,
-            Waiting::new(&limits, of_each.clone(), stopped.clone()),
-            intake.clone(),
-        )
-    };
-    spread(listener, room, threads, stop, serving).await;
-}
-
-async fn connection<T: Taker>(stream: TcpStream, mut waiting: Waiting, intake: Arc<Intake<T>>) {
-    let mut wire = Wire::new(stream);
+/// Serves its requests until it ends.
+pub async fn connection<T: Taker>(stream: TcpStream, shared: Arc<Shared<T>>) {
+    let (mut wire, mut waiting) = (Wire::new(stream), Waiting::new(&shared));
+    let intake = &shared.intake;
     while let Some(asked) = next(&mut wire, &mut waiting).await {
         let goes_on = match asked {
-            Ok(asked) => served(&mut wire, &intake, asked, &mut waiting).await,
+            Ok(asked) => served(&mut wire, intake, asked, &mut waiting).await,
             Err(refusal) => {
                 intake.count(&refusal);
                 refused(&mut wire, &refusal, waiting.idle).await;
@@ -157,7 +136,8 @@ struct Waiting {
 }
 
 impl Waiting {
-    fn new(limits: &Limits, room: Arc<Room>, stop: watch::Receiver<bool>) -> Waiting {
+    fn new<T>(shared: &Shared<T>) -> Waiting {
+        let Shared { limits, stop, .. } = shared;
         let period = (limits.head / LOOKS).max(Duration::from_millis(1));
         let mut switch = stop.clone();
         Waiting {
@@ -167,9 +147,9 @@ impl Waiting {
             most_idle: (limits.idle.as_millis() / period.as_millis()) as u32,
             look: Box::pin(tokio::time::sleep(period)),
             stop: Box::pin(async move { switch.wait_true().await }),
-            stopped: stop,
+            stopped: stop.clone(),
             ending: false,
-            room,
+            room: shared.room.clone(),
         }
     }
 
@@ -230,6 +210,7 @@ impl Waiting {
 #[cfg(test)]
 mod tests {
     use super::*;
+    use tokio::net::TcpListener;
 
     #[test]
     fn a_head_is_read_again_only_where_it_may_be_whole() {

@@ -2,7 +2,7 @@
 
 use super::Ended;
 use crate::grpc;
-use crate::intake::connections::Limits;
+use crate::intake::connections::{spread, Limits, Shared};
 use crate::intake::{front, Intake, Taker, Threads};
 use anyhow::anyhow;
 use std::io::ErrorKind;
@@ -51,25 +51,13 @@ impl Senders {
         stop: watch::Receiver<bool>,
     ) {
         let intake = Arc::new(intake);
+        let shared = || Shared::new(limits.clone(), intake.clone(), stop.clone());
         let callers = async {
             if let Some(callers) = self.callers {
-                grpc::serve(
-                    callers,
-                    limits.clone(),
-                    intake.clone(),
-                    threads.clone(),
-                    stop.clone(),
-                )
-                .await;
+                spread(callers, shared(), threads.clone(), grpc::connection).await;
             }
         };
-        let senders = front::serve(
-            self.senders,
-            limits.clone(),
-            intake.clone(),
-            threads.clone(),
-            stop.clone(),
-        );
+        let senders = spread(self.senders, shared(), threads.clone(), front::connection);
         tokio::join!(senders, callers);
     }
 }

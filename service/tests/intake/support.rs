@@ -9,7 +9,8 @@ use std::time::Duration;
 use tokio::io::{AsyncReadExt, AsyncWriteExt};
 use tokio::net::{TcpListener, TcpStream};
 use tokio::sync::watch;
-use totxegun::intake::front::serve;
+use totxegun::intake::connections::{spread, Shared};
+use totxegun::intake::front::connection;
 use totxegun::intake::{Budget, Intake, Limits, Taker, Threads};
 use totxegun::metrics::Metrics;
 use totxegun::otlp::{Outcome, Reading};
@@ -79,7 +80,8 @@ impl Served {
         };
         let (stop, stopped) = watch::channel(false);
         let threads = Arc::new(Threads::new(2).unwrap());
-        let task = tokio::spawn(serve(listener, limits, Arc::new(intake), threads, stopped));
+        let shared = Shared::new(limits, Arc::new(intake), stopped);
+        let task = tokio::spawn(spread(listener, shared, threads, connection));
         Served {
             address,
             kept,
@@ -135,6 +137,10 @@ impl Answer {
 
     pub fn has(&self, header: &str) -> bool {
         self.head.to_ascii_lowercase().lines().any(|line| line == header)
+    }
+
+    pub fn is_taken_and_last(&self) -> bool {
+        self.status == 200 && self.has("connection: close")
     }
 }
 
