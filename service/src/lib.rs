@@ -6,10 +6,16 @@
 //! `operate` is the operator's address, `command` the command line, `service` all of it as one process; `switch` tells a
 //! part of it to stop, `work` is done beside the runtime.
 
-// What may be missing is handled; in a test these two are the check. `eprintln!` panics where nobody reads: see `complain`.
+// What may be missing is handled; in a test these two are the check. `print!` and `eprint!` panic where nobody reads: see
+// `command` and `complain`.
 #![cfg_attr(
     not(test),
-    deny(clippy::unwrap_used, clippy::expect_used, clippy::print_stderr)
+    deny(
+        clippy::unwrap_used,
+        clippy::expect_used,
+        clippy::print_stdout,
+        clippy::print_stderr
+    )
 )]
 
 pub mod command;

@@ -1,16 +1,21 @@
 //! The command line, by the program itself: what it prints, and the status that it ends with.
 
 use std::io::{Read, Write};
-use std::process::{Command, Output};
+use std::process::{Command, Output, Stdio};
 
-fn totxegun(words: &[&str]) -> Output {
+fn program(words: &[&str]) -> Command {
     let mut command = Command::new(env!("CARGO_BIN_EXE_totxegun"));
     for (name, _) in std::env::vars() {
         if name.starts_with("TOTXEGUN_") {
             command.env_remove(name);
         }
     }
-    command.args(words).output().unwrap()
+    command.args(words);
+    command
+}
+
+fn totxegun(words: &[&str]) -> Output {
+    program(words).output().unwrap()
 }
 
 fn refused(words: &[&str], status: i32, part: &str) {
@@ -18,6 +23,29 @@ fn refused(words: &[&str], status: i32, part: &str) {
     let text = String::from_utf8_lossy(&output.stderr).into_owned();
     assert_eq!(output.status.code(), Some(status), "{words:?}: {text}");
     assert!(text.contains(part), "{words:?}: {text}");
+}
+
+/// As behind `| head -c 0`.
+#[test]
+fn who_reads_no_further_ends_it_quietly() {
+    let (reader, writer) = std::io::pipe().unwrap();
+    drop(reader);
+    let output = program(&["version"])
+        .stdout(writer)
+        .stderr(Stdio::piped())
+        .spawn();
+    let output = output.unwrap().wait_with_output().unwrap();
+    assert_eq!((output.status.code(), output.stderr), (Some(0), Vec::new()));
+}
+
+#[test]
+fn an_answer_that_can_not_be_written_is_a_fault() {
+    let full = std::fs::File::create("/dev/full").unwrap();
+    let output = program(&["version"]).stdout(full).stderr(Stdio::piped()).spawn();
+    let output = output.unwrap().wait_with_output().unwrap();
+    let text = String::from_utf8_lossy(&output.stderr).into_owned();
+    assert_eq!(output.status.code(), Some(1), "{text}");
+    assert!(text.contains("standard output can't be written"), "{text}");
 }
 
 #[test]

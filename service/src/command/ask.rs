@@ -1,6 +1,6 @@
 //! Orders to the running service: flush, renew, quarantine, lift.
 
-use super::{client, values::counted, Form};
+use super::{client, line, values::counted, Form};
 use crate::slot::is_sender;
 use anyhow::{Context, Result};
 use clap::Args;
@@ -43,20 +43,21 @@ fn sender(text: &str) -> Result<String, String> {
 }
 
 /// Gives an order.
-pub fn order(at: &Address, path: &str) -> Result<()> {
+pub fn order(at: &Address, path: &str) -> Result<Vec<u8>> {
     client::ask(&at.operate, "POST", path)?;
-    println!("done");
-    Ok(())
+    Ok(line("done"))
 }
 
-/// Gives an order that flushes, and prints what came of it.
-pub fn flush(at: &Address, path: &str) -> Result<()> {
+/// Gives an order that flushes, and says what came of it.
+pub fn flush(at: &Address, path: &str) -> Result<Vec<u8>> {
     let body = client::ask(&at.operate, "POST", path)?;
     let read: serde_json::Value = serde_json::from_slice(&body).unwrap_or_default();
     let requests = read["requests"].as_u64();
-    match requests.with_context(|| client::another(&at.operate))? {
-        0 => println!("done: there was nothing to put into the outbox"),
-        requests => println!("done: {} went into the outbox", counted(requests, "request")),
-    }
-    Ok(())
+    Ok(match requests.with_context(|| client::another(&at.operate))? {
+        0 => line("done: there was nothing to put into the outbox"),
+        requests => line(format_args!(
+            "done: {} went into the outbox",
+            counted(requests, "request")
+        )),
+    })
 }

@@ -3,7 +3,7 @@
 //! The files are copied, and the copy is opened as a start opens it: so what is said is what a start would do.
 
 use super::table::Table;
-use super::{values, Failure, Form};
+use super::{json, values, Failure, Form};
 use crate::files::{Durability, Fault, Folder, FolderFault, Journal, Outbox};
 use crate::slot::slot_of;
 use anyhow::{anyhow, bail, Context};
@@ -49,20 +49,15 @@ struct Found {
 }
 
 impl Options {
-    pub fn run(self) -> Result<(), Failure> {
+    pub fn run(self) -> Result<Vec<u8>, Failure> {
         let _kept_still = lock(&self.data)?;
         let temporary = self.temporary.clone().unwrap_or_else(std::env::temp_dir);
         let copy = Copy::of(&self.data, &temporary)?;
         let found = found(&copy.0).map_err(|failure| in_the_original(failure, &copy.0, &self.data))?;
-        if self.form.json {
-            println!(
-                "{}",
-                serde_json::to_string(&found).context("the answer can't be written")?
-            );
-        } else {
-            print!("{}", text(&found, &self.data));
+        match self.form.json {
+            true => Ok(json(&found)?),
+            false => Ok(text(&found, &self.data).into()),
         }
-        Ok(())
     }
 }
 

@@ -3,7 +3,7 @@
 use super::reading::OfReading;
 use super::table::Table;
 use super::values::counted;
-use super::{Failure, Form};
+use super::{json, Failure, Form};
 use crate::otlp::{self, Encoding, Explained, Reading, Refused, Rounding};
 use anyhow::{anyhow, Context};
 use clap::Args;
@@ -48,19 +48,14 @@ struct Rounded {
 }
 
 impl Options {
-    pub fn run(self) -> Result<(), Failure> {
+    pub fn run(self) -> Result<Vec<u8>, Failure> {
         let reading = self.reading.reading()?;
         let body = read(&self.file).with_context(|| format!("{} can't be read", self.file.display()))?;
         let found = found(body, &reading)?;
-        if self.form.json {
-            println!(
-                "{}",
-                serde_json::to_string(&found).context("the answer can't be written")?
-            );
-        } else {
-            print!("{}", text(&found));
+        match self.form.json {
+            true => Ok(json(&found)?),
+            false => Ok(text(&found).into()),
         }
-        Ok(())
     }
 }
 

@@ -1,11 +1,10 @@
 //! `totxegun dead`: requests that the sink refused for good.
 
-use super::{ask::Address, client, table::Table, values, Form};
+use super::{ask::Address, client, line, table::Table, values, with_end, Form};
 use crate::operate::Resent;
 use anyhow::{bail, Result};
 use clap::Subcommand;
 use serde::Deserialize;
-use std::io::Write;
 
 #[derive(Subcommand)]
 pub enum Command {
@@ -48,35 +47,30 @@ struct Letter {
 }
 
 impl Command {
-    pub fn run(self) -> Result<()> {
+    pub fn run(self) -> Result<Vec<u8>> {
         match self {
             Command::List { at, form } => list(&at, form),
             Command::Show { key, at } => {
                 let body = client::ask(&at.operate, "GET", &format!("/dead/{}", checked(&key)?))?;
-                std::io::stdout().write_all(&body)?;
-                println!();
-                Ok(())
+                Ok(with_end(body))
             }
             Command::Resend { key, at } => resend(&key, &at),
             Command::Drop { key, at } => {
                 client::ask(&at.operate, "POST", &format!("/dead/{}/drop", checked(&key)?))?;
-                println!("done: {key} is thrown away");
-                Ok(())
+                Ok(line(format_args!("done: {key} is thrown away")))
             }
         }
     }
 }
 
-fn list(at: &Address, form: Form) -> Result<()> {
+fn list(at: &Address, form: Form) -> Result<Vec<u8>> {
     let body = client::ask(&at.operate, "GET", "/dead")?;
     if form.json {
-        println!("{}", String::from_utf8_lossy(&body));
-        return Ok(());
+        return Ok(with_end(body));
     }
     let letters: Vec<Letter> = serde_json::from_slice(&body)?;
     if letters.is_empty() {
-        println!("the sink has refused nothing for good");
-        return Ok(());
+        return Ok(line("the sink has refused nothing for good"));
     }
     let now = std::time::SystemTime::now()
         .duration_since(std::time::UNIX_EPOCH)?
@@ -86,21 +80,19 @@ fn list(at: &Address, form: Form) -> Result<()> {
         let age = values::seconds_shown(now.saturating_sub(letter.since));
         table.row(&[letter.key, age, values::bytes_shown(letter.bytes), letter.reason]);
     }
-    print!("{table}");
-    Ok(())
+    Ok(table.to_string().into())
 }
 
-fn resend(key: &str, at: &Address) -> Result<()> {
+fn resend(key: &str, at: &Address) -> Result<Vec<u8>> {
     let body = client::ask(&at.operate, "POST", &format!("/dead/{}/resend", checked(key)?))?;
     let resent: Resent = serde_json::from_slice(&body)?;
     match resent.reason {
-        None => println!("done: the sink has {key}"),
+        None => Ok(line(format_args!("done: the sink has {key}"))),
         Some(reason) if resent.taken => {
             bail!("the sink has a part of {key}, it is kept as {key}-partial: {reason}")
         }
         Some(reason) => bail!("the sink did not take {key}, it is kept: {reason}"),
     }
-    Ok(())
 }
 
 /// A key goes into a path.

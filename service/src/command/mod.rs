@@ -18,8 +18,12 @@ mod version;
 
 use crate::files::Fault;
 use crate::service::{init, Ended};
+use anyhow::Context;
 use clap::error::{ContextKind, ContextValue};
 use clap::{Args, Parser, Subcommand};
+use serde::Serialize;
+use std::fmt::Display;
+use std::io::{ErrorKind, Write};
 use std::process::ExitCode;
 
 const REFUSED: u8 = 1;
@@ -96,7 +100,7 @@ pub fn run() -> ExitCode {
             ExitCode::from(REFUSED)
         });
     }
-    match line.command.run() {
+    match line.command.run().and_then(|answer| Ok(show(&answer)?)) {
         Ok(()) => ExitCode::SUCCESS,
         Err(failure) => {
             crate::complain(format_args!("{failure}"));
@@ -121,9 +125,10 @@ fn without_secrets(mut error: clap::Error) -> clap::Error {
 }
 
 impl Command {
-    fn run(self) -> Result<(), Failure> {
+    /// Returns what it prints at its end.
+    fn run(self) -> Result<Vec<u8>, Failure> {
         match self {
-            Command::Serve(options) => options.run(),
+            Command::Serve(options) => options.run().map(|()| Vec::new()),
             Command::Status(shown) => Ok(status::run(&shown)?),
             Command::Totals(options) => Ok(totals::run(&options)?),
             Command::Flush(at) => Ok(ask::flush(&at, "/flush")?),
@@ -133,13 +138,34 @@ impl Command {
             Command::Dead(command) => Ok(command.run()?),
             Command::Check(options) => options.run(),
             Command::Explain(options) => options.run(),
-            Command::Version(options) => {
-                options.run();
-                Ok(())
-            }
+            Command::Version(options) => Ok(options.run()),
             Command::Print { what } => Ok(print::run(what)?),
         }
     }
+}
+
+/// Prints. Who reads no further, as `head`, misses nothing.
+fn show(answer: &[u8]) -> anyhow::Result<()> {
+    let mut out = std::io::stdout();
+    match out.write_all(answer).and_then(|()| out.flush()) {
+        Err(error) if error.kind() == ErrorKind::BrokenPipe => Ok(()),
+        done => done.context("standard output can't be written"),
+    }
+}
+
+fn line(text: impl Display) -> Vec<u8> {
+    format!("{text}\n").into()
+}
+
+/// A body, ended as a line.
+fn with_end(mut body: Vec<u8>) -> Vec<u8> {
+    body.push(b'\n');
+    body
+}
+
+fn json(answer: &impl Serialize) -> anyhow::Result<Vec<u8>> {
+    let text = serde_json::to_vec(answer).context("the answer can't be written")?;
+    Ok(with_end(text))
 }
 
 /// Whether a program reads what is printed.

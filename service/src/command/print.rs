@@ -2,10 +2,9 @@
 //! and in its pages and settings.
 
 use super::Line;
-use anyhow::{Context, Result};
+use anyhow::Result;
 use clap::{Arg, Command, CommandFactory, ValueEnum};
 use serde::Serialize;
-use std::io::Write;
 
 #[derive(Clone, Copy, ValueEnum)]
 pub enum What {
@@ -15,7 +14,7 @@ pub enum What {
     Options,
 }
 
-pub fn run(what: What) -> Result<()> {
+pub fn run(what: What) -> Result<Vec<u8>> {
     let mut line = visible(&Line::command());
     let mut text = Vec::new();
     match what {
@@ -28,7 +27,7 @@ pub fn run(what: What) -> Result<()> {
             text.push(b'\n');
         }
     }
-    std::io::stdout().write_all(&text).context("it can't be written")
+    Ok(text)
 }
 
 /// The same command without what is hidden below it.

@@ -1,20 +1,18 @@
 //! `totxegun status`: how the running service is.
 
-use super::{ask::Shown, client, table::Table, values};
+use super::{ask::Shown, client, table::Table, values, with_end};
 use crate::operate::{RoundedStatus, SlotStatus, Status, Stock};
 use crate::slot::NO_ROOM;
 use anyhow::{Context, Result};
 
-pub fn run(shown: &Shown) -> Result<()> {
+pub fn run(shown: &Shown) -> Result<Vec<u8>> {
     let body = client::ask(&shown.at.operate, "GET", "/status")?;
     if shown.form.json {
-        println!("{}", String::from_utf8_lossy(&body));
-        return Ok(());
+        return Ok(with_end(body));
     }
     let status: Status = serde_json::from_slice(&body)
         .context("the running service is of another version: ask it by its own totxegun")?;
-    print!("{}", text(&status));
-    Ok(())
+    Ok(text(&status).into())
 }
 
 fn text(status: &Status) -> String {

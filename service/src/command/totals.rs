@@ -1,7 +1,7 @@
 //! `totxegun totals`: what a SQLite sink has, a line for each series.
 
 use super::table::Table;
-use super::{ask, client, Form};
+use super::{ask, client, json, line, Form};
 use crate::operate::Status;
 use crate::sinks::Address;
 use anyhow::{bail, Context, Result};
@@ -38,29 +38,23 @@ pub struct Options {
     form: Form,
 }
 
-pub fn run(options: &Options) -> Result<()> {
+pub fn run(options: &Options) -> Result<Vec<u8>> {
     let path = options.file()?;
     let rows = rows(&path).with_context(|| format!("{} can't be read", path.display()))?;
     if options.form.json {
-        println!(
-            "{}",
-            serde_json::Value::from_iter(rows.iter().map(|row| in_json(row)))
-        );
-        return Ok(());
+        return json(&rows.iter().map(|row| in_json(row)).collect::<Vec<_>>());
     }
     if rows.is_empty() {
-        println!(
+        return Ok(line(format_args!(
             "no point has come to {} yet: `totxegun flush` sends what was taken",
             path.display()
-        );
-        return Ok(());
+        )));
     }
     let mut table = Table::new(&COLUMNS);
     for row in &rows {
         table.row(&row.iter().map(shown).collect::<Vec<_>>());
     }
-    print!("{table}");
-    Ok(())
+    Ok(table.to_string().into())
 }
 
 impl Options {

@@ -3,6 +3,7 @@
 //! `make build` writes a file beside a program that it has proved: the program's sha256, the revision of its sources and
 //! the toolchain. It counts for the program with that sum alone.
 
+use super::line;
 use crate::gateway::find_program;
 use clap::Args;
 use sha2::{Digest, Sha256};
@@ -18,8 +19,8 @@ pub struct Options {
 }
 
 impl Options {
-    pub fn run(&self) {
-        println!("{}", Versions::of(self.gateway.as_deref()));
+    pub fn run(&self) -> Vec<u8> {
+        line(Versions::of(self.gateway.as_deref()))
     }
 }
 
