@@ -10,7 +10,7 @@ printed says what was measured here, and asserts nothing.
 """
 import sys
 
-from process import run_seconds
+from process import ROOT, program_at, run_seconds
 
 KERNELS = ["copy", "fits", "add_into", "sub_from", "move_into", "total", "is_zero", "clear"]
 PLAIN = {"fits", "add_into", "sub_from", "move_into", "is_zero", "clear"}
@@ -36,7 +36,7 @@ def bytes_a_second(program, name, words):
 
 
 def main():
-    program = sys.argv[1] if len(sys.argv) > 1 else "crates/lane_bench/out/lane_bench"
+    program = program_at(sys.argv[1] if len(sys.argv) > 1 else f"{ROOT}/crates/lane_bench/out/lane_bench")
     print("GB/s       " + "".join(f"{words:>7} words   (plain)" for words in WORDS))
     for kernel in KERNELS:
         cells = ""

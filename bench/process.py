@@ -39,6 +39,13 @@ def run_seconds(command, text=""):
     return usage.ru_utime + usage.ru_stime
 
 
+def program_at(path):
+    """The path of a program, or ends the script where there is none."""
+    if not os.access(path, os.X_OK):
+        sys.exit(f"{sys.argv[0]}: there is no program {path}")
+    return path
+
+
 def numbers(text):
     """Numbers with commas between."""
     return [int(word) for word in text.split(",")]

@@ -14,7 +14,7 @@ import subprocess
 import sys
 import time
 
-from process import ROOT, memory, processor_seconds
+from process import ROOT, memory, processor_seconds, program_at
 
 from loopback import free_port, posted, read_all
 from shipped import listens, wait_until
@@ -103,7 +103,7 @@ def main(words):
         program, words = words[0], words[1:]
     for each in words or DEFAULT_RUNS:
         points, posts = map(int, each.split(","))
-        run(program, points, posts)
+        run(program_at(program), points, posts)
 
 
 if __name__ == "__main__":

@@ -10,7 +10,7 @@ here, and asserts nothing.
 """
 import sys
 
-from process import run_seconds
+from process import ROOT, program_at, run_seconds
 
 BATCH = 1_000
 TIMES = 200
@@ -62,7 +62,7 @@ def each_of(program, before, calls):
 
 
 def main():
-    program = sys.argv[1] if len(sys.argv) > 1 else "bin/play"
+    program = program_at(sys.argv[1] if len(sys.argv) > 1 else f"{ROOT}/bin/play")
     for series in SERIES:
         admits = [thousand(series, time) for time in range(TIMES)]
         taken = each_of(program, filled(series), admits)

@@ -93,8 +93,9 @@ class Prometheus:
 
     def fires(self, alert, service):
         found = self.ask("alerts")
+        alerts = found["data"]["alerts"] if found else ()
         return any(one["labels"]["alertname"] == alert and one["state"] == "firing"
-                   and one["labels"]["instance"] == f"127.0.0.1:{service.operate}" for one in found["data"]["alerts"])
+                   and one["labels"]["instance"] == f"127.0.0.1:{service.operate}" for one in alerts)
 
     def close(self):
         self.process.terminate()

@@ -23,10 +23,10 @@ import struct
 import subprocess
 import sys
 import tempfile
-import time
 
 from checks import LEFT_OUT, Checks
 from loopback import SECONDS, BackEnd, Gateway, free_port, point, read_all, response
+from shipped import listens, wait_until
 
 # Where nobody listens: the port on which a server throws away what it gets. No gateway is given it.
 NOBODY = 9
@@ -106,13 +106,7 @@ class Served:
 
 
 def until_it_listens(gateway):
-    """By the kernel's table, since a connection would be one of those that are served."""
-    wanted = f"0100007F:{gateway.port:04X} 00000000:0000 0A"
-    for _ in range(1000):
-        with open("/proc/net/tcp", encoding="ascii") as table:
-            if wanted in table.read() or gateway.process.poll() is not None:
-                return
-        time.sleep(0.01)
+    wait_until(lambda: listens(gateway.port) or gateway.process.poll() is not None)
 
 
 def connected(port):

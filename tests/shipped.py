@@ -8,10 +8,10 @@ import signal
 import subprocess
 import sys
 import tempfile
-import time
 
 from checks import Checks
 from loopback import SECONDS, Gateway
+from service import wait_until
 
 OPERATE = os.path.join(os.path.dirname(os.path.abspath(__file__)), "..", "operate")
 CONNECTIONS = 1_000_000
@@ -45,16 +45,6 @@ def run_script(seconds, work, names=("PROGRAM",)):
     except (OSError, subprocess.SubprocessError) as error:  # A TimeoutError is an OSError.
         checks.same("the script goes on", "no error", f"{type(error).__name__}: {error}")
     sys.exit(checks.end())
-
-
-def wait_until(what, seconds=SECONDS):
-    """Whether it came true within so many seconds."""
-    until = time.monotonic() + seconds
-    while not what():
-        if time.monotonic() > until:
-            return False
-        time.sleep(0.02)
-    return True
 
 
 def listens(port):

@@ -8,7 +8,6 @@ programs; STEPS below are run behind it, and alone where --without-prover is giv
 the crates, edits and steps that passed and failed, and the status is 0 where none failed. The logs are
 in out/logs.
 """
-import os
 import re
 import subprocess
 import sys
