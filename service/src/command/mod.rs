@@ -31,7 +31,7 @@ const DISK: u8 = 70;
 
 /// Takes OTLP delta metrics, adds them up by a gateway, keeps them on disk, and delivers the totals to a sink.
 #[derive(Parser)]
-#[command(name = "totxegun", version, about, max_term_width = 100)]
+#[command(name = "totxegun", version, max_term_width = 100)]
 struct Line {
     #[command(subcommand)]
     command: Command,

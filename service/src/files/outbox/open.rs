@@ -261,7 +261,7 @@ impl Reading {
             bytes,
         } = self.step()?
         else {
-            return Err(self.reader.damaged(0, CHANGED));
+            return Err(self.reader.damaged(self.reader.at, CHANGED));
         };
         let mut state = rows::Snapshot::read(&bytes).ok_or_else(|| self.reader.damaged(at, NOT_WRITTEN))?;
         let mut keys: Vec<SeriesKey> = state.series.keys().cloned().collect();
