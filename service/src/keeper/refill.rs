@@ -59,7 +59,19 @@ impl Keeper {
     async fn prime(&self, gateway: &Arc<Gateway>) -> Result<(), Trouble> {
         let outbox = self.slot.outbox.clone();
         let read = blocking(move || priming_posts(&outbox)).await;
-        let posts = read.map_err(|fault| Doubt::Start(format!("its series can't be primed: {fault}")))?;
+        let (posts, left_out) =
+            read.map_err(|fault| Doubt::Start(format!("its series can't be primed: {fault}")))?;
+        if left_out > 0 {
+            self.slot
+                .metrics
+                .faults
+                .with_label_values(&["owner"])
+                .inc_by(left_out as u64);
+            tracing::error!(
+                "slot {}: {left_out} series are too long to be told to a gateway: it does not know their owners",
+                self.slot.number()
+            );
+        }
         let replay = Replay::new(self.slot.clone(), gateway.clone(), Use::Prime);
         replay
             .run(move |each| {
@@ -88,24 +100,25 @@ impl Keeper {
     }
 }
 
-/// The posts that prime, each as the owner of its series.
-fn priming_posts(outbox: &Outbox) -> Result<Vec<Post>, NotForwarded> {
+/// The posts that prime, each as the owner of its series, and how many series no post can tell.
+fn priming_posts(outbox: &Outbox) -> Result<(Vec<Post>, usize), NotForwarded> {
     let mut owned: BTreeMap<String, Vec<(SeriesKey, u64)>> = BTreeMap::new();
     for (key, series) in outbox.series() {
         if let Some(owner) = series.owner {
             owned.entry(owner).or_default().push((key, series.frontier));
         }
     }
-    let mut posts = Vec::new();
+    let (mut posts, mut left_out) = (Vec::new(), 0);
     for (sender, series) in owned {
         for part in series.chunks(SERIES_OF_A_POST) {
-            let bodies = zeros(part)?.into_iter();
-            posts.extend(bodies.map(|body| Post {
+            let zeros = zeros(part)?;
+            left_out += zeros.left_out;
+            posts.extend(zeros.bodies.into_iter().map(|body| Post {
                 sender: sender.clone(),
                 foreign: 0,
                 body: body.into(),
             }));
         }
     }
-    Ok(posts)
+    Ok((posts, left_out))
 }

@@ -6,7 +6,7 @@
 
 use super::json::{Document, Value};
 use super::number::{gateway_whole, is_plain, mapped_double, mapped_whole, whole_double, MAX_WHOLE_DOUBLE};
-use super::output::{Output, Written};
+use super::output::{Output, Written, SHORT_LIST};
 use super::schema::{Kind, Message, KEY_VALUE, REQUEST};
 use super::{Reading, Refused};
 
@@ -154,6 +154,11 @@ impl Walk<'_, '_> {
             self.push("false");
             return Ok(());
         };
+        let are_attributes = std::ptr::eq(of, &KEY_VALUE);
+        if are_attributes && value.raw().len() > SHORT_LIST {
+            self.changed()?; // only what is written shows how long it is
+        }
+        let list = self.length();
         self.push("[");
         let inside = self.length();
         for element in elements {
@@ -164,7 +169,10 @@ impl Walk<'_, '_> {
                 out.drop_attribute(from);
             }
         }
-        self.push("]");
+        match &mut self.out {
+            Some(out) if are_attributes => out.end_attributes(list),
+            _ => self.push("]"),
+        }
         Ok(())
     }
 

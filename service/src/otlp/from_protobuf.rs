@@ -3,7 +3,7 @@
 //! It is never held as a tree of messages: each is looked through once, and then its fields are written in the order of
 //! its table. So the memory is that of the JSON, however many small messages the bytes are.
 
-use super::output::{Output, Written};
+use super::output::{Output, Written, LONGEST_LIST};
 use super::schema::{Field, Kind, Message, Wire, EXEMPLAR, KEY_VALUE, KEY_VALUE_LIST, NUMBER_POINT, REQUEST};
 use super::wire::{Fields, Malformed, Payload};
 use super::{Reading, Refused};
@@ -258,15 +258,17 @@ impl<'a> Writer<'a, '_> {
         found: Found<'a>,
         depth: usize,
     ) -> Result<(), Refused> {
+        let list = self.out.text.len();
         self.out.text.push(b'[');
         let inside = self.out.text.len();
-        let are_attributes = std::ptr::eq(of, &KEY_VALUE) && depth + 2 < MAX_DEPTH;
+        let are_attributes = std::ptr::eq(of, &KEY_VALUE);
+        let may_be_plain = are_attributes && depth + 2 < MAX_DEPTH;
         let are_points = std::ptr::eq(of, &NUMBER_POINT);
         for payload in found.all(field.number) {
             let from = self.out.text.len();
             self.out.separate(inside);
             let bytes = bytes_of(payload);
-            match are_attributes.then(|| key_and_value(bytes)).flatten() {
+            match may_be_plain.then(|| key_and_value(bytes)).flatten() {
                 Some((key, value)) => self.attribute(key, value),
                 None if are_points && self.plain_point(bytes) => {}
                 None => self.message(of, bytes, depth + 1)?,
@@ -275,7 +277,10 @@ impl<'a> Writer<'a, '_> {
                 self.out.drop_attribute(from);
             }
         }
-        self.out.text.push(b']');
+        match are_attributes {
+            true => self.out.end_attributes(list),
+            false => self.out.text.push(b']'),
+        }
         Ok(())
     }
 
@@ -307,6 +312,7 @@ impl<'a> Writer<'a, '_> {
         self.out.whole(whole(Wire::Fixed64, end));
         self.out.push(",\"asInt\":");
         self.out.whole(whole(Wire::Sfixed64, bits));
+        let list = self.out.text.len();
         let mut ends = ("}", ",\"attributes\":[");
         for (place, field) in fields.enumerate() {
             let Ok((7, Payload::Bytes(attribute))) = field else {
@@ -317,7 +323,7 @@ impl<'a> Writer<'a, '_> {
             ends = ("]}", ",");
         }
         self.out.push(ends.0);
-        Some(())
+        (self.out.text.len() - list <= LONGEST_LIST).then_some(())
     }
 
     /// Most points have most attributes as the point before has them.

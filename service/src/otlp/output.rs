@@ -5,6 +5,13 @@ use super::number::{put_whole, whole_double};
 use super::{Reading, Refused};
 use std::borrow::Cow;
 
+/// The longest attribute list that a series may have, as it is written. Each series is kept, told to fresh gateways and
+/// delivered with all that identifies it: a resource of megabytes that thousands of points share would be gigabytes, and a
+/// longest post's series alone would fit into no body that tells it to a gateway.
+pub const LONGEST_LIST: usize = 16 << 10;
+/// A list that came in no more bytes is not too long either once it is written.
+pub const SHORT_LIST: usize = LONGEST_LIST / 2;
+
 pub struct Output<'r> {
     /// UTF-8, of which no part is looked at twice: all of it is, at the end.
     pub text: Vec<u8>,
@@ -86,6 +93,16 @@ impl<'r> Output<'r> {
     pub fn unit(&mut self, unit: &str) {
         self.is_measured |= self.reading.whole.rule(unit).is_some();
         self.quoted(unit.as_bytes());
+    }
+
+    /// Ends an attribute list that begins at `from`. In the place of one that is too long is a text, so that what it
+    /// identifies is foreign.
+    pub fn end_attributes(&mut self, from: usize) {
+        self.text.push(b']');
+        if self.text.len() - from > LONGEST_LIST {
+            self.text.truncate(from);
+            self.quoted(format!("a list of over {LONGEST_LIST} bytes").as_bytes());
+        }
     }
 
     /// Takes back a resource attribute that begins at `from`, if it is one to drop.

@@ -4,6 +4,7 @@ use super::*;
 use prost::Message;
 
 mod explain;
+mod long;
 mod mapping;
 mod points;
 mod random;

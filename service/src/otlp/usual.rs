@@ -4,6 +4,7 @@
 //! other body nothing is said, and `from_json` looks at it.
 
 use super::json::{digits_length, plain_length};
+use super::output::SHORT_LIST;
 use super::schema::{Field, Kind, Message, KEY_VALUE, REQUEST};
 use super::Reading;
 
@@ -180,6 +181,13 @@ impl<'a> Look<'a> {
         }
     }
 
+    /// An attribute list. A long one is looked at in full.
+    fn attributes(&mut self, depth: usize) -> Option<()> {
+        let before = self.rest.len();
+        self.list(|look| look.attribute(depth))?;
+        (before - self.rest.len() <= SHORT_LIST).then_some(())
+    }
+
     /// An attribute; where it is a text or a whole number without blanks, as nearly all are, by its words.
     fn attribute(&mut self, depth: usize) -> Option<()> {
         let begin = self.rest;
@@ -208,9 +216,9 @@ impl<'a> Look<'a> {
     fn member(&mut self, field: &Field, depth: usize) -> Option<()> {
         match field.kind {
             Kind::Message(inner) | Kind::Part(inner) => self.message(inner, depth),
-            Kind::Parts(inner) if std::ptr::eq(inner, &KEY_VALUE) => self.list(|look| look.attribute(depth)),
+            Kind::Parts(inner) if std::ptr::eq(inner, &KEY_VALUE) => self.attributes(depth),
             Kind::Messages(inner) | Kind::Parts(inner) => self.list(|look| look.message(inner, depth)),
-            Kind::ResourceAttributes => self.list(|look| look.attribute(depth)),
+            Kind::ResourceAttributes => self.attributes(depth),
             Kind::Text | Kind::Bytes => self.text().map(|_| ()),
             Kind::Unit => {
                 let unit = std::str::from_utf8(self.text()?).ok()?;

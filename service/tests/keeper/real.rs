@@ -281,3 +281,35 @@ async fn many_series_are_flushed_side_by_side_and_primed() {
     assert_eq!(taken.len(), 1200);
     assert_eq!(taken.values().map(|(sum, _)| sum).sum::<i64>(), 1400);
 }
+
+/// What identifies its series is longer than this post, which an earlier totxegun took. Else no gateway would be had any
+/// more.
+#[tokio::test(flavor = "multi_thread")]
+async fn a_series_that_no_body_can_tell_holds_up_no_recovery() {
+    let Some(place) = Place::of_real() else { return };
+    let run = place.run().await;
+    let texts = vec![format!(r#"{{"stringValue":"{}"}}"#, "x".repeat(4096)); 1019];
+    let list = |(key, texts): (usize, &[String])| {
+        let texts = texts.join(",");
+        format!(r#"{{"key":"{key}","value":{{"arrayValue":{{"values":[{texts}]}}}}}}"#)
+    };
+    let lists: Vec<String> = texts.chunks(128).enumerate().map(list).collect();
+    let body = |last: usize| {
+        let (lists, last) = (lists.join(","), "x".repeat(last));
+        let metrics = r#"[{"name":"long","sum":{"aggregationTemporality":1,"dataPoints":[{"asInt":"6",
+            "startTimeUnixNano":"10","timeUnixNano":"20"}]}}]"#;
+        format!(
+            r#"{{"resourceMetrics":[{{"resource":{{"attributes":[{lists},{{"key":"l","value":{{"stringValue":"{last}"}}}}]}},
+            "scopeMetrics":[{{"metrics":{metrics}}}]}}]}}"#
+        )
+    };
+    let longest = body((4 << 20) - body(0).len());
+    assert_eq!(run.post("A", longest.into()).await, all());
+    assert_eq!(run.post("A", point("a", 10, 20, 5)).await, all());
+    assert_eq!(run.checkpoint().await, 1);
+    assert!(run.kill_gateway());
+    let repeat = run.post_until_answered("A", point("a", 10, 20, 5)).await;
+    assert_eq!(message(&repeat), (400, "out of order: point 0, frontier 20"));
+    assert_eq!(run.metrics.faults.with_label_values(&["owner"]).get(), 1);
+    assert_eq!(sums(&run.stop().await), [("a", 5), ("long", 6)]);
+}

@@ -379,7 +379,9 @@ fn zeros_are_points_of_each_series_at_its_frontier() {
         )
     });
     series.extend(many.map(|key| (SeriesKey(key.into()), u64::MAX)));
-    let bodies = zeros(&series).unwrap();
+    let told = zeros(&series).unwrap();
+    let bodies = told.bodies;
+    assert_eq!(told.left_out, 0);
     assert!(bodies.iter().all(|body| body.len() <= 3 << 20));
     let mut found = HashMap::new();
     for body in &bodies {
@@ -388,7 +390,10 @@ fn zeros_are_points_of_each_series_at_its_frontier() {
         found.extend(body.series);
     }
     assert_eq!(found, series.iter().cloned().collect());
-    assert_eq!(zeros(&[]).unwrap(), Vec::<Vec<u8>>::new());
+    assert_eq!(zeros(&[]).unwrap().bodies, Vec::<Vec<u8>>::new());
+    let long = format!(r#"[[],"","",[],"{}","","sum",[]]"#, "x".repeat(4 << 20));
+    let told = zeros(&[(SeriesKey(long.into()), 9), series[0].clone()]).unwrap();
+    assert_eq!((told.bodies.len(), told.left_out), (1, 1));
     for frontier in [0, 1] {
         assert!(zeros(&[(series[0].0.clone(), frontier)]).is_err());
     }

@@ -9,28 +9,36 @@ const MOST: usize = 3 << 20;
 const OPEN: &str = "{\"resourceMetrics\":[";
 const CLOSE: &str = "]}";
 
+/// What tells a gateway of series.
+#[derive(Debug, Default, PartialEq, Eq)]
+pub struct Zeros {
+    pub bodies: Vec<Vec<u8>>,
+    /// Series that no body can tell: an earlier totxegun took a post that left out what is empty. None is taken any more
+    /// whose identity is as long.
+    pub left_out: usize,
+}
+
 /// Bodies that prime: for each series with frontier F a point of value zero over (F-1, F]. At most 3 MiB
 /// each, but that of a series which is longer itself.
-pub fn zeros(series: &[(SeriesKey, u64)]) -> Result<Vec<Vec<u8>>, NotForwarded> {
-    let mut bodies = Vec::new();
+pub fn zeros(series: &[(SeriesKey, u64)]) -> Result<Zeros, NotForwarded> {
+    let mut all = Zeros::default();
     let mut body = String::new();
     for (key, frontier) in series {
         let zero = zero(key, *frontier)?;
+        if OPEN.len() + zero.len() + CLOSE.len() > LIMIT {
+            all.left_out += 1;
+            continue;
+        }
         if body.len() + zero.len() + 1 + CLOSE.len() > MOST && !body.is_empty() {
-            bodies.push(finished(&mut body));
+            all.bodies.push(finished(&mut body));
         }
         body.push_str(if body.is_empty() { OPEN } else { "," });
         body.push_str(&zero);
     }
     if !body.is_empty() {
-        bodies.push(finished(&mut body));
+        all.bodies.push(finished(&mut body));
     }
-    if bodies.iter().any(|body| body.len() > LIMIT) {
-        return Err(NotForwarded(
-            "a series' identity is over the gateway's limit of a body".to_string(),
-        ));
-    }
-    Ok(bodies)
+    Ok(all)
 }
 
 fn finished(body: &mut String) -> Vec<u8> {

@@ -40,8 +40,11 @@ impl Decimal {
         let (numerator, denominator) = match exponent {
             _ if numerator == 0 => (0, 1),
             0.. => (numerator.checked_mul(power(exponent)?)?, 1),
-            // So small that only its being over zero counts.
-            ..-38 => (1, 10u128.pow(38)),
+            // Far below 1. What is cut off is rounded up: it is over zero, and what it is off by is told as a bound.
+            ..-38 => {
+                let cut = power(-38 - exponent).unwrap_or(u128::MAX);
+                (numerator.div_ceil(cut), 10u128.pow(38))
+            }
             _ => (numerator, power(-exponent)?),
         };
         (numerator <= i128::MAX as u128).then_some(Decimal {

@@ -95,6 +95,7 @@ fn decimals_are_exact_and_halves_go_to_the_even() {
     ] {
         assert_eq!(near(text, factor), Nearest { whole, by }, "{text} times {factor}");
     }
+    assert!(near("1.2345678901234567e-23", MAX_FACTOR).by > 1.2e-5);
     for text in ["1e300", "NaN", "Infinity", "", "x", "5 s"] {
         let product = Decimal::times(text, MAX_FACTOR);
         assert!(product.is_none() || text.is_empty(), "{text}");

@@ -24,6 +24,7 @@ pub use fault::PostgresFault;
 use super::part::Left;
 use super::{Fate, Forwarded, Sink};
 use fault::NotTaken;
+use rows::OfSeries;
 use session::Session;
 use std::future::Future;
 use std::pin::Pin;
@@ -41,6 +42,7 @@ pub struct PostgresSink {
     name: String,
     /// One delivery at a time. It is taken out while it is used: one that was left half-way is closed.
     session: Mutex<Option<Session>>,
+    patience: Duration,
 }
 
 impl PostgresSink {
@@ -57,15 +59,23 @@ impl PostgresSink {
             server: server.clone(),
             name: server.to_string(),
             session: Mutex::new(None),
+            patience: PATIENCE,
         })
     }
 
-    async fn take(&self, request: &Forwarded) -> Result<Option<Left>, NotTaken> {
+    async fn read(&self, request: &Forwarded) -> Result<Vec<OfSeries>, NotTaken> {
         let body = request.body.clone();
         // Milliseconds of work, too much for the runtime.
         let read = tokio::task::spawn_blocking(move || rows::read(&body)).await;
-        let all = read.map_err(|error| PostgresFault::told(&self.name, error.to_string()))??;
-        let mut place = self.session.lock().await;
+        read.map_err(|error| PostgresFault::told(&self.name, error.to_string()))?
+    }
+
+    async fn take(
+        &self,
+        place: &mut Option<Session>,
+        request: &Forwarded,
+        all: Vec<OfSeries>,
+    ) -> Result<Option<Left>, NotTaken> {
         let mut session = match place.take() {
             Some(session) if !session.client.is_closed() => session,
             _ => Session::open(&self.server).await?,
@@ -77,17 +87,25 @@ impl PostgresSink {
         taken
     }
 
+    async fn tried(&self, request: &Forwarded) -> Result<Option<Left>, NotTaken> {
+        let all = self.read(request).await?;
+        // It is not the server that is late where other slots' requests go first.
+        let mut place = self.session.lock().await;
+        match timeout(self.patience, self.take(&mut place, request, all)).await {
+            Ok(taken) => taken,
+            Err(_) => {
+                let what = format!("no answer within {} s", self.patience.as_secs_f64());
+                Err(PostgresFault::told(&self.name, what).into())
+            }
+        }
+    }
+
     async fn send(&self, request: &Forwarded) -> Fate {
-        match timeout(PATIENCE, self.take(request)).await {
-            Ok(Ok(None)) => Fate::Taken,
-            Ok(Ok(Some(left))) => left.fate(&request.body),
-            Ok(Err(NotTaken::Refused(reason))) => Fate::refused(reason),
-            Ok(Err(NotTaken::Fault(fault))) => Fate::again(fault.to_string()),
-            Err(_) => Fate::again(format!(
-                "{}: no answer within {} s",
-                self.name,
-                PATIENCE.as_secs()
-            )),
+        match self.tried(request).await {
+            Ok(None) => Fate::Taken,
+            Ok(Some(left)) => left.fate(&request.body),
+            Err(NotTaken::Refused(reason)) => Fate::refused(reason),
+            Err(NotTaken::Fault(fault)) => Fate::again(fault.to_string()),
         }
     }
 }
@@ -121,5 +139,52 @@ impl Sink for PostgresSink {
 
     fn name(&self) -> String {
         format!("postgres {}", self.name)
+    }
+}
+
+#[cfg(test)]
+mod tests {
+    use super::*;
+    use std::sync::atomic::{AtomicUsize, Ordering::SeqCst};
+    use std::sync::Arc;
+
+    /// Else requests of many slots would be called late by a server that was never asked, and wait all the longer.
+    #[tokio::test]
+    async fn who_waits_for_another_delivery_is_not_late() {
+        let listener = tokio::net::TcpListener::bind("127.0.0.1:0")
+            .await
+            .expect("a port");
+        let address = format!("//u@{}/d", listener.local_addr().expect("its address"));
+        let asked = Arc::new(AtomicUsize::new(0));
+        let count = asked.clone();
+        tokio::spawn(async move {
+            let mut silent = Vec::new();
+            while let Ok((stream, _)) = listener.accept().await {
+                count.fetch_add(1, SeqCst);
+                silent.push(stream);
+            }
+        });
+        let server = Server::read(&address).expect("an address");
+        let sink = PostgresSink {
+            name: server.to_string(),
+            server,
+            session: Mutex::new(None),
+            patience: Duration::from_millis(300),
+        };
+        let request = |slot| Forwarded {
+            slot,
+            epoch: "e".into(),
+            number: 1,
+            body: br#"{"resourceMetrics":[]}"#.to_vec(),
+        };
+        let (one, other) = (request(0), request(1));
+        let fates = tokio::join!(sink.send(&one), sink.send(&other));
+        for fate in [fates.0, fates.1] {
+            let Fate::Again { reason, .. } = fate else {
+                panic!("{fate:?}")
+            };
+            assert!(reason.ends_with("no answer within 0.3 s"), "{reason}");
+        }
+        assert_eq!(asked.load(SeqCst), 2);
     }
 }

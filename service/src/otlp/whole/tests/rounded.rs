@@ -126,7 +126,7 @@ fn rules_are_told_apart_and_one_series_is_one() {
 fn what_is_long_is_cut_and_still_told_apart() {
     let long = |last: &str| {
         let value = format!("{}{last}", "é".repeat(1500));
-        let all: Vec<String> = (0..9)
+        let all: Vec<String> = (0..5)
             .map(|one| format!(r#"{{"key":"key{one}","value":{{"stringValue":"{value}"}}}}"#))
             .collect();
         let point = format!(r#""asDouble":0.00000125,"attributes":[{}]"#, all.join(","));
