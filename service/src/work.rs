@@ -1,4 +1,12 @@
-//! Work of more than a moment, on a thread of its own.
+//! Work of more than a moment, on a thread of its own; and what is seldom waited for.
+//!
+//! A timer is on the heap here: else each future that may need one had room for it, at an address that the allocator has to
+//! look for.
+
+use std::future::{poll_fn, Future};
+use std::pin::pin;
+use std::task::Poll;
+use std::time::Duration;
 
 /// Does work that waits for the disk, or computes for long, without holding a thread of the runtime.
 pub async fn blocking<T: Send + 'static>(work: impl FnOnce() -> T + Send + 'static) -> T {
@@ -10,4 +18,18 @@ pub async fn blocking<T: Send + 'static>(work: impl FnOnce() -> T + Send + 'stat
             Err(_) => std::future::pending().await,
         },
     }
+}
+
+/// What comes of a future, if it comes in time. As a rule it comes at once, and then there is no timer.
+pub async fn within<T>(time: Duration, future: impl Future<Output = T>) -> Option<T> {
+    let mut future = pin!(future);
+    match poll_fn(|context| Poll::Ready(future.as_mut().poll(context))).await {
+        Poll::Ready(done) => Some(done),
+        Poll::Pending => Box::pin(tokio::time::timeout(time, future)).await.ok(),
+    }
+}
+
+/// Waits, where that is seldom.
+pub async fn pause(time: Duration) {
+    Box::pin(tokio::time::sleep(time)).await;
 }

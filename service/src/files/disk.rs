@@ -126,10 +126,16 @@ impl Disk {
     }
 
     /// Writes parts one behind the other, as a rule by one call.
-    pub fn write_at(&self, file: &File, path: &Path, parts: &[&[u8]], at: u64) -> Result<(), Fault> {
-        self.call(Call::Write, path, || match parts {
+    pub fn write_at<const N: usize>(
+        &self,
+        file: &File,
+        path: &Path,
+        parts: &[&[u8]; N],
+        at: u64,
+    ) -> Result<(), Fault> {
+        self.call(Call::Write, path, || match &parts[..] {
             [bytes] => file.write_all_at(bytes, at),
-            parts => write_parts_at(file, parts, at),
+            _ => write_parts_at(file, parts, at),
         })
     }
 
@@ -173,8 +179,8 @@ impl Disk {
     }
 }
 
-fn write_parts_at(file: &File, parts: &[&[u8]], at: u64) -> io::Result<()> {
-    let slices: Vec<IoSlice> = parts.iter().map(|part| IoSlice::new(part)).collect();
+fn write_parts_at<const N: usize>(file: &File, parts: &[&[u8]; N], at: u64) -> io::Result<()> {
+    let slices = parts.map(IoSlice::new);
     let written = match pwritev(file.as_raw_fd(), &slices, at as i64) {
         Err(Errno::EINTR) => 0,
         other => other?,

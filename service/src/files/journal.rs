@@ -24,8 +24,6 @@ use sync::Waiters;
 
 const POST: u8 = records::OWN;
 const COPY: u8 = records::OWN + 1;
-/// The most bytes that stand before a body: three numbers and a name.
-const FRONT: usize = 3 * 8 + 64;
 
 /// A post that the gateway took.
 #[derive(Clone, Debug, PartialEq, Eq)]
@@ -94,17 +92,14 @@ impl Journal {
         let shared = &*self.shared;
         let now = seconds();
         let name = post.sender.as_bytes();
-        let mut front = Vec::with_capacity(FRONT);
-        for number in [now, post.foreign, name.len() as u64] {
-            front.extend_from_slice(&number.to_le_bytes());
-        }
-        front.extend_from_slice(name);
-        let head = records::head(kind, &[&front, &post.body]);
-        let length = (head.len() + front.len() + post.body.len()) as u64;
+        let numbers = [now, post.foreign, name.len() as u64].map(u64::to_le_bytes);
+        let numbers = numbers.as_flattened();
+        let head = records::head(kind, &[numbers, name, &post.body]);
+        let length = (head.len() + numbers.len() + name.len() + post.body.len()) as u64;
         shared.room.use_up(length);
         let mut place = lock(&shared.place);
         // In parts: a copy of a long body costs as much as a part of its write.
-        if let Err(fault) = place.segment.put(&[&head, &front, &post.body]) {
+        if let Err(fault) = place.segment.put(&[&head, numbers, name, &post.body]) {
             shared.disk.end(&fault);
         }
         place.ticket += 1;

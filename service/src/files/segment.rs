@@ -151,7 +151,7 @@ impl Segment {
     }
 
     /// Writes records with one write: where it begins. A mark goes before what follows a sync.
-    pub fn put(&mut self, parts: &[&[u8]]) -> Result<u64, Fault> {
+    pub fn put<const N: usize>(&mut self, parts: &[&[u8]; N]) -> Result<u64, Fault> {
         let length = parts.iter().map(|part| part.len() as u64).sum::<u64>();
         self.make_ahead(self.at + records::MARK_LENGTH as u64 + length)?;
         if self.durable > self.marked {

@@ -3,7 +3,8 @@
 use super::message::read_answer;
 use super::socket::Line;
 use super::Answer;
-use std::io::{ErrorKind, Result, Write};
+use crate::work::{pause, within};
+use std::io::{ErrorKind, Result};
 use std::net::SocketAddr;
 use std::time::Duration;
 
@@ -43,7 +44,8 @@ impl<'a> Request<'a> {
         parts
             .iter()
             .for_each(|part| out.extend_from_slice(part.as_bytes()));
-        let _ = write!(out, "{}\r\n\r\n", body.len()); // into memory it never fails
+        out.extend_from_slice(itoa::Buffer::new().format(body.len()).as_bytes());
+        out.extend_from_slice(b"\r\n\r\n");
         out.extend_from_slice(near);
         (out, far)
     }
@@ -55,20 +57,16 @@ pub(super) async fn exchange(
     address: SocketAddr,
     request: &Request<'_>,
 ) -> Result<Answer> {
-    match tokio::time::timeout(patience, asked(address, request)).await {
-        Ok(answer) => answer,
-        Err(_) => Err(std::io::Error::new(
-            ErrorKind::TimedOut,
-            format!("nothing came within {patience:?}"),
-        )),
-    }
-}
-
-async fn asked(address: SocketAddr, request: &Request<'_>) -> Result<Answer> {
+    let late = || std::io::Error::new(ErrorKind::TimedOut, format!("nothing came within {patience:?}"));
     let (head, body) = request.message();
-    let (mut line, sent) = open(address, &head, body).await?;
+    let (mut line, sent) = within(patience, open(address, &head, body))
+        .await
+        .ok_or_else(late)??;
+    // What else this thread has to do goes first: as a rule the answer is there then, and nothing has to be waited for.
+    tokio::task::yield_now().await;
+    let answer = within(patience, read_answer(&mut line)).await.ok_or_else(late)?;
     // An answer may come before all is sent: a refusal by the head. What counts is whether there is one.
-    match (read_answer(&mut line).await, sent) {
+    match (answer, sent) {
         (Ok((status, body)), sent) => {
             if sent.is_ok() {
                 line.end();
@@ -85,7 +83,7 @@ async fn asked(address: SocketAddr, request: &Request<'_>) -> Result<Answer> {
 async fn open(address: SocketAddr, head: &[u8], body: &[u8]) -> Result<(Line, Result<()>)> {
     loop {
         match Line::open(address, head, body).await {
-            Err(fault) if is_of_this_side(&fault) => tokio::time::sleep(PAUSE).await,
+            Err(fault) if is_of_this_side(&fault) => pause(PAUSE).await,
             other => return other,
         }
     }

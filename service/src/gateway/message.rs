@@ -25,25 +25,22 @@ const TAKEN: &[u8] =
 
 /// Reads a whole answer: its status and body.
 pub(super) async fn read_answer(stream: &mut (impl AsyncRead + Unpin)) -> Result<(u16, Bytes)> {
+    let mut first = [0; SHORT];
+    let length = stream.read(&mut first).await?;
+    if first[..length] == *TAKEN {
+        return Ok((200, Bytes::from_static(b"{}")));
+    }
     let mut status = 0;
-    let body = read(stream, |bytes| {
-        if bytes == TAKEN {
-            status = 200;
-            let (end, length) = (TAKEN.len() - 2, 2);
-            return Ok(Some(Head { end, length }));
-        }
+    let mut whole = first[..length].chain(stream);
+    let read = read(&mut whole, |bytes| {
         let mut headers = [httparse::EMPTY_HEADER; HEADERS];
         let mut head = httparse::Response::new(&mut headers);
         let end = head.parse(bytes).map_err(unreadable)?;
         status = head.code.unwrap_or(0);
         framed(end, head.headers)
     });
-    let (mut bytes, begin) = body.await?;
-    let body = match bytes.len() {
-        ..=SHORT => Bytes::copy_from_slice(&bytes[begin..]),
-        _ => Bytes::from(bytes.split_off(begin)),
-    };
-    Ok((status, body))
+    let (mut bytes, begin) = read.await?;
+    Ok((status, bytes.split_off(begin).into()))
 }
 
 /// Reads a whole request: its body.

@@ -9,6 +9,7 @@ use socket2::{Domain, SockRef, Socket, Type};
 use std::cell::RefCell;
 use std::io::{ErrorKind, IoSlice, Read, Result, Write};
 use std::net::{SocketAddr, TcpStream};
+use std::os::fd::{AsRawFd, RawFd};
 use std::pin::Pin;
 use std::task::{ready, Context, Poll};
 use tokio::io::unix::AsyncFd;
@@ -23,38 +24,48 @@ thread_local! {
 
 /// A connection of one request and one answer.
 pub(super) struct Line {
-    stream: AsyncFd<TcpStream>,
+    /// Where something had to be waited for: most answers are there when they are looked for. It ends before the stream.
+    waiting: Option<AsyncFd<RawFd>>,
+    stream: TcpStream,
 }
 
 impl Line {
     /// Connects and sends what goes at once: as a rule all of it.
     pub async fn open(address: SocketAddr, head: &[u8], body: &[u8]) -> Result<(Line, Result<()>)> {
-        let stream = connected(address)?;
-        let written = match write(&stream, head, body, 0) {
+        let mut line = Line {
+            waiting: None,
+            stream: connected(address)?,
+        };
+        let written = match write(&line.stream, head, body, 0) {
             // On loopback a connection is there at once, unless the gateway's queue is full.
             Err(fault) if fault.kind() == ErrorKind::WouldBlock => Ok(0),
             other => other,
         };
-        let is_whole = matches!(written, Ok(all) if all == head.len() + body.len());
-        let interest = match is_whole {
-            true => Interest::READABLE,
-            false => Interest::READABLE | Interest::WRITABLE,
-        };
-        let line = Line {
-            stream: AsyncFd::with_interest(stream, interest)?,
-        };
         let sent = match written {
-            Ok(some) => line.send(head, body, some).await,
+            Ok(all) if all == head.len() + body.len() => Ok(()),
+            Ok(some) => {
+                line.wait(Interest::READABLE | Interest::WRITABLE)?;
+                line.send(head, body, some).await
+            }
             Err(fault) => Err(fault),
         };
         Ok((line, sent))
     }
 
+    /// From here on the runtime says when something comes.
+    fn wait(&mut self, interest: Interest) -> Result<()> {
+        self.waiting = Some(AsyncFd::with_interest(self.stream.as_raw_fd(), interest)?);
+        Ok(())
+    }
+
     /// Sends what is left behind so many bytes.
     async fn send(&self, head: &[u8], body: &[u8], mut from: usize) -> Result<()> {
+        let Some(waiting) = &self.waiting else {
+            return Ok(());
+        };
         while from < head.len() + body.len() {
-            let mut writable = self.stream.writable().await?;
-            match writable.try_io(|stream| write(stream.get_ref(), head, body, from)) {
+            let mut writable = waiting.writable().await?;
+            match writable.try_io(|_| write(&self.stream, head, body, from)) {
                 Ok(Ok(0)) => return Err(ErrorKind::WriteZero.into()),
                 Ok(Ok(some)) => from += some,
                 Ok(Err(fault)) if fault.kind() == ErrorKind::Interrupted => {}
@@ -67,7 +78,8 @@ impl Line {
 
     /// Ends the connection behind a whole answer, and keeps the socket.
     pub fn end(self) {
-        let stream = self.stream.into_inner();
+        let Line { waiting, stream } = self;
+        drop(waiting);
         if system::disconnect(&stream).is_err() {
             return; // it is closed then
         }
@@ -81,21 +93,27 @@ impl Line {
 
 impl AsyncRead for Line {
     fn poll_read(
-        self: Pin<&mut Self>,
+        mut self: Pin<&mut Self>,
         context: &mut Context<'_>,
         into: &mut ReadBuf<'_>,
     ) -> Poll<Result<()>> {
         loop {
-            let mut readable = ready!(self.stream.poll_read_ready(context))?;
-            let read = readable.try_io(|stream| stream.get_ref().read(into.initialize_unfilled()));
+            let mut read = || (&self.stream).read(into.initialize_unfilled());
+            let read = match &self.waiting {
+                None => read(),
+                Some(waiting) => match ready!(waiting.poll_read_ready(context))?.try_io(|_| read()) {
+                    Ok(read) => read,
+                    Err(_not_yet) => continue,
+                },
+            };
             match read {
-                Ok(Ok(length)) => {
+                Ok(length) => {
                     into.advance(length);
                     return Poll::Ready(Ok(()));
                 }
-                Ok(Err(fault)) if fault.kind() == ErrorKind::Interrupted => {}
-                Ok(Err(fault)) => return Poll::Ready(Err(fault)),
-                Err(_not_yet) => {}
+                Err(fault) if fault.kind() == ErrorKind::Interrupted => {}
+                Err(fault) if fault.kind() == ErrorKind::WouldBlock => self.wait(Interest::READABLE)?,
+                Err(fault) => return Poll::Ready(Err(fault)),
             }
         }
     }
@@ -110,7 +128,6 @@ pub(super) fn spares() -> usize {
 fn connected(address: SocketAddr) -> Result<TcpStream> {
     let spare = SPARES.with_borrow_mut(Vec::pop);
     let stream = spare.map_or_else(fresh, Ok)?;
-    system::delay_acknowledgement(&stream);
     match SockRef::from(&stream).connect(&address.into()) {
         Err(fault) if fault.raw_os_error() != Some(libc::EINPROGRESS) => Err(fault),
         _ => Ok(stream),
@@ -120,6 +137,7 @@ fn connected(address: SocketAddr) -> Result<TcpStream> {
 fn fresh() -> Result<TcpStream> {
     let socket = Socket::new(Domain::IPV4, Type::STREAM.nonblocking().cloexec(), None)?;
     socket.set_nodelay(true)?; // the end of a long body must not wait for an acknowledgement
+    system::delay_acknowledgement(&socket);
     Ok(socket.into())
 }
 

@@ -29,18 +29,19 @@ pub(super) fn bind_to_this_thread(command: &mut Command, memory: Option<u64>) {
     unsafe { command.pre_exec(prepare) };
 }
 
-/// The handshake's last packet is then carried by the request: one packet less for each exchange.
+/// The handshake's last packet is then carried by the request: one packet less for each exchange, on all connections that
+/// the socket will have.
 pub(super) fn delay_acknowledgement(socket: &impl AsRawFd) {
-    let off: libc::c_int = 0;
-    let value = std::ptr::addr_of!(off).cast();
-    let size = std::mem::size_of_val(&off) as libc::socklen_t;
+    let on: libc::c_int = 1;
+    let value = std::ptr::addr_of!(on).cast();
+    let size = std::mem::size_of_val(&on) as libc::socklen_t;
     // SAFETY: `value` points to `size` bytes that live through the call. The option is a wish: a refusal changes
     // nothing but the time.
     unsafe {
         libc::setsockopt(
             socket.as_raw_fd(),
             libc::IPPROTO_TCP,
-            libc::TCP_QUICKACK,
+            libc::TCP_DEFER_ACCEPT,
             value,
             size,
         )

@@ -5,7 +5,7 @@ use super::refusal::Refusal;
 use super::weight::Hold;
 use super::wire::Wire;
 use bytes::Bytes;
-use flate2::read::MultiGzDecoder;
+use flate2::bufread::MultiGzDecoder;
 use std::io::Read;
 use std::time::Duration;
 use tokio::io::{AsyncRead, AsyncWrite};
@@ -94,20 +94,22 @@ pub fn unpack(packed: Bytes, packing: Packing, most: usize, hold: &mut Hold) -> 
 fn gunzip(packed: &[u8], most: usize) -> Result<Vec<u8>, Refusal> {
     let mut plain = Vec::with_capacity((4 * packed.len()).clamp(1024, most));
     let mut reader = MultiGzDecoder::new(packed);
-    let mut part = [0; 16 << 10];
     loop {
-        let read = reader.read(&mut part).map_err(|_| Refusal::BadGzip)?;
-        if read == 0 {
+        let room = plain.capacity() - plain.len();
+        let mut part = reader.by_ref().take(room as u64);
+        let read = part.read_to_end(&mut plain).map_err(|_| Refusal::BadGzip)?;
+        if read < room {
             return Ok(plain);
         }
-        if plain.len() + read > most {
-            return Err(Refusal::TooLong);
+        if plain.len() == most {
+            break;
         }
-        if plain.len() + read > plain.capacity() {
-            plain.reserve_exact(plain.capacity().min(most - plain.len()).max(read));
-            // never over `most`
-        }
-        plain.extend_from_slice(&part[..read]);
+        plain.reserve_exact(plain.capacity().min(most - plain.len())); // never over `most`
+    }
+    match reader.read(&mut [0]) {
+        Ok(0) => Ok(plain),
+        Ok(_) => Err(Refusal::TooLong),
+        Err(_) => Err(Refusal::BadGzip),
     }
 }
 

@@ -7,6 +7,7 @@ use super::wire::Wire;
 use super::{answer, Intake, Taker};
 use crate::otlp::{Encoding, Outcome};
 use crate::switch::Switch;
+use crate::work::within;
 use bytes::Buf;
 use std::future::{poll_fn, Future};
 use std::pin::{pin, Pin};
@@ -67,15 +68,6 @@ async fn served<T: Taker>(
     };
     let sent = wire.answer(|out| write(out, &outcome, asked.encoding, connection));
     matches!(within(waiting.idle, sent).await, Some(Ok(()))) && connection != Connection::Closed
-}
-
-/// What comes of a future, if it comes in time. As a rule it comes at once, and then there is no timer.
-async fn within<T>(time: Duration, future: impl Future<Output = T>) -> Option<T> {
-    let mut future = pin!(future);
-    match poll_fn(|context| Poll::Ready(future.as_mut().poll(context))).await {
-        Poll::Ready(done) => Some(done),
-        Poll::Pending => tokio::time::timeout(time, future).await.ok(),
-    }
 }
 
 /// The next head. None where none comes any more.

@@ -5,6 +5,7 @@ use super::wire::{Body, HEADERS, READ_AHEAD};
 use crate::otlp::Encoding;
 use crate::slot::is_sender;
 use httparse::{Header, Request, Status};
+use std::mem::MaybeUninit;
 
 /// How a body is packed.
 #[derive(Clone, Copy, Debug, PartialEq, Eq)]
@@ -46,9 +47,9 @@ pub enum Connection {
 
 /// Reads a head at the beginning of what came: where it ends, and what it says. None where it is not whole yet.
 pub fn read(input: &[u8]) -> Result<Option<(usize, Asked)>, Refusal> {
-    let mut headers = [httparse::EMPTY_HEADER; HEADERS];
-    let mut request = Request::new(&mut headers);
-    let end = match request.parse(input) {
+    let mut headers = [const { MaybeUninit::uninit() }; HEADERS];
+    let mut request = Request::new(&mut []);
+    let end = match request.parse_with_uninit_headers(input, &mut headers) {
         Ok(Status::Complete(end)) if end <= READ_AHEAD => end,
         Ok(Status::Partial) if input.len() < READ_AHEAD => return Ok(None),
         Ok(_) | Err(httparse::Error::TooManyHeaders) => return Err(Refusal::HeadTooLong),
@@ -175,10 +176,13 @@ fn connection(headers: &[Header], is_old: bool) -> Connection {
     connection
 }
 
-/// How a request says that its body is written: the first content type up to its first `;`.
+/// How a request says that its body is written: the first content type up to its first `;`. As a rule it has none.
 fn encoding(headers: &[Header]) -> Option<Encoding> {
     let whole = std::str::from_utf8(named(headers, "content-type").next()?).ok()?;
-    let kind = whole.split(';').next()?.trim_matches([' ', '\t']);
+    encoding_of(whole).or_else(|| encoding_of(whole.split(';').next()?.trim_matches([' ', '\t'])))
+}
+
+fn encoding_of(kind: &str) -> Option<Encoding> {
     if kind.eq_ignore_ascii_case("application/json") {
         Some(Encoding::Json)
     } else if kind.eq_ignore_ascii_case("application/x-protobuf") {

@@ -37,7 +37,7 @@ pub fn written(document: &Document<'_>, reading: &Reading) -> Result<Written, Re
     }
     .body(document);
     match walked {
-        Ok(()) => out.written(),
+        Ok(()) => Ok(out.written()),
         Err(Stop::Refused(refused)) => Err(refused),
         // A walk that writes goes on past changes.
         Err(Stop::Changed) => Err(Refused::Unreadable("not JSON of OTLP".to_string())),

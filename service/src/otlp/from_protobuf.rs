@@ -19,7 +19,7 @@ pub fn written(body: &[u8], reading: &Reading) -> Result<Written, Refused> {
         last: Vec::new(),
     };
     writer.message(&REQUEST, body, 0)?;
-    writer.out.written()
+    Ok(writer.out.written())
 }
 
 fn refused(message: &Message, what: impl std::fmt::Display) -> Refused {
@@ -106,14 +106,6 @@ fn is_payload_of(kind: Kind, payload: Payload<'_>) -> bool {
             payload => matches!(payload, Payload::Fixed64(_)),
         },
         _ => matches!(payload, Payload::Bytes(_)),
-    }
-}
-
-fn whole(wire: Wire, bits: u64) -> i128 {
-    match wire {
-        Wire::Fixed64 => i128::from(bits),
-        Wire::Uint32 => i128::from(bits as u32),
-        Wire::Int64 | Wire::Sfixed64 => i128::from(bits as i64),
     }
 }
 
@@ -231,11 +223,13 @@ impl<'a> Writer<'a, '_> {
                 _ => "true",
             }),
             // An enum has 32 bits, of which a reader keeps the lowest.
-            Kind::Temporality => self.out.whole_number(i128::from(found.bits() as i32)),
-            Kind::Whole(wire) => self.out.whole(whole(wire, found.bits())),
+            Kind::Temporality => self.out.whole_number(found.bits() as i32),
+            Kind::Whole(Wire::Fixed64) => self.out.whole(found.bits()),
+            Kind::Whole(Wire::Uint32) => self.out.whole(found.bits() as u32),
+            Kind::Whole(Wire::Int64 | Wire::Sfixed64) => self.out.whole(found.bits() as i64),
             Kind::Double | Kind::Fraction => self.out.double(f64::from_bits(found.bits())),
             Kind::Wholes => list(&mut self.out, found.each_bits(number), |out, bits| {
-                out.whole(i128::from(bits))
+                out.whole(bits)
             }),
             Kind::Doubles => list(&mut self.out, found.each_bits(number), |out, bits| {
                 out.double(f64::from_bits(bits))
@@ -307,11 +301,11 @@ impl<'a> Writer<'a, '_> {
             return None;
         };
         self.out.push("{\"startTimeUnixNano\":");
-        self.out.whole(whole(Wire::Fixed64, start));
+        self.out.whole(start);
         self.out.push(",\"timeUnixNano\":");
-        self.out.whole(whole(Wire::Fixed64, end));
+        self.out.whole(end);
         self.out.push(",\"asInt\":");
-        self.out.whole(whole(Wire::Sfixed64, bits));
+        self.out.whole(bits as i64);
         let list = self.out.text.len();
         let mut ends = ("}", ",\"attributes\":[");
         for (place, field) in fields.enumerate() {
@@ -350,7 +344,7 @@ impl<'a> Writer<'a, '_> {
         match value {
             Payload::Varint(bits) => {
                 self.out.push(",\"value\":{\"intValue\":");
-                self.out.whole(whole(Wire::Int64, bits));
+                self.out.whole(bits as i64);
             }
             other => {
                 self.out.push(",\"value\":{\"stringValue\":");

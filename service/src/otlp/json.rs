@@ -64,6 +64,11 @@ impl<'a> Document<'a> {
         parser::parse(text)
     }
 
+    /// All of it.
+    pub fn text(&self) -> &'a str {
+        self.text
+    }
+
     pub fn root(&self) -> Value<'_> {
         Value {
             text: self.text,

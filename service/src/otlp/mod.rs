@@ -114,7 +114,10 @@ pub fn prepare(encoding: Encoding, body: Bytes, reading: &Reading) -> Result<Pre
         }
     };
     let (text, rounded) = match written.is_measured {
-        true => whole::rewritten(&written.text, &reading.whole)?,
+        true => {
+            let (text, rounded) = whole::rewritten(&written.text, &reading.whole)?;
+            (text.into_bytes(), rounded)
+        }
         false => (written.text, Rounded::default()),
     };
     let bodies = split::bodies(text, split::LIMIT)?;

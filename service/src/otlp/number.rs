@@ -1,7 +1,6 @@
 //! Numbers: what the gateway reads as a whole number, and what the protobuf JSON mapping does.
 
 use super::json::{Document, Value};
-use std::io::Write;
 
 /// A whole double is exact up to here, and the gateway takes none beyond.
 pub const MAX_WHOLE_DOUBLE: u64 = 1 << 53;
@@ -69,42 +68,6 @@ pub fn double_shown(double: f64) -> String {
     }
 }
 
-/// Writes a whole number: two digits at a time, since most of a request's numbers are times of 19 digits.
-pub fn put_whole(out: &mut Vec<u8>, whole: i128) {
-    let Ok(mut size) = u64::try_from(whole.unsigned_abs()) else {
-        let _ = write!(out, "{whole}"); // into memory it never fails
-        return;
-    };
-    let mut digits = [0; 20];
-    let mut from = digits.len();
-    while size >= 10 {
-        let pair = (size % 100) as usize * 2;
-        size /= 100;
-        from -= 2;
-        digits[from..from + 2].copy_from_slice(&PAIRS[pair..pair + 2]);
-    }
-    if size > 0 || from == digits.len() {
-        from -= 1;
-        digits[from] = b'0' + size as u8;
-    }
-    if whole < 0 {
-        out.push(b'-');
-    }
-    out.extend_from_slice(&digits[from..]);
-}
-
-/// 00, 01, .. 99.
-static PAIRS: [u8; 200] = {
-    let mut pairs = [0; 200];
-    let mut at = 0;
-    while at < 100 {
-        pairs[2 * at] = b'0' + (at / 10) as u8;
-        pairs[2 * at + 1] = b'0' + (at % 10) as u8;
-        at += 1;
-    }
-    pairs
-};
-
 /// Whether a text is a JSON number and no more.
 fn is_number(text: &str) -> bool {
     text.starts_with(|first: char| first == '-' || first.is_ascii_digit())
@@ -139,33 +102,4 @@ fn whole(number: &str) -> Option<i128> {
         }
     }
     Some(sign * whole)
-}
-
-#[cfg(test)]
-mod tests {
-    use super::*;
-
-    #[test]
-    fn whole_numbers_are_written() {
-        let powers = (0..20).map(|digits| 10i128.pow(digits));
-        let edges = [
-            0,
-            9,
-            99,
-            i128::from(i64::MAX),
-            u64::MAX.into(),
-            i128::MAX,
-            i128::MIN + 1,
-        ];
-        for number in powers
-            .flat_map(|power| [power - 1, power, power * 12 / 10])
-            .chain(edges)
-        {
-            for number in [number, -number] {
-                let mut text = Vec::new();
-                put_whole(&mut text, number);
-                assert_eq!(text, number.to_string().into_bytes());
-            }
-        }
-    }
 }

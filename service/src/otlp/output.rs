@@ -1,8 +1,8 @@
 //! A request as it is written for the gateway, of whichever encoding it came in.
 
 use super::json::{put_text, Document};
-use super::number::{put_whole, whole_double};
-use super::{Reading, Refused};
+use super::number::whole_double;
+use super::Reading;
 use std::borrow::Cow;
 
 /// The longest attribute list that a series may have, as it is written. Each series is kept, told to fresh gateways and
@@ -13,7 +13,7 @@ pub const LONGEST_LIST: usize = 16 << 10;
 pub const SHORT_LIST: usize = LONGEST_LIST / 2;
 
 pub struct Output<'r> {
-    /// UTF-8, of which no part is looked at twice: all of it is, at the end.
+    /// UTF-8, since who gives a text has looked at it.
     pub text: Vec<u8>,
     reading: &'r Reading,
     is_measured: bool,
@@ -21,7 +21,7 @@ pub struct Output<'r> {
 
 /// A whole request.
 pub struct Written {
-    pub text: String,
+    pub text: Vec<u8>,
     /// Whether a metric has a unit of `--whole`.
     pub is_measured: bool,
 }
@@ -35,13 +35,10 @@ impl<'r> Output<'r> {
         }
     }
 
-    pub fn written(self) -> Result<Written, Refused> {
-        match String::from_utf8(self.text) {
-            Ok(text) => Ok(Written {
-                text,
-                is_measured: self.is_measured,
-            }),
-            Err(_) => Err(Refused::Unreadable("not UTF-8".to_string())), // who gave a text has looked at it
+    pub fn written(self) -> Written {
+        Written {
+            text: self.text,
+            is_measured: self.is_measured,
         }
     }
 
@@ -58,21 +55,21 @@ impl<'r> Output<'r> {
     }
 
     /// 64 bits do not fit a number of each reader of JSON, so it is a text.
-    pub fn whole(&mut self, whole: i128) {
+    pub fn whole(&mut self, whole: impl itoa::Integer) {
         self.text.push(b'"');
-        put_whole(&mut self.text, whole);
+        self.whole_number(whole);
         self.text.push(b'"');
     }
 
     /// A number that all readers read alike.
-    pub fn whole_number(&mut self, number: i128) {
-        put_whole(&mut self.text, number);
+    pub fn whole_number(&mut self, number: impl itoa::Integer) {
+        self.push(itoa::Buffer::new().format(number));
     }
 
     /// A whole double as a whole number; another as a text, which the gateway takes for no number.
     pub fn double(&mut self, double: f64) {
         match whole_double(double) {
-            Some(whole) => self.whole_number(whole.into()),
+            Some(whole) => self.whole_number(whole),
             None if double.is_nan() => self.push("\"NaN\""),
             None if double.is_infinite() && double > 0.0 => self.push("\"Infinity\""),
             None if double.is_infinite() => self.push("\"-Infinity\""),

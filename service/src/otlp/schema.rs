@@ -16,6 +16,8 @@ pub struct Field {
     pub name: &'static str,
     /// The same with its quotes and colon.
     pub written: &'static str,
+    /// Its first letter.
+    pub initial: u8,
     /// The name of the `.proto` file, which the JSON mapping allows too.
     pub proto_name: &'static str,
     pub number: u32,
@@ -74,6 +76,7 @@ macro_rules! field {
         Field {
             name: $name,
             written: concat!("\"", $name, "\":"),
+            initial: $name.as_bytes()[0],
             proto_name: $proto_name,
             number: $number,
             kind: $kind,

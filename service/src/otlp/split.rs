@@ -12,11 +12,11 @@ const MAX_BODIES: usize = 16;
 const DATA: [&str; 5] = ["gauge", "sum", "histogram", "exponentialHistogram", "summary"];
 
 /// The bodies of a request, in its order.
-pub fn bodies(text: String, limit: usize) -> Result<Vec<Bytes>, Refused> {
+pub fn bodies(text: Vec<u8>, limit: usize) -> Result<Vec<Bytes>, Refused> {
     if text.len() <= limit {
         return Ok(vec![Bytes::from(text)]);
     }
-    let document = Document::parse(text.as_bytes())?;
+    let document = Document::parse(&text)?;
     let mut bodies = Bodies {
         limit,
         done: Vec::new(),

@@ -10,6 +10,8 @@ use super::Reading;
 
 /// More than a request has, but for values in values.
 const MAX_DEPTH: usize = 16;
+/// How many attributes of a list are remembered.
+const ATTRIBUTES: usize = 16;
 /// Digits that fit 64 bits.
 const DIGITS: usize = 19;
 /// Digits of a whole number that is exact as a double.
@@ -17,7 +19,11 @@ const DIGITS_OF_DOUBLE: usize = 15;
 
 /// Whether the gateway reads the body as it is meant, as far as that is seen at once. False says nothing.
 pub fn is_usual(body: &[u8], reading: &Reading) -> bool {
-    let mut look = Look { rest: body, reading };
+    let mut look = Look {
+        rest: body,
+        reading,
+        last: [&[]; ATTRIBUTES],
+    };
     let is_known = !reading.whole.has_no_unit() && look.message(&REQUEST, 0).is_some();
     is_known && look.peek().is_none() && look.rest.is_empty() && std::str::from_utf8(body).is_ok()
 }
@@ -26,6 +32,8 @@ pub fn is_usual(body: &[u8], reading: &Reading) -> bool {
 struct Look<'a> {
     rest: &'a [u8],
     reading: &'a Reading,
+    /// Of earlier lists, at each place the attribute that was looked at last.
+    last: [&'a [u8]; ATTRIBUTES],
 }
 
 impl<'a> Look<'a> {
@@ -64,8 +72,13 @@ impl<'a> Look<'a> {
         }
     }
 
-    fn word(&mut self, word: &[u8]) -> Option<()> {
-        self.rest = self.rest.strip_prefix(word)?;
+    /// Its length is known here, so that it is compared by a few words of the machine.
+    fn word<const N: usize>(&mut self, word: &[u8; N]) -> Option<()> {
+        let (next, rest) = self.rest.split_first_chunk()?;
+        if next != word {
+            return None;
+        }
+        self.rest = rest;
         Some(())
     }
 
@@ -165,10 +178,9 @@ impl<'a> Look<'a> {
     /// Passes a name and its colon: the place of its field; no place of a name that says nothing.
     fn field(&mut self, of: &'static Message) -> Option<Option<usize>> {
         let rest = self.rest;
-        let is_next = |field: &Field| {
-            let written = field.written.as_bytes();
-            written.get(1) == rest.get(1) && rest.starts_with(written) // most names begin otherwise
-        };
+        let initial = *rest.get(1)?;
+        // Most names begin otherwise.
+        let is_next = |field: &Field| field.initial == initial && rest.starts_with(field.written.as_bytes());
         if let Some(place) = of.fields.iter().position(is_next) {
             self.rest = &rest[of.fields[place].written.len()..];
             return Some(Some(place));
@@ -184,19 +196,28 @@ impl<'a> Look<'a> {
     /// An attribute list. A long one is looked at in full.
     fn attributes(&mut self, depth: usize) -> Option<()> {
         let before = self.rest.len();
-        self.list(|look| look.attribute(depth))?;
+        let mut places = 0..;
+        self.list(|look| look.attribute(places.next()?, depth))?;
         (before - self.rest.len() <= SHORT_LIST).then_some(())
     }
 
-    /// An attribute; where it is a text or a whole number without blanks, as nearly all are, by its words.
-    fn attribute(&mut self, depth: usize) -> Option<()> {
+    /// An attribute; where it is a text or a whole number without blanks, as nearly all are, by its words. Most points have
+    /// most attributes as the point before has them.
+    fn attribute(&mut self, place: usize, depth: usize) -> Option<()> {
         let begin = self.rest;
-        let plain = self.plain_attribute();
-        if plain.is_none() {
+        let last = self.last.get(place).copied().unwrap_or_default();
+        if let Some(behind) = begin.strip_prefix(last).filter(|_| !last.is_empty()) {
+            self.rest = behind;
+            return Some(());
+        }
+        if self.plain_attribute().is_none() {
             self.rest = begin;
             return self.message(&KEY_VALUE, depth);
         }
-        plain
+        if let Some(last) = self.last.get_mut(place) {
+            *last = &begin[..begin.len() - self.rest.len()];
+        }
+        Some(())
     }
 
     fn plain_attribute(&mut self) -> Option<()> {
@@ -253,8 +274,9 @@ mod tests {
         "schemaUrl":"u","scopeMetrics": [{"scope":{"name":"s","version":"1"},"metrics":[{"name":"m","description":"d",
         "unit":"By","sum":{"aggregationTemporality":1,"isMonotonic":true,"dataPoints":[{"attributes":[{"key":"k","value":
         {"intValue":"-9"}},{"key":"l","value":{"arrayValue":{"values":[{"boolValue":false}]}}}],"asInt":-5,"exemplars":[],
-        "startTimeUnixNano":"1700000000000000000","timeUnixNano":2,"flags":0},{"asDouble":0.5}]}},{"histogram":{
-        "dataPoints":[{"count":"3","sum":120,"min":0.25,"bucketCounts":["1",2],"explicitBounds":[10]}]}}]}]}]}"#;
+        "startTimeUnixNano":"1700000000000000000","timeUnixNano":2,"flags":0},{"attributes":[{"key":"a","value":{"stringValue":"é"}}],
+        "asDouble":0.5}]}},{"histogram":{"dataPoints":[{"count":"3","sum":120,"min":0.25,"bucketCounts":["1",2],
+        "explicitBounds":[10]}]}}]}]}]}"#;
 
     #[test]
     fn what_senders_write_is_usual() {

@@ -7,10 +7,11 @@
 
 use crate::files::{Fault, Journal, Outbox};
 use crate::otlp::series::{first_places, SeriesKey};
+use crate::work::within;
 use std::collections::hash_map::Entry;
 use std::collections::HashMap;
 use std::sync::{Arc, Mutex, MutexGuard, PoisonError};
-use std::time::Duration;
+use std::time::{Duration, Instant};
 use tokio::sync::Notify;
 
 /// How long a post waits until it is known whether another slot's gateway takes a point of its series.
@@ -89,11 +90,12 @@ impl Claims {
         slot: u16,
         series: Vec<(SeriesKey, u64)>,
     ) -> Result<Claimed<'_>, NotClaimed> {
-        let until = tokio::time::Instant::now() + PATIENCE;
+        let until = Instant::now() + PATIENCE;
         loop {
             let settled = self.settled.notified(); // before the look, so that none is missed
+            let left = until.saturating_duration_since(Instant::now());
             match self.try_claim(slot, &series) {
-                Err(NotClaimed::NotKnown) if tokio::time::timeout_at(until, settled).await.is_ok() => {}
+                Err(NotClaimed::NotKnown) if within(left, settled).await.is_some() => {}
                 tried => return tried.map(|()| Claimed { claims: self, series }),
             }
         }

@@ -21,7 +21,7 @@ use super::{is_sender, Counted, Phase, Slot};
 use crate::files::Ticket;
 use crate::otlp::series::{first_places, SeriesKey};
 use crate::otlp::Outcome;
-use crate::work::blocking;
+use crate::work::{blocking, pause};
 use bytes::Bytes;
 use std::time::{Duration, Instant};
 
@@ -219,7 +219,7 @@ impl Slot {
             if late || !put.is_unavailable() {
                 return put;
             }
-            tokio::time::sleep(PAUSE).await;
+            pause(PAUSE).await;
         }
     }
 }

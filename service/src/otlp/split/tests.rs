@@ -61,7 +61,7 @@ fn parts_have_all_points_in_order_and_fit() {
     let whole = posted(text.as_bytes()).unwrap();
     assert_eq!(whole.series.len(), 8);
     for limit in [1_500, 2_000, 3_333, 10_000, text.len() - 1] {
-        let parts = bodies(text.clone(), limit).unwrap();
+        let parts = bodies(text.clone().into(), limit).unwrap();
         assert!(
             parts.len() > 1 && parts.iter().all(|part| part.len() <= limit),
             "{limit}"
@@ -82,7 +82,10 @@ fn parts_have_all_points_in_order_and_fit() {
 #[test]
 fn what_fits_is_one_body() {
     let text = request(3);
-    assert_eq!(bodies(text.clone(), text.len()).unwrap(), [Bytes::from(text)]);
+    assert_eq!(
+        bodies(text.clone().into(), text.len()).unwrap(),
+        [Bytes::from(text)]
+    );
 }
 
 #[test]
@@ -101,7 +104,7 @@ fn what_does_not_fit_is_refused_whole() {
     ];
     for text in cases {
         assert!(
-            matches!(bodies(text.clone(), 150), Err(Refused::TooLong)),
+            matches!(bodies(text.clone().into(), 150), Err(Refused::TooLong)),
             "{text}"
         );
     }
@@ -115,5 +118,5 @@ fn a_request_of_too_many_bodies_is_refused() {
         r#"{{"resourceMetrics":[{{"resource":{{"x":"{head}"}},"scopeMetrics":[{{"metrics":[{{"sum":{{"dataPoints":[{}]}}}}]}}]}}]}}"#,
         points.join(",")
     );
-    assert!(matches!(bodies(text, 1_100), Err(Refused::TooLong)));
+    assert!(matches!(bodies(text.into(), 1_100), Err(Refused::TooLong)));
 }

@@ -20,16 +20,17 @@ const AS_DOUBLE: &str = "\"asDouble\":";
 const NAME_SHOWN: usize = 100;
 
 /// The text is one that `otlp` has written.
-pub fn rewritten(text: &str, whole: &Whole) -> Result<(String, Rounded), NotJson> {
+pub fn rewritten(text: &[u8], whole: &Whole) -> Result<(String, Rounded), NotJson> {
+    let document = Document::parse(text)?;
     let mut rewriting = Rewriting {
-        text,
+        text: document.text(),
         whole,
         copied: 0,
         out: String::with_capacity(text.len() + text.len() / 8),
         marks: Vec::new(),
         unfit: None,
     };
-    rewriting.request(&Document::parse(text.as_bytes())?);
+    rewriting.request(&document);
     let Rewriting {
         out, marks, unfit, ..
     } = rewriting;
