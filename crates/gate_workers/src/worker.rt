@@ -1,6 +1,6 @@
 //! The loops of workers, and what they work on. Each works until it gets no more.
 ghost use Rattle.gate_workers.specs.Worked.{IsServedOnce, AreConnectionsServed, AreMade};
-ghost use Rattle.std.specs.Prelude.{◌≤◌, ◌≡◌, List, Option, None};
+ghost use Rattle.std.specs.Prelude.{◌≤◌, ◌≡◌, List, Option, None, ⊤};
 ghost use Rattle.gate_workers.specs.declared.service.Served.{Served};
 ghost use Rattle.gate_workers.specs.declared.flush.Turn.{Turn};
 ghost use Rattle.gate_workers.specs.declared.worker.Spot.{Spot};
@@ -47,6 +47,10 @@ impl Pace for NoPace {
 /// A connection with one request on it. It is a trait, since what a connection is belongs to the
 /// program.
 pub trait Connection {
+    /// The results that it may give; any one, where the type does not tell. A loop over any
+    /// connections knows one of them by its call alone, so it can't leave the call out.
+    ghost ends: { Self → Served → Type 0 } = { λ connection served. ⊤ };
+
     /// Serves its request, as `serve_with` does, and ends it.
     fn serve<K: Keeper, P: Pace>(
         self,
@@ -55,7 +59,8 @@ pub trait Connection {
         pace: &mut P,
         cache: &mut IdentityCache,
     ) -> Served
-        ensures { IsServedOnce K.gives keeper.old keeper.new result };
+        ensures served { IsServedOnce K.gives keeper.old keeper.new result }
+        ensures ends { ends self result };
 }
 
 /// Where a worker gets its connections.
@@ -93,7 +98,8 @@ pub fn receiver_loop<S: Connections, K: Keeper, P: Pace, R: Wait>(
     pace: &mut P,
 )
     ensures { (all : List Served) × (last : S) × (end : S)
-        × AreConnectionsServed S.gives K.gives all connections last keeper.old keeper.new
+        × AreConnectionsServed S.gives S.Connection.ends K.gives all connections last
+        keeper.old keeper.new
         × S.gives last None end }
 {
     let mut cache = IdentityCache::new(alloc);
@@ -108,7 +114,7 @@ pub fn receiver_loop<S: Connections, K: Keeper, P: Pace, R: Wait>(
 
 /// Makes one flush turn for each order, and gives it back on the order's end; where nobody waits
 /// for it the turn stands all the same. May wait for the next order. The store is asked for these
-/// turns and nothing else, and nothing else is sent.
+/// turns and nothing else, and nothing else is sent. The pace is asked as `flush_turn` asks it.
 pub fn flusher_loop<K: Store, U: Uplink, P: Pace, R: Wait>(
     rt: &R,
     alloc: Global,
@@ -120,8 +126,8 @@ pub fn flusher_loop<K: Store, U: Uplink, P: Pace, R: Wait>(
 )
     requires low { 1 ≤ max }
     requires high { max ≤ MAX_TAKEN }
-    ensures { (all : List Turn) × AreMade K.gives U.sends max all keeper.old keeper.new
-        uplink.old uplink.new }
+    ensures { (all : List Turn) × AreMade K.gives U.sends P.reaches max all keeper.old keeper.new
+        uplink.old uplink.new pace.old pace.new }
 {
     for order in orders.iter(rt) {
         let turn = flush_turn(alloc, keeper, uplink, pace, max);

@@ -1,6 +1,7 @@
 //! The identities that a reader keeps from one body to the next.
 
-ghost use Rattle.std.specs.Prelude.{◌≡◌, [], IfOk, IfSome, None, Some};
+ghost use Rattle.std.specs.Prelude.{◌≡◌, ◌≤◌, [], length, IfOk, IfSome, None, Some};
+ghost use Rattle.otlp_read.specs.declared.identity_hash.TheConstants.{SLOTS};
 
 use crate::identity_hash::{IdentityHash, SLOTS};
 use series_id::{SeriesId, SharedId};
@@ -12,20 +13,24 @@ use std::marker::Model;
 /// keeps nothing is `None`.
 ///
 /// What a body says does not depend on its reader's cache: an identity in a slot is compared in
-/// full. It is replaced by a later one that needs its slot. One of more than 4,096 bytes is not
-/// kept. If the memory for the slots can't be allocated, nothing is kept.
+/// full. It is replaced by a later one that needs its slot, so there are never more than `SLOTS` of
+/// them. One of more than 4,096 bytes is not kept. If the memory for the slots can't be allocated,
+/// nothing is kept.
 #[derive(Drop)]
 pub struct IdentityCache {
     slots: Option<Vec<Option<SharedId>>>,
 }
 
 impl Model for IdentityCache {
-    ghost use Rattle.std.specs.Prelude.{List, Option, option_map};
+    ghost use Rattle.std.specs.Prelude.{◌≤◌, length, IfSome, List, Option, option_map};
+    ghost use Rattle.otlp_read.specs.declared.identity_hash.TheConstants.{SLOTS};
     ghost use Rattle.series_id.specs.Identity.{Identity};
 
     ghost Value = { Option (List (Option Identity)) };
 
     ghost view = { λ m. option_map (λ slots. slots.items) m.slots };
+
+    ghost invariant = { λ m. IfSome m.slots (λ slots. length slots.items ≤ SLOTS) };
 }
 
 impl IdentityCache {
@@ -117,7 +122,10 @@ fn identity_at(slots: &[Option<SharedId>], slot: usize) -> Option<&SharedId> {
 }
 
 /// Allocates the slots, unless they are there.
-fn take_slots(alloc: Global, slots: &mut Vec<Option<SharedId>>) -> Result<(), AllocError> {
+fn take_slots(alloc: Global, slots: &mut Vec<Option<SharedId>>) -> Result<(), AllocError>
+    requires { length slots.old.items ≤ SLOTS }
+    ensures { length slots.new.items ≤ SLOTS }
+{
     if slots.is_empty() {
         *slots = free_slots(alloc)?;
     }
@@ -125,7 +133,9 @@ fn take_slots(alloc: Global, slots: &mut Vec<Option<SharedId>>) -> Result<(), Al
 }
 
 /// Puts an identity into the first of its slots if that is free, else into the other one.
-fn put(slots: &mut Vec<Option<SharedId>>, hash: IdentityHash, series: &SharedId) {
+fn put(slots: &mut Vec<Option<SharedId>>, hash: IdentityHash, series: &SharedId)
+    ensures { length slots.new.items ≡ length slots.old.items }
+{
     let slot = if identity_at(slots.as_slice(), hash.slot()).is_none() {
         hash.slot()
     } else {
@@ -139,7 +149,9 @@ fn put(slots: &mut Vec<Option<SharedId>>, hash: IdentityHash, series: &SharedId)
 }
 
 /// As many slots as a cache has, all free.
-fn free_slots(alloc: Global) -> Result<Vec<Option<SharedId>>, AllocError> {
+fn free_slots(alloc: Global) -> Result<Vec<Option<SharedId>>, AllocError>
+    ensures { IfOk result (λ slots. length slots.items ≡ SLOTS) }
+{
     let mut slots = Vec::with_capacity(alloc, SLOTS)?;
     for _ in 0..SLOTS {
         slots.push(None)?;
