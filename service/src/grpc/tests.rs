@@ -1,3 +1,5 @@
+//! What a client of gRPC is answered, and when its connection ends.
+
 use super::reply::{code, RetryInfo, Status};
 use super::*;
 use crate::intake::connections::{spread, Limits, Shared};

@@ -1,3 +1,5 @@
+//! JSON and protobuf of senders, as the gateway gets them.
+
 use super::messages::{ExportMetricsServiceResponse, Status};
 use super::series::posted;
 use super::*;

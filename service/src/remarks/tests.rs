@@ -1,3 +1,5 @@
+//! What is told of foreign points and of owners.
+
 use super::*;
 use std::time::Duration;
 

@@ -1,3 +1,5 @@
+//! What `totxegun check` refuses, and what it leaves behind.
+
 use super::*;
 
 #[test]

@@ -1,3 +1,5 @@
+//! Whose folder it is, and what an earlier run or a copy has left.
+
 use super::*;
 use crate::files::Post;
 use std::os::unix::fs::PermissionsExt;

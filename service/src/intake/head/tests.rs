@@ -1,3 +1,5 @@
+//! What a head says, and which heads are refused.
+
 use super::*;
 
 fn text(method: &str, path: &str, headers: &[(&str, &str)]) -> String {

@@ -1,3 +1,5 @@
+//! The reader of JSON, beside another one.
+
 use super::*;
 
 /// Texts and whether they are JSON (RFC 8259), but for what is said of ranges and depth.

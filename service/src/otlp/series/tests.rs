@@ -1,3 +1,5 @@
+//! Which points the gateway takes, and of which series they are.
+
 use super::*;
 use crate::otlp::messages::{Data, ExportMetricsServiceRequest, Number};
 use prost::Message;
@@ -329,14 +331,9 @@ fn forwarded_points_are_read_in_order() {
         ("\"isMonotonic\":false", "\"isMonotonic\":0"),
         ("[-4]", "5"),
     ] {
-        assert!(
-            forwarded(FORWARDED.replace(part, other).as_bytes()).is_err(),
-            "{part}"
-        );
-        assert!(
-            protobuf_of_forwarded(FORWARDED.replace(part, other).as_bytes()).is_err(),
-            "{part}"
-        );
+        let faulty = FORWARDED.replace(part, other);
+        assert!(forwarded(faulty.as_bytes()).is_err(), "{part}");
+        assert!(protobuf_of_forwarded(faulty.as_bytes()).is_err(), "{part}");
     }
 }
 

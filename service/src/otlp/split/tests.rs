@@ -1,3 +1,5 @@
+//! A request that is too long for one body.
+
 use super::*;
 use crate::otlp::series::posted;
 use std::collections::HashMap;

@@ -1,3 +1,5 @@
+//! Whole numbers of a finer unit, and what stays as it is.
+
 use super::decimal::{Decimal, Nearest};
 use super::*;
 use crate::otlp::series::posted;

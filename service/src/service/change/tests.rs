@@ -1,3 +1,5 @@
+//! Another number of slots, also where the change is killed.
+
 use super::*;
 use crate::files::{Call, Disk, Durability, Post};
 use crate::keeper::tests::{fake_gateway, settings};
