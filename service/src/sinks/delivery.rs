@@ -62,6 +62,8 @@ trait Store: Sync {
         reason: String,
         body: Vec<u8>,
     ) -> impl Future<Output = Result<(), Fault>> + Send;
+    /// The sink has what an earlier run may have kept under this key, before it was killed.
+    fn let_go(&self, key: String) -> impl Future<Output = Result<(), Fault>> + Send;
 }
 
 struct Files {
@@ -86,6 +88,14 @@ impl Store for Files {
     async fn keep(&self, key: String, reason: String, body: Vec<u8>) -> Result<(), Fault> {
         let dead = self.dead.clone();
         blocking(move || dead.keep(&key, &reason, &body)).await
+    }
+
+    async fn let_go(&self, key: String) -> Result<(), Fault> {
+        if self.dead.count() == 0 {
+            return Ok(());
+        }
+        let dead = self.dead.clone();
+        blocking(move || dead.drop_letter(&key).map(drop)).await
     }
 }
 
@@ -142,6 +152,7 @@ impl<S: Store> Run<S> {
             let fate = self.unless_stopped(self.sink.deliver(&request)).await?;
             match self.with_patience(fate, &mut failing) {
                 Fate::Taken => {
+                    self.files.let_go(request.key()).await?;
                     self.ended("taken");
                     return Ok(());
                 }
@@ -206,6 +217,7 @@ impl<S: Store> Run<S> {
         self.files
             .keep(format!("{key}-partial"), reason, left.unwrap_or(request.body))
             .await?;
+        self.files.let_go(key).await?;
         self.metrics
             .faults
             .with_label_values(&["points_rejected_by_sink"])

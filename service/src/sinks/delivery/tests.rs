@@ -4,6 +4,8 @@ use super::*;
 use std::collections::VecDeque;
 use std::pin::Pin;
 
+mod files;
+
 /// Says these fates, then `Taken`.
 #[derive(Default)]
 struct Script {
@@ -94,6 +96,11 @@ impl Store for &Memory {
             return Err(fault());
         }
         self.dead.lock().expect("dead").push((key, reason, body));
+        Ok(())
+    }
+
+    async fn let_go(&self, key: String) -> Result<(), Fault> {
+        self.dead.lock().expect("dead").retain(|(kept, ..)| *kept != key);
         Ok(())
     }
 }
@@ -330,65 +337,6 @@ async fn of_what_is_taken_in_part_the_rest_alone_is_kept_where_it_is_known() {
     );
     assert_eq!(*memory.acknowledged.lock().expect("acknowledged"), [1]);
     assert_eq!(tried.outcome("partial"), 1);
-}
-
-/// What is in no file must not leave the outbox.
-#[tokio::test]
-async fn a_letter_that_can_not_be_kept_ends_the_delivery() {
-    for fate in [
-        Fate::refused("400"),
-        Fate::TakenPartly {
-            rejected: 1,
-            reason: String::new(),
-            left: None,
-        },
-    ] {
-        let memory = Memory {
-            dead_fails: true,
-            ..waiting([1, 2])
-        };
-        run(&memory, vec![fate]).await;
-        assert!(memory.acknowledged.lock().expect("acknowledged").is_empty());
-        assert_eq!(memory.waiting.lock().expect("waiting").len(), 2);
-    }
-}
-
-#[tokio::test]
-async fn an_acknowledgement_that_fails_ends_the_delivery() {
-    let memory = Memory {
-        acknowledge_fails: true,
-        ..waiting([1, 2])
-    };
-    let tried = run(&memory, vec![]).await;
-    assert_eq!(tried.keys(), ["2-e-1"]);
-}
-
-#[tokio::test]
-async fn what_changes_a_file_is_done_before_a_delivery_stops() {
-    let (stop, told) = watch::channel(false);
-    let memory = Memory {
-        stop: Some(stop),
-        ..waiting([1, 2])
-    };
-    let (tried, end) = run_until(&memory, vec![], told).await;
-    assert!(end.is_ok());
-    assert_eq!(tried.keys(), ["2-e-1"]);
-    assert_eq!(*memory.acknowledged.lock().expect("acknowledged"), [1]);
-}
-
-#[tokio::test]
-async fn a_fault_of_a_file_is_told_by_a_delivery_that_is_told_to_stop() {
-    for fate in [Fate::Taken, Fate::Refused { reason: "no".into() }] {
-        let (stop, told) = watch::channel(false);
-        let memory = Memory {
-            stop: Some(stop),
-            acknowledge_fails: true,
-            dead_fails: true,
-            ..waiting([1])
-        };
-        let (_, end) = run_until(&memory, vec![fate], told).await;
-        assert!(end.is_err());
-    }
 }
 
 /// What `deliver` returns must be a task of its own.
