@@ -51,7 +51,8 @@ impl<'a> Request<'a> {
     }
 }
 
-/// Asks, and reads the whole answer. An error says that the answer did not come or can't be read.
+/// Asks, and reads the whole answer. Each may take so long: to send the request, and to get the answer. An error says
+/// that the answer did not come or can't be read.
 pub(super) async fn exchange(
     patience: Duration,
     address: SocketAddr,

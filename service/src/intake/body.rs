@@ -95,7 +95,7 @@ fn gunzip(packed: &[u8], most: usize) -> Result<Vec<u8>, Refusal> {
     let mut plain = Vec::with_capacity((4 * packed.len()).clamp(1024, most));
     let mut reader = MultiGzDecoder::new(packed);
     loop {
-        let room = plain.capacity() - plain.len();
+        let room = plain.capacity().min(most) - plain.len();
         let mut part = reader.by_ref().take(room as u64);
         let read = part.read_to_end(&mut plain).map_err(|_| Refusal::BadGzip)?;
         if read < room {

@@ -1,35 +1,40 @@
 //! What `totxegun check` refuses, and what it leaves behind.
 
 use super::*;
+use anyhow::Result;
+use tempfile::tempdir;
 
 #[test]
-fn what_is_no_folder_is_named() {
-    let folder = tempfile::tempdir().unwrap();
+fn what_is_no_folder_is_named() -> Result<()> {
+    let folder = tempdir()?;
     let error = format!("{:#}", lock(folder.path()).unwrap_err());
     assert!(error.contains("no folder of totxegun: there is no"), "{error}");
-    std::os::unix::fs::symlink("lock", folder.path().join("lock")).unwrap(); // it can't be opened, also by root
+    std::os::unix::fs::symlink("lock", folder.path().join("lock"))?; // it can't be opened, also by root
     let error = lock(folder.path()).unwrap_err().to_string();
     assert!(error.contains("lock can't be read"), "{error}");
+    Ok(())
 }
 
 #[test]
-fn a_folder_in_use_is_not_read() {
-    let folder = tempfile::tempdir().unwrap();
-    let file = File::create(folder.path().join("lock")).unwrap();
-    flock(file.as_raw_fd(), FlockArg::LockExclusiveNonblock).unwrap();
+fn a_folder_in_use_is_not_read() -> Result<()> {
+    let folder = tempdir()?;
+    let file = File::create(folder.path().join("lock"))?;
+    flock(file.as_raw_fd(), FlockArg::LockExclusiveNonblock)?;
     let error = lock(folder.path()).unwrap_err().to_string();
     assert!(error.contains("totxegun status"), "{error}");
+    Ok(())
 }
 
 #[test]
-fn a_copy_has_what_a_start_reads_and_goes_away() {
-    let (data, temporary) = (tempfile::tempdir().unwrap(), tempfile::tempdir().unwrap());
-    std::fs::create_dir_all(data.path().join("slot-0/journal")).unwrap();
-    std::fs::write(data.path().join("slot-0/journal/1"), "a").unwrap();
-    std::fs::write(data.path().join("metrics.db"), "not copied").unwrap();
-    let copy = Copy::of(data.path(), temporary.path()).unwrap();
-    assert_eq!(std::fs::read(copy.0.join("slot-0/journal/1")).unwrap(), b"a");
+fn a_copy_has_what_a_start_reads_and_goes_away() -> Result<()> {
+    let (data, temporary) = (tempdir()?, tempdir()?);
+    std::fs::create_dir_all(data.path().join("slot-0/journal"))?;
+    std::fs::write(data.path().join("slot-0/journal/1"), "a")?;
+    std::fs::write(data.path().join("metrics.db"), "not copied")?;
+    let copy = Copy::of(data.path(), temporary.path())?;
+    assert_eq!(std::fs::read(copy.0.join("slot-0/journal/1"))?, b"a");
     assert!(!copy.0.join("metrics.db").exists());
     drop(copy);
-    assert_eq!(std::fs::read_dir(temporary.path()).unwrap().count(), 0);
+    assert_eq!(std::fs::read_dir(temporary.path())?.count(), 0);
+    Ok(())
 }
