@@ -7,7 +7,8 @@ import sys
 
 from process import ROOT
 
-LOAD = f"{ROOT}/out/bench/load"
+MADE = f"{ROOT}/out/bench"
+LOAD = f"{MADE}/load"
 PACKAGES = ["gcc", "libc6-dev", "zlib1g-dev"]
 
 # Of a post that makes series.
@@ -19,12 +20,13 @@ Posts = collections.namedtuple("Posts", "kind points series encoding connections
 Loaded = collections.namedtuple("Loaded", "requests failed seconds median last bytes")
 
 
-def build():
-    """Builds load.c, or ends the script."""
-    os.makedirs(os.path.dirname(LOAD), exist_ok=True)
-    words = ["gcc", "-O2", "-Wall", "-pthread", "-o", LOAD, f"{ROOT}/bench/load.c", "-lz"]
+def build(name="load"):
+    """Builds a program of this folder, or ends the script. Where it is then."""
+    os.makedirs(MADE, exist_ok=True)
+    words = ["gcc", "-O2", "-Wall", "-pthread", "-o", f"{MADE}/{name}", f"{ROOT}/bench/{name}.c", "-lz"]
     if not shutil.which("gcc") or subprocess.run(words, check=False).returncode:
-        sys.exit(f"load.c can't be built; it needs {' '.join(PACKAGES)}")
+        sys.exit(f"{name}.c can't be built; it needs {' '.join(PACKAGES)}")
+    return f"{MADE}/{name}"
 
 
 def rounded(requests, clients):

@@ -7,10 +7,11 @@
 The programs are bin/totxegun and bin/gateway, as `make build` makes them, where none is named. Rows: json-1, json-20,
 protobuf-103, gzip-103, grpc-1, grpc-103, by the encoding and the points of a post, over 800 series. Parties: gateway, which is the bare
 one, process and disk, which are the service with this durability and a SQLite file as its sink; more options of it are
-in WORDS. With --slots the service has so many gateways, which share the senders; the bare one stays one. The bare
-gateway gets a connection a request, and protobuf's points as JSON: it reads no other. It has the options and the
-environment that the service gives its own gateway. The service gets kept connections, a sender each. The folder of the
-service is made in DIR, which is out/bench where none is named: the disk that `disk` waits for.
+in WORDS; and, where it is named, relay, which is bench/relay.c before a bare gateway: the least that a program between
+senders and gateway takes. With --slots the service has so many gateways, which share the senders; the bare one stays one.
+The bare gateway gets a connection a request, the others kept connections, a sender each. It and the relay get protobuf's
+points as JSON: they read no other. It has the options and the environment that the service gives its own gateway. The
+folder of the service is made in DIR, which is out/bench where none is named: the disk that `disk` waits for.
 
 The parties run in turn, each run in fresh processes whose series are there already, and of about so many seconds.
 Figures are medians over the runs, with the least and the most in brackets; a ratio is one of a run of the service to the
@@ -19,6 +20,7 @@ journal and outbox take meanwhile.
 """
 import contextlib
 import os
+import subprocess
 
 import loading
 from loading import Posts, Senders, rounded
@@ -26,11 +28,13 @@ from process import file_system, numbers, processor_seconds, spread
 from running import as_served, bare, options, serving, shown
 
 from loopback import free_port
+from shipped import listens, wait_until
 
 # Each row with what is posted, and how many posts a second are looked for where it is not known yet.
 ROWS = {"json-1": ("json", 1, 4000), "json-20": ("json", 20, 1000), "protobuf-103": ("protobuf", 103, 300), "gzip-103": ("gzip", 103, 300),
         "grpc-1": ("grpc", 1, 4000), "grpc-103": ("grpc", 103, 300)}
-PARTIES = ["gateway", "process", "disk"]
+SERVICE = ["process", "disk"]
+PARTIES = ["gateway", *SERVICE]
 # Of each sender, so that what a run begins with does not count.
 LEAST_POSTS = 50
 
@@ -54,21 +58,44 @@ def measured(port, pids, clients, posts, requests):
     return loaded, [processor_seconds(pid) - least for pid, least in zip(pids, before)]
 
 
+@contextlib.contextmanager
+def relaying(gateway):
+    """A relay to a gateway's port, with as many threads as there are processors: its port and its process."""
+    port = free_port()
+    words = [loading.build("relay"), str(port), str(gateway), str(len(os.sched_getaffinity(0)))]
+    process = subprocess.Popen(words)
+    try:
+        if not wait_until(lambda: listens(port)):
+            raise SystemExit("the relay does not listen")
+        yield port, process
+    finally:
+        process.kill()
+        process.wait()
+
+
 def run(party, arguments, served, row, clients, requests):
     """The figures of one run."""
     encoding, points, _ = ROWS[row]
+    connections = "kept"
     with contextlib.ExitStack() as stack:
-        if party == "gateway":
+        if party in SERVICE:
+            grpc = free_port()
+            one = stack.enter_context(serving(arguments, "--durable", party, "--slots", str(arguments.slots), "--listen-grpc",
+                                              f"127.0.0.1:{grpc}"))
+            port, pids = grpc if encoding == "grpc" else one.listen, [one.process.pid, *one.gateways()]
+        else:
             words = [arguments.gateway, "serve", "--connections", "1000000", *served[0]]
-            port, process = stack.enter_context(bare(words, served[1]))
-            loaded, (child,) = measured(port, [process.pid], clients, Posts("sum", points, arguments.series, "json", "each"), requests)
-            return Figures(0, child, loaded)
-        grpc = free_port()
-        one = stack.enter_context(serving(arguments, "--durable", party, "--slots", str(arguments.slots), "--listen-grpc",
-                                          f"127.0.0.1:{grpc}"))
-        posts = Posts("sum", points, arguments.series, encoding, "kept")
-        loaded, (own, *children) = measured(grpc if encoding == "grpc" else one.listen, [one.process.pid, *one.gateways()], clients, posts, requests)
-        return Figures(own, sum(children), loaded)
+            port, gateway = stack.enter_context(bare(words, served[1]))
+            pids, encoding = [gateway.pid], "json"
+            if party == "gateway":
+                connections = "each"
+            else:
+                port, between = stack.enter_context(relaying(port))
+                pids.insert(0, between.pid)
+        posts = Posts("sum", points, arguments.series, encoding, connections)
+        loaded, times = measured(port, pids, clients, posts, requests)
+        own = 0 if party == "gateway" else times.pop(0)
+        return Figures(own, sum(times), loaded)
 
 
 def print_row(arguments, served, row, clients):
