@@ -6,7 +6,8 @@
 What a call brings is in the sink, packed or not; a repeat, another's series and a quarantined sender are refused as over
 HTTP, and the log names both senders of a series. What is too long, packed too far, of another method or packed otherwise is
 refused. A deadline that passes, a call that is cancelled, a client that goes away, bytes that are no HTTP/2, and kills of
-the service leave each point counted once. Then SIGTERM ends the service while connections are open.
+the service leave each point counted once; so does SIGTERM behind a deadline that has passed. Then SIGTERM ends the service
+while connections are open.
 
 It needs python3-grpcio; where that is missing a line says so, and the status is 77. Each other line is one check; the last
 one counts those that passed and failed, and the status is 1 where one failed.
@@ -190,6 +191,28 @@ def timed(service, client, count=200):
     print(f"note: {1000 * by_grpc / count:.2f} ms a call, {1000 * by_http / count:.2f} ms a post, of Python's clients", flush=True)
 
 
+def given_up_at_the_end(checks, service, port):
+    """A deadline that has passed when SIGTERM comes, and a gateway that takes the call behind it: what a last flush has of
+    it is in the journal too, so the next run knows the repeat."""
+    service.end()
+    service.words += ["--receivers", "1"]  # so the call is taken before the flush that comes behind it
+    service.start()
+    service.wait_ready()
+    client, body = Client(port), in_protobuf(one_point(0, 3, "last"))
+    service.signal_gateway(signal.SIGSTOP)
+    late = client.call(body, sender="L", seconds=0.3)
+    client.close()
+    threading.Timer(0.5, service.signal_gateway, (signal.SIGCONT,)).start()
+    status, seconds = service.end()
+    checks.true("SIGTERM waits for a call that was given up", status == 0 and seconds < 10, (late, status, seconds))
+    service.start()
+    checks.true("the service is ready again", service.wait_ready(), service.last_lines())
+    client = Client(port)
+    found = client.call(body, sender="L")
+    checks.true("the repeat is taken, or was", found[0] == "OK" or "out of order" in found[1], found)
+    client.close()
+
+
 def in_the_sink(checks, service, sink):
     service.order("/flush")
     checks.true("all is delivered", wait_until(service.is_drained), service.last_lines())
@@ -197,7 +220,7 @@ def in_the_sink(checks, service, sink):
     add_points(found, points)
     checks.same("no spans overlap", [], overlaps(points))
     # 5 and 7, the late one, the one behind the junk.
-    checks.same("each point is counted once", {"calls": 14, "cancelled": 1, "gone": 1, "killed": CALLS},
+    checks.same("each point is counted once", {"calls": 14, "cancelled": 1, "gone": 1, "killed": CALLS, "last": 3},
                 {name: total for name, total in found.items() if not name.startswith("timed")})
 
 
@@ -213,6 +236,7 @@ def run(checks, totxegun, gateway, folder):
         broken_off(checks, service, client, port)
         over_kills(checks, service, client)
         timed(service, client)
+        given_up_at_the_end(checks, service, port)
         in_the_sink(checks, service, sink)
         checks.same("the service found nothing that must not be", [], service.faults())
         with socket.create_connection(("127.0.0.1", port), 5):

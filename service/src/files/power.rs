@@ -1,5 +1,5 @@
-//! Losses of power, for tests: of what was not synced any sectors are left, and of the names that were made and deleted
-//! since the folder was synced the first ones.
+//! Losses of power, for tests: of what was not synced any sectors are left, of the names that were made since the folder
+//! was synced the first ones, and of those that were deleted any: not every file system keeps the order of deletions.
 
 use super::disk::{Call, Disk};
 use super::lock;
@@ -67,12 +67,24 @@ impl Shadow {
         }
     }
 
+    /// The names as they were at one time; any of those that were deleted before may be back.
+    fn left(&self, chance: &mut Numbers) -> Names {
+        let some = chance.below(self.names.len() as u64) as usize;
+        let mut left = self.names[some].clone();
+        let may_be_back = chance.below(2);
+        for (name, inode) in self.names[..some].iter().flatten() {
+            if chance.below(2) < may_be_back {
+                left.entry(name.clone()).or_insert(*inode);
+            }
+        }
+        left
+    }
+
     /// Puts what a loss of power leaves into another folder.
     pub fn lose_power(&mut self, left: &Path, chance: &mut Numbers) {
         std::fs::create_dir(left).unwrap();
         self.see(Call::Write, &self.folder.clone());
-        let some = chance.below(self.names.len() as u64) as usize;
-        for (name, inode) in &self.names[some] {
+        for (name, inode) in &self.left(chance) {
             let now = self.names.last().into_iter().flatten();
             let now = match now.into_iter().find(|(_, it)| *it == inode) {
                 Some((name, _)) => std::fs::read(self.folder.join(name)).unwrap(),

@@ -1,4 +1,4 @@
-//! Starts gateways from one thread, and waits for the end of those that were killed.
+//! Starts gateways from one thread, and has others wait for the end of those that were killed.
 //!
 //! The kernel kills a gateway when the thread that started it ends. So that thread has to live as long as any
 //! gateway: it ends when the last `Starter` is gone, and each gateway has one.
@@ -96,9 +96,15 @@ fn carry_out(todo: Receiver<Order>) {
     }
 }
 
+/// On a thread of its own: an end may take long, as that of a process that a debugger has, and the next one must not
+/// wait for it.
 fn reap(mut process: Child) {
     let _ = process.kill();
-    let _ = process.wait();
+    let wait = move || drop(process.wait());
+    let waiting = std::thread::Builder::new().name("reaper".into()).spawn(wait);
+    if let Err(error) = waiting {
+        tracing::warn!("nobody waits for the end of a gateway that was killed: {error}");
+    }
 }
 
 fn command_line(options: &Options, listen: SocketAddr, back: SocketAddr) -> Command {
@@ -181,6 +187,38 @@ mod tests {
         );
         drop(other);
         assert!(ends(&mut child), "it outlived the thread");
+    }
+
+    /// What a debugger has is there until the debugger has seen its end.
+    const DEBUGGER: &str = "import ctypes, sys, time\n\
+        attached = ctypes.CDLL(None).ptrace(16, int(sys.argv[1]), 0, 0)\n\
+        print(attached, flush=True)\n\
+        time.sleep(100)";
+
+    #[tokio::test]
+    async fn an_end_that_takes_long_keeps_no_other_from_being_started() {
+        use std::io::{BufRead, BufReader};
+        let folder = tempfile::tempdir().unwrap();
+        let options = script(folder.path(), "exec sleep 100");
+        let starter = Starter::new().unwrap();
+        let first = starter.start(&options, somewhere(), somewhere()).await.unwrap();
+        let mut debugger = Command::new("python3")
+            .args(["-c", DEBUGGER, &first.id().to_string()])
+            .stdout(Stdio::piped())
+            .spawn()
+            .unwrap();
+        let mut attached = String::new();
+        let mut lines = BufReader::new(debugger.stdout.take().unwrap());
+        lines.read_line(&mut attached).unwrap();
+        starter.end(first);
+        let second = starter.start(&options, somewhere(), somewhere());
+        let second = tokio::time::timeout(Duration::from_secs(10), second).await;
+        debugger.kill().unwrap();
+        debugger.wait().unwrap();
+        match attached.as_str() {
+            "0\n" => starter.end(second.expect("it waits for the first one's end").unwrap()),
+            _ => eprintln!("skipped: no right to debug"),
+        }
     }
 
     #[tokio::test]

@@ -139,7 +139,7 @@ impl Parts {
             resending: tokio::sync::Mutex::new(()),
         };
         Running {
-            intake: tokio::spawn(senders.serve(limits, intake, self.threads, intake_stopped)),
+            intake: tokio::spawn(senders.serve(limits, intake, self.threads.clone(), intake_stopped)),
             keepers,
             deliveries,
             operate: tokio::spawn(serve(operators, of_operators, Arc::new(desk), keepers_stopped)),
@@ -147,6 +147,7 @@ impl Parts {
             stop_keepers,
             stop_deliveries,
             slots,
+            _threads: self.threads,
         }
     }
 }

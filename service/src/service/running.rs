@@ -2,6 +2,7 @@
 
 use super::Ended;
 use crate::files::Fault;
+use crate::intake::Threads;
 use crate::slot::Slots;
 use anyhow::anyhow;
 use std::sync::Arc;
@@ -18,7 +19,7 @@ const LAST_CHECKPOINT: Duration = Duration::from_secs(5);
 pub(super) const LAST_CHANGES: Duration = Duration::from_secs(2);
 
 /// The parts at work. The intake ends first, then the keepers; the others have nothing to end. All end where this is
-/// dropped.
+/// dropped, in this order.
 pub(super) struct Running {
     pub intake: JoinHandle<()>,
     pub keepers: JoinSet<Result<(), Fault>>,
@@ -28,6 +29,9 @@ pub(super) struct Running {
     pub stop_keepers: watch::Sender<bool>,
     pub stop_deliveries: watch::Sender<bool>,
     pub slots: Arc<Slots>,
+    /// A post that goes on without its sender has its thread until the keepers have ended: a last flush waits for it, and
+    /// would have what is in no journal where it were dropped.
+    pub _threads: Arc<Threads>,
 }
 
 impl Running {
@@ -97,20 +101,24 @@ fn cause(part: &str, end: Result<Result<(), Fault>, JoinError>) -> Ended {
 mod tests {
     use super::*;
     use crate::switch::Switch;
+    use std::future::Future;
 
-    /// Parts of which a keeper ends by a fault so long behind the end of the time for last checkpoints.
-    fn running(late: Duration) -> Running {
+    fn no_disk() -> Fault {
+        Fault::Io {
+            path: "/outbox".into(),
+            source: std::io::Error::other("no disk"),
+        }
+    }
+
+    /// Parts of which a keeper ends so behind being told to.
+    fn running(end: impl Future<Output = Result<(), Fault>> + Send + 'static) -> Running {
         let (stop_intake, _) = watch::channel(false);
         let (stop_keepers, mut stopped) = watch::channel(false);
         let (stop_deliveries, _) = watch::channel(false);
         let mut keepers = JoinSet::new();
         keepers.spawn(async move {
             stopped.wait_true().await;
-            tokio::time::sleep(LAST_CHECKPOINT + late).await;
-            Err(Fault::Io {
-                path: "/outbox".into(),
-                source: std::io::Error::other("no disk"),
-            })
+            end.await
         });
         Running {
             intake: tokio::spawn(async {}),
@@ -121,13 +129,33 @@ mod tests {
             stop_keepers,
             stop_deliveries,
             slots: Slots::new(Vec::new()),
+            _threads: Arc::new(Threads::new(1).unwrap()),
         }
     }
 
     /// It is in the middle of a change of its files, as a rule of a commit.
     #[tokio::test]
     async fn a_fault_of_a_keeper_that_is_late_is_told() {
-        let ended = running(Duration::from_millis(200)).stop().await;
+        let late = async {
+            tokio::time::sleep(LAST_CHECKPOINT + Duration::from_millis(200)).await;
+            Err(no_disk())
+        };
+        let ended = running(late).stop().await;
         assert!(matches!(ended, Err(Ended::Disk(_))), "{ended:?}");
+    }
+
+    /// As that of a call whose deadline has passed: no connection waits for it, and a keeper does.
+    #[tokio::test]
+    async fn a_post_without_its_sender_goes_on_until_the_keepers_have_ended() {
+        let (done, post) = tokio::sync::oneshot::channel();
+        let mut running = running(async { post.await.map_err(|_| no_disk()) });
+        let threads = running._threads.clone();
+        threads.place().0.spawn(async {
+            tokio::time::sleep(Duration::from_millis(200)).await;
+            done.send(())
+        });
+        running.intake = tokio::spawn(async move { drop(threads) });
+        let ended = running.stop().await;
+        assert!(ended.is_ok(), "the post was dropped: {ended:?}");
     }
 }

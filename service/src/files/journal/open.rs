@@ -111,10 +111,10 @@ fn cut(disk: &Disk, folder: &Path, found: &mut Vec<Found>, torn: usize) -> Resul
             "segment {} of the journal follows a torn one, so none of it counts",
             later.size.number
         );
-        disk.remove(&segment::path(folder, later.size.number))?;
+        // Each before the next one, and all before the torn one looks whole: no name may come back behind one that does
+        // not, and what follows the torn one would count again.
+        remove(disk, folder, later.size.number)?;
     }
-    // Before the torn one looks whole: what follows it would count again where its name came back.
-    disk.sync_folder(folder)?;
     if end == 0 {
         disk.remove(&path)?;
         found.pop();
@@ -127,9 +127,15 @@ fn cut(disk: &Disk, folder: &Path, found: &mut Vec<Found>, torn: usize) -> Resul
 /// Deletes the last segments that have no post. Starts that end at once would leave one each.
 fn drop_empty(disk: &Disk, folder: &Path, found: &mut Vec<Found>) -> Result<(), Fault> {
     while let Some(last) = found.pop_if(|last| last.size.bytes == 0) {
-        disk.remove(&segment::path(folder, last.size.number))?;
+        remove(disk, folder, last.size.number)?;
     }
     Ok(())
+}
+
+/// Durable when this returns: not every file system keeps the order of deletions over a loss of power.
+fn remove(disk: &Disk, folder: &Path, number: u64) -> Result<(), Fault> {
+    disk.remove(&segment::path(folder, number))?;
+    disk.sync_folder(folder)
 }
 
 fn find(folder: &Path, number: u64) -> Result<Found, Fault> {

@@ -39,7 +39,6 @@ impl Outbox {
     ) -> Result<Outbox, Fault> {
         disk.make_folder(folder)?;
         let numbers = segment::numbers(folder)?;
-        segment::check_row(folder, &numbers)?;
         // Each is begun once the one before it is durable.
         segment::settle(disk, folder, numbers.last().copied().unwrap_or(0))?;
         let (mut state, has_requests) = read_all(disk, folder, &numbers, epoch)?;
@@ -82,28 +81,32 @@ fn read_all(disk: &Disk, folder: &Path, numbers: &[u64], epoch: &str) -> Result<
     let has_requests = !state.batches.is_empty();
     batches.extend(std::mem::take(&mut state.batches));
     state.bytes = 0;
-    let mut next = None;
-    for batch in batches {
-        let follows = batch.first + batch.count;
-        if next.is_some_and(|next| next != batch.first) {
-            return Err(reading.reader.damaged(
-                0,
-                "a request is missing before this segment: put all of its folder back",
-            ));
+    // The sink has all that was in a segment that was deleted, and a loss of power may bring any of them back.
+    let taken = state.acknowledged;
+    let mut next = taken + 1;
+    for batch in batches
+        .into_iter()
+        .filter(|batch| batch.first + batch.count > taken + 1)
+    {
+        let batch = skip_taken(folder, batch, taken)?;
+        if batch.first != next {
+            return Err(lost(folder, numbers, &reading.reader));
         }
-        next = Some(follows);
-        if follows > state.acknowledged + 1 {
-            state.wait(skip_taken(folder, batch, state.acknowledged)?);
-        }
+        next += batch.count;
+        state.wait(batch);
     }
-    let first = state.front().map_or(state.next, |front| front.waiting.number);
-    if first != state.acknowledged + 1 || next.is_some_and(|next| next != state.next) {
-        return Err(reading.reader.damaged(
-            0,
-            "a request is missing that the sink does not have: put all of its folder back",
-        ));
+    match next == state.next {
+        true => Ok((state, has_requests)),
+        false => Err(lost(folder, numbers, &reading.reader)),
     }
-    Ok((state, has_requests))
+}
+
+/// A request is missing that the sink does not have.
+fn lost(folder: &Path, numbers: &[u64], last: &Reader) -> Fault {
+    let what = "a request is missing that the sink does not have: put all of its folder back";
+    segment::check_row(folder, numbers)
+        .err()
+        .unwrap_or_else(|| last.damaged(0, what))
 }
 
 /// What of a batch still waits.

@@ -129,3 +129,35 @@ async fn what_was_durable_is_there_and_of_the_rest_what_was_made_first() {
         }
     }
 }
+
+#[tokio::test]
+async fn any_of_the_segments_that_were_deleted_may_be_back() {
+    let place = place();
+    let at = |name: &str| place.path().join(name);
+    std::fs::create_dir(at("run")).unwrap();
+    let outbox = open_on(&Disk::default(), &at("run"), "e", 300).unwrap();
+    for number in 1..6 {
+        let bodies = [body(&[("a", number)], "filling")];
+        outbox.commit(&bodies, number + 1).unwrap();
+    }
+    copy(&at("run"), &at("before"));
+    while outbox.waiting().0 > 1 {
+        take(&outbox).await;
+    }
+    let found = view(&outbox);
+    kill(outbox);
+    let numbers = |name: &str| segment::numbers(&at(name)).unwrap();
+    let deleted: Vec<u64> = numbers("before")
+        .into_iter()
+        .filter(|it| !numbers("run").contains(it))
+        .collect();
+    assert!(deleted.len() > 1);
+    for number in deleted {
+        let left = at(&format!("left-{number}"));
+        copy(&at("run"), &left);
+        std::fs::copy(segment::path(&at("before"), number), segment::path(&left, number)).unwrap();
+        let outbox = open_on(&Disk::default(), &left, "e", 300).unwrap();
+        assert_eq!(view(&outbox), found, "{number}");
+        assert_eq!(segment::numbers(&left).unwrap()[0], numbers("run")[0]);
+    }
+}
