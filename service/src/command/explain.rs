@@ -49,7 +49,7 @@ struct Rounded {
 
 impl Options {
     pub fn run(self) -> Result<Vec<u8>, Failure> {
-        let reading = self.reading.reading()?;
+        let reading = self.reading.reading().map_err(Failure::Line)?;
         let body = read(&self.file).with_context(|| format!("{} can't be read", self.file.display()))?;
         let found = found(body, &reading)?;
         match self.form.json {

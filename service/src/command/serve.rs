@@ -26,6 +26,9 @@ const OWN_FILES: u64 = 128;
 const FILES_OF_A_SLOT: u64 = 32;
 const FILES_OF_A_THREAD: u64 = 64;
 
+/// With less than this most posts would be refused as too long for good, and lost.
+const LEAST_BYTES: u64 = 1 << 20;
+
 #[derive(Args)]
 pub struct Options {
     /// The folder of all files; it is made where there is none
@@ -75,7 +78,7 @@ pub struct Options {
     #[arg(long, env = "TOTXEGUN_LOG_FOREIGN", value_name = "N", default_value_t = 0, value_parser = value_parser!(u32).range(..=1000))]
     log_foreign: u32,
     /// The most memory that all posts may take until they are answered
-    #[arg(long, env = "TOTXEGUN_MOST_BYTES", value_name = "BYTES", default_value = "256MiB", value_parser = size)]
+    #[arg(long, env = "TOTXEGUN_MOST_BYTES", value_name = "BYTES", default_value = "256MiB", value_parser = most_bytes)]
     most_bytes: u64,
     /// How many connections senders may have at a time
     #[arg(long, env = "TOTXEGUN_MOST_CONNECTIONS", value_name = "N", default_value_t = 1024, value_parser = value_parser!(u32).range(1..=100_000))]
@@ -130,6 +133,14 @@ impl OfSink {
             Address::Sqlite(path) => Ok(Address::Sqlite(absolute(&path)?)),
             Address::Postgres(server) => Ok(Address::Postgres(server)),
         }
+    }
+}
+
+fn most_bytes(text: &str) -> Result<u64, String> {
+    let bytes = size(text)?;
+    match bytes >= LEAST_BYTES {
+        true => Ok(bytes),
+        false => Err("less than 1MiB would refuse most posts for good".to_string()),
     }
 }
 
@@ -212,7 +223,7 @@ impl Options {
         let sink = self
             .sink
             .unwrap_or_else(|| Address::Sqlite(data.join("metrics.db")));
-        let sink = self.of_sink.put_into(sink)?;
+        let sink = self.of_sink.put_into(sink).map_err(Failure::Line)?;
         Ok(Settings {
             data,
             listen: self.listen,
@@ -231,7 +242,7 @@ impl Options {
             },
             every: self.flush_every,
             forget: self.forget_series.0,
-            reading: self.of_reading.reading()?,
+            reading: self.of_reading.reading().map_err(Failure::Line)?,
             log_foreign: self.log_foreign as usize,
             most_bytes: usize::try_from(self.most_bytes).unwrap_or(usize::MAX),
             most_connections,
