@@ -12,6 +12,8 @@ use anyhow::{bail, Context};
 use clap::{value_parser, Args};
 use std::path::{Path, PathBuf};
 use std::time::Duration;
+use tracing::level_filters::LevelFilter;
+use tracing_subscriber::{filter::Targets, prelude::*};
 
 /// Threads of all that no sender waits for: checkpoints, the delivery, operators.
 const BACKGROUND: usize = 2;
@@ -172,12 +174,21 @@ struct OfGateway {
     round: u32,
 }
 
+/// What gets into the log. Libraries warn of single frames and headers that a sender may send at any rate.
+fn told() -> Targets {
+    Targets::new()
+        .with_target("totxegun", LevelFilter::INFO)
+        .with_default(LevelFilter::ERROR)
+}
+
 impl Options {
     pub fn run(self) -> Result<(), Failure> {
         tracing_subscriber::fmt()
             .with_writer(std::io::stderr)
             .with_target(false)
             .log_internal_errors(false) // it tells them by a panic, where a log's disk is full or nobody reads it
+            .finish()
+            .with(told())
             .init();
         let most_files = raise_open_files();
         tracing::info!("{}", Versions::of(self.gateway.as_deref()));
@@ -266,5 +277,19 @@ fn raise_open_files() -> u64 {
     match soft < hard && setrlimit(RLIMIT_NOFILE, hard, hard).is_ok() {
         true => hard,
         false => soft,
+    }
+}
+
+#[cfg(test)]
+mod tests {
+    use super::*;
+    use tracing::Level;
+
+    /// Else who reaches an address could fill the disk by it.
+    #[test]
+    fn no_warning_of_a_library_is_logged() {
+        let is_told = |target: &str, level| told().would_enable(target, &level);
+        assert!(is_told("totxegun::slot", Level::INFO) && !is_told("totxegun::slot", Level::DEBUG));
+        assert!(!is_told("h2::proto::ping_pong", Level::WARN) && is_told("h2", Level::ERROR));
     }
 }
