@@ -9,8 +9,9 @@ by the series and the end of the span, so a request that is written twice leaves
 InfluxDB has it on disk. A number past 63 bits is refused.
 
 A tag for each attribute of the point and the resource, in which a backslash is shown as `/` and a line's end as a space; and
-`series_id`, a digest that tells two series apart for good. Fields: `value` of a sum; `count`, `sum`, `bucket_0`, .. of a
-histogram; `start`, where the span begins.
+`series_id`, a digest that tells two series apart for good. A name that InfluxDB can't have has `_` before it: an empty one, a
+metric's that begins with `#`, which would be a comment, and an attribute's that is `time`. Fields: `value` of a sum; `count`,
+`sum`, `bucket_0`, .. of a histogram; `start`, where the span begins.
 """
 import hashlib
 import http.client
@@ -42,6 +43,14 @@ def tags_of(attributes):
             yield one["key"], text
 
 
+def metric_of(name):
+    return escaped(f"_{name}" if not name or name[0] == "#" else name, ", ")
+
+
+def key_of(name):
+    return escaped(f"_{name}" if name in ("", "time") else name, ",= ")
+
+
 def fields_of(point):
     if "asInt" in point:
         fields = {"value": point["asInt"]}
@@ -65,9 +74,10 @@ def lines_of(request):
                     identity = [resource, of_scope["scope"], metric["name"], metric["unit"], kind,
                                 metric[kind].get("isMonotonic"), point.get("explicitBounds"), point["attributes"]]
                     series = hashlib.sha256(json.dumps(identity, sort_keys=True).encode()).hexdigest()[:32]
-                    tags = {**dict(tags_of(resource)), **dict(tags_of(point["attributes"])), "series_id": series}
-                    shown = "".join(f",{escaped(name, ',= ')}={escaped(text, ',= ')}" for name, text in sorted(tags.items()))
-                    yield f"{escaped(metric['name'], ', ')}{shown} {fields_of(point)} {point['timeUnixNano']}"
+                    tags = {key_of(name): text for name, text in [*tags_of(resource), *tags_of(point["attributes"])]}
+                    tags["series_id"] = series
+                    shown = "".join(f",{name}={escaped(text, ',= ')}" for name, text in sorted(tags.items()))
+                    yield f"{metric_of(metric['name'])}{shown} {fields_of(point)} {point['timeUnixNano']}"
 
 
 def write(influxdb, database, lines):

@@ -9,6 +9,7 @@ with status 77.
 
 Each line is one check; the last line counts those that passed and failed, and the status is 0 where none failed.
 """
+import importlib.util
 import json
 import os
 import random
@@ -29,6 +30,7 @@ BRIDGE = os.path.join(os.path.dirname(os.path.dirname(os.path.abspath(__file__))
 SECONDS = 20
 SENDERS = 3
 DATABASE = "totals"
+ODD = "odd"
 SETTINGS = """\
 reporting-disabled = true
 bind-address = "127.0.0.1:{more}"
@@ -69,8 +71,8 @@ class InfluxDb(Program):
             file.write(SETTINGS.format(folder=folder, port=self.port, more=free_port()))
         super().__init__(["influxd", "-config", f"{folder}/influxdb.conf"], f"{folder}/log")
 
-    def ask(self, query):
-        path = urllib.parse.urlencode({"db": DATABASE, "q": query, "epoch": "ns"})
+    def ask(self, query, database=DATABASE):
+        path = urllib.parse.urlencode({"db": database, "q": query, "epoch": "ns"})
         status, body = ask(self.port, "POST", f"/query?{path}")
         return json.loads(body)["results"][0].get("series", []) if status == 200 else None
 
@@ -85,6 +87,23 @@ class InfluxDb(Program):
                 buckets = sorted((name for name, number in row.items() if name.startswith("bucket_") and number is not None))
                 found[one["name"]] = tuple(row[name] for name in buckets), row["sum"]
         return found
+
+
+def odd_names(checks, influxdb):
+    """Each point is there, also where InfluxDB can't have its names as they are."""
+    spec = importlib.util.spec_from_file_location("bridge", BRIDGE)
+    bridge = importlib.util.module_from_spec(spec)
+    spec.loader.exec_module(bridge)
+    influxdb.ask(f"create database {ODD}")
+    names = [("#metric", "a"), ("", "a"), ("a,b= c", "a,b= c"), ("b", ""), ("c", "time"), ("d", "a\\"), ("d", "a/"), ("e\n", "a\n"), ("f", "#")]
+    for name, key in names:
+        point = {"asInt": "5", "startTimeUnixNano": "1", "timeUnixNano": "2", "attributes": [{"key": key, "value": {"stringValue": "x"}}]}
+        metric = {"name": name, "unit": "", "sum": {"aggregationTemporality": 1, "dataPoints": [point], "isMonotonic": True}}
+        scope = {"metrics": [metric], "scope": {"attributes": [], "name": "", "version": ""}}
+        lines = bridge.lines_of({"resourceMetrics": [{"resource": {"attributes": []}, "scopeMetrics": [scope]}]})
+        checks.same(f"{name!r} with {key!r} is written", (200, ""), bridge.write(f"127.0.0.1:{influxdb.port}", ODD, lines))
+    found = influxdb.ask("select value from /.*/", ODD)
+    checks.same("all of them are there", len(names), sum(len(one["values"]) for one in found))
 
 
 def trouble(service, bridge, influxdb, until, chance):
@@ -112,6 +131,7 @@ def run(checks, program, gateway, folder, seconds, seed):
         influxdb.start()
         is_made = wait_until(lambda: influxdb.ask(f"create database {DATABASE}") is not None)
         checks.true("InfluxDB is there", is_made, influxdb.log)
+        odd_names(checks, influxdb)
         bridge.start()
         service.start()
         checks.true("the service is ready", service.wait_ready(), service.last_lines())

@@ -114,6 +114,20 @@ fn a_faulty_line_has_status_2() {
         "no sink is known for `localhost:`",
     );
     refused(&["quarantine", "no name"], 2, "1 to 64");
+    let serve = ["serve", "--data", "d", "--gateway", "/bin/true"];
+    for (words, part) in [
+        (&[&serve[..], &["--sink-gzip"]].concat()[..], "for a sink of OTLP"),
+        (
+            &[&serve[..], &["--whole", "s=us,s=ms"]].concat(),
+            "two rules for the unit `s`",
+        ),
+        (
+            &["explain", "-", "--whole", "s=us,s=ms"],
+            "two rules for the unit `s`",
+        ),
+    ] {
+        refused(words, 2, part);
+    }
     refused(&["dead"], 2, "Usage");
 }
 

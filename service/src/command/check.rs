@@ -86,11 +86,12 @@ struct Copy(PathBuf);
 
 impl Copy {
     fn of(data: &Path, temporary: &Path) -> anyhow::Result<Copy> {
-        let copy = Copy(temporary.join(format!("totxegun-check-{}", std::process::id())));
+        let place = temporary.join(format!("totxegun-check-{}", std::process::id()));
         DirBuilder::new()
             .mode(0o700)
-            .create(&copy.0)
-            .with_context(|| format!("{} can't be made", copy.0.display()))?;
+            .create(&place)
+            .with_context(|| format!("{} can't be made", place.display()))?;
+        let copy = Copy(place); // and not before: what was there already is not this one's to remove
         for entry in std::fs::read_dir(data)? {
             let name = entry?.file_name();
             let is_ours = name

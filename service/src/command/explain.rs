@@ -12,8 +12,10 @@ use std::collections::BTreeMap;
 use std::io::Read;
 use std::path::{Path, PathBuf};
 
-/// What the service takes of a body, unpacked.
+/// What the service takes of a body, packed and unpacked.
 const MOST: u64 = 4 << 20;
+/// One more than the longest message of gRPC has: what is longer is refused, and not read on.
+const MOST_READ: u64 = MOST + 6;
 
 #[derive(Args)]
 pub struct Options {
@@ -49,7 +51,7 @@ struct Rounded {
 
 impl Options {
     pub fn run(self) -> Result<Vec<u8>, Failure> {
-        let reading = self.reading.reading()?;
+        let reading = self.reading.reading().map_err(Failure::Line)?;
         let body = read(&self.file).with_context(|| format!("{} can't be read", self.file.display()))?;
         let found = found(body, &reading)?;
         match self.form.json {
@@ -62,18 +64,18 @@ impl Options {
 fn read(file: &Path) -> std::io::Result<Vec<u8>> {
     let mut body = Vec::new();
     match file.to_str() {
-        Some("-") => std::io::stdin().lock().read_to_end(&mut body)?,
-        _ => std::fs::File::open(file)?.read_to_end(&mut body)?,
+        Some("-") => std::io::stdin().lock().take(MOST_READ).read_to_end(&mut body)?,
+        _ => std::fs::File::open(file)?
+            .take(MOST_READ)
+            .read_to_end(&mut body)?,
     };
     Ok(body)
 }
 
 fn found(body: Vec<u8>, reading: &Reading) -> anyhow::Result<Found> {
     let (framed, body) = unframed(body);
-    let (packed, body) = unpacked(body)?;
-    if body.len() as u64 > MOST {
-        return Err(anyhow!("refused with 413: body too long"));
-    }
+    let (packed, body) = unpacked(not_too_long(body)?)?;
+    let body = not_too_long(body)?;
     let bytes = body.len();
     let encoding = if framed {
         Encoding::Protobuf
@@ -111,6 +113,13 @@ fn refused(refused: Refused) -> anyhow::Error {
         Refused::TooLong => 413,
     };
     anyhow!("refused with {status}: {refused}")
+}
+
+fn not_too_long(body: Vec<u8>) -> anyhow::Result<Vec<u8>> {
+    match body.len() as u64 > MOST {
+        true => Err(anyhow!("refused with 413: body too long")),
+        false => Ok(body),
+    }
 }
 
 /// A message of gRPC begins with whether it is packed, and its length; neither JSON nor protobuf begins so.
@@ -228,6 +237,13 @@ mod tests {
         assert_eq!(
             found(Vec::new(), &Reading::default()).unwrap().encoding,
             "protobuf"
+        );
+        let mut long = b"\x1f\x8b".to_vec();
+        long.resize(MOST as usize + 1, 0);
+        let error = found(long, &Reading::default()).unwrap_err().to_string();
+        assert_eq!(
+            error, "refused with 413: body too long",
+            "also where it is packed"
         );
         for (body, why) in [
             ("{", "refused with 400: not JSON"),

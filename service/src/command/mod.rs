@@ -27,6 +27,7 @@ use std::io::{ErrorKind, Write};
 use std::process::ExitCode;
 
 const REFUSED: u8 = 1;
+const FAULTY: u8 = 2;
 const DISK: u8 = 70;
 
 /// Takes OTLP delta metrics, adds them up by a gateway, keeps them on disk, and delivers the totals to a sink.
@@ -77,6 +78,9 @@ enum Failure {
     /// With what is wrong and what to do.
     #[error("{0:#}")]
     Refused(#[from] anyhow::Error),
+    /// Options that contradict each other: no later try does better.
+    #[error("{0:#}")]
+    Line(anyhow::Error),
     #[error("{0}")]
     Disk(#[from] Fault),
 }
@@ -106,6 +110,7 @@ pub fn run() -> ExitCode {
             crate::complain(format_args!("{failure}"));
             ExitCode::from(match failure {
                 Failure::Refused(_) => REFUSED,
+                Failure::Line(_) => FAULTY,
                 Failure::Disk(_) => DISK,
             })
         }
@@ -223,6 +228,7 @@ mod tests {
             ("serve --data d --flushers 0", "--flushers"),
             ("serve --data d --durable never", "--durable"),
             ("serve --data d --memory 1X", "--memory"),
+            ("serve --data d --most-bytes 256", "1MiB"),
             ("serve --data d --sink nats://h", "--sink"),
             ("serve --data d --whole s=h", "--whole"),
             ("serve --data d --whole s=0:us", "--whole"),

@@ -12,6 +12,8 @@ use anyhow::{bail, Context};
 use clap::{value_parser, Args};
 use std::path::{Path, PathBuf};
 use std::time::Duration;
+use tracing::level_filters::LevelFilter;
+use tracing_subscriber::{filter::Targets, prelude::*};
 
 /// Threads of all that no sender waits for: checkpoints, the delivery, operators.
 const BACKGROUND: usize = 2;
@@ -25,6 +27,9 @@ const FILES_OF_A_CONNECTION: u64 = 2;
 const OWN_FILES: u64 = 128;
 const FILES_OF_A_SLOT: u64 = 32;
 const FILES_OF_A_THREAD: u64 = 64;
+
+/// With less than this most posts would be refused as too long for good, and lost.
+const LEAST_BYTES: u64 = 1 << 20;
 
 #[derive(Args)]
 pub struct Options {
@@ -75,7 +80,7 @@ pub struct Options {
     #[arg(long, env = "TOTXEGUN_LOG_FOREIGN", value_name = "N", default_value_t = 0, value_parser = value_parser!(u32).range(..=1000))]
     log_foreign: u32,
     /// The most memory that all posts may take until they are answered
-    #[arg(long, env = "TOTXEGUN_MOST_BYTES", value_name = "BYTES", default_value = "256MiB", value_parser = size)]
+    #[arg(long, env = "TOTXEGUN_MOST_BYTES", value_name = "BYTES", default_value = "256MiB", value_parser = most_bytes)]
     most_bytes: u64,
     /// How many connections senders may have at a time
     #[arg(long, env = "TOTXEGUN_MOST_CONNECTIONS", value_name = "N", default_value_t = 1024, value_parser = value_parser!(u32).range(1..=100_000))]
@@ -133,6 +138,14 @@ impl OfSink {
     }
 }
 
+fn most_bytes(text: &str) -> Result<u64, String> {
+    let bytes = size(text)?;
+    match bytes >= LEAST_BYTES {
+        true => Ok(bytes),
+        false => Err("less than 1MiB would refuse most posts for good".to_string()),
+    }
+}
+
 fn header(text: &str) -> Result<(String, String), String> {
     let (name, value) = text.split_once(':').ok_or("write a name, a colon and a value")?;
     Ok((name.trim().to_string(), value.trim().to_string()))
@@ -161,12 +174,21 @@ struct OfGateway {
     round: u32,
 }
 
+/// What gets into the log. Libraries warn of single frames and headers that a sender may send at any rate.
+fn told() -> Targets {
+    Targets::new()
+        .with_target("totxegun", LevelFilter::INFO)
+        .with_default(LevelFilter::ERROR)
+}
+
 impl Options {
     pub fn run(self) -> Result<(), Failure> {
         tracing_subscriber::fmt()
             .with_writer(std::io::stderr)
             .with_target(false)
             .log_internal_errors(false) // it tells them by a panic, where a log's disk is full or nobody reads it
+            .finish()
+            .with(told())
             .init();
         let most_files = raise_open_files();
         tracing::info!("{}", Versions::of(self.gateway.as_deref()));
@@ -212,7 +234,7 @@ impl Options {
         let sink = self
             .sink
             .unwrap_or_else(|| Address::Sqlite(data.join("metrics.db")));
-        let sink = self.of_sink.put_into(sink)?;
+        let sink = self.of_sink.put_into(sink).map_err(Failure::Line)?;
         Ok(Settings {
             data,
             listen: self.listen,
@@ -231,7 +253,7 @@ impl Options {
             },
             every: self.flush_every,
             forget: self.forget_series.0,
-            reading: self.of_reading.reading()?,
+            reading: self.of_reading.reading().map_err(Failure::Line)?,
             log_foreign: self.log_foreign as usize,
             most_bytes: usize::try_from(self.most_bytes).unwrap_or(usize::MAX),
             most_connections,
@@ -255,5 +277,19 @@ fn raise_open_files() -> u64 {
     match soft < hard && setrlimit(RLIMIT_NOFILE, hard, hard).is_ok() {
         true => hard,
         false => soft,
+    }
+}
+
+#[cfg(test)]
+mod tests {
+    use super::*;
+    use tracing::Level;
+
+    /// Else who reaches an address could fill the disk by it.
+    #[test]
+    fn no_warning_of_a_library_is_logged() {
+        let is_told = |target: &str, level| told().would_enable(target, &level);
+        assert!(is_told("totxegun::slot", Level::INFO) && !is_told("totxegun::slot", Level::DEBUG));
+        assert!(!is_told("h2::proto::ping_pong", Level::WARN) && is_told("h2", Level::ERROR));
     }
 }

@@ -2,7 +2,10 @@
 
 use std::fmt;
 
-/// Columns as wide as their widest text.
+/// How wide a column is at most. One text of megabytes makes no line as long, nor has a format room for its width.
+const WIDEST: usize = 1000;
+
+/// Columns as wide as their widest text, up to a bound.
 pub struct Table {
     rows: Vec<Vec<String>>,
 }
@@ -37,7 +40,8 @@ impl fmt::Display for Table {
                 .map(|text| text.chars().count())
                 .max()
         };
-        let widths: Vec<usize> = (0..columns).map(|column| width(column).unwrap_or(0)).collect();
+        let widths = (0..columns).map(|column| width(column).unwrap_or(0).min(WIDEST));
+        let widths: Vec<usize> = widths.collect();
         for row in &self.rows {
             let cells: Vec<String> = row
                 .iter()
@@ -59,5 +63,14 @@ mod tests {
         let mut table = Table::new(&["a", "b"]);
         table.row(&["long", "x\u{1b}[2J"]);
         assert_eq!(table.to_string(), "a     b\nlong  x\u{FFFD}[2J\n");
+    }
+
+    #[test]
+    fn a_text_may_be_longer_than_a_column_is_wide() {
+        let long = "x".repeat(70_000);
+        let mut table = Table::new(&["a", "b"]);
+        table.row(&[long.as_str(), "c"]);
+        let head = format!("a{}b", " ".repeat(WIDEST + 1));
+        assert_eq!(table.to_string(), format!("{head}\n{long}  c\n"));
     }
 }

@@ -3,8 +3,10 @@
 //! empty frame that ends a call, one for each.
 //!
 //! The library's own bounds on these are younger than the release that is used here, so the frames are counted where
-//! their bytes are read: what a frame is and how long, no more. What is no HTTP/2 at all is left to the library.
+//! their bytes are read: what a frame is and how long, no more. What is no HTTP/2 at all is left to the library, but for
+//! what it panics at: a status in a request (`block`), and that a client goes away, which it is not told.
 
+use super::block::Block;
 use std::io::{Error, ErrorKind, IoSlice, Result};
 use std::pin::Pin;
 use std::task::{ready, Context, Poll};
@@ -29,9 +31,17 @@ const DATA: u8 = 0;
 /// A flag of data. Some clients say by an empty frame that a message was all: one for each call.
 const END_STREAM: u8 = 1;
 const HEADERS: u8 = 1;
+const PUSH_PROMISE: u8 = 5;
 const PING: u8 = 6;
+/// A client says so that it takes no calls more, which it never gets. The library gives up calls behind the stream that
+/// this names, and counts wrongly those that it has not begun with.
+const GOAWAY: u8 = 7;
 const WINDOW_UPDATE: u8 = 8;
 const CONTINUATION: u8 = 9;
+/// A kind that no frame has: the library passes it over.
+const UNKNOWN: u8 = 0xff;
+/// The place of a frame's kind in its head.
+const KIND: usize = 3;
 
 /// What the frames of a connection were so far.
 struct Frames {
@@ -39,8 +49,9 @@ struct Frames {
     passed_over: usize,
     head: [u8; HEAD],
     of_head: usize,
-    block: usize,
-    block_frames: usize,
+    block: Block,
+    /// Whether what comes is of the block.
+    is_of_block: bool,
     idle: usize,
     since: Instant,
     /// How many pings may come for messages that came.
@@ -55,8 +66,8 @@ impl Frames {
             passed_over: PREFACE,
             head: [0; HEAD],
             of_head: 0,
-            block: 0,
-            block_frames: 0,
+            block: Block::default(),
+            is_of_block: false,
             idle: 0,
             since: Instant::now(),
             pings: 0,
@@ -64,16 +75,28 @@ impl Frames {
         }
     }
 
-    /// Whether the connection may go on behind these bytes.
-    fn may_go_on(&mut self, mut bytes: &[u8]) -> bool {
+    /// Whether the connection may go on behind these bytes, of which the kinds of some frames are changed.
+    fn may_go_on(&mut self, mut bytes: &mut [u8]) -> bool {
         while !bytes.is_empty() {
             let passed_over = self.passed_over.min(bytes.len());
             self.passed_over -= passed_over;
-            bytes = &bytes[passed_over..];
-            let taken = (HEAD - self.of_head).min(bytes.len());
-            self.head[self.of_head..self.of_head + taken].copy_from_slice(&bytes[..taken]);
-            self.of_head += taken;
-            bytes = &bytes[taken..];
+            let (part, behind) = bytes.split_at_mut(passed_over);
+            if self.is_of_block {
+                self.block.put(part);
+            }
+            if self.passed_over == 0 && !self.frame_ends() {
+                return false;
+            }
+            let (head, behind) = behind.split_at_mut((HEAD - self.of_head).min(behind.len()));
+            self.head[self.of_head..self.of_head + head.len()].copy_from_slice(head);
+            let kind = KIND
+                .checked_sub(self.of_head)
+                .and_then(|place| head.get_mut(place));
+            if let Some(kind) = kind.filter(|kind| **kind == GOAWAY) {
+                *kind = UNKNOWN;
+            }
+            self.of_head += head.len();
+            bytes = behind;
             if self.of_head == HEAD {
                 self.of_head = 0;
                 if !self.frame() {
@@ -81,25 +104,30 @@ impl Frames {
                 }
             }
         }
-        true
+        // A frame without more than its head has no byte behind it.
+        self.passed_over > 0 || self.frame_ends()
+    }
+
+    /// Whether the library may read a frame that is whole.
+    fn frame_ends(&mut self) -> bool {
+        !std::mem::take(&mut self.is_of_block) || self.block.may_be_read()
     }
 
     fn frame(&mut self) -> bool {
         let [a, b, c, kind, flags, ..] = self.head;
         let length = u32::from_be_bytes([0, a, b, c]) as usize;
         self.passed_over = length;
+        self.is_of_block = matches!(kind, HEADERS | CONTINUATION);
         match kind {
             HEADERS => {
-                (self.block, self.block_frames) = (length, 1);
+                self.block.begins(flags);
                 self.ends = IDLE_FRAMES.min(self.ends + 1);
             }
-            CONTINUATION => {
-                self.block += length;
-                self.block_frames += 1;
-            }
+            CONTINUATION => self.block.goes_on(flags),
             DATA if length > 0 => self.pings = IDLE_FRAMES.min(self.pings + 1),
             DATA if flags & END_STREAM != 0 && self.ends > 0 => self.ends -= 1,
             PING if self.pings > 0 => self.pings -= 1,
+            PUSH_PROMISE => return false, // no client may, and its headers would be in no `block`
             WINDOW_UPDATE => {}
             _ => {
                 if self.since.elapsed() > WITHIN {
@@ -108,7 +136,12 @@ impl Frames {
                 self.idle += 1;
             }
         }
-        self.block <= BLOCK && self.block_frames <= BLOCK_FRAMES && self.idle <= IDLE_FRAMES
+        let block = if self.is_of_block {
+            self.block.length() + length
+        } else {
+            0
+        };
+        block <= BLOCK && self.block.frames() <= BLOCK_FRAMES && self.idle <= IDLE_FRAMES
     }
 }
 
@@ -135,8 +168,11 @@ impl AsyncRead for Guarded {
     ) -> Poll<Result<()>> {
         let before = into.filled().len();
         ready!(Pin::new(&mut self.stream).poll_read(context, into))?;
-        if !self.frames.may_go_on(&into.filled()[before..]) {
-            return Poll::Ready(Err(Error::new(ErrorKind::InvalidData, "too many idle frames")));
+        if !self.frames.may_go_on(&mut into.filled_mut()[before..]) {
+            return Poll::Ready(Err(Error::new(
+                ErrorKind::InvalidData,
+                "frames that no client may send",
+            )));
         }
         Poll::Ready(Ok(()))
     }
@@ -182,16 +218,20 @@ mod tests {
     /// Whether a connection of these frames may go on, whatever parts its bytes come in.
     fn may_go_on(frames: &[Vec<u8>]) -> bool {
         let bytes = [vec![0; PREFACE], frames.concat()].concat();
-        let whole = Frames::new().may_go_on(&bytes);
+        let (may_go_on, passed_on) = passed_on(&bytes, bytes.len());
         for part in [1, 7, 10, 1000] {
-            let mut counted = Frames::new();
-            assert_eq!(
-                bytes.chunks(part).all(|part| counted.may_go_on(part)),
-                whole,
-                "{part}"
-            );
+            let in_parts = self::passed_on(&bytes, part);
+            assert_eq!(in_parts.0, may_go_on, "{part}");
+            assert!(!may_go_on || in_parts.1 == passed_on, "{part}");
         }
-        whole
+        may_go_on
+    }
+
+    /// The same of bytes in parts that are so long, and what the library reads of them.
+    fn passed_on(bytes: &[u8], part: usize) -> (bool, Vec<u8>) {
+        let (mut counted, mut bytes) = (Frames::new(), bytes.to_vec());
+        let may_go_on = bytes.chunks_mut(part).all(|part| counted.may_go_on(part));
+        (may_go_on, bytes)
     }
 
     #[test]
@@ -220,5 +260,47 @@ mod tests {
         let empty = vec![frame(CONTINUATION, 0); BLOCK_FRAMES];
         assert!(!may_go_on(&[vec![frame(HEADERS, 1)], empty].concat()));
         assert!(!may_go_on(&[frame(HEADERS, 16384), frame(CONTINUATION, 50_000)]));
+    }
+
+    const END_HEADERS: u8 = 4;
+
+    fn headers(kind: u8, flags: u8, block: &[u8]) -> Vec<u8> {
+        let mut bytes = frame(kind, block.len());
+        bytes[4] = flags;
+        bytes[HEAD..].copy_from_slice(block);
+        bytes
+    }
+
+    #[test]
+    fn headers_with_a_status_end_a_connection() {
+        let (sound, status) = (&[0x83][..], &[0x48, 3, b'1', b'0', b'0'][..]);
+        let whole = |block: &[u8]| headers(HEADERS, END_HEADERS, block);
+        assert!(may_go_on(&[whole(sound), frame(DATA, 0x88), whole(sound)]));
+        assert!(!may_go_on(&[whole(sound), whole(status)]));
+        assert!(may_go_on(&[whole(b"")]));
+        let second = |block: &[u8]| {
+            [
+                headers(HEADERS, 0, sound),
+                headers(CONTINUATION, END_HEADERS, block),
+            ]
+        };
+        assert!(may_go_on(&second(sound)) && may_go_on(&second(b"")) && !may_go_on(&second(status)));
+        assert!(!may_go_on(&[frame(PUSH_PROMISE, 8)]));
+    }
+
+    #[test]
+    fn the_library_is_not_told_that_a_client_goes_away() {
+        let bytes = [vec![0; PREFACE], frame(PING, 8), frame(GOAWAY, 8), frame(PING, 8)].concat();
+        for part in [1, 2, 3, 4, 5, bytes.len()] {
+            let wanted = [
+                vec![0; PREFACE],
+                frame(PING, 8),
+                frame(UNKNOWN, 8),
+                frame(PING, 8),
+            ]
+            .concat();
+            assert_eq!(passed_on(&bytes, part), (true, wanted), "{part}");
+        }
+        assert!(!may_go_on(&vec![frame(GOAWAY, 8); IDLE_FRAMES + 1]));
     }
 }

@@ -2,8 +2,9 @@
 //!
 //! A message goes the way of a body that came over HTTP: the same reader, slot, journal and bound of memory, so the
 //! same answers. `message` takes it out of its frame, `reply` says what became of it as gRPC does, `connections` serves,
-//! and `guard` ends a connection that floods.
+//! and `guard` ends a connection that floods, or whose headers (`block`) the library must not read.
 
+mod block;
 mod connections;
 mod guard;
 mod message;

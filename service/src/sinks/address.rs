@@ -86,6 +86,11 @@ fn otlp(url: String) -> Result<Address, BadAddress> {
             "a name and password in it are not sent: give a header `authorization`",
         ));
     }
+    // The client would take the scheme's own port for one that is none, and so another server.
+    let port = authority.as_str()[authority.host().len()..].strip_prefix(':');
+    if port.is_some_and(|port| !port.parse().is_ok_and(|port: u16| port > 0)) {
+        return Err(bad("its port is none of 1 to 65535"));
+    }
     let path = match uri.path_and_query().map(|path| path.as_str()) {
         None | Some("" | "/") => "/v1/metrics",
         Some(path) => path,
@@ -128,6 +133,8 @@ mod tests {
         assert_eq!(url_of("http://h:4318"), "http://h:4318/v1/metrics");
         assert_eq!(url_of("HTTPS://h/"), "https://h/v1/metrics");
         assert_eq!(url_of("https://h/otlp?tenant=1"), "https://h/otlp?tenant=1");
+        assert_eq!(url_of("http://[::1]:65535"), "http://[::1]:65535/v1/metrics");
+        assert_eq!(url_of("http://[::1]"), "http://[::1]/v1/metrics");
     }
 
     #[test]
@@ -141,6 +148,10 @@ mod tests {
             ("http://", "no URL"),
             ("http://a b/", "no URL"),
             ("http://user:secret@h/", "authorization"),
+            ("http://h:65536/", "1 to 65535"),
+            ("http://h:4318x/", "1 to 65535"),
+            ("https://[::1]:0", "1 to 65535"),
+            ("http://h:/", "1 to 65535"),
         ] {
             let error = text.parse::<Address>().expect_err(text);
             let said = error.to_string();

@@ -38,3 +38,14 @@ fn a_copy_has_what_a_start_reads_and_goes_away() -> Result<()> {
     assert_eq!(std::fs::read_dir(temporary.path())?.count(), 0);
     Ok(())
 }
+
+#[test]
+fn what_is_in_the_place_of_a_copy_stays() {
+    let (data, temporary) = (tempfile::tempdir().unwrap(), tempfile::tempdir().unwrap());
+    let place = Copy::of(data.path(), temporary.path()).unwrap().0.clone();
+    std::fs::create_dir(&place).unwrap();
+    std::fs::write(place.join("another's"), "a").unwrap();
+    let error = Copy::of(data.path(), temporary.path()).err().unwrap();
+    assert!(format!("{error:#}").contains("can't be made"), "{error:#}");
+    assert!(place.join("another's").exists());
+}

@@ -41,11 +41,21 @@ enum Read {
     Cut,
 }
 
+impl Read {
+    /// No message of protobuf that is an answer begins so; behind a blank it may.
+    fn is_object(&self) -> bool {
+        matches!(self, Read::Whole(bytes) if bytes.starts_with(b"{"))
+    }
+}
+
 /// Reads an answer until the deadline.
 pub(super) async fn fate(response: Response<Body>, sent: Encoding, deadline: Instant) -> Fate {
     let (head, body) = response.into_parts();
-    let encoding = encoding_of(&head.headers).unwrap_or(sent);
     let body = timeout_at(deadline, read(body)).await.unwrap_or(Read::Cut);
+    let encoding = match encoding_of(&head.headers) {
+        None if body.is_object() => Encoding::Json,
+        known => known.unwrap_or(sent),
+    };
     let reason = |more: String| Fate::Refused {
         reason: join(&head.status.to_string(), &more),
     };
@@ -101,6 +111,10 @@ async fn read(mut body: Body) -> Read {
 /// not know keys would count it twice.
 fn taken(body: Read, encoding: Encoding) -> Fate {
     let Read::Whole(bytes) = body else {
+        tracing::warn!(
+            "a sink took a request, but its answer was cut, or is over {LONGEST_ANSWER} bytes: nothing is known of points \
+             that it may have rejected"
+        );
         return Fate::Taken;
     };
     let partial = match encoding {

@@ -88,6 +88,23 @@ async fn rejected_points_are_told_in_protobuf() {
     assert_eq!(fate_of("200 OK", headers, body).await, rejected);
 }
 
+/// Some servers say of JSON that it is text.
+#[tokio::test]
+async fn an_object_of_no_known_kind_is_json() {
+    let json = "{\"partialSuccess\":{\"rejectedDataPoints\":\"3\",\"errorMessage\":\"too old\"}}\n";
+    for headers in ["", "content-type: text/plain; charset=utf-8\r\n"] {
+        let server = Server::start(vec![Act::Write(answer("200 OK", headers, json))]).await;
+        let mut sink = OtlpSink::open(&server.url, true, false, &[]).expect("a sink");
+        sink.patience = Duration::from_secs(3);
+        let rejected = Fate::TakenPartly {
+            rejected: 3,
+            reason: "too old".into(),
+            left: None,
+        };
+        assert_eq!(sink.deliver(&request(1)).await, rejected, "{headers}");
+    }
+}
+
 #[tokio::test]
 async fn trouble_that_passes_is_tried_again() {
     for status in [
