@@ -40,12 +40,13 @@ fn a_copy_has_what_a_start_reads_and_goes_away() -> Result<()> {
 }
 
 #[test]
-fn what_is_in_the_place_of_a_copy_stays() {
-    let (data, temporary) = (tempfile::tempdir().unwrap(), tempfile::tempdir().unwrap());
-    let place = Copy::of(data.path(), temporary.path()).unwrap().0.clone();
-    std::fs::create_dir(&place).unwrap();
-    std::fs::write(place.join("another's"), "a").unwrap();
+fn what_is_in_the_place_of_a_copy_stays() -> Result<()> {
+    let (data, temporary) = (tempdir()?, tempdir()?);
+    let place = Copy::of(data.path(), temporary.path())?.0.clone();
+    std::fs::create_dir(&place)?;
+    std::fs::write(place.join("another's"), "a")?;
     let error = Copy::of(data.path(), temporary.path()).err().unwrap();
     assert!(format!("{error:#}").contains("can't be made"), "{error:#}");
     assert!(place.join("another's").exists());
+    Ok(())
 }
