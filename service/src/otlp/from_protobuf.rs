@@ -3,6 +3,7 @@
 //! It is never held as a tree of messages: each is looked through once, and then its fields are written in the order of
 //! its table. So the memory is that of the JSON, however many small messages the bytes are.
 
+use super::json::is_text;
 use super::output::{Output, Written, LONGEST_LIST};
 use super::schema::{Field, Kind, Message, Wire, EXEMPLAR, KEY_VALUE, KEY_VALUE_LIST, NUMBER_POINT, REQUEST};
 use super::wire::{Fields, Malformed, Payload};
@@ -107,10 +108,6 @@ fn is_payload_of(kind: Kind, payload: Payload<'_>) -> bool {
         },
         _ => matches!(payload, Payload::Bytes(_)),
     }
-}
-
-fn is_text(bytes: &[u8]) -> bool {
-    bytes.is_ascii() || std::str::from_utf8(bytes).is_ok()
 }
 
 fn not_text(of: &'static Message, field: &Field) -> Refused {
