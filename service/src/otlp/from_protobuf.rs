@@ -43,16 +43,23 @@ struct Found<'a> {
     times: usize,
     /// From the first time on.
     fields: Fields<'a>,
+    /// The last one, where it is no list.
     last: Payload<'a>,
 }
 
 impl<'a> Found<'a> {
     /// Each time, in order.
-    fn all(self, number: u32) -> impl Iterator<Item = Payload<'a>> {
+    fn all(self, number: u8) -> impl Iterator<Item = Payload<'a>> {
         let own = move |field: Result<(u32, Payload<'a>), Malformed>| {
-            field.ok().filter(|found| found.0 == number).map(|found| found.1)
+            let (found, payload) = field.ok()?;
+            (found == u32::from(number)).then_some(payload)
         };
         self.fields.filter_map(own).take(self.times)
+    }
+
+    /// The bytes of each time, in order.
+    fn all_bytes(mut self, number: u8) -> impl Iterator<Item = &'a [u8]> {
+        (0..self.times).map_while(move |_| self.fields.next_bytes(number))
     }
 
     /// The bytes of a text or a message; of several the last count.
@@ -69,7 +76,7 @@ impl<'a> Found<'a> {
     }
 
     /// The elements of a list of 8 bytes each, packed or not.
-    fn each_bits(self, number: u32) -> impl Iterator<Item = u64> + 'a {
+    fn each_bits(self, number: u8) -> impl Iterator<Item = u64> + 'a {
         self.all(number).flat_map(|payload| {
             let one = match payload {
                 Payload::Fixed64(bits) => Some(bits),
@@ -165,13 +172,24 @@ impl<'a> Writer<'a, '_> {
             let here = fields;
             let Some(next) = fields.next() else { return Ok(()) };
             let (number, payload) = next.map_err(|malformed| refused(of, malformed))?;
-            let Some(place) = of.fields.iter().position(|field| field.number == number) else {
+            let Some(place) = of
+                .fields
+                .iter()
+                .position(|field| u32::from(field.number) == number)
+            else {
                 not_lost(of, number)?;
                 continue;
             };
             let field = &of.fields[place];
             if !is_payload_of(field.kind, payload) {
                 return Err(refused(of, format_args!("{} of another wire type", field.name)));
+            }
+            let mut times = 1;
+            if let Kind::Messages(_) | Kind::Parts(_) | Kind::ResourceAttributes = field.kind {
+                // As a rule each element of a list follows the one before.
+                while fields.bytes(field.number).is_some() {
+                    times += 1;
+                }
             }
             let before = self.found[first..].iter().rposition(|found| found.place <= place);
             let index = before.map_or(first, |before| first + before + 1);
@@ -180,14 +198,14 @@ impl<'a> Writer<'a, '_> {
                     if let Kind::Message(_) | Kind::Part(_) | Kind::Map = field.kind {
                         return Err(refused(of, format_args!("{} is there twice", field.name)));
                     }
-                    known.times += 1;
+                    known.times += times;
                     known.last = payload;
                 }
                 _ => self.found.insert(
                     index,
                     Found {
                         place,
-                        times: 1,
+                        times,
                         fields: here,
                         last: payload,
                     },
@@ -255,10 +273,9 @@ impl<'a> Writer<'a, '_> {
         let are_attributes = std::ptr::eq(of, &KEY_VALUE);
         let may_be_plain = are_attributes && depth + 2 < MAX_DEPTH;
         let are_points = std::ptr::eq(of, &NUMBER_POINT);
-        for payload in found.all(field.number) {
+        for bytes in found.all_bytes(field.number) {
             let from = self.out.text.len();
             self.out.separate(inside);
-            let bytes = bytes_of(payload);
             match may_be_plain.then(|| key_and_value(bytes)).flatten() {
                 Some((key, value)) => self.attribute(key, value),
                 None if are_points && self.plain_point(bytes) => {}
