@@ -3,12 +3,16 @@
 //! It is never held as a tree of messages: each is looked through once, and then its fields are written in the order of
 //! its table. So the memory is that of the JSON, however many small messages the bytes are.
 
+mod plain;
+mod time;
+
 use super::json::is_text;
-use super::output::{Output, Written, LONGEST_LIST};
-use super::schema::{Field, Kind, Message, Wire, EXEMPLAR, KEY_VALUE, KEY_VALUE_LIST, NUMBER_POINT, REQUEST};
+use super::output::{Output, Written};
+use super::schema::{Field, Kind, Message, Wire, EXEMPLAR, KEY_VALUE, KEY_VALUE_LIST, REQUEST};
 use super::wire::{Fields, Malformed, Payload};
 use super::{Reading, Refused};
 use std::ops::Range;
+use time::Time;
 
 /// Messages may be nested as deep as protobuf's own readers allow.
 const MAX_DEPTH: usize = 100;
@@ -17,6 +21,8 @@ pub fn written(body: &[u8], reading: &Reading) -> Result<Written, Refused> {
     let mut writer = Writer {
         out: Output::new(body.len() * 3 + 64, reading),
         found: Vec::new(),
+        start: Time::new(),
+        end: Time::new(),
         last: Vec::new(),
     };
     writer.message(&REQUEST, body, 0)?;
@@ -31,7 +37,10 @@ struct Writer<'a, 'r> {
     out: Output<'r>,
     /// Of the messages that are under way, each behind the one around it.
     found: Vec<Found<'a>>,
-    /// Of the last plain point each attribute, and where it is written.
+    /// Of the last plain point its times,
+    start: Time,
+    end: Time,
+    /// and each attribute's field, and where it is written.
     last: Vec<(&'a [u8], Range<usize>)>,
 }
 
@@ -119,23 +128,6 @@ fn is_payload_of(kind: Kind, payload: Payload<'_>) -> bool {
 
 fn not_text(of: &'static Message, field: &Field) -> Refused {
     refused(of, format_args!("{} is not UTF-8", field.name))
-}
-
-/// The key and the value of an attribute, where it has one of each and no more, as nearly all have.
-fn key_and_value(attribute: &[u8]) -> Option<(&[u8], Payload<'_>)> {
-    let mut fields = Fields::of(attribute);
-    let (Ok((1, Payload::Bytes(key))), Ok((2, Payload::Bytes(any)))) = (fields.next()?, fields.next()?)
-    else {
-        return None;
-    };
-    let mut fields_of_any = Fields::of(any);
-    let value = match fields_of_any.next()?.ok()? {
-        (1, Payload::Bytes(text)) if is_text(text) => Payload::Bytes(text),
-        (3, Payload::Varint(bits)) => Payload::Varint(bits),
-        _ => return None,
-    };
-    let is_all = is_text(key) && fields.next().is_none() && fields_of_any.next().is_none();
-    is_all.then_some((key, value))
 }
 
 impl<'a> Writer<'a, '_> {
@@ -270,102 +262,22 @@ impl<'a> Writer<'a, '_> {
         let list = self.out.text.len();
         self.out.text.push(b'[');
         let inside = self.out.text.len();
-        let are_attributes = std::ptr::eq(of, &KEY_VALUE);
-        let may_be_plain = are_attributes && depth + 2 < MAX_DEPTH;
-        let are_points = std::ptr::eq(of, &NUMBER_POINT);
+        let may_be_plain = depth + 2 < MAX_DEPTH; // an attribute has a value within
         for bytes in found.all_bytes(field.number) {
             let from = self.out.text.len();
             self.out.separate(inside);
-            match may_be_plain.then(|| key_and_value(bytes)).flatten() {
-                Some((key, value)) => self.attribute(key, value),
-                None if are_points && self.plain_point(bytes) => {}
-                None => self.message(of, bytes, depth + 1)?,
+            if !(may_be_plain && self.plain(of, bytes)) {
+                self.message(of, bytes, depth + 1)?;
             }
             if let Kind::ResourceAttributes = field.kind {
                 self.out.drop_attribute(from);
             }
         }
-        match are_attributes {
+        match std::ptr::eq(of, &KEY_VALUE) {
             true => self.out.end_attributes(list),
             false => self.out.text.push(b']'),
         }
         Ok(())
-    }
-
-    /// Writes a point of a sum as `message` does, if it has what nearly all have and no more, in the order of its table:
-    /// two times, a whole number, attributes with a text or a whole number. Of another nothing is written.
-    fn plain_point(&mut self, point: &'a [u8]) -> bool {
-        let from = self.out.text.len();
-        let is_plain = self.put_plain_point(point).is_some();
-        if !is_plain {
-            self.out.text.truncate(from);
-            self.last.clear(); // it may be of what is gone
-        }
-        is_plain
-    }
-
-    fn put_plain_point(&mut self, point: &'a [u8]) -> Option<()> {
-        let mut fields = Fields::of(point);
-        let (
-            Ok((2, Payload::Fixed64(start))),
-            Ok((3, Payload::Fixed64(end))),
-            Ok((6, Payload::Fixed64(bits))),
-        ) = (fields.next()?, fields.next()?, fields.next()?)
-        else {
-            return None;
-        };
-        self.out.push("{\"startTimeUnixNano\":");
-        self.out.whole(start);
-        self.out.push(",\"timeUnixNano\":");
-        self.out.whole(end);
-        self.out.push(",\"asInt\":");
-        self.out.whole(bits as i64);
-        let list = self.out.text.len();
-        let mut ends = ("}", ",\"attributes\":[");
-        for (place, field) in fields.enumerate() {
-            let Ok((7, Payload::Bytes(attribute))) = field else {
-                return None;
-            };
-            self.out.push(ends.1);
-            self.attribute_of_point(place, attribute)?;
-            ends = ("]}", ",");
-        }
-        self.out.push(ends.0);
-        (self.out.text.len() - list <= LONGEST_LIST).then_some(())
-    }
-
-    /// Most points have most attributes as the point before has them.
-    fn attribute_of_point(&mut self, place: usize, attribute: &'a [u8]) -> Option<()> {
-        match self.last.get(place) {
-            Some((same, written)) if *same == attribute => {
-                self.out.text.extend_from_within(written.clone());
-                return Some(());
-            }
-            Some(_) => {}
-            None => self.last.push((&[], 0..0)),
-        }
-        let (key, value) = key_and_value(attribute)?;
-        let from = self.out.text.len();
-        self.attribute(key, value);
-        self.last[place] = (attribute, from..self.out.text.len());
-        Some(())
-    }
-
-    /// What `message` writes of an attribute with a text or a whole number.
-    fn attribute(&mut self, key: &[u8], value: Payload<'_>) {
-        self.out.push("{\"key\":");
-        self.out.quoted(key);
-        match value {
-            Payload::Varint(bits) => {
-                self.out.push(",\"value\":{\"intValue\":");
-                self.out.whole(bits as i64);
-            }
-            other => {
-                self.out.push(",\"value\":{\"stringValue\":");
-                self.out.quoted(bytes_of(other));
-            }
-        }
-        self.out.push("}}");
     }
 }
 

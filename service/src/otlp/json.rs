@@ -225,6 +225,12 @@ pub fn write_text(out: &mut String, text: &str) {
 pub fn put_text(out: &mut Vec<u8>, text: &[u8]) {
     out.reserve(text.len() + 2);
     out.push(b'"');
+    put_inside(out, text);
+    out.push(b'"');
+}
+
+/// The same without its quotes.
+pub fn put_inside(out: &mut Vec<u8>, text: &[u8]) {
     let mut rest = text;
     loop {
         let (plain, behind) = rest.split_at(plain_length(rest));
@@ -235,7 +241,6 @@ pub fn put_text(out: &mut Vec<u8>, text: &[u8]) {
         put_escaped(out, *byte);
         rest = behind;
     }
-    out.push(b'"');
 }
 
 fn put_escaped(out: &mut Vec<u8>, byte: u8) {
@@ -261,6 +266,19 @@ const EACH: u64 = u64::MAX / 255;
 /// How many bytes are before the first `"`, `\` or byte below 32: those that stand for themselves in a text.
 pub fn plain_length(bytes: &[u8]) -> usize {
     first_of_words(bytes, |word| first_marked(marks(word) & !word), is_special)
+}
+
+/// Whether a text is ASCII in which each byte stands for itself.
+pub fn is_plain_ascii(text: &[u8]) -> bool {
+    let marked = |eight: &[u8; 8]| {
+        let word = u64::from_le_bytes(*eight);
+        (word | marks(word)) & (EACH << 7)
+    };
+    let Some(last) = text.last_chunk() else {
+        return text.iter().all(|byte| byte.is_ascii() && !is_special(*byte));
+    };
+    let (eights, _) = text.as_chunks();
+    eights.iter().fold(marked(last), |all, eight| all | marked(eight)) == 0
 }
 
 fn is_special(byte: u8) -> bool {

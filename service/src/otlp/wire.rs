@@ -31,6 +31,19 @@ impl<'a> Fields<'a> {
         Fields { rest: message }
     }
 
+    /// What is not read yet.
+    pub fn rest(&self) -> &'a [u8] {
+        self.rest
+    }
+
+    /// Passes these bytes, if they are next.
+    #[inline]
+    pub fn pass(&mut self, bytes: &[u8]) -> bool {
+        let behind = self.rest.strip_prefix(bytes);
+        self.rest = behind.unwrap_or(self.rest);
+        behind.is_some()
+    }
+
     #[inline(always)]
     fn field(&mut self) -> Result<(u32, Payload<'a>), Malformed> {
         let key = u32::try_from(self.varint()?).map_err(|_| Malformed::LongNumber)?;
@@ -58,6 +71,18 @@ impl<'a> Fields<'a> {
             let length = usize::try_from(fields.varint()?).map_err(|_| Malformed::Cut)?;
             fields.take(length)
         })
+    }
+
+    /// Passes the next field, if it is this one and has 8 bytes: their bits.
+    #[inline]
+    pub fn fixed64(&mut self, number: u8) -> Option<u64> {
+        self.field_of(number << 3 | 1, |fields| fields.array().map(u64::from_le_bytes))
+    }
+
+    /// Passes the next field, if it is this one and has a number of any length.
+    #[inline]
+    pub fn number(&mut self, number: u8) -> Option<u64> {
+        self.field_of(number << 3, Fields::varint)
     }
 
     /// Passes a field with this key of one byte, if it is next and whole.
