@@ -1,7 +1,8 @@
 //! A request in protobuf, written as the gateway reads it.
 //!
 //! It is never held as a tree of messages: each is looked through once, and then its fields are written in the order of
-//! its table. So the memory is that of the JSON, however many small messages the bytes are.
+//! its table. So the memory is that of the JSON, however many small messages the bytes are. `plain` writes at once what
+//! has the form that nearly all points and attributes have.
 
 mod plain;
 mod time;
@@ -78,28 +79,7 @@ impl<'a> Found<'a> {
 
     /// The bits of a number; of several the last counts.
     fn bits(self) -> u64 {
-        match self.last {
-            Payload::Varint(bits) | Payload::Fixed64(bits) => bits,
-            _ => 0,
-        }
-    }
-
-    /// The elements of a list of 8 bytes each, packed or not.
-    fn each_bits(self, number: u8) -> impl Iterator<Item = u64> + 'a {
-        self.all(number).flat_map(|payload| {
-            let one = match payload {
-                Payload::Fixed64(bits) => Some(bits),
-                _ => None,
-            };
-            let packed = bytes_of(payload).chunks_exact(8);
-            let bits = |eight: &[u8]| {
-                eight
-                    .iter()
-                    .rev()
-                    .fold(0, |bits, byte| bits << 8 | u64::from(*byte))
-            };
-            one.into_iter().chain(packed.map(bits))
-        })
+        bits_of(self.last)
     }
 }
 
@@ -107,6 +87,13 @@ fn bytes_of(payload: Payload<'_>) -> &[u8] {
     match payload {
         Payload::Bytes(bytes) => bytes,
         _ => &[],
+    }
+}
+
+fn bits_of(payload: Payload<'_>) -> u64 {
+    match payload {
+        Payload::Varint(bits) | Payload::Fixed64(bits) => bits,
+        _ => 0,
     }
 }
 
@@ -235,12 +222,8 @@ impl<'a> Writer<'a, '_> {
             Kind::Whole(Wire::Uint32) => self.out.whole(found.bits() as u32),
             Kind::Whole(Wire::Int64 | Wire::Sfixed64) => self.out.whole(found.bits() as i64),
             Kind::Double | Kind::Fraction => self.out.double(f64::from_bits(found.bits())),
-            Kind::Wholes => list(&mut self.out, found.each_bits(number), |out, bits| {
-                out.whole(bits)
-            }),
-            Kind::Doubles => list(&mut self.out, found.each_bits(number), |out, bits| {
-                out.double(f64::from_bits(bits))
-            }),
+            Kind::Wholes => self.list(found, number, |out, bits| out.whole(bits)),
+            Kind::Doubles => self.list(found, number, |out, bits| out.double(f64::from_bits(bits))),
             Kind::Bytes => self.out.push("\"\""),
             Kind::Map => {
                 let from = self.out.text.len();
@@ -250,6 +233,27 @@ impl<'a> Writer<'a, '_> {
             }
         }
         Ok(())
+    }
+
+    /// A list of 8 bytes each, packed or not.
+    fn list(&mut self, found: Found<'a>, number: u8, each: impl Fn(&mut Output<'_>, u64)) {
+        self.out.text.push(b'[');
+        let inside = self.out.text.len();
+        for payload in found.all(number) {
+            let one;
+            let all = match payload {
+                Payload::Bytes(packed) => packed.as_chunks().0,
+                other => {
+                    one = [bits_of(other).to_le_bytes()];
+                    &one
+                }
+            };
+            for bits in all {
+                self.out.separate(inside);
+                each(&mut self.out, u64::from_le_bytes(*bits));
+            }
+        }
+        self.out.text.push(b']');
     }
 
     fn messages(
@@ -287,14 +291,4 @@ fn not_lost(of: &'static Message, number: u32) -> Result<(), Refused> {
         Some(lost) => Err(refused(of, format_args!("{} {}", lost.names[0], lost.why))),
         None => Ok(()),
     }
-}
-
-fn list<T>(out: &mut Output<'_>, all: impl Iterator<Item = T>, mut each: impl FnMut(&mut Output<'_>, T)) {
-    out.text.push(b'[');
-    let inside = out.text.len();
-    for one in all {
-        out.separate(inside);
-        each(out, one);
-    }
-    out.text.push(b']');
 }
