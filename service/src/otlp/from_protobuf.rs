@@ -1,13 +1,19 @@
 //! A request in protobuf, written as the gateway reads it.
 //!
 //! It is never held as a tree of messages: each is looked through once, and then its fields are written in the order of
-//! its table. So the memory is that of the JSON, however many small messages the bytes are.
+//! its table. So the memory is that of the JSON, however many small messages the bytes are. `plain` writes at once what
+//! has the form that nearly all points and attributes have.
 
-use super::output::{Output, Written, LONGEST_LIST};
-use super::schema::{Field, Kind, Message, Wire, EXEMPLAR, KEY_VALUE, KEY_VALUE_LIST, NUMBER_POINT, REQUEST};
+mod plain;
+mod time;
+
+use super::json::is_text;
+use super::output::{Output, Written};
+use super::schema::{Field, Kind, Message, Wire, EXEMPLAR, KEY_VALUE, KEY_VALUE_LIST, REQUEST};
 use super::wire::{Fields, Malformed, Payload};
 use super::{Reading, Refused};
 use std::ops::Range;
+use time::Time;
 
 /// Messages may be nested as deep as protobuf's own readers allow.
 const MAX_DEPTH: usize = 100;
@@ -16,6 +22,8 @@ pub fn written(body: &[u8], reading: &Reading) -> Result<Written, Refused> {
     let mut writer = Writer {
         out: Output::new(body.len() * 3 + 64, reading),
         found: Vec::new(),
+        start: Time::new(),
+        end: Time::new(),
         last: Vec::new(),
     };
     writer.message(&REQUEST, body, 0)?;
@@ -30,7 +38,10 @@ struct Writer<'a, 'r> {
     out: Output<'r>,
     /// Of the messages that are under way, each behind the one around it.
     found: Vec<Found<'a>>,
-    /// Of the last plain point each attribute, and where it is written.
+    /// Of the last plain point its times,
+    start: Time,
+    end: Time,
+    /// and each attribute's field, and where it is written.
     last: Vec<(&'a [u8], Range<usize>)>,
 }
 
@@ -42,16 +53,23 @@ struct Found<'a> {
     times: usize,
     /// From the first time on.
     fields: Fields<'a>,
+    /// The last one, where it is no list.
     last: Payload<'a>,
 }
 
 impl<'a> Found<'a> {
     /// Each time, in order.
-    fn all(self, number: u32) -> impl Iterator<Item = Payload<'a>> {
+    fn all(self, number: u8) -> impl Iterator<Item = Payload<'a>> {
         let own = move |field: Result<(u32, Payload<'a>), Malformed>| {
-            field.ok().filter(|found| found.0 == number).map(|found| found.1)
+            let (found, payload) = field.ok()?;
+            (found == u32::from(number)).then_some(payload)
         };
         self.fields.filter_map(own).take(self.times)
+    }
+
+    /// The bytes of each time, in order.
+    fn all_bytes(mut self, number: u8) -> impl Iterator<Item = &'a [u8]> {
+        (0..self.times).map_while(move |_| self.fields.next_bytes(number))
     }
 
     /// The bytes of a text or a message; of several the last count.
@@ -61,28 +79,7 @@ impl<'a> Found<'a> {
 
     /// The bits of a number; of several the last counts.
     fn bits(self) -> u64 {
-        match self.last {
-            Payload::Varint(bits) | Payload::Fixed64(bits) => bits,
-            _ => 0,
-        }
-    }
-
-    /// The elements of a list of 8 bytes each, packed or not.
-    fn each_bits(self, number: u32) -> impl Iterator<Item = u64> + 'a {
-        self.all(number).flat_map(|payload| {
-            let one = match payload {
-                Payload::Fixed64(bits) => Some(bits),
-                _ => None,
-            };
-            let packed = bytes_of(payload).chunks_exact(8);
-            let bits = |eight: &[u8]| {
-                eight
-                    .iter()
-                    .rev()
-                    .fold(0, |bits, byte| bits << 8 | u64::from(*byte))
-            };
-            one.into_iter().chain(packed.map(bits))
-        })
+        bits_of(self.last)
     }
 }
 
@@ -90,6 +87,13 @@ fn bytes_of(payload: Payload<'_>) -> &[u8] {
     match payload {
         Payload::Bytes(bytes) => bytes,
         _ => &[],
+    }
+}
+
+fn bits_of(payload: Payload<'_>) -> u64 {
+    match payload {
+        Payload::Varint(bits) | Payload::Fixed64(bits) => bits,
+        _ => 0,
     }
 }
 
@@ -109,29 +113,8 @@ fn is_payload_of(kind: Kind, payload: Payload<'_>) -> bool {
     }
 }
 
-fn is_text(bytes: &[u8]) -> bool {
-    bytes.is_ascii() || std::str::from_utf8(bytes).is_ok()
-}
-
 fn not_text(of: &'static Message, field: &Field) -> Refused {
     refused(of, format_args!("{} is not UTF-8", field.name))
-}
-
-/// The key and the value of an attribute, where it has one of each and no more, as nearly all have.
-fn key_and_value(attribute: &[u8]) -> Option<(&[u8], Payload<'_>)> {
-    let mut fields = Fields::of(attribute);
-    let (Ok((1, Payload::Bytes(key))), Ok((2, Payload::Bytes(any)))) = (fields.next()?, fields.next()?)
-    else {
-        return None;
-    };
-    let mut fields_of_any = Fields::of(any);
-    let value = match fields_of_any.next()?.ok()? {
-        (1, Payload::Bytes(text)) if is_text(text) => Payload::Bytes(text),
-        (3, Payload::Varint(bits)) => Payload::Varint(bits),
-        _ => return None,
-    };
-    let is_all = is_text(key) && fields.next().is_none() && fields_of_any.next().is_none();
-    is_all.then_some((key, value))
 }
 
 impl<'a> Writer<'a, '_> {
@@ -168,13 +151,24 @@ impl<'a> Writer<'a, '_> {
             let here = fields;
             let Some(next) = fields.next() else { return Ok(()) };
             let (number, payload) = next.map_err(|malformed| refused(of, malformed))?;
-            let Some(place) = of.fields.iter().position(|field| field.number == number) else {
+            let Some(place) = of
+                .fields
+                .iter()
+                .position(|field| u32::from(field.number) == number)
+            else {
                 not_lost(of, number)?;
                 continue;
             };
             let field = &of.fields[place];
             if !is_payload_of(field.kind, payload) {
                 return Err(refused(of, format_args!("{} of another wire type", field.name)));
+            }
+            let mut times = 1;
+            if let Kind::Messages(_) | Kind::Parts(_) | Kind::ResourceAttributes = field.kind {
+                // As a rule each element of a list follows the one before.
+                while fields.bytes(field.number).is_some() {
+                    times += 1;
+                }
             }
             let before = self.found[first..].iter().rposition(|found| found.place <= place);
             let index = before.map_or(first, |before| first + before + 1);
@@ -183,14 +177,14 @@ impl<'a> Writer<'a, '_> {
                     if let Kind::Message(_) | Kind::Part(_) | Kind::Map = field.kind {
                         return Err(refused(of, format_args!("{} is there twice", field.name)));
                     }
-                    known.times += 1;
+                    known.times += times;
                     known.last = payload;
                 }
                 _ => self.found.insert(
                     index,
                     Found {
                         place,
-                        times: 1,
+                        times,
                         fields: here,
                         last: payload,
                     },
@@ -228,12 +222,8 @@ impl<'a> Writer<'a, '_> {
             Kind::Whole(Wire::Uint32) => self.out.whole(found.bits() as u32),
             Kind::Whole(Wire::Int64 | Wire::Sfixed64) => self.out.whole(found.bits() as i64),
             Kind::Double | Kind::Fraction => self.out.double(f64::from_bits(found.bits())),
-            Kind::Wholes => list(&mut self.out, found.each_bits(number), |out, bits| {
-                out.whole(bits)
-            }),
-            Kind::Doubles => list(&mut self.out, found.each_bits(number), |out, bits| {
-                out.double(f64::from_bits(bits))
-            }),
+            Kind::Wholes => self.list(found, number, |out, bits| out.whole(bits)),
+            Kind::Doubles => self.list(found, number, |out, bits| out.double(f64::from_bits(bits))),
             Kind::Bytes => self.out.push("\"\""),
             Kind::Map => {
                 let from = self.out.text.len();
@@ -243,6 +233,27 @@ impl<'a> Writer<'a, '_> {
             }
         }
         Ok(())
+    }
+
+    /// A list of 8 bytes each, packed or not.
+    fn list(&mut self, found: Found<'a>, number: u8, each: impl Fn(&mut Output<'_>, u64)) {
+        self.out.text.push(b'[');
+        let inside = self.out.text.len();
+        for payload in found.all(number) {
+            let one;
+            let all = match payload {
+                Payload::Bytes(packed) => packed.as_chunks().0,
+                other => {
+                    one = [bits_of(other).to_le_bytes()];
+                    &one
+                }
+            };
+            for bits in all {
+                self.out.separate(inside);
+                each(&mut self.out, u64::from_le_bytes(*bits));
+            }
+        }
+        self.out.text.push(b']');
     }
 
     fn messages(
@@ -255,103 +266,22 @@ impl<'a> Writer<'a, '_> {
         let list = self.out.text.len();
         self.out.text.push(b'[');
         let inside = self.out.text.len();
-        let are_attributes = std::ptr::eq(of, &KEY_VALUE);
-        let may_be_plain = are_attributes && depth + 2 < MAX_DEPTH;
-        let are_points = std::ptr::eq(of, &NUMBER_POINT);
-        for payload in found.all(field.number) {
+        let may_be_plain = depth + 2 < MAX_DEPTH; // an attribute has a value within
+        for bytes in found.all_bytes(field.number) {
             let from = self.out.text.len();
             self.out.separate(inside);
-            let bytes = bytes_of(payload);
-            match may_be_plain.then(|| key_and_value(bytes)).flatten() {
-                Some((key, value)) => self.attribute(key, value),
-                None if are_points && self.plain_point(bytes) => {}
-                None => self.message(of, bytes, depth + 1)?,
+            if !(may_be_plain && self.plain(of, bytes)) {
+                self.message(of, bytes, depth + 1)?;
             }
             if let Kind::ResourceAttributes = field.kind {
                 self.out.drop_attribute(from);
             }
         }
-        match are_attributes {
+        match std::ptr::eq(of, &KEY_VALUE) {
             true => self.out.end_attributes(list),
             false => self.out.text.push(b']'),
         }
         Ok(())
-    }
-
-    /// Writes a point of a sum as `message` does, if it has what nearly all have and no more, in the order of its table:
-    /// two times, a whole number, attributes with a text or a whole number. Of another nothing is written.
-    fn plain_point(&mut self, point: &'a [u8]) -> bool {
-        let from = self.out.text.len();
-        let is_plain = self.put_plain_point(point).is_some();
-        if !is_plain {
-            self.out.text.truncate(from);
-            self.last.clear(); // it may be of what is gone
-        }
-        is_plain
-    }
-
-    fn put_plain_point(&mut self, point: &'a [u8]) -> Option<()> {
-        let mut fields = Fields::of(point);
-        let (
-            Ok((2, Payload::Fixed64(start))),
-            Ok((3, Payload::Fixed64(end))),
-            Ok((6, Payload::Fixed64(bits))),
-        ) = (fields.next()?, fields.next()?, fields.next()?)
-        else {
-            return None;
-        };
-        self.out.push("{\"startTimeUnixNano\":");
-        self.out.whole(start);
-        self.out.push(",\"timeUnixNano\":");
-        self.out.whole(end);
-        self.out.push(",\"asInt\":");
-        self.out.whole(bits as i64);
-        let list = self.out.text.len();
-        let mut ends = ("}", ",\"attributes\":[");
-        for (place, field) in fields.enumerate() {
-            let Ok((7, Payload::Bytes(attribute))) = field else {
-                return None;
-            };
-            self.out.push(ends.1);
-            self.attribute_of_point(place, attribute)?;
-            ends = ("]}", ",");
-        }
-        self.out.push(ends.0);
-        (self.out.text.len() - list <= LONGEST_LIST).then_some(())
-    }
-
-    /// Most points have most attributes as the point before has them.
-    fn attribute_of_point(&mut self, place: usize, attribute: &'a [u8]) -> Option<()> {
-        match self.last.get(place) {
-            Some((same, written)) if *same == attribute => {
-                self.out.text.extend_from_within(written.clone());
-                return Some(());
-            }
-            Some(_) => {}
-            None => self.last.push((&[], 0..0)),
-        }
-        let (key, value) = key_and_value(attribute)?;
-        let from = self.out.text.len();
-        self.attribute(key, value);
-        self.last[place] = (attribute, from..self.out.text.len());
-        Some(())
-    }
-
-    /// What `message` writes of an attribute with a text or a whole number.
-    fn attribute(&mut self, key: &[u8], value: Payload<'_>) {
-        self.out.push("{\"key\":");
-        self.out.quoted(key);
-        match value {
-            Payload::Varint(bits) => {
-                self.out.push(",\"value\":{\"intValue\":");
-                self.out.whole(bits as i64);
-            }
-            other => {
-                self.out.push(",\"value\":{\"stringValue\":");
-                self.out.quoted(bytes_of(other));
-            }
-        }
-        self.out.push("}}");
     }
 }
 
@@ -361,14 +291,4 @@ fn not_lost(of: &'static Message, number: u32) -> Result<(), Refused> {
         Some(lost) => Err(refused(of, format_args!("{} {}", lost.names[0], lost.why))),
         None => Ok(()),
     }
-}
-
-fn list<T>(out: &mut Output<'_>, all: impl Iterator<Item = T>, mut each: impl FnMut(&mut Output<'_>, T)) {
-    out.text.push(b'[');
-    let inside = out.text.len();
-    for one in all {
-        out.separate(inside);
-        each(out, one);
-    }
-    out.text.push(b']');
 }

@@ -203,6 +203,11 @@ impl<'d> Iterator for Members<'d> {
     }
 }
 
+/// Whether bytes are UTF-8. Most are ASCII, which is seen sooner.
+pub fn is_text(bytes: &[u8]) -> bool {
+    bytes.is_ascii() || std::str::from_utf8(bytes).is_ok()
+}
+
 /// Writes a text as the gateway does: only `"`, `\` and what is below 32 is escaped.
 pub fn write_text(out: &mut String, text: &str) {
     if plain_length(text.as_bytes()) == text.len() {
@@ -220,6 +225,12 @@ pub fn write_text(out: &mut String, text: &str) {
 pub fn put_text(out: &mut Vec<u8>, text: &[u8]) {
     out.reserve(text.len() + 2);
     out.push(b'"');
+    put_inside(out, text);
+    out.push(b'"');
+}
+
+/// The same without its quotes.
+pub fn put_inside(out: &mut Vec<u8>, text: &[u8]) {
     let mut rest = text;
     loop {
         let (plain, behind) = rest.split_at(plain_length(rest));
@@ -230,7 +241,6 @@ pub fn put_text(out: &mut Vec<u8>, text: &[u8]) {
         put_escaped(out, *byte);
         rest = behind;
     }
-    out.push(b'"');
 }
 
 fn put_escaped(out: &mut Vec<u8>, byte: u8) {
@@ -253,19 +263,38 @@ fn put_escaped(out: &mut Vec<u8>, byte: u8) {
 /// This in each byte of a word.
 const EACH: u64 = u64::MAX / 255;
 
-/// How many bytes are before the first `"`, `\` or byte below 32: those that stand for themselves in a text. It looks at
-/// eight bytes at once; the lowest bit that a subtraction leaves is of a byte that is looked for, those above may not be.
+/// How many bytes are before the first `"`, `\` or byte below 32: those that stand for themselves in a text.
 pub fn plain_length(bytes: &[u8]) -> usize {
-    let below = |word: u64, limit: u8| word.wrapping_sub(EACH * u64::from(limit)) & !word;
-    let first = |word: u64| {
-        let quotes = below(word ^ (EACH * u64::from(b'"')), 1);
-        let slashes = below(word ^ (EACH * u64::from(b'\\')), 1);
-        first_marked(quotes | slashes | below(word, 32))
+    first_of_words(bytes, |word| first_marked(marks(word) & !word), is_special)
+}
+
+/// Whether a text is ASCII in which each byte stands for itself.
+pub fn is_plain_ascii(text: &[u8]) -> bool {
+    let marked = |eight: &[u8; 8]| {
+        let word = u64::from_le_bytes(*eight);
+        (word | marks(word)) & (EACH << 7)
     };
-    first_of_words(bytes, first, |byte| byte < 32 || byte == b'"' || byte == b'\\')
+    let Some(last) = text.last_chunk() else {
+        return text.iter().all(|byte| byte.is_ascii() && !is_special(*byte));
+    };
+    let (eights, _) = text.as_chunks();
+    eights.iter().fold(marked(last), |all, eight| all | marked(eight)) == 0
+}
+
+fn is_special(byte: u8) -> bool {
+    byte < 32 || byte == b'"' || byte == b'\\'
+}
+
+/// Sets the highest bit of each of eight bytes that is special. Of those over 127 it says nothing, nor of those above the
+/// lowest special one, from which its subtraction may borrow.
+fn marks(word: u64) -> u64 {
+    let quotes = (word ^ (EACH * u64::from(b'"'))).wrapping_sub(EACH);
+    let slashes = (word ^ (EACH * u64::from(b'\\'))).wrapping_sub(EACH);
+    quotes | slashes | word.wrapping_sub(EACH * 32)
 }
 
 /// How many digits are before the first byte that is none.
+#[inline]
 pub fn digits_length(bytes: &[u8]) -> usize {
     let first = |word: u64| {
         let digits = word ^ (EACH * u64::from(b'0'));

@@ -56,8 +56,9 @@ pub fn mapped_double(value: Value<'_>) -> Option<f64> {
 
 /// The double as the whole number that it is, if the gateway takes it.
 pub fn whole_double(double: f64) -> Option<i64> {
-    let is_whole = double.fract() == 0.0 && double.abs() <= MAX_WHOLE_DOUBLE as f64;
-    is_whole.then_some(double as i64)
+    let whole = double as i64; // the nearest one, 0 of what is no number
+    let is_exact = whole as f64 == double && whole.unsigned_abs() <= MAX_WHOLE_DOUBLE;
+    is_exact.then_some(whole)
 }
 
 /// A double as people write it: `0.005`, `1e300`, `NaN`.

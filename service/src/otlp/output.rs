@@ -1,6 +1,6 @@
 //! A request as it is written for the gateway, of whichever encoding it came in.
 
-use super::json::{put_text, Document};
+use super::json::{is_plain_ascii, put_inside, put_text, Document};
 use super::number::whole_double;
 use super::Reading;
 use std::borrow::Cow;
@@ -85,6 +85,15 @@ impl<'r> Output<'r> {
     /// A text of UTF-8.
     pub fn quoted(&mut self, text: &[u8]) {
         put_text(&mut self.text, text);
+    }
+
+    /// What is between the quotes of a text, unless it is not UTF-8.
+    pub fn inside(&mut self, text: &[u8]) -> Option<()> {
+        match is_plain_ascii(text) {
+            true => self.text.extend_from_slice(text),
+            false => put_inside(&mut self.text, std::str::from_utf8(text).ok()?.as_bytes()),
+        }
+        Some(())
     }
 
     pub fn unit(&mut self, unit: &str) {

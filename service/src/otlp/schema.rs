@@ -20,7 +20,8 @@ pub struct Field {
     pub initial: u8,
     /// The name of the `.proto` file, which the JSON mapping allows too.
     pub proto_name: &'static str,
-    pub number: u32,
+    /// Below 16, so that its key is one byte.
+    pub number: u8,
     pub kind: Kind,
 }
 
@@ -78,7 +79,10 @@ macro_rules! field {
             written: concat!("\"", $name, "\":"),
             initial: $name.as_bytes()[0],
             proto_name: $proto_name,
-            number: $number,
+            number: {
+                assert!($number < 16);
+                $number
+            },
             kind: $kind,
         }
     };

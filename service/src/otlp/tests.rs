@@ -39,12 +39,13 @@ fn sum(point: &str) -> String {
 /// A field of protobuf that has a length.
 fn bytes(number: u32, inner: &[u8]) -> Vec<u8> {
     let mut out = varint(number << 3 | 2);
-    out.extend(varint(inner.len() as u32));
+    out.extend(varint(inner.len() as u64));
     out.extend(inner);
     out
 }
 
-fn varint(mut number: u32) -> Vec<u8> {
+fn varint(number: impl Into<u64>) -> Vec<u8> {
+    let mut number = number.into();
     let mut out = Vec::new();
     while number > 127 {
         out.push(number as u8 | 128);

@@ -3,9 +3,9 @@
 //! Here is known what needs no thought: names as the gateway has them, each once, plain texts, short numbers. Of any
 //! other body nothing is said, and `from_json` looks at it.
 
-use super::json::{digits_length, plain_length};
+use super::json::{digits_length, is_text, plain_length};
 use super::output::SHORT_LIST;
-use super::schema::{Field, Kind, Message, KEY_VALUE, REQUEST};
+use super::schema::{Field, Kind, Message, KEY_VALUE, NUMBER_POINT, REQUEST};
 use super::Reading;
 
 /// More than a request has, but for values in values.
@@ -25,7 +25,7 @@ pub fn is_usual(body: &[u8], reading: &Reading) -> bool {
         last: [&[]; ATTRIBUTES],
     };
     let is_known = !reading.whole.has_no_unit() && look.message(&REQUEST, 0).is_some();
-    is_known && look.peek().is_none() && look.rest.is_empty() && std::str::from_utf8(body).is_ok()
+    is_known && look.peek().is_none() && look.rest.is_empty() && is_text(body)
 }
 
 /// What is not known is None.
@@ -85,15 +85,30 @@ impl<'a> Look<'a> {
     /// A text without escapes.
     fn text(&mut self) -> Option<&'a [u8]> {
         self.take(b'"')?;
-        let (text, behind) = self.rest.split_at(plain_length(self.rest));
-        self.rest = behind.strip_prefix(b"\"")?;
+        let text = self.inside();
+        self.word(b"\"")?;
         Some(text)
+    }
+
+    /// What is between the quotes of a text, up to an escape.
+    fn inside(&mut self) -> &'a [u8] {
+        let (text, behind) = self.rest.split_at(plain_length(self.rest));
+        self.rest = behind;
+        text
     }
 
     fn digits(&mut self, most: usize) -> Option<&'a [u8]> {
         let (digits, behind) = self.rest.split_at(digits_length(self.rest));
         self.rest = behind;
         (1..=most).contains(&digits.len()).then_some(digits)
+    }
+
+    /// The digits of a time from 2001 to 2286: as many as fit 64 bits.
+    fn time(&mut self) -> Option<()> {
+        let (digits, rest) = self.rest.split_first_chunk::<DIGITS>()?;
+        let are_digits = digits.iter().fold(true, |all, byte| all & byte.is_ascii_digit()); // all at once
+        self.rest = rest;
+        are_digits.then_some(())
     }
 
     /// A whole number of so many digits at most. What follows of another number is not passed.
@@ -201,15 +216,23 @@ impl<'a> Look<'a> {
         (before - self.rest.len() <= SHORT_LIST).then_some(())
     }
 
-    /// An attribute; where it is a text or a whole number without blanks, as nearly all are, by its words. Most points have
-    /// most attributes as the point before has them.
+    /// Most points have most attributes as the point before has them.
+    #[inline(always)]
     fn attribute(&mut self, place: usize, depth: usize) -> Option<()> {
-        let begin = self.rest;
         let last = self.last.get(place).copied().unwrap_or_default();
-        if let Some(behind) = begin.strip_prefix(last).filter(|_| !last.is_empty()) {
-            self.rest = behind;
-            return Some(());
+        match self.rest.strip_prefix(last) {
+            Some(behind) if !last.is_empty() => {
+                self.rest = behind;
+                Some(())
+            }
+            _ => self.other_attribute(place, depth),
         }
+    }
+
+    /// Where it is a text or a whole number without blanks, as nearly all are, by its words.
+    #[inline(never)]
+    fn other_attribute(&mut self, place: usize, depth: usize) -> Option<()> {
+        let begin = self.rest;
         if self.plain_attribute().is_none() {
             self.rest = begin;
             return self.message(&KEY_VALUE, depth);
@@ -221,23 +244,54 @@ impl<'a> Look<'a> {
     }
 
     fn plain_attribute(&mut self) -> Option<()> {
-        self.word(b"{\"key\":")?;
-        self.text()?;
-        self.word(b",\"value\":{")?;
-        match self.word(b"\"stringValue\":") {
-            Some(()) => self.text().map(|_| ())?,
-            None => {
-                self.word(b"\"intValue\":")?;
-                self.whole()?;
-            }
+        self.word(b"{\"key\":\"")?;
+        self.inside();
+        if self.word(b"\",\"value\":{\"stringValue\":\"").is_some() {
+            self.inside();
+            return self.word(b"\"}}");
         }
+        self.word(b"\",\"value\":{\"intValue\":")?;
+        self.whole()?;
         self.word(b"}}")
+    }
+
+    /// A point of a sum; where it has what nearly all have, in the order of one of the two kinds of encoders and without
+    /// blanks, by its words.
+    fn point(&mut self, depth: usize) -> Option<()> {
+        let begin = self.rest;
+        if self.plain_point(depth).is_none() {
+            self.rest = begin;
+            return self.message(&NUMBER_POINT, depth);
+        }
+        Some(())
+    }
+
+    fn plain_point(&mut self, depth: usize) -> Option<()> {
+        self.word(b"{")?;
+        let begins_with_attributes = self.word(b"\"attributes\":").is_some();
+        if begins_with_attributes {
+            self.attributes(depth + 1)?;
+            self.word(b",")?;
+        }
+        self.word(b"\"startTimeUnixNano\":\"")?;
+        self.time()?;
+        self.word(b"\",\"timeUnixNano\":\"")?;
+        self.time()?;
+        self.word(b"\",\"asInt\":")?;
+        self.whole()?;
+        if !begins_with_attributes && self.word(b",\"attributes\":").is_some() {
+            self.attributes(depth + 1)?;
+        }
+        self.word(b"}")
     }
 
     fn member(&mut self, field: &Field, depth: usize) -> Option<()> {
         match field.kind {
             Kind::Message(inner) | Kind::Part(inner) => self.message(inner, depth),
             Kind::Parts(inner) if std::ptr::eq(inner, &KEY_VALUE) => self.attributes(depth),
+            Kind::Messages(inner) if std::ptr::eq(inner, &NUMBER_POINT) => {
+                self.list(|look| look.point(depth))
+            }
             Kind::Messages(inner) | Kind::Parts(inner) => self.list(|look| look.message(inner, depth)),
             Kind::ResourceAttributes => self.attributes(depth),
             Kind::Text | Kind::Bytes => self.text().map(|_| ()),
@@ -277,10 +331,20 @@ mod tests {
         "startTimeUnixNano":"1700000000000000000","timeUnixNano":2,"flags":0},{"attributes":[{"key":"a","value":{"stringValue":"é"}}],
         "asDouble":0.5}]}},{"histogram":{"dataPoints":[{"count":"3","sum":120,"min":0.25,"bucketCounts":["1",2],
         "explicitBounds":[10]}]}}]}]}]}"#;
+    /// Points that are looked at by their words.
+    const POINTS: &str = concat!(
+        r#"{"resourceMetrics":[{"scopeMetrics":[{"metrics":[{"sum":{"dataPoints":["#,
+        r#"{"attributes":[{"key":"k","value":{"intValue":"-9"}}],"#,
+        r#""startTimeUnixNano":"1700000000000000000","timeUnixNano":"1700000001000000000","asInt":5},"#,
+        r#"{"startTimeUnixNano":"1700000000000000000","timeUnixNano":"1700000001000000000","asInt":"-5","#,
+        r#""attributes":[{"key":"k","value":{"intValue":"-9"}},{"key":"l","value":{"stringValue":"é"}}]},"#,
+        r#"{"startTimeUnixNano":"1700000000000000000","timeUnixNano":"1700000001000000000","asInt":"7"}"#,
+        r#"]}}]}]}]}"#,
+    );
 
     #[test]
     fn what_senders_write_is_usual() {
-        for body in [BODY, " {} ", r#"{"resourceMetrics":[]}"#] {
+        for body in [BODY, POINTS, " {} ", r#"{"resourceMetrics":[]}"#] {
             assert!(is_usual(body.as_bytes(), &Reading::default()), "{body}");
         }
     }
@@ -300,7 +364,6 @@ mod tests {
 
     #[test]
     fn a_body_with_any_change_is_usual_only_where_a_look_in_full_says_so() {
-        let body = BODY.as_bytes();
         let (mut tried, mut usual) = (0, 0);
         let mut is_sound = |changed: Vec<u8>| {
             tried += 1;
@@ -309,17 +372,19 @@ mod tests {
                 assert_eq!(otherwise(&changed), None, "{}", String::from_utf8_lossy(&changed));
             }
         };
-        for at in 0..body.len() {
-            let (before, behind) = body.split_at(at);
-            is_sound(before.to_vec());
-            for byte in b"\"\\{}[]:,. 0123-+eEtfn_x\n\x01\x80\xe9" {
-                is_sound([before, &[*byte], &behind[1..]].concat());
-                is_sound([before, &[*byte], behind].concat());
-            }
-            for length in [1, 2, 5, 9, 20, 40] {
-                let (piece, rest) = behind.split_at(length.min(behind.len()));
-                is_sound([before, rest].concat());
-                is_sound([before, piece, piece, rest].concat());
+        for body in [BODY, POINTS].map(str::as_bytes) {
+            for at in 0..body.len() {
+                let (before, behind) = body.split_at(at);
+                is_sound(before.to_vec());
+                for byte in b"\"\\{}[]:,. 0123-+eEtfn_x\n\x01\x80\xe9" {
+                    is_sound([before, &[*byte], &behind[1..]].concat());
+                    is_sound([before, &[*byte], behind].concat());
+                }
+                for length in [1, 2, 5, 9, 20, 40] {
+                    let (piece, rest) = behind.split_at(length.min(behind.len()));
+                    is_sound([before, rest].concat());
+                    is_sound([before, piece, piece, rest].concat());
+                }
             }
         }
         assert!(usual > tried / 20, "{usual} of {tried} are usual");

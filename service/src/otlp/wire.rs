@@ -31,6 +31,19 @@ impl<'a> Fields<'a> {
         Fields { rest: message }
     }
 
+    /// What is not read yet.
+    pub fn rest(&self) -> &'a [u8] {
+        self.rest
+    }
+
+    /// Passes these bytes, if they are next.
+    #[inline]
+    pub fn pass(&mut self, bytes: &[u8]) -> bool {
+        let behind = self.rest.strip_prefix(bytes);
+        self.rest = behind.unwrap_or(self.rest);
+        behind.is_some()
+    }
+
     #[inline(always)]
     fn field(&mut self) -> Result<(u32, Payload<'a>), Malformed> {
         let key = u32::try_from(self.varint()?).map_err(|_| Malformed::LongNumber)?;
@@ -51,6 +64,55 @@ impl<'a> Fields<'a> {
         }
     }
 
+    /// Passes the next field, if it is this one: its bytes.
+    #[inline]
+    pub fn bytes(&mut self, number: u8) -> Option<&'a [u8]> {
+        self.field_of(number << 3 | 2, |fields| {
+            let length = usize::try_from(fields.varint()?).map_err(|_| Malformed::Cut)?;
+            fields.take(length)
+        })
+    }
+
+    /// Passes the next field, if it is this one and has 8 bytes: their bits.
+    #[inline]
+    pub fn fixed64(&mut self, number: u8) -> Option<u64> {
+        self.field_of(number << 3 | 1, |fields| fields.array().map(u64::from_le_bytes))
+    }
+
+    /// Passes the next field, if it is this one and has a number of any length.
+    #[inline]
+    pub fn number(&mut self, number: u8) -> Option<u64> {
+        self.field_of(number << 3, Fields::varint)
+    }
+
+    /// Passes a field with this key of one byte, if it is next and whole.
+    #[inline]
+    fn field_of<T>(
+        &mut self,
+        key: u8,
+        payload: impl FnOnce(&mut Fields<'a>) -> Result<T, Malformed>,
+    ) -> Option<T> {
+        let mut ahead = Fields::of(self.rest.strip_prefix(&[key])?);
+        let payload = payload(&mut ahead).ok()?;
+        *self = ahead;
+        Some(payload)
+    }
+
+    /// The bytes of the next field of this number. Others are passed over.
+    #[inline]
+    pub fn next_bytes(&mut self, number: u8) -> Option<&'a [u8]> {
+        loop {
+            if let Some(bytes) = self.bytes(number) {
+                return Some(bytes);
+            }
+            // Its key may be longer than it need be.
+            match self.next()?.ok()? {
+                (found, Payload::Bytes(bytes)) if found == u32::from(number) => return Some(bytes),
+                _ => {}
+            }
+        }
+    }
+
     #[inline]
     fn take(&mut self, length: usize) -> Result<&'a [u8], Malformed> {
         if length > self.rest.len() {
@@ -67,14 +129,14 @@ impl<'a> Fields<'a> {
 
     #[inline]
     fn varint(&mut self) -> Result<u64, Malformed> {
-        match self.rest.split_first() {
-            // As a rule it is one byte.
-            Some((byte @ ..128, rest)) => {
-                self.rest = rest;
-                Ok(u64::from(*byte))
-            }
-            _ => self.long_varint(),
-        }
+        // As a rule it is one byte, of a point's length two.
+        let (number, rest) = match self.rest {
+            [byte @ ..128, rest @ ..] => (u64::from(*byte), rest),
+            [low, high @ ..128, rest @ ..] => (u64::from(low & 127) | u64::from(*high) << 7, rest),
+            _ => return self.long_varint(),
+        };
+        self.rest = rest;
+        Ok(number)
     }
 
     fn long_varint(&mut self) -> Result<u64, Malformed> {

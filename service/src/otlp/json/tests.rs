@@ -181,6 +181,8 @@ fn the_ends_of_texts_and_digits_are_those_that_a_look_at_each_byte_finds() {
                     (plain, digits),
                     "{bytes:?}"
                 );
+                let is_plain_ascii = plain == length && bytes.is_ascii();
+                assert_eq!(super::is_plain_ascii(&bytes), is_plain_ascii, "{bytes:?}");
             }
         }
     }

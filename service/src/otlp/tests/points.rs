@@ -13,6 +13,9 @@ fn written(fields: &[Vec<u8>]) -> String {
     points.strip_suffix("]}}]}]}]}").unwrap().to_string()
 }
 
+const START: u64 = 1_700_000_000_000_000_000;
+const END: u64 = START + 1_023_456_789;
+
 fn fixed(number: u8, bits: u64) -> Vec<u8> {
     [&[number << 3 | 1][..], &bits.to_le_bytes()].concat()
 }
@@ -23,11 +26,12 @@ fn attribute(key: &[u8], value: &[u8]) -> Vec<u8> {
 
 #[test]
 fn a_point_is_written_alike_in_any_order() {
-    let own = [fixed(2, 0), fixed(3, u64::MAX), fixed(6, -5i64 as u64)];
+    let own = [fixed(2, START), fixed(3, END), fixed(6, -5i64 as u64)];
     let (text, whole) = (attribute(b"k\"", &bytes(1, b"t")), attribute(b"w", &[24, 5]));
     let (truth, flags) = (attribute(b"b", &[16, 1]), vec![64, 1]);
     let (exemplar, unknown) = (bytes(5, &fixed(2, 1)), bytes(15, b"x"));
-    let values = r#"{"startTimeUnixNano":"0","timeUnixNano":"18446744073709551615","asInt":"-5""#;
+    let values =
+        r#"{"startTimeUnixNano":"1700000000000000000","timeUnixNano":"1700000001023456789","asInt":"-5""#;
     let of_text = r#"{"key":"k\"","value":{"stringValue":"t"}}"#;
     let of_whole = r#"{"key":"w","value":{"intValue":"5"}}"#;
     let of_truth = r#"{"key":"b","value":{"boolValue":true}}"#;
@@ -69,9 +73,13 @@ fn a_point_is_written_alike_in_any_order() {
     assert_eq!(
         without,
         [
-            r#"{"startTimeUnixNano":"0","timeUnixNano":"18446744073709551615"}"#,
-            r#"{"timeUnixNano":"18446744073709551615","asInt":"-5"}"#,
+            r#"{"startTimeUnixNano":"1700000000000000000","timeUnixNano":"1700000001023456789"}"#,
+            r#"{"timeUnixNano":"1700000001023456789","asInt":"-5"}"#,
             "{}",
         ]
+    );
+    assert_eq!(
+        written(&[fixed(2, 0), fixed(3, u64::MAX), fixed(6, 0)]),
+        r#"{"startTimeUnixNano":"0","timeUnixNano":"18446744073709551615","asInt":"0"}"#
     );
 }

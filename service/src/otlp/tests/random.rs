@@ -3,6 +3,8 @@
 use super::mapping::Spelling;
 use super::*;
 use crate::otlp::messages::*;
+use crate::otlp::schema::{Kind, Message as Table, KEY_VALUE, REQUEST};
+use crate::otlp::wire::{Fields, Payload};
 use std::collections::BTreeMap;
 
 /// xorshift64: the same draws in each run.
@@ -86,16 +88,28 @@ impl Random {
         })
     }
 
+    /// A small one, or one as programs have it.
+    fn time(&mut self) -> u64 {
+        match self.below(2) {
+            0 => 1 + self.below(3),
+            _ => 1_700_000_000_000_000_000 + self.below(5) * 500_000_001,
+        }
+    }
+
     fn sum_point(&mut self) -> NumberDataPoint {
         let value = match self.below(8) {
             0 => None,
             1 => Some(Number::AsDouble(self.double())),
             _ => Some(Number::AsInt(self.number() as i64)),
         };
-        let (start_time_unix_nano, flags) = (1 + self.below(3), self.below(8) as u32 / 6);
+        let (start_time_unix_nano, flags) = (self.time(), self.below(8) as u32 / 6);
+        let time_unix_nano = match self.below(2) {
+            0 => self.number(),
+            _ => start_time_unix_nano + self.below(3) * 100_000_000,
+        };
         NumberDataPoint {
             start_time_unix_nano,
-            time_unix_nano: self.number(),
+            time_unix_nano,
             value,
             attributes: self.attributes(0),
             flags,
@@ -226,6 +240,49 @@ fn both_mean_the_same(reading: &Reading) -> BTreeMap<String, Rounding> {
     }
     assert!(series > 500 && foreign > 500, "{series} {foreign}");
     rounded
+}
+
+/// The same, with keys that are longer than they need be where `is_long` says so.
+fn with_long_keys(of: &Table, message: &[u8], is_long: &mut impl FnMut() -> bool) -> Vec<u8> {
+    let mut out = Vec::new();
+    for field in Fields::of(message) {
+        let (number, payload) = field.unwrap();
+        let known = of.fields.iter().find(|field| u32::from(field.number) == number);
+        let inner = match known.unwrap().kind {
+            Kind::Message(inner) | Kind::Messages(inner) | Kind::Part(inner) | Kind::Parts(inner) => {
+                Some(inner)
+            }
+            Kind::ResourceAttributes => Some(&KEY_VALUE),
+            _ => None,
+        };
+        let field = match payload {
+            Payload::Bytes(part) => {
+                let inner = inner.map(|inner| with_long_keys(inner, part, is_long));
+                bytes(number, inner.as_deref().unwrap_or(part))
+            }
+            Payload::Varint(bits) => [varint(number << 3), varint(bits)].concat(),
+            Payload::Fixed64(bits) => [&varint(number << 3 | 1)[..], &bits.to_le_bytes()].concat(),
+            Payload::Fixed32(_) => panic!("no message of metrics has one"),
+        };
+        match is_long() {
+            true => out.extend([&[field[0] | 128, 0], &field[1..]].concat()),
+            false => out.extend(field),
+        }
+    }
+    out
+}
+
+/// What is written at once is as if it were written field by field, as all with long keys is.
+#[test]
+fn plain_points_are_written_as_any_other() {
+    let (mut random, mut other) = (Random(0x2545_f491_4f6c_dd1d), Random(7));
+    for _ in 0..2000 {
+        let body = random.request().encode_to_vec();
+        let field_by_field = prepared(Encoding::Protobuf, with_long_keys(&REQUEST, &body, &mut || true));
+        let mixed = with_long_keys(&REQUEST, &body, &mut || other.below(9) == 0);
+        assert_eq!(prepared(Encoding::Protobuf, body), field_by_field);
+        assert_eq!(prepared(Encoding::Protobuf, mixed), field_by_field);
+    }
 }
 
 #[test]
