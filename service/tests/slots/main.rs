@@ -2,6 +2,7 @@
 
 mod change;
 mod log;
+mod memory;
 mod support;
 mod told;
 
