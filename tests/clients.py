@@ -57,17 +57,20 @@ def accepted(service):
     return metrics(service)['totxegun_posts_total{status="200"}']
 
 
-def settle(service):
-    """Returns once no post is under way: the service may take one that wrk has broken off."""
-    before = None
-    while (now := accepted(service)) != before or metrics(service)["totxegun_post_bytes_in_flight"]:
-        before = now
+def is_settled(service):
+    """Whether no post is under way any more: the service may take one that wrk has broken off."""
+    counts = [None]
+
+    def is_still():
         time.sleep(0.7)
+        counts.append(accepted(service))
+        return counts[-1] == counts[-2] and not metrics(service)["totxegun_post_bytes_in_flight"]
+    return wait_until(is_still, PATIENCE)
 
 
 def totals(checks, what, service, sink):
     """What the sink has of each series, behind a flush."""
-    settle(service)
+    checks.true(f"{what}: within {PATIENCE} s no post is under way", is_settled(service), service.last_lines())
     service.order("/flush")
     checks.true(f"{what}: all is delivered", wait_until(service.is_drained), service.last_lines())
     points, found = sink.points(), {}

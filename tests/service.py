@@ -343,11 +343,14 @@ class Sender:
         self.last = last
 
     def late_repeat(self):
-        """The answer to a repeat of the last post that was taken."""
+        """The answer to a repeat of the last post that was taken. Where none comes in time, TimeoutError."""
+        until = time.monotonic() + SECONDS
         while self.last:
             answer = self.try_once(*self.last)
             if answer[0] not in (None, *AGAIN):
                 return answer
+            if time.monotonic() > until:
+                raise TimeoutError(f"a repeat of the last post of {self.name} is not answered within {SECONDS} s: {answer}")
             time.sleep(0.1)
         return 400, OUT_OF_ORDER
 

@@ -3,11 +3,11 @@
 //! Senders post to `intake`, or call `grpc`, which read their request by `otlp` and give it to a `slot`: one gateway with its
 //! journal and outbox (`files`). A `keeper` starts, flushes, replaces and restores the `gateway`. What was flushed
 //! is delivered to one of the `sinks`. `remarks` tells in the log what an operator may want to know of posts.
-//! `operate` is the operator's address, `command` the command line, `service` all of it as one process; `switch` tells a
-//! part of it to stop, `work` is done beside the runtime.
+//! `operate` is the operator's address, `command` the command line, `service` all of it as one process, `log` what it says;
+//! `switch` tells a part of it to stop, `work` is done beside the runtime.
 
 // What may be missing is handled; in a test these two are the check. `print!` and `eprint!` panic where nobody reads: see
-// `command` and `complain`.
+// `command` and `log`.
 #![cfg_attr(
     not(test),
     deny(
@@ -24,6 +24,7 @@ pub mod gateway;
 pub mod grpc;
 pub mod intake;
 pub mod keeper;
+mod log;
 pub mod metrics;
 pub mod operate;
 pub mod otlp;
@@ -34,9 +35,4 @@ pub mod slot;
 pub mod switch;
 mod work;
 
-/// Says on standard error why the program ends or waits, or what it could not do. The status counts also where that
-/// can't be written: the log may be on the disk that failed.
-fn complain(what: std::fmt::Arguments) {
-    use std::io::Write;
-    let _ = writeln!(std::io::stderr(), "totxegun: {what}");
-}
+use log::complain;

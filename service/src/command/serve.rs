@@ -6,11 +6,14 @@ use super::version::Versions;
 use super::Failure;
 use crate::files::{Durability, MOST_SLOTS};
 use crate::gateway;
+use crate::log;
+use crate::metrics::Metrics;
 use crate::service::{self, init, Settings};
 use crate::sinks::Address;
 use anyhow::{bail, Context};
 use clap::{value_parser, Args};
 use std::path::{Path, PathBuf};
+use std::sync::Arc;
 use std::time::Duration;
 use tracing::level_filters::LevelFilter;
 use tracing_subscriber::{filter::Targets, prelude::*};
@@ -183,25 +186,30 @@ fn told() -> Targets {
 
 impl Options {
     pub fn run(self) -> Result<(), Failure> {
+        init::take_signals().context("signals can't be received")?; // before there are threads
+        let metrics = Arc::new(Metrics::new().context("metrics")?);
+        let log =
+            log::start(metrics.log_lines_lost.clone()).context("no thread could be started for the log")?;
         tracing_subscriber::fmt()
-            .with_writer(std::io::stderr)
+            .with_writer(log)
             .with_target(false)
-            .log_internal_errors(false) // it tells them by a panic, where a log's disk is full or nobody reads it
+            .log_internal_errors(false) // it tells them on standard error by itself
             .finish()
             .with(told())
             .init();
         let most_files = raise_open_files();
         tracing::info!("{}", Versions::of(self.gateway.as_deref()));
-        init::take_signals().context("signals can't be received")?; // before there are threads
         let mut building = tokio::runtime::Builder::new_multi_thread();
         building
             .worker_threads(BACKGROUND)
             .max_blocking_threads(LONG_WORK + LONG_WORK_OF_A_SLOT * (usize::from(self.slots) - 1))
             .enable_all();
         let runtime = building.build().context("no threads could be started")?;
-        let ended = runtime.block_on(service::run(self.settings(most_files)?));
+        let ended = runtime.block_on(service::run(self.settings(most_files, metrics)?));
         runtime.shutdown_background(); // who still waits for a disk or a sender is not waited for
-        Ok(ended?)
+        ended?;
+        log::finish();
+        Ok(())
     }
 
     /// How many connections senders may have, where this process may have so many open files. One that nobody posts on
@@ -221,7 +229,7 @@ impl Options {
         most.min(wanted) as usize
     }
 
-    fn settings(self, most_files: u64) -> Result<Settings, Failure> {
+    fn settings(self, most_files: u64, metrics: Arc<Metrics>) -> Result<Settings, Failure> {
         let most_connections = self.connections(most_files);
         let program = gateway::find_program(self.gateway.as_deref()).map_err(anyhow::Error::from)?;
         let allocator = gateway::allocator::library(self.of_gateway.allocator.as_deref());
@@ -259,6 +267,7 @@ impl Options {
             most_connections,
             threads: usize::from(self.threads),
             slots: self.slots,
+            metrics,
         })
     }
 }

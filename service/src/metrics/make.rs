@@ -69,6 +69,10 @@ pub fn metrics() -> Result<Metrics> {
             "forgotten_series_total",
             "Series left out of a fresh gateway for their age",
         )?,
+        log_lines_lost: maker.counter(
+            "log_lines_lost_total",
+            "Lines of the log that nobody took in time, or that could not be written",
+        )?,
         faults: maker.counters("faults_total", "What must never be", "kind", &FAULTS)?,
         checkpoint_pause_seconds: maker
             .seconds("checkpoint_pause_seconds", "How long a checkpoint held the posts")?,

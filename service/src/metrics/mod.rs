@@ -40,6 +40,7 @@ pub struct Metrics {
     /// By `outcome`: `taken`, `partial`, `again`, `refused`.
     pub deliveries: IntCounterVec,
     pub forgotten_series: IntCounter,
+    pub log_lines_lost: IntCounter,
     /// What must never be, by `kind`.
     pub faults: IntCounterVec,
     pub checkpoint_pause_seconds: prometheus::Histogram,
@@ -231,6 +232,7 @@ mod tests {
             "totxegun_dead_requests 0",
             "totxegun_quarantined_senders 0",
             "totxegun_ready 0",
+            "totxegun_log_lines_lost_total 0",
             concat!(
                 "totxegun_build_info{version=\"",
                 env!("CARGO_PKG_VERSION"),

@@ -12,6 +12,7 @@ mod supervisor;
 use crate::files::{Durability, Fault, Folder, FolderFault};
 use crate::gateway::Options;
 use crate::keeper::Settings as Keeping;
+use crate::metrics::Metrics;
 use crate::otlp::Reading;
 use crate::sinks::Address;
 use crate::slot::Slots;
@@ -45,6 +46,7 @@ pub struct Settings {
     pub threads: usize,
     /// How many gateways share the senders.
     pub slots: u16,
+    pub metrics: Arc<Metrics>,
 }
 
 impl Settings {

@@ -50,7 +50,7 @@ struct Part {
 impl Parts {
     /// Opens the files in place: nothing else runs yet.
     pub fn open(folder: Arc<Folder>, settings: &Settings) -> Result<Parts, Ended> {
-        let metrics = Arc::new(Metrics::new().context("metrics")?);
+        let metrics = settings.metrics.clone();
         let files = Files::open(&folder)?;
         let dead = Arc::new(folder.dead()?);
         let sink = sinks::open(&settings.sink).context("the sink can't be opened")?;

@@ -58,7 +58,7 @@ impl Supervisor {
         self.tell("STOPPING=1");
     }
 
-    /// A datagram of some bytes: it does not block for longer than a log line.
+    /// A datagram of some bytes: it waits only where the supervisor has many that it has not read.
     fn tell(&self, text: &str) {
         let Some(to) = &self.to else { return };
         let told = UnixDatagram::unbound().and_then(|socket| socket.send_to_addr(text.as_bytes(), to));

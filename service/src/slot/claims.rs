@@ -4,16 +4,25 @@
 //! gateways, and who posts to another slot's series is refused as a gateway refuses it. What a post claims is held once
 //! it is in the journal; what of it nobody else holds or claims is free again where it was not taken. A start claims
 //! what each slot's snapshot and journal have, and a series that is forgotten is free.
+//!
+//! For that each post is read once more. Its series are told by digests: a key says all that identifies a series, which
+//! thousands of series of a post may share, and so the keys of a post may be hundreds of times its length.
 
 use crate::files::{Fault, Journal, Outbox};
 use crate::otlp::series::{first_places, SeriesKey};
-use crate::work::within;
+use crate::work::{blocking, within};
+use bytes::Bytes;
+use sha2::{Digest, Sha256};
 use std::collections::hash_map::Entry;
 use std::collections::HashMap;
 use std::sync::{Arc, Mutex, MutexGuard, PoisonError};
 use std::time::{Duration, Instant};
-use tokio::sync::Notify;
+use tokio::sync::{Notify, Semaphore};
 
+/// A body up to this long is read in place, a longer one on a thread beside the runtime's.
+const SHORT: usize = 64 << 10;
+/// How many long bodies are read at a time: while it is read, one takes several times its length.
+const READERS: usize = 2;
 /// How long a post waits until it is known whether another slot's gateway takes a point of its series.
 const PATIENCE: Duration = Duration::from_secs(1);
 
@@ -21,9 +30,30 @@ const PATIENCE: Duration = Duration::from_secs(1);
 pub struct Claims {
     /// By slot.
     journals: Vec<Arc<Journal>>,
-    table: Mutex<HashMap<SeriesKey, Claim>>,
+    readers: Semaphore,
+    table: Mutex<HashMap<SeriesDigest, Claim>>,
     /// A claim was held or given up.
     settled: Notify,
+}
+
+/// A series, by the SHA-256 of its key.
+#[derive(Clone, Copy, Debug, PartialEq, Eq, Hash)]
+pub(super) struct SeriesDigest([u8; 32]);
+
+impl SeriesDigest {
+    fn of(key: &str) -> SeriesDigest {
+        SeriesDigest(Sha256::digest(key).into())
+    }
+}
+
+/// Series of a body, each with the place of its first point.
+pub(super) type Places = Vec<(SeriesDigest, u64)>;
+
+/// None of a body that can't be read: it is for the gateway to refuse.
+fn places(body: &[u8]) -> Places {
+    let mut places = first_places(body, SeriesDigest::of).unwrap_or_default();
+    places.shrink_to_fit(); // they are kept until the post is in the journal
+    places
 }
 
 struct Claim {
@@ -47,13 +77,14 @@ pub(super) enum NotClaimed {
 #[must_use = "what is dropped is free"]
 pub(super) struct Claimed<'a> {
     claims: &'a Claims,
-    series: Vec<(SeriesKey, u64)>,
+    series: Places,
 }
 
 impl Claims {
     pub fn new(journals: Vec<Arc<Journal>>) -> Arc<Claims> {
         Arc::new(Claims {
             journals,
+            readers: Semaphore::new(READERS),
             table: Mutex::new(HashMap::new()),
             settled: Notify::new(),
         })
@@ -61,20 +92,19 @@ impl Claims {
 
     /// Claims what a slot's files have: how many of these series another slot has already, which must never be.
     pub fn claim_files(&self, slot: u16, journal: &Journal, outbox: &Outbox) -> Result<usize, Fault> {
-        let mut wrong = self.hold(slot, outbox.series().into_keys());
+        let mut wrong = self.hold(slot, outbox.series().keys().map(|key| SeriesDigest::of(&key.0)));
         journal.posts(outbox.journal(), u64::MAX, |post| {
-            let places = first_places(&post.body).unwrap_or_default();
-            wrong += self.hold(slot, places.into_iter().map(|(key, _)| key));
+            wrong += self.hold(slot, places(&post.body).into_iter().map(|(series, _)| series));
             true
         })?;
         Ok(wrong)
     }
 
-    fn hold(&self, slot: u16, series: impl Iterator<Item = SeriesKey>) -> usize {
+    fn hold(&self, slot: u16, series: impl Iterator<Item = SeriesDigest>) -> usize {
         let mut table = self.table();
         let mut wrong = 0;
-        for key in series {
-            let claim = table.entry(key).or_insert(Claim {
+        for one in series {
+            let claim = table.entry(one).or_insert(Claim {
                 slot,
                 held: true,
                 posts: 0,
@@ -84,12 +114,18 @@ impl Claims {
         wrong
     }
 
-    /// Claims the series of a post, each with the place of its first point. It waits for other slots' posts under way.
-    pub(super) async fn claim(
-        &self,
-        slot: u16,
-        series: Vec<(SeriesKey, u64)>,
-    ) -> Result<Claimed<'_>, NotClaimed> {
+    /// The series that a post has to claim.
+    pub(super) async fn places(&self, body: &Bytes) -> Places {
+        if body.len() <= SHORT {
+            return places(body);
+        }
+        let _turn = self.readers.acquire().await; // it is never closed
+        let body = body.clone();
+        blocking(move || places(&body)).await
+    }
+
+    /// Claims the series of a post. It waits for other slots' posts under way.
+    pub(super) async fn claim(&self, slot: u16, series: Places) -> Result<Claimed<'_>, NotClaimed> {
         let until = Instant::now() + PATIENCE;
         loop {
             let settled = self.settled.notified(); // before the look, so that none is missed
@@ -101,10 +137,10 @@ impl Claims {
         }
     }
 
-    fn try_claim(&self, slot: u16, series: &[(SeriesKey, u64)]) -> Result<(), NotClaimed> {
+    fn try_claim(&self, slot: u16, series: &[(SeriesDigest, u64)]) -> Result<(), NotClaimed> {
         let mut table = self.table();
-        let others = series.iter().filter_map(|(key, place)| {
-            let claim = table.get(key).filter(|claim| claim.slot != slot)?;
+        let others = series.iter().filter_map(|(one, place)| {
+            let claim = table.get(one).filter(|claim| claim.slot != slot)?;
             Some((claim.slot, claim.held, *place))
         });
         let mut not_known = false;
@@ -117,18 +153,13 @@ impl Claims {
         if not_known {
             return Err(NotClaimed::NotKnown);
         }
-        for (key, _) in series {
-            match table.get_mut(key) {
-                Some(claim) => claim.posts += 1,
-                None => {
-                    let claim = Claim {
-                        slot,
-                        held: false,
-                        posts: 1,
-                    };
-                    table.insert(key.clone(), claim);
-                }
-            }
+        for (one, _) in series {
+            let claim = table.entry(*one).or_insert(Claim {
+                slot,
+                held: false,
+                posts: 0,
+            });
+            claim.posts += 1;
         }
         Ok(())
     }
@@ -145,7 +176,7 @@ impl Claims {
     pub fn forget(&self, slot: u16, series: &[SeriesKey]) {
         let mut table = self.table();
         for key in series {
-            if let Entry::Occupied(mut entry) = table.entry(key.clone()) {
+            if let Entry::Occupied(mut entry) = table.entry(SeriesDigest::of(&key.0)) {
                 let claim = entry.get_mut();
                 if claim.slot == slot {
                     claim.held = false;
@@ -159,10 +190,10 @@ impl Claims {
         self.settled.notify_waiters();
     }
 
-    fn settle(&self, series: &[(SeriesKey, u64)], is_taken: bool) {
+    fn settle(&self, series: &[(SeriesDigest, u64)], is_taken: bool) {
         let mut table = self.table();
-        for (key, _) in series {
-            if let Entry::Occupied(mut entry) = table.entry(key.clone()) {
+        for (one, _) in series {
+            if let Entry::Occupied(mut entry) = table.entry(*one) {
                 let claim = entry.get_mut();
                 claim.posts -= 1;
                 claim.held |= is_taken;
@@ -175,7 +206,7 @@ impl Claims {
         self.settled.notify_waiters();
     }
 
-    fn table(&self) -> MutexGuard<'_, HashMap<SeriesKey, Claim>> {
+    fn table(&self) -> MutexGuard<'_, HashMap<SeriesDigest, Claim>> {
         self.table.lock().unwrap_or_else(PoisonError::into_inner) // each change of it is whole
     }
 }
@@ -200,9 +231,8 @@ impl Drop for Claimed<'_> {
 mod tests {
     use super::*;
 
-    fn series(names: &[&str]) -> Vec<(SeriesKey, u64)> {
-        let keys = names.iter().map(|name| SeriesKey((*name).into()));
-        keys.zip(0..).collect()
+    fn series(names: &[&str]) -> Places {
+        names.iter().map(|name| SeriesDigest::of(name)).zip(0..).collect()
     }
 
     fn elsewhere(slot: u16, place: u64) -> Option<NotClaimed> {
@@ -273,7 +303,7 @@ mod tests {
     async fn what_is_forgotten_is_free() {
         let claims = Claims::new(Vec::new());
         claims.claim(0, series(&["a", "b"])).await.unwrap().hold();
-        let keys: Vec<SeriesKey> = series(&["a"]).into_iter().map(|(key, _)| key).collect();
+        let keys = [SeriesKey("a".into())];
         claims.forget(1, &keys);
         assert_eq!(claims.claim(1, series(&["a"])).await.err(), elsewhere(0, 0));
         claims.forget(0, &keys);

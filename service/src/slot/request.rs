@@ -14,22 +14,19 @@
 //! - Where that takes too long the answer is 503. The repeat's bodies that are in the books are refused as
 //!   `out of order`, since each series' frontier is at the end of what was taken, and the others are taken then.
 
-use super::claims::{Claimed, NotClaimed};
+use super::claims::{Claimed, NotClaimed, Places};
 use super::points::points;
 use super::verdict::{Journalled, Refusal, Said, Verdict};
 use super::{is_sender, Counted, Phase, Slot};
 use crate::files::Ticket;
-use crate::otlp::series::{first_places, SeriesKey};
 use crate::otlp::Outcome;
-use crate::work::{blocking, pause};
+use crate::work::pause;
 use bytes::Bytes;
 use std::time::{Duration, Instant};
 
 /// How long a body behind one that was taken is tried. Senders wait 10 seconds, as a rule.
 const PATIENCE: Duration = Duration::from_secs(8);
 const PAUSE: Duration = Duration::from_millis(100);
-/// A longer body is read on a thread beside the runtime's.
-const SHORT: usize = 64 << 10;
 
 /// What became of one body.
 enum Put {
@@ -171,20 +168,15 @@ impl Slot {
         }
     }
 
-    /// The series that have to be claimed: none where there is no other slot. A body that can't be read is for the
-    /// gateway to refuse.
-    async fn series_of(&self, body: &Bytes) -> Vec<(SeriesKey, u64)> {
-        if self.claims.is_none() {
-            return Vec::new();
+    /// The series that have to be claimed: none where there is no other slot.
+    async fn series_of(&self, body: &Bytes) -> Places {
+        match &self.claims {
+            None => Places::new(),
+            Some(claims) => claims.places(body).await,
         }
-        if body.len() <= SHORT {
-            return first_places(body).unwrap_or_default();
-        }
-        let body = body.clone();
-        blocking(move || first_places(&body).unwrap_or_default()).await
     }
 
-    async fn claimed(&self, series: Vec<(SeriesKey, u64)>) -> Result<Option<Claimed<'_>>, NotClaimed> {
+    async fn claimed(&self, series: Places) -> Result<Option<Claimed<'_>>, NotClaimed> {
         match &self.claims {
             None => Ok(None),
             Some(claims) => claims.claim(self.number, series).await.map(Some),

@@ -1,6 +1,8 @@
 //! Several slots, by the program itself: whose post goes where, who has a series, kills, and another number of slots.
 
 mod change;
+mod log;
+mod memory;
 mod support;
 mod told;
 

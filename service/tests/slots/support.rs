@@ -154,6 +154,10 @@ impl Service {
         self.child.wait().unwrap().code()
     }
 
+    pub fn pid(&self) -> u32 {
+        self.child.id()
+    }
+
     pub fn status_of_end(&mut self) -> Option<i32> {
         self.child.wait().unwrap().code()
     }

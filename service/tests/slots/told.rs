@@ -1,6 +1,6 @@
 //! What an operator is told.
 
-use crate::support::{points, signal, until, Place, NO_SINK, PROGRAM};
+use crate::support::{points, until, Place, NO_SINK, PROGRAM};
 use nix::fcntl::{flock, FlockArg};
 use std::os::fd::AsRawFd;
 use std::os::unix::net::UnixDatagram;
@@ -52,33 +52,6 @@ fn a_start_asks_for_time_before_its_files_are_open() {
     let mut told = [0; 100];
     let length = supervisor.recv(&mut told).expect("it was told nothing");
     assert!(told[..length].starts_with(b"EXTEND_TIMEOUT_USEC="));
-}
-
-/// A log's disk is full as a rule when the folder's is; a program that reads the log may have ended.
-#[test]
-fn a_log_that_nobody_can_write_ends_nothing() {
-    let into = |log: &str| {
-        let mut command = Command::new("bash");
-        command.args(["-c", &format!("exec \"$@\" {log}"), "bash", PROGRAM]);
-        command
-    };
-    for log in ["2>/dev/full", "2>&-", "2> >(true)"] {
-        let place = Place::new();
-        let service = place.begin_by(into(log), &["--sink", NO_SINK]);
-        until("it is ready", || service.is_ready());
-        for pid in service.gateways() {
-            signal(pid, "KILL");
-        }
-        assert_eq!(
-            service.post_until_answered("A", &points(&["a"], 100, 5)).0,
-            200,
-            "{log}"
-        );
-        assert_eq!(service.end(), Some(0), "{log}");
-        std::fs::write(place.data().join("version"), "of nothing").unwrap();
-        let mut damaged = place.begin_by(into(log), &["--sink", NO_SINK]);
-        assert_eq!(damaged.status_of_end(), Some(70), "{log}");
-    }
 }
 
 /// A start of the program with a small disk of its own in the place of the folder.

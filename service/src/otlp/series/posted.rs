@@ -6,6 +6,7 @@ use super::why::{What, Why};
 use super::{Posted, SeriesKey};
 use crate::otlp::json::{write_text, Document, Elements, Value};
 use std::collections::{HashMap, HashSet};
+use std::hash::Hash;
 use std::sync::Arc;
 
 /// A point where it is in its body.
@@ -34,19 +35,18 @@ pub fn posted(body: &[u8]) -> Option<Posted> {
     Some(posted)
 }
 
-/// Each series that a body has points of the profile of, with the place of the first among all of these. None where the
-/// gateway refuses the body whole.
-pub fn first_places(body: &[u8]) -> Option<Vec<(SeriesKey, u64)>> {
+/// Each series that a body has points of the profile of, as `told` tells its key, with the place of the first among all of
+/// these. None where the gateway refuses the body whole.
+pub fn first_places<S: Copy + Eq + Hash>(body: &[u8], told: impl Fn(&str) -> S) -> Option<Vec<(S, u64)>> {
     let document = Document::parse(body).ok()?;
     let (mut known, mut places, mut place) = (HashSet::new(), Vec::new(), 0);
     visit(&document, |seen| {
         if seen.found.is_err() {
             return;
         }
-        if !known.contains(seen.key) {
-            let key = SeriesKey(Arc::from(seen.key));
-            known.insert(key.clone());
-            places.push((key, place));
+        let series = told(seen.key);
+        if known.insert(series) {
+            places.push((series, place));
         }
         place += 1;
     })?;

@@ -1,0 +1,194 @@
+//! The log: what the service says on standard error, written by a thread of its own.
+//!
+//! Who reads a log may stand still, and whoever writes to it then does so too: that must be nobody who serves. So lines
+//! wait for the thread, up to a bound. Of those that find no room, and of those that can't be written, a line in their
+//! place says how many there were.
+
+use prometheus::IntCounter;
+use std::backtrace::{Backtrace, BacktraceStatus};
+use std::fmt::Arguments;
+use std::io::{self, Write};
+use std::panic::PanicHookInfo;
+use std::sync::{Arc, Condvar, Mutex, MutexGuard, OnceLock, PoisonError};
+use std::time::{Duration, Instant};
+
+/// The most bytes of lines that wait; those that are being written are as many at most.
+const MOST_WAITING: usize = 1 << 20;
+/// How long the end of the process waits until its last lines are written.
+const LAST_LINES: Duration = Duration::from_secs(1);
+
+/// That of this process, where it serves. A command writes to standard error by itself.
+static LOG: OnceLock<Arc<Log>> = OnceLock::new();
+
+pub struct Log {
+    state: Mutex<State>,
+    changed: Condvar,
+    /// Lines that the log has not.
+    lost: IntCounter,
+}
+
+#[derive(Default)]
+struct State {
+    waiting: Lines,
+    is_writing: bool,
+}
+
+/// Whole lines, and how many are missing behind them.
+#[derive(Default)]
+struct Lines {
+    text: Vec<u8>,
+    missing: u64,
+}
+
+/// Starts the thread. What the process says at its end goes the same way from then on, also of a panic.
+pub fn start(lost: IntCounter) -> io::Result<Arc<Log>> {
+    let log = Arc::new(Log::new(lost));
+    let writing = log.clone();
+    std::thread::Builder::new()
+        .name("log".into())
+        .spawn(move || writing.write_to(io::stderr()))?;
+    std::panic::set_hook(Box::new(tell_panic));
+    Ok(LOG.get_or_init(|| log).clone())
+}
+
+/// Says on standard error why the program ends or waits, or what it could not do. The status counts also where that
+/// can't be written: the log may be on the disk that failed.
+pub fn complain(what: Arguments) {
+    let line = format!("totxegun: {what}\n");
+    let Some(log) = LOG.get() else {
+        let _ = io::stderr().write_all(line.as_bytes());
+        return;
+    };
+    let until = Instant::now() + LAST_LINES;
+    log.wait_until_written(until); // so that there is room
+    log.put(line.as_bytes());
+    log.wait_until_written(until);
+}
+
+/// Waits for the last lines, where they are read: the process ends.
+pub fn finish() {
+    if let Some(log) = LOG.get() {
+        log.wait_until_written(Instant::now() + LAST_LINES);
+    }
+}
+
+fn tell_panic(panic: &PanicHookInfo) {
+    let calls = Backtrace::capture();
+    match calls.status() {
+        BacktraceStatus::Captured => complain(format_args!("{panic}\n{calls}")),
+        _ => complain(format_args!("{panic}")),
+    }
+}
+
+impl Log {
+    fn new(lost: IntCounter) -> Log {
+        Log {
+            state: Mutex::default(),
+            changed: Condvar::new(),
+            lost,
+        }
+    }
+
+    fn state(&self) -> MutexGuard<'_, State> {
+        self.state.lock().unwrap_or_else(PoisonError::into_inner) // each change of it is whole
+    }
+
+    /// Waits for nobody.
+    fn put(&self, line: &[u8]) {
+        let mut state = self.state();
+        let waiting = &mut state.waiting;
+        // Behind one that is missing all are, so that there is one place to say it.
+        if waiting.missing > 0 || waiting.text.len() + line.len() > MOST_WAITING {
+            waiting.missing += 1;
+            self.lost.inc();
+        } else {
+            waiting.text.extend_from_slice(line);
+        }
+        self.changed.notify_all();
+    }
+
+    fn write_to(&self, out: impl Write) {
+        let mut output = Output { out, missing: 0 };
+        loop {
+            let lines = self.next();
+            self.lost.inc_by(output.write(&lines));
+        }
+    }
+
+    /// Waits for lines. Those that it returned before are written.
+    fn next(&self) -> Lines {
+        let mut state = self.state();
+        state.is_writing = false;
+        self.changed.notify_all();
+        let woken = self.changed.wait_while(state, |state| state.waiting.is_empty());
+        let mut state = woken.unwrap_or_else(PoisonError::into_inner);
+        state.is_writing = true;
+        std::mem::take(&mut state.waiting)
+    }
+
+    fn wait_until_written(&self, until: Instant) {
+        let left = until.saturating_duration_since(Instant::now());
+        let is_under_way = |state: &mut State| state.is_writing || !state.waiting.is_empty();
+        // Where nobody reads in time the lines are lost.
+        drop(self.changed.wait_timeout_while(self.state(), left, is_under_way));
+    }
+}
+
+impl Lines {
+    fn is_empty(&self) -> bool {
+        self.text.is_empty() && self.missing == 0
+    }
+}
+
+/// `tracing` writes a line by one call.
+impl Write for &Log {
+    fn write(&mut self, line: &[u8]) -> io::Result<usize> {
+        self.put(line);
+        Ok(line.len())
+    }
+
+    fn flush(&mut self) -> io::Result<()> {
+        Ok(())
+    }
+}
+
+/// Where lines go.
+struct Output<W> {
+    out: W,
+    /// Behind the last line that was written.
+    missing: u64,
+}
+
+impl<W: Write> Output<W> {
+    /// How many could not be written.
+    fn write(&mut self, lines: &Lines) -> u64 {
+        let mut failed = 0;
+        for line in lines.text.split_inclusive(|byte| *byte == b'\n') {
+            if self.write_line(line).is_err() {
+                failed += 1;
+                self.missing += 1;
+            }
+        }
+        self.missing += lines.missing;
+        let _ = self.say_missing(); // it is said before the next line else
+        failed
+    }
+
+    fn write_line(&mut self, line: &[u8]) -> io::Result<()> {
+        self.say_missing()?;
+        self.out.write_all(line)
+    }
+
+    fn say_missing(&mut self) -> io::Result<()> {
+        let missing = self.missing;
+        if missing > 0 {
+            let note = format!("totxegun: lines of the log that are missing here: {missing}\n");
+            self.out.write_all(note.as_bytes())?;
+            self.missing = 0;
+        }
+        Ok(())
+    }
+}
+
+#[cfg(test)]
+mod tests;
