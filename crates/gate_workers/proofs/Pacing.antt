@@ -1,6 +1,7 @@
 -- At which spots a worker asks its pace.
-use Rattle.std.proofs.Common.{◌≡◌, ◌⊎◌, ℕ, List, Bool, true, false, Option, Some, None, inl, inr, refl, ap, sym, subst, ◌∙◌}
+use Rattle.std.proofs.Common.{◌≡◌, ◌⊎◌, ℕ, List, Bool, true, false, Option, inl, inr, refl, ap, sym, subst, ◌∙◌}
 use Rattle.std.specs.Prelude.{IfSome}
+use Rattle.std.proofs.lemmas.Option.{IfSome_then}
 use Rattle.http_edge.specs.Message.{Message}
 use Rattle.http_edge.specs.Reading.{BeginsWith}
 use Rattle.http_edge.specs.declared.written.Written.{Written}
@@ -18,8 +19,7 @@ use Rattle.gate_workers.specs.inner.Heard.{IsUnheard}
 
 -- a message that was read is a whole request
 pub whole : (input : Option (List ℕ)) (m : Message) → IfSome input (λ bytes. BeginsWith bytes m) → IfSome input HasRequest
-whole None m h = tt
-whole (Some bytes) m h = (m, h)
+whole input m h = IfSome_then input h (λ bytes b. (m, b))
 
 -- the refusal of bytes that were not read
 unread : (input : Option (List ℕ)) (a : Requested) → IsUnheard input a → (why : Refusal) × IsUnread input why × (a ≡ Refused why)
