@@ -1,6 +1,7 @@
 -- At which spots a worker asks its pace.
-use Rattle.std.proofs.Common.{◌≡◌, ◌⊎◌, ℕ, List, Bool, true, false, Option, Some, None, inl, inr, refl, ap, sym, subst, ◌∙◌}
+use Rattle.std.proofs.Common.{◌≡◌, ◌⊎◌, ℕ, List, Bool, true, false, Option, inl, inr, refl, ap, sym, ◌∙◌}
 use Rattle.std.specs.Prelude.{IfSome}
+use Rattle.std.proofs.lemmas.Option.{IfSome_then}
 use Rattle.http_edge.specs.Message.{Message}
 use Rattle.http_edge.specs.Reading.{BeginsWith}
 use Rattle.http_edge.specs.declared.written.Written.{Written}
@@ -18,8 +19,7 @@ use Rattle.gate_workers.specs.inner.Heard.{IsUnheard}
 
 -- a message that was read is a whole request
 pub whole : (input : Option (List ℕ)) (m : Message) → IfSome input (λ bytes. BeginsWith bytes m) → IfSome input HasRequest
-whole None m h = tt
-whole (Some bytes) m h = (m, h)
+whole input m h = IfSome_then input h (λ bytes b. (m, b))
 
 -- the refusal of bytes that were not read
 unread : (input : Option (List ℕ)) (a : Requested) → IsUnheard input a → (why : Refusal) × IsUnread input why × (a ≡ Refused why)
@@ -38,10 +38,8 @@ pub paced : {K P : Type 0} (gives : Giving K) (reaches : Reaching P) (input : Op
     → IsHandled gives a k m response batch → IsEnded gives batch written m k' end → IsPaced reaches input k k' p p' (Replied response.status written end)
 paced gives reaches input a k m k' p p' response batch written end (inl asked) h closed = inl asked
 paced gives reaches input a k m k' p p' response batch written end (inr none) h closed =
-    let of_ask : Requested → Type 0 = λ x. IsHandled gives x k m response batch in
     let why = unread input a none.0 in
-    let refused = subst of_ask why.2 h in
+    let refused = rw why.2 at h in
     let by = said input refused.1.0 why.0 response why.1 refused.1.1 in
-    let of_batch : Option ℕ → Type 0 = λ b. IsEnded gives b written m k' end in
-    let left = subst of_batch refused.2 closed in
+    let left = rw refused.2 at closed in
     inr (by.0, by.1, by.2, sym (refused.0 ∙ left.0), none.1)

@@ -1,5 +1,5 @@
 -- What bytes ask for.
-use Rattle.std.specs.Prelude.{◌≡◌, ◌≢◌, ◌⊎◌, ℕ, List, [], Option, Some, None, ⊤}
+use Rattle.std.specs.Prelude.{◌≡◌, ◌≢◌, ◌⊎◌, ℕ, List, [], Option, IfSome}
 use Rattle.http_edge.specs.Message.{Message}
 use Rattle.http_edge.specs.Reading.{BeginsWith, IsTooLong}
 use Rattle.http_edge.specs.Delivery.{IsMalformed}
@@ -16,10 +16,9 @@ Asks bytes a =
 
 -- where the bytes are known: there is one, and they ask for that, or it was out of memory
 abbrev pub IsHeard : Option (List ℕ) → Requested → Type 0
-IsHeard None a = ⊤
-IsHeard (Some bytes) a = (bytes ≢ []) × ((a ≡ Refused NoMemory) ⊎ Asks bytes a)
+IsHeard input a =
+    IfSome input (λ bytes. (bytes ≢ []) × ((a ≡ Refused NoMemory) ⊎ Asks bytes a))
 
 -- where the bytes are known: there are none
 abbrev pub IsEmpty : Option (List ℕ) → Type 0
-IsEmpty None = ⊤
-IsEmpty (Some bytes) = bytes ≡ []
+IsEmpty input = IfSome input (λ bytes. bytes ≡ [])

@@ -1,5 +1,6 @@
 -- What the loops of workers come to.
 use Rattle.std.specs.Prelude.{◌≡◌, ℕ, List, [], ◌∷◌, Option, Some}
+use Rattle.series_id.specs.Identity.{Identity}
 use Rattle.back_answers.specs.declared.answer.Answer.{Answer}
 use Rattle.gate_workers.specs.declared.service.Served.{Served}
 use Rattle.gate_workers.specs.declared.flush.Turn.{Turn}
@@ -14,14 +15,27 @@ IsServedOnce gives k k' served =
     (input : Option (List ℕ)) × (old : Option (List ℕ)) × (new : Option (List ℕ))
     × IsServed gives input k k' old new served
 
--- so many connections were given and each was served once, one after another, with the result that
--- it gives itself, and nothing else was done; the latest comes first
-abbrev pub AreConnectionsServed : {S C K : Type 0} → (S → Option C → S → Type 0)
-    → (C → Served → Type 0) → Giving K → List Served → S → S → K → K → Type 0
-AreConnectionsServed given ends gives [] s t k k' = (s ≡ t) × (k ≡ k')
-AreConnectionsServed {S} {C} {K} given ends gives (x ∷ xs) s t k k' =
-    (u : S) × (m : K) × AreConnectionsServed given ends gives xs s u k m × (c : C)
-    × given u (Some c) t × ends c x × IsServedOnce gives m k' x
+-- the slots of a cache of identities
+abbrev pub Slots : Type 0
+Slots = Option (List (Option Identity))
+
+-- what connections are served with: a keeper, a pace and a cache
+abbrev pub Tools : Type 0 → Type 0 → Type 0
+Tools K P = K × P × Slots
+
+-- how serving a connection may change what it is served with, and its result
+abbrev pub Serving : Type 0 → Type 1
+Serving C = (K P : Type 0) → Giving K → Reaching P → C → Tools K P → Tools K P → Served → Type 0
+
+-- so many connections were given and each was served once, one after another, each with what the
+-- one before has left, and nothing else was done; the latest comes first
+abbrev pub AreConnectionsServed : {S C K P : Type 0} → (S → Option C → S → Type 0) → Serving C
+    → Giving K → Reaching P → List Served → S → S → Tools K P → Tools K P → Type 0
+AreConnectionsServed given serves gives reaches [] s t w w' = (s ≡ t) × (w ≡ w')
+AreConnectionsServed {S} {C} {K} {P} given serves gives reaches (x ∷ xs) s t w w' =
+    (u : S) × (m : Tools K P) × AreConnectionsServed given serves gives reaches xs s u w m
+    × (c : C) × given u (Some c) t × serves K P gives reaches c m w' x
+    × IsServedOnce gives m.0 w'.0 x
 
 -- so many turns were made one after another, each with its asking of the pace, and nothing else was
 -- done, sent or asked; the latest comes first

@@ -1,6 +1,7 @@
 //! The loops of workers, and what they work on. Each works until it gets no more.
-ghost use Rattle.gate_workers.specs.Worked.{IsServedOnce, AreConnectionsServed, AreMade};
-ghost use Rattle.std.specs.Prelude.{◌≤◌, ◌≡◌, List, Option, None, ⊤};
+ghost use Rattle.gate_workers.specs.Worked.{Serving, Slots, IsServedOnce, AreConnectionsServed};
+ghost use Rattle.gate_workers.specs.Worked.{AreMade};
+ghost use Rattle.std.specs.Prelude.{◌≤◌, ◌≡◌, List, [], Option, Some, None, ⊤};
 ghost use Rattle.gate_workers.specs.declared.service.Served.{Served};
 ghost use Rattle.gate_workers.specs.declared.flush.Turn.{Turn};
 ghost use Rattle.gate_workers.specs.declared.worker.Spot.{Spot};
@@ -47,9 +48,10 @@ impl Pace for NoPace {
 /// A connection with one request on it. It is a trait, since what a connection is belongs to the
 /// program.
 pub trait Connection {
-    /// The results that it may give; any one, where the type does not tell. A loop over any
-    /// connections knows one of them by its call alone, so it can't leave the call out.
-    ghost ends: { Self → Served → Type 0 } = { λ connection served. ⊤ };
+    /// How it may be served: with which keeper, pace and cache, how these are left, and the result;
+    /// in any way, where the type does not tell. A loop over any connections knows that of a
+    /// connection by its call alone: so it can't leave the call out, or make it with others.
+    ghost serves: { Serving Self } = { λ K P gives reaches connection before after served. ⊤ };
 
     /// Serves its request, as `serve_with` does, and ends it.
     fn serve<K: Keeper, P: Pace>(
@@ -60,7 +62,8 @@ pub trait Connection {
         cache: &mut IdentityCache,
     ) -> Served
         ensures served { IsServedOnce K.gives keeper.old keeper.new result }
-        ensures ends { ends self result };
+        ensures serves { serves K P K.gives P.reaches self (keeper.old, pace.old, cache.old)
+            (keeper.new, pace.new, cache.new) result };
 }
 
 /// Where a worker gets its connections.
@@ -88,8 +91,8 @@ impl<C: Connection + Drop> Connections for Receiver<C> {
 }
 
 /// Serves one connection after another, each once, until there are no more. May wait for the next
-/// one. The keeper is asked for their requests, and for nothing else. What one body leaves in the
-/// cache serves those after it.
+/// one. The keeper and the pace are asked for their requests, and for nothing else. The cache is
+/// empty first, and what one body leaves in it serves those after it.
 pub fn receiver_loop<S: Connections, K: Keeper, P: Pace, R: Wait>(
     rt: &R,
     alloc: Global,
@@ -97,9 +100,9 @@ pub fn receiver_loop<S: Connections, K: Keeper, P: Pace, R: Wait>(
     keeper: &mut K,
     pace: &mut P,
 )
-    ensures { (all : List Served) × (last : S) × (end : S)
-        × AreConnectionsServed S.gives S.Connection.ends K.gives all connections last
-        keeper.old keeper.new
+    ensures { (all : List Served) × (last : S) × (end : S) × (slots : Slots)
+        × AreConnectionsServed S.gives S.Connection.serves K.gives P.reaches all connections last
+        (keeper.old, pace.old, Some []) (keeper.new, pace.new, slots)
         × S.gives last None end }
 {
     let mut cache = IdentityCache::new(alloc);
