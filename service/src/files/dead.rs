@@ -1,6 +1,7 @@
 //! `dead/`: requests that the sink refused for good, kept as bytes until an operator says what becomes of them.
 //!
-//! One file a letter, `KEY.json`: its head as JSON on the first line, then the body as it was sent.
+//! One file a letter, `KEY.json`: its head as JSON on the first line, then the body as it was sent. Another request that
+//! comes under the key of one is kept beside it, as `KEY_2.json`.
 
 use super::disk::{io_fault, Disk};
 use super::{lock, seconds, Fault};
@@ -38,6 +39,14 @@ fn is_key(key: &str) -> bool {
     (1..=128).contains(&key.len()) && key.bytes().all(sound)
 }
 
+/// The key under which a letter was sent: its own, without the number that it has beside another one.
+pub fn sent_as(name: &str) -> &str {
+    match name.rsplit_once('_') {
+        Some((key, number)) if number.parse().is_ok_and(|number: u64| number > 1) => key,
+        _ => name,
+    }
+}
+
 impl Dead {
     pub(super) fn open(disk: &Disk, folder: &Path) -> Result<Dead, Fault> {
         disk.make_folder(folder)?;
@@ -70,28 +79,31 @@ impl Dead {
         Ok(keys)
     }
 
-    /// Keeps a request: durable when this returns, and once however often it is called for one key.
+    /// Keeps a request: durable when this returns, and once however often it is called for one key and body.
     pub fn keep(&self, key: &str, reason: &str, body: &[u8]) -> Result<(), Fault> {
-        let Some(path) = self.path(key) else {
-            let source = io::Error::new(
-                io::ErrorKind::InvalidInput,
-                format!("{key:?} is no key of a request"),
-            );
-            return Err(Fault::Io {
-                path: self.folder.clone(),
-                source,
-            });
-        };
+        if !is_key(key) {
+            let what = format!("{key:?} is no key of a request");
+            let source = io::Error::new(io::ErrorKind::InvalidInput, what);
+            return Err(io_fault(&self.folder)(source));
+        }
         let _one = lock(&self.changing);
-        if path.exists() {
+        let names = self.names(key)?;
+        if names.iter().any(|name| self.has(name, body)) {
             // An earlier run may have ended before its name was durable.
             return self.disk.sync_folder(&self.folder);
         }
-        let reason: String = reason.chars().take(REASON).collect();
+        let further = (2_u64..).map(|number| format!("{key}_{number}"));
+        let mut all = std::iter::once(key.to_string()).chain(further);
+        let free = all.find(|name| !names.contains(name));
+        self.write(&free.unwrap_or_default(), reason, body)
+    }
+
+    fn write(&self, name: &str, reason: &str, body: &[u8]) -> Result<(), Fault> {
+        let path = self.folder.join(format!("{name}.json"));
         let letter = Letter {
-            key: key.into(),
+            key: name.into(),
             since: seconds(),
-            reason,
+            reason: reason.chars().take(REASON).collect(),
             bytes: body.len() as u64,
         };
         let mut bytes = serde_json::to_vec(&letter)
@@ -101,6 +113,32 @@ impl Dead {
         bytes.extend_from_slice(body);
         self.disk.put_file(&path, &bytes)?;
         self.count.fetch_add(1, Relaxed);
+        Ok(())
+    }
+
+    /// The names of the letters that came under a key.
+    fn names(&self, key: &str) -> Result<Vec<String>, Fault> {
+        let mut names = self.keys()?;
+        names.retain(|name| sent_as(name) == key || name == key);
+        Ok(names)
+    }
+
+    /// One that can't be read has no body: it is left as it is, and the next one is kept beside it.
+    fn has(&self, name: &str, body: &[u8]) -> bool {
+        self.body(name).is_ok_and(|found| found.as_deref() == Some(body))
+    }
+
+    /// The sink has this body, which may have been kept under this key. That of another request stays.
+    pub fn let_go(&self, key: &str, body: &[u8]) -> Result<(), Fault> {
+        if self.count() == 0 {
+            return Ok(());
+        }
+        let _one = lock(&self.changing);
+        for name in self.names(key)? {
+            if self.has(&name, body) {
+                self.remove(&self.folder.join(format!("{name}.json")))?;
+            }
+        }
         Ok(())
     }
 
@@ -158,10 +196,15 @@ impl Dead {
         if !path.exists() {
             return Ok(false);
         }
-        self.disk.remove(&path)?;
-        self.disk.sync_folder(&self.folder)?;
-        self.count.fetch_sub(1, Relaxed);
+        self.remove(&path)?;
         Ok(true)
+    }
+
+    /// By who holds `changing`.
+    fn remove(&self, path: &Path) -> Result<(), Fault> {
+        self.disk.remove(path)?;
+        self.count.fetch_sub(1, Relaxed);
+        self.disk.sync_folder(&self.folder)
     }
 
     pub fn count(&self) -> u64 {
@@ -179,85 +222,4 @@ fn damaged(path: PathBuf) -> Fault {
 }
 
 #[cfg(test)]
-mod tests {
-    use super::*;
-    use crate::files::disk::Call;
-
-    fn open(path: &Path) -> Dead {
-        Dead::open(&Disk::default(), path).unwrap()
-    }
-
-    #[test]
-    fn a_request_is_kept_once_and_comes_back_as_it_was() {
-        let folder = tempfile::tempdir().unwrap();
-        let dead = open(folder.path());
-        let body = b"{\"a\":1}\n\x00\xff";
-        dead.keep("0-e-1", "400 bad\nline", body).unwrap();
-        dead.keep("0-e-1", "another reason", b"other").unwrap();
-        dead.keep("0-e-2", "413", b"").unwrap();
-        assert_eq!(dead.count(), 2);
-        let dead = open(folder.path());
-        assert_eq!((dead.count(), dead.list().unwrap().len()), (2, 2));
-        let letter = &dead.list().unwrap()[0];
-        assert_eq!(
-            (&*letter.key, &*letter.reason, letter.bytes),
-            ("0-e-1", "400 bad\nline", body.len() as u64)
-        );
-        assert_eq!(dead.body("0-e-1").unwrap().unwrap(), body);
-        assert_eq!(dead.body("0-e-2").unwrap().unwrap(), b"");
-        assert!(dead.drop_letter("0-e-1").unwrap());
-        assert!(!dead.drop_letter("0-e-1").unwrap());
-        assert_eq!((dead.count(), dead.body("0-e-1").unwrap()), (1, None));
-    }
-
-    #[test]
-    fn no_key_leads_out_of_the_folder() {
-        let folder = tempfile::tempdir().unwrap();
-        std::fs::write(folder.path().join("other.json"), "{}").unwrap();
-        let dead = open(&folder.path().join("dead"));
-        for key in [
-            "",
-            ".",
-            "..",
-            "../other",
-            "a/b",
-            "/etc/passwd",
-            "a.b",
-            "a\0b",
-            "ä",
-            &"a".repeat(129),
-        ] {
-            assert!(dead.keep(key, "", b"").is_err(), "{key:?}");
-            assert_eq!(dead.body(key).unwrap(), None);
-            assert!(!dead.drop_letter(key).unwrap());
-        }
-        assert!(folder.path().join("other.json").exists());
-    }
-
-    #[test]
-    fn a_failed_call_leaves_no_letter_in_part() {
-        for fails in [Call::Create, Call::Write, Call::Sync, Call::Rename] {
-            let folder = tempfile::tempdir().unwrap();
-            let disk = Disk::failing(move |call, _| match call == fails {
-                true => Err(io::Error::other("no disk")),
-                false => Ok(()),
-            });
-            let dead = Dead::open(&disk, folder.path()).unwrap();
-            assert!(dead.keep("0-e-1", "400", b"body").is_err());
-            assert_eq!((dead.count(), dead.list().unwrap()), (0, vec![]));
-            let dead = open(folder.path());
-            dead.keep("0-e-1", "400", b"body").unwrap();
-            assert_eq!(dead.body("0-e-1").unwrap().unwrap(), b"body");
-        }
-    }
-
-    #[test]
-    fn a_changed_letter_is_named() {
-        let folder = tempfile::tempdir().unwrap();
-        let dead = open(folder.path());
-        dead.keep("k", "400", b"body").unwrap();
-        std::fs::write(folder.path().join("k.json"), "body").unwrap();
-        assert!(dead.list().unwrap_err().to_string().contains("k.json"));
-        assert!(matches!(dead.body("k"), Err(Fault::Damaged { .. })));
-    }
-}
+mod tests;

@@ -4,6 +4,7 @@
 //! letter is thrown away only once the sink has it. A service that ends in between sends it again under the same key.
 
 use super::{message, reply, Desk, JSON};
+use crate::files::dead::sent_as;
 use crate::files::Fault;
 use crate::sinks::{of_part, Fate, Forwarded};
 use hyper::{Body, Response};
@@ -59,7 +60,10 @@ impl Desk {
                 rejected,
                 reason,
                 left,
-            } => return self.keep_part(&request, rejected, &reason, left.as_deref()),
+            } => {
+                let reason = of_part(rejected, &reason, left.is_some());
+                return self.keep_part(key, &request.body, &reason, left);
+            }
             Fate::Again { reason, .. } | Fate::Failed { reason } | Fate::Refused { reason } => Some(reason),
         };
         if reason.is_none() {
@@ -91,31 +95,24 @@ impl Desk {
     }
 
     /// What the sink has a part of is kept under another key: it must not be sent again.
-    fn keep_part(
-        &self,
-        request: &Forwarded,
-        rejected: u64,
-        reason: &str,
-        left: Option<&[u8]>,
-    ) -> Response<Body> {
-        let key = request.key();
-        let reason = of_part(rejected, reason, left.is_some());
-        let body = left.unwrap_or(&request.body);
-        let kept = self.dead.keep(&format!("{key}-partial"), &reason, body);
-        if let Err(fault) = kept.and_then(|()| self.dead.drop_letter(&key)) {
+    fn keep_part(&self, key: &str, body: &[u8], reason: &str, left: Option<Vec<u8>>) -> Response<Body> {
+        let left = left.as_deref().unwrap_or(body);
+        let kept = self.dead.keep(&format!("{key}-partial"), reason, left);
+        if let Err(fault) = kept.and_then(|()| self.dead.drop_letter(key)) {
             return faulty(&fault);
         }
         let resent = Resent {
-            key,
+            key: key.into(),
             taken: true,
-            reason: Some(reason),
+            reason: Some(reason.into()),
         };
         reply(200, JSON, serde_json::json!(resent).to_string())
     }
 }
 
 /// A letter as it was sent first.
-fn forwarded(key: &str, body: Vec<u8>) -> Option<Forwarded> {
+fn forwarded(name: &str, body: Vec<u8>) -> Option<Forwarded> {
+    let key = sent_as(name);
     let (slot, rest) = key.split_once('-')?;
     let (epoch, number) = rest.rsplit_once('-')?;
     let made = Forwarded {
@@ -141,6 +138,18 @@ mod tests {
     fn a_key_is_read_as_it_was_written() {
         let made = forwarded("0-1f-e2-17", b"{}".to_vec()).unwrap();
         assert_eq!((made.slot, made.epoch.as_str(), made.number), (0, "1f-e2", 17));
+        let beside = forwarded("0-1f-e2-17_2", b"{}".to_vec());
+        assert_eq!(beside, Some(made));
+        for key in [
+            "0-a-1_",
+            "0-a-1_1",
+            "0-a-1_x",
+            "0-a-1_2-partial",
+            "0-a-1-partial_2",
+            "0-a-1_2_2",
+        ] {
+            assert_eq!(forwarded(key, Vec::new()), None, "{key}");
+        }
         for key in ["", "0-a", "0-a-", "0-a-01", "x-a-1", "70000-a-1", "0-a-1 "] {
             assert_eq!(forwarded(key, Vec::new()), None, "{key}");
         }

@@ -63,7 +63,7 @@ trait Store: Sync {
         body: Vec<u8>,
     ) -> impl Future<Output = Result<(), Fault>> + Send;
     /// The sink has what an earlier run may have kept under this key, before it was killed.
-    fn let_go(&self, key: String) -> impl Future<Output = Result<(), Fault>> + Send;
+    fn let_go(&self, key: String, body: Vec<u8>) -> impl Future<Output = Result<(), Fault>> + Send;
 }
 
 struct Files {
@@ -90,12 +90,12 @@ impl Store for Files {
         blocking(move || dead.keep(&key, &reason, &body)).await
     }
 
-    async fn let_go(&self, key: String) -> Result<(), Fault> {
+    async fn let_go(&self, key: String, body: Vec<u8>) -> Result<(), Fault> {
         if self.dead.count() == 0 {
             return Ok(());
         }
         let dead = self.dead.clone();
-        blocking(move || dead.drop_letter(&key).map(drop)).await
+        blocking(move || dead.let_go(&key, &body)).await
     }
 }
 
@@ -152,7 +152,7 @@ impl<S: Store> Run<S> {
             let fate = self.unless_stopped(self.sink.deliver(&request)).await?;
             match self.with_patience(fate, &mut failing) {
                 Fate::Taken => {
-                    self.files.let_go(request.key()).await?;
+                    self.files.let_go(request.key(), request.body).await?;
                     self.ended("taken");
                     return Ok(());
                 }
@@ -214,10 +214,9 @@ impl<S: Store> Run<S> {
             "{sink} took request {key} but rejected {rejected} of its points: {reason}; it is kept in dead/"
         );
         let reason = of_part(rejected, &reason, left.is_some());
-        self.files
-            .keep(format!("{key}-partial"), reason, left.unwrap_or(request.body))
-            .await?;
-        self.files.let_go(key).await?;
+        let left = left.unwrap_or_else(|| request.body.clone());
+        self.files.keep(format!("{key}-partial"), reason, left).await?;
+        self.files.let_go(key, request.body).await?;
         self.metrics
             .faults
             .with_label_values(&["points_rejected_by_sink"])

@@ -99,8 +99,9 @@ impl Store for &Memory {
         Ok(())
     }
 
-    async fn let_go(&self, key: String) -> Result<(), Fault> {
-        self.dead.lock().expect("dead").retain(|(kept, ..)| *kept != key);
+    async fn let_go(&self, key: String, body: Vec<u8>) -> Result<(), Fault> {
+        let is_it = |(kept, _, of): &(String, String, Vec<u8>)| *kept == key && *of == body;
+        self.dead.lock().expect("dead").retain(|letter| !is_it(letter));
         Ok(())
     }
 }

@@ -65,7 +65,13 @@ async fn a_fault_of_a_file_is_told_by_a_delivery_that_is_told_to_stop() {
 /// knows no keys.
 #[tokio::test]
 async fn what_the_sink_takes_is_put_aside_no_more() {
-    let letter = |number: u64| (format!("2-e-{number}"), "400".to_string(), b"body".to_vec());
+    let letter = |number: u64| {
+        (
+            format!("2-e-{number}"),
+            "400".to_string(),
+            format!("body {number}").into_bytes(),
+        )
+    };
     let partly = Fate::TakenPartly {
         rejected: 1,
         reason: "no".into(),

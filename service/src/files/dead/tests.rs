@@ -1,0 +1,141 @@
+//! Letters: kept once, each in its place, and none over another.
+
+use super::*;
+use crate::files::disk::Call;
+
+fn open(path: &Path) -> Dead {
+    Dead::open(&Disk::default(), path).unwrap()
+}
+
+#[test]
+fn a_request_is_kept_once_and_comes_back_as_it_was() {
+    let folder = tempfile::tempdir().unwrap();
+    let dead = open(folder.path());
+    let body = b"{\"a\":1}\n\x00\xff";
+    dead.keep("0-e-1", "400 bad\nline", body).unwrap();
+    dead.keep("0-e-1", "another reason", body).unwrap();
+    dead.keep("0-e-2", "413", b"").unwrap();
+    assert_eq!(dead.count(), 2);
+    let dead = open(folder.path());
+    assert_eq!((dead.count(), dead.list().unwrap().len()), (2, 2));
+    let letter = &dead.list().unwrap()[0];
+    assert_eq!(
+        (&*letter.key, &*letter.reason, letter.bytes),
+        ("0-e-1", "400 bad\nline", body.len() as u64)
+    );
+    assert_eq!(dead.body("0-e-1").unwrap().unwrap(), body);
+    assert_eq!(dead.body("0-e-2").unwrap().unwrap(), b"");
+    assert!(dead.drop_letter("0-e-1").unwrap());
+    assert!(!dead.drop_letter("0-e-1").unwrap());
+    assert_eq!((dead.count(), dead.body("0-e-1").unwrap()), (1, None));
+}
+
+#[test]
+fn no_key_leads_out_of_the_folder() {
+    let folder = tempfile::tempdir().unwrap();
+    std::fs::write(folder.path().join("other.json"), "{}").unwrap();
+    let dead = open(&folder.path().join("dead"));
+    for key in [
+        "",
+        ".",
+        "..",
+        "../other",
+        "a/b",
+        "/etc/passwd",
+        "a.b",
+        "a\0b",
+        "ä",
+        &"a".repeat(129),
+    ] {
+        assert!(dead.keep(key, "", b"").is_err(), "{key:?}");
+        assert_eq!(dead.body(key).unwrap(), None);
+        assert!(!dead.drop_letter(key).unwrap());
+    }
+    assert!(folder.path().join("other.json").exists());
+}
+
+#[test]
+fn a_failed_call_leaves_no_letter_in_part() {
+    for fails in [Call::Create, Call::Write, Call::Sync, Call::Rename] {
+        let folder = tempfile::tempdir().unwrap();
+        let disk = Disk::failing(move |call, _| match call == fails {
+            true => Err(io::Error::other("no disk")),
+            false => Ok(()),
+        });
+        let dead = Dead::open(&disk, folder.path()).unwrap();
+        assert!(dead.keep("0-e-1", "400", b"body").is_err());
+        assert_eq!((dead.count(), dead.list().unwrap()), (0, vec![]));
+        let dead = open(folder.path());
+        dead.keep("0-e-1", "400", b"body").unwrap();
+        assert_eq!(dead.body("0-e-1").unwrap().unwrap(), b"body");
+    }
+}
+
+#[test]
+fn a_changed_letter_is_named() {
+    let folder = tempfile::tempdir().unwrap();
+    let dead = open(folder.path());
+    dead.keep("k", "400", b"body").unwrap();
+    std::fs::write(folder.path().join("k.json"), "body").unwrap();
+    assert!(dead.list().unwrap_err().to_string().contains("k.json"));
+    assert!(matches!(dead.body("k"), Err(Fault::Damaged { .. })));
+}
+
+/// A slot's files were put back over themselves, and its keys come again.
+#[test]
+fn another_request_under_the_same_key_is_kept_beside_the_first() {
+    let folder = tempfile::tempdir().unwrap();
+    let dead = open(folder.path());
+    for body in [b"one", b"two", b"six", b"two", b"one"] {
+        dead.keep("0-e-1", "400", body).unwrap();
+    }
+    dead.keep("0-e-11", "400", b"two").unwrap();
+    dead.keep("0-e-1-partial", "400", b"two").unwrap();
+    assert_eq!(dead.count(), 5);
+    for (name, body) in [("0-e-1", b"one"), ("0-e-1_2", b"two"), ("0-e-1_3", b"six")] {
+        assert_eq!(dead.body(name).unwrap().unwrap(), body);
+        assert_eq!(sent_as(name), "0-e-1");
+    }
+    let listed: Vec<String> = dead
+        .list()
+        .unwrap()
+        .into_iter()
+        .map(|letter| letter.key)
+        .collect();
+    assert!(listed.contains(&"0-e-1_2".to_string()), "{listed:?}");
+
+    // A name that is free again is taken again, and no body is kept twice.
+    assert!(dead.drop_letter("0-e-1").unwrap());
+    dead.keep("0-e-1", "400", b"two").unwrap();
+    assert_eq!(dead.count(), 4);
+    dead.keep("0-e-1", "400", b"ten").unwrap();
+    assert_eq!(dead.body("0-e-1").unwrap().unwrap(), b"ten");
+    assert_eq!(open(folder.path()).count(), 5);
+}
+
+#[test]
+fn what_the_sink_has_is_let_go_and_no_other_request_of_its_key() {
+    let folder = tempfile::tempdir().unwrap();
+    let dead = open(folder.path());
+    dead.let_go("0-e-1", b"one").unwrap();
+    dead.keep("0-e-1", "400", b"one").unwrap();
+    dead.let_go("0-e-1", b"two").unwrap();
+    assert_eq!(dead.body("0-e-1").unwrap().unwrap(), b"one");
+    dead.keep("0-e-1", "400", b"two").unwrap();
+    dead.keep("0-e-11", "400", b"two").unwrap();
+    dead.let_go("0-e-1", b"two").unwrap();
+    assert_eq!((dead.count(), dead.body("0-e-1_2").unwrap()), (2, None));
+    dead.let_go("0-e-1", b"one").unwrap();
+    assert_eq!((dead.count(), dead.body("0-e-1").unwrap()), (1, None));
+}
+
+#[test]
+fn a_letter_that_was_changed_is_left_and_hides_none() {
+    let folder = tempfile::tempdir().unwrap();
+    let dead = open(folder.path());
+    std::fs::write(folder.path().join("0-e-1.json"), "").unwrap();
+    dead.keep("0-e-1", "400", b"body").unwrap();
+    assert_eq!(dead.body("0-e-1_2").unwrap().unwrap(), b"body");
+    dead.let_go("0-e-1", b"").unwrap();
+    assert!(folder.path().join("0-e-1.json").exists());
+}
