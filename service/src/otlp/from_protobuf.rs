@@ -25,6 +25,7 @@ pub fn written(body: &[u8], reading: &Reading) -> Result<Written, Refused> {
         start: Time::new(),
         end: Time::new(),
         last: Vec::new(),
+        bounds: Default::default(),
     };
     writer.message(&REQUEST, body, 0)?;
     Ok(writer.out.written())
@@ -41,8 +42,10 @@ struct Writer<'a, 'r> {
     /// Of the last plain point its times,
     start: Time,
     end: Time,
-    /// and each attribute's field, and where it is written.
+    /// and each attribute's field, and where it is written;
     last: Vec<(&'a [u8], Range<usize>)>,
+    /// of the last plain one of a histogram its bounds, in the same way.
+    bounds: (&'a [u8], Range<usize>),
 }
 
 /// What a message has of one field.

@@ -276,7 +276,7 @@ static HISTOGRAM: Message = Message {
     refused: &[],
 };
 
-static HISTOGRAM_POINT: Message = Message {
+pub static HISTOGRAM_POINT: Message = Message {
     name: "HistogramDataPoint",
     fields: &[
         field!(

@@ -3,9 +3,10 @@
 //! Here is known what needs no thought: names as the gateway has them, each once, plain texts, short numbers. Of any
 //! other body nothing is said, and `from_json` looks at it.
 
+mod points;
+
 use super::json::{digits_length, is_text, plain_length};
-use super::output::SHORT_LIST;
-use super::schema::{Field, Kind, Message, KEY_VALUE, NUMBER_POINT, REQUEST};
+use super::schema::{Field, Kind, Message, HISTOGRAM_POINT, KEY_VALUE, NUMBER_POINT, REQUEST};
 use super::Reading;
 
 /// More than a request has, but for values in values.
@@ -23,6 +24,7 @@ pub fn is_usual(body: &[u8], reading: &Reading) -> bool {
         rest: body,
         reading,
         last: [&[]; ATTRIBUTES],
+        bounds: &[],
     };
     let is_known = !reading.whole.has_no_unit() && look.message(&REQUEST, 0).is_some();
     is_known && look.peek().is_none() && look.rest.is_empty() && is_text(body)
@@ -34,6 +36,8 @@ struct Look<'a> {
     reading: &'a Reading,
     /// Of earlier lists, at each place the attribute that was looked at last.
     last: [&'a [u8]; ATTRIBUTES],
+    /// The bounds that were looked at last.
+    bounds: &'a [u8],
 }
 
 impl<'a> Look<'a> {
@@ -208,89 +212,15 @@ impl<'a> Look<'a> {
         }
     }
 
-    /// An attribute list. A long one is looked at in full.
-    fn attributes(&mut self, depth: usize) -> Option<()> {
-        let before = self.rest.len();
-        let mut places = 0..;
-        self.list(|look| look.attribute(places.next()?, depth))?;
-        (before - self.rest.len() <= SHORT_LIST).then_some(())
-    }
-
-    /// Most points have most attributes as the point before has them.
-    #[inline(always)]
-    fn attribute(&mut self, place: usize, depth: usize) -> Option<()> {
-        let last = self.last.get(place).copied().unwrap_or_default();
-        match self.rest.strip_prefix(last) {
-            Some(behind) if !last.is_empty() => {
-                self.rest = behind;
-                Some(())
-            }
-            _ => self.other_attribute(place, depth),
-        }
-    }
-
-    /// Where it is a text or a whole number without blanks, as nearly all are, by its words.
-    #[inline(never)]
-    fn other_attribute(&mut self, place: usize, depth: usize) -> Option<()> {
-        let begin = self.rest;
-        if self.plain_attribute().is_none() {
-            self.rest = begin;
-            return self.message(&KEY_VALUE, depth);
-        }
-        if let Some(last) = self.last.get_mut(place) {
-            *last = &begin[..begin.len() - self.rest.len()];
-        }
-        Some(())
-    }
-
-    fn plain_attribute(&mut self) -> Option<()> {
-        self.word(b"{\"key\":\"")?;
-        self.inside();
-        if self.word(b"\",\"value\":{\"stringValue\":\"").is_some() {
-            self.inside();
-            return self.word(b"\"}}");
-        }
-        self.word(b"\",\"value\":{\"intValue\":")?;
-        self.whole()?;
-        self.word(b"}}")
-    }
-
-    /// A point of a sum; where it has what nearly all have, in the order of one of the two kinds of encoders and without
-    /// blanks, by its words.
-    fn point(&mut self, depth: usize) -> Option<()> {
-        let begin = self.rest;
-        if self.plain_point(depth).is_none() {
-            self.rest = begin;
-            return self.message(&NUMBER_POINT, depth);
-        }
-        Some(())
-    }
-
-    fn plain_point(&mut self, depth: usize) -> Option<()> {
-        self.word(b"{")?;
-        let begins_with_attributes = self.word(b"\"attributes\":").is_some();
-        if begins_with_attributes {
-            self.attributes(depth + 1)?;
-            self.word(b",")?;
-        }
-        self.word(b"\"startTimeUnixNano\":\"")?;
-        self.time()?;
-        self.word(b"\",\"timeUnixNano\":\"")?;
-        self.time()?;
-        self.word(b"\",\"asInt\":")?;
-        self.whole()?;
-        if !begins_with_attributes && self.word(b",\"attributes\":").is_some() {
-            self.attributes(depth + 1)?;
-        }
-        self.word(b"}")
-    }
-
     fn member(&mut self, field: &Field, depth: usize) -> Option<()> {
         match field.kind {
             Kind::Message(inner) | Kind::Part(inner) => self.message(inner, depth),
             Kind::Parts(inner) if std::ptr::eq(inner, &KEY_VALUE) => self.attributes(depth),
             Kind::Messages(inner) if std::ptr::eq(inner, &NUMBER_POINT) => {
-                self.list(|look| look.point(depth))
+                self.list(|look| look.point(inner, depth, Self::point_of_sum))
+            }
+            Kind::Messages(inner) if std::ptr::eq(inner, &HISTOGRAM_POINT) => {
+                self.list(|look| look.point(inner, depth, Self::point_of_histogram))
             }
             Kind::Messages(inner) | Kind::Parts(inner) => self.list(|look| look.message(inner, depth)),
             Kind::ResourceAttributes => self.attributes(depth),
@@ -302,9 +232,9 @@ impl<'a> Look<'a> {
             Kind::Bool => self.truth(),
             Kind::Temporality => self.number(1),
             Kind::Whole(_) => self.whole(),
-            Kind::Wholes => self.list(Self::whole),
+            Kind::Wholes => self.wholes(),
             Kind::Double => self.number(DIGITS_OF_DOUBLE),
-            Kind::Doubles => self.list(|look| look.number(DIGITS_OF_DOUBLE)),
+            Kind::Doubles => self.bounds(),
             Kind::Fraction => self.scalar(),
             Kind::Exemplars => self.list(|_| None),
             Kind::Map => None,
@@ -339,6 +269,14 @@ mod tests {
         r#"{"startTimeUnixNano":"1700000000000000000","timeUnixNano":"1700000001000000000","asInt":"-5","#,
         r#""attributes":[{"key":"k","value":{"intValue":"-9"}},{"key":"l","value":{"stringValue":"é"}}]},"#,
         r#"{"startTimeUnixNano":"1700000000000000000","timeUnixNano":"1700000001000000000","asInt":"7"}"#,
+        r#"]}},{"histogram":{"dataPoints":["#,
+        r#"{"attributes":[{"key":"k","value":{"intValue":"-9"}}],"#,
+        r#""startTimeUnixNano":"1700000000000000000","timeUnixNano":"1700000001000000000","count":"3","sum":120,"#,
+        r#""bucketCounts":["1","2"],"explicitBounds":[10],"min":0.5,"max":60},"#,
+        r#"{"startTimeUnixNano":"1700000000000000000","timeUnixNano":"1700000001000000000","count":3,"#,
+        r#""bucketCounts":[1,2],"explicitBounds":[10],"attributes":[{"key":"k","value":{"intValue":"-9"}}],"max":60},"#,
+        r#"{"startTimeUnixNano":"1700000000000000000","timeUnixNano":"1700000001000000000","count":"3","sum":-5,"#,
+        r#""bucketCounts":["3","0","0"],"explicitBounds":[-10,0]}"#,
         r#"]}}]}]}]}"#,
     );
 

@@ -83,3 +83,41 @@ fn a_point_is_written_alike_in_any_order() {
         r#"{"startTimeUnixNano":"0","timeUnixNano":"18446744073709551615","asInt":"0"}"#
     );
 }
+
+/// The least and the largest value say nothing, wherever they are.
+#[test]
+fn a_point_of_a_histogram_is_written_alike_with_other_fields() {
+    let packed = |number, all: &[u64]| {
+        bytes(
+            number,
+            &all.iter().flat_map(|bits| bits.to_le_bytes()).collect::<Vec<_>>(),
+        )
+    };
+    let bits = |double: f64| double.to_bits();
+    let fields = [
+        fixed(2, START),
+        fixed(3, END),
+        fixed(4, 3),
+        fixed(5, bits(0.5)),
+        packed(6, &[1, 2]),
+        packed(7, &[bits(10.0)]),
+        bytes(9, &[bytes(1, b"k"), bytes(2, &[24, 5])].concat()),
+    ];
+    let written = |fields: &[Vec<u8>]| {
+        let metric = bytes(9, &bytes(1, &fields.concat()));
+        prepared(Encoding::Protobuf, within_request(&metric)).unwrap()
+    };
+    let expected = written(&fields);
+    let text = std::str::from_utf8(&expected[0]).unwrap();
+    let values =
+        r#""count":"3","sum":"0.5","bucketCounts":["1","2"],"explicitBounds":[10],"attributes":[{"key":"k""#;
+    assert!(text.contains(values), "{text}");
+    for least in 0..=fields.len() {
+        for largest in least..=fields.len() {
+            let mut fields = fields.to_vec();
+            fields.insert(largest, fixed(12, bits(0.5)));
+            fields.insert(least, fixed(11, bits(0.1)));
+            assert_eq!(written(&fields), expected, "{least} {largest}");
+        }
+    }
+}

@@ -121,9 +121,10 @@ impl Random {
             .map(|bound| bound as f64 * [0.005, 2.0, 2.0, 2.5e-7][(self.0 % 4) as usize])
             .collect();
         let bucket_counts: Vec<u64> = (0..=explicit_bounds.len()).map(|_| self.below(9)).collect();
+        let start_time_unix_nano = self.time();
         HistogramDataPoint {
-            start_time_unix_nano: 1,
-            time_unix_nano: 5,
+            start_time_unix_nano,
+            time_unix_nano: start_time_unix_nano + self.below(3) * 100_000_000,
             count: bucket_counts.iter().sum::<u64>() + self.below(5) / 4,
             sum: (self.below(2) == 0).then(|| self.double()),
             bucket_counts,
