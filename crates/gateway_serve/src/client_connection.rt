@@ -2,9 +2,12 @@
 ghost use Rattle.std.specs.Prelude.{◌≡◌, ◌==◌, false};
 ghost use Rattle.byte_ends.specs.Parts.{writer_of};
 ghost use Rattle.gate_workers.specs.Refusals.{refusal_status};
+ghost use Rattle.gate_workers.specs.Paced.{IsPaced};
 ghost use Rattle.gate_workers.specs.Served.{IsServed};
+ghost use Rattle.gateway_serve.specs.ServedClient.{IsClientServed};
 ghost use Rattle.gateway_serve.specs.TimeLimit.{IsUnbegun};
-ghost use Rattle.gateway_serve.specs.inner.CutOff.{is_cut_off};
+ghost use Rattle.gateway_serve.specs.declared.reading.Reading.TheVariants.{Open};
+ghost use Rattle.gateway_serve.specs.inner.CutOff.{is_cut_off, IsNoted};
 ghost use Rattle.http_edge.specs.Delivery.{IsStillOpen, StopsReading};
 
 use crate::piece_source::PieceSource;
@@ -134,6 +137,10 @@ fn serve_client<
         (O.contents output) (O.contents result.output) result.served }
     ensures stops { is_cut_off result.served result.reading ≡ false → StopsReading IsStillOpen
         (I.remaining input) (I.remaining result.input) MAX_PIECE }
+    ensures paced { IsPaced P.reaches (I.remaining input) keeper.old keeper.new
+        pace.old pace.new result.served }
+    ensures noted { IsPaced IsNoted (I.remaining input) keeper.old keeper.new
+        Open result.reading result.served }
 {
     let mut reader = request_end(input, clock);
     let mut writer = answer_end(output, clock);
@@ -178,6 +185,10 @@ impl<'a, C: Clock> ClientConnection<'a, C> {
 }
 
 impl<C: Clock> Connection for ClientConnection<'_, C> {
+    /// The pace that it is served with is asked for the request that the keeper was asked for.
+    ghost serves = { λ K P gives reaches connection before after served.
+        IsClientServed gives reaches (before.0, before.1) (after.0, after.1) served };
+
     fn serve<K: Keeper, P: Pace>(
         self,
         alloc: Global,

@@ -1,7 +1,7 @@
 //! How much of a request was read before it was answered.
 ghost use Rattle.std.specs.Prelude.{◌≡◌};
-ghost use Rattle.gateway_serve.specs.inner.CutOff.{reading_at};
 ghost use Rattle.gateway_serve.specs.declared.reading.Reading.TheVariants.{Open};
+ghost use Rattle.gateway_serve.specs.inner.CutOff.{IsNoted};
 
 use gate_workers::{Pace, Spot};
 
@@ -24,7 +24,9 @@ pub struct Noting<'a, P> {
 impl<'a, P> Noting<'a, P> {
     /// Nothing was read yet.
     pub fn new(pace: &'a mut P) -> Self
-        ensures { result.reading ≡ Open }
+        ensures same_reference { result.pace.ghost_name ≡ pace.entry.ghost_name }
+        ensures pace { result.pace.now ≡ pace.old }
+        ensures reading { result.reading ≡ Open }
     {
         Noting {
             pace,
@@ -41,8 +43,10 @@ impl<'a, P> Noting<'a, P> {
 }
 
 impl<P: Pace> Pace for Noting<'_, P> {
-    /// Nothing is noted of other spots.
-    ghost reaches = { λ before spot after. after.reading ≡ reading_at spot before.reading };
+    /// The other pace is asked at the same spot. Nothing is noted of other spots.
+    ghost reaches = { λ before spot after. IsNoted before.reading spot after.reading
+        × (after.pace.ghost_name ≡ before.pace.ghost_name)
+        × P.reaches before.pace.now spot after.pace.now };
 
     fn at(&mut self, spot: Spot) {
         if spot == Spot::BodyRead {

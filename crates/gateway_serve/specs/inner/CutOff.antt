@@ -1,5 +1,6 @@
 -- Requests that were refused before all of them was read.
-use Rattle.std.specs.Prelude.{◌==◌, ◌||◌, Bool, false}
+use Rattle.std.specs.Prelude.{◌≡◌, ◌==◌, ◌||◌, Bool, false}
+use Rattle.gate_workers.specs.Paced.{Reaching}
 use Rattle.gate_workers.specs.Refusals.{refusal_status}
 use Rattle.gate_workers.specs.declared.refusal.Refusal.TheVariants.{Malformed, BodyTooLong}
 use Rattle.gate_workers.specs.declared.refusal.Refusal.TheVariants.{NoMemory}
@@ -14,6 +15,10 @@ use Rattle.gateway_serve.specs.declared.reading.Reading.TheVariants.{Open, Whole
 abbrev pub reading_at : Spot → Reading → Reading
 reading_at BodyRead reading = Whole
 reading_at BeforeSend reading = reading
+
+-- how a worker that reaches a spot changes it
+abbrev pub IsNoted : Reaching Reading
+IsNoted reading spot reading' = reading' ≡ reading_at spot reading
 
 -- the request may have been refused before all of it was read: no more of it is known, and it has
 -- the status of such a refusal
