@@ -9,6 +9,7 @@ use std::io::{self, BufRead, BufReader, Read};
 use std::path::{Path, PathBuf};
 use std::sync::atomic::{AtomicU64, Ordering::Relaxed};
 use std::sync::Mutex;
+use std::time::UNIX_EPOCH;
 
 /// A request that was refused for good.
 #[derive(Clone, Debug, PartialEq, Eq, serde::Serialize, serde::Deserialize)]
@@ -92,10 +93,12 @@ impl Dead {
             // An earlier run may have ended before its name was durable.
             return self.disk.sync_folder(&self.folder);
         }
-        let further = (2_u64..).map(|number| format!("{key}_{number}"));
-        let mut all = std::iter::once(key.to_string()).chain(further);
-        let free = all.find(|name| !names.contains(name));
-        self.write(&free.unwrap_or_default(), reason, body)
+        let (mut name, mut number) = (key.to_string(), 1);
+        while names.contains(&name) {
+            number += 1;
+            name = format!("{key}_{number}");
+        }
+        self.write(&name, reason, body)
     }
 
     fn write(&self, name: &str, reason: &str, body: &[u8]) -> Result<(), Fault> {
@@ -142,11 +145,14 @@ impl Dead {
         Ok(())
     }
 
-    /// By age, the oldest first.
+    /// By age, the oldest first. The reason of one that can't be read says that.
     pub fn list(&self) -> Result<Vec<Letter>, Fault> {
         let mut letters = Vec::new();
         for key in self.keys()? {
-            letters.extend(self.read(&key)?.map(|(letter, _)| letter));
+            letters.extend(match self.read(&key) {
+                Err(Fault::Damaged { path, .. }) => Some(unreadable(key, &path)),
+                read => read?.map(|(letter, _)| letter),
+            });
         }
         letters.sort_by(|one, other| (one.since, &one.key).cmp(&(other.since, &other.key)));
         Ok(letters)
@@ -209,6 +215,19 @@ impl Dead {
 
     pub fn count(&self) -> u64 {
         self.count.load(Relaxed)
+    }
+}
+
+/// What is told of a letter by its file alone.
+fn unreadable(key: String, path: &Path) -> Letter {
+    let file = std::fs::metadata(path).ok();
+    let written = file.as_ref().and_then(|file| file.modified().ok());
+    let since = written.and_then(|time| time.duration_since(UNIX_EPOCH).ok());
+    Letter {
+        key,
+        since: since.map_or(0, |since| since.as_secs()),
+        reason: damaged(path.into()).to_string(),
+        bytes: file.map_or(0, |file| file.len()),
     }
 }
 

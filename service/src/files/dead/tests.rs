@@ -76,9 +76,15 @@ fn a_changed_letter_is_named() {
     let folder = tempfile::tempdir().unwrap();
     let dead = open(folder.path());
     dead.keep("k", "400", b"body").unwrap();
+    dead.keep("l", "413", b"another").unwrap();
     std::fs::write(folder.path().join("k.json"), "body").unwrap();
-    assert!(dead.list().unwrap_err().to_string().contains("k.json"));
+    let listed = dead.list().unwrap();
+    let of = |key: &str| listed.iter().find(|letter| letter.key == key).unwrap();
+    assert!(of("k").reason.contains("k.json"), "{}", of("k").reason);
+    assert!(seconds().abs_diff(of("k").since) < 60 && of("k").bytes == 4);
+    assert_eq!((&*of("l").reason, listed.len()), ("413", 2));
     assert!(matches!(dead.body("k"), Err(Fault::Damaged { .. })));
+    assert!(dead.drop_letter("k").unwrap());
 }
 
 /// A slot's files were put back over themselves, and its keys come again.
