@@ -43,7 +43,7 @@ pub struct Slot {
     /// Those of this slot alone.
     pub(crate) own: OfSlot,
     pub(crate) gate: Gate,
-    turns: Turns,
+    turns: Arc<Turns>,
     /// Where there are other slots.
     claims: Option<Arc<Claims>>,
     /// How many posts are in the journal or under way, and in no group.
@@ -84,7 +84,7 @@ impl Slot {
             own: metrics.of_slot(number),
             metrics,
             gate: Gate::new(),
-            turns: Turns::new(),
+            turns: Arc::default(),
             claims,
             ungrouped: AtomicU64::new(0),
             trouble: Notify::new(),
