@@ -154,8 +154,8 @@ mod tests {
     use super::*;
 
     #[test]
-    fn an_answer_is_read_whole_or_not() {
-        let reply = parsed(b"HTTP/1.1 503 Service Unavailable\r\nContent-Length: 2\r\n\r\n{}").unwrap();
+    fn an_answer_is_read_whole_or_not() -> Result<()> {
+        let reply = parsed(b"HTTP/1.1 503 Service Unavailable\r\nContent-Length: 2\r\n\r\n{}")?;
         assert_eq!((reply.status, reply.body.as_slice()), (503, &b"{}"[..]));
         for bytes in [
             &b""[..],
@@ -166,27 +166,30 @@ mod tests {
         ] {
             assert!(parsed(bytes).is_err(), "{}", String::from_utf8_lossy(bytes));
         }
+        Ok(())
     }
 
     #[test]
-    fn who_waits_is_told_once_and_gets_the_whole_answer() {
-        let listener = std::net::TcpListener::bind("127.0.0.1:0").unwrap();
-        let asking = TcpStream::connect(listener.local_addr().unwrap()).unwrap();
-        let (mut answering, _) = listener.accept().unwrap();
-        answering.write_all(b"a").unwrap();
-        let mut told = 0;
+    fn who_waits_is_told_once_and_gets_the_whole_answer() -> Result<()> {
+        let listener = std::net::TcpListener::bind("127.0.0.1:0")?;
+        let asking = TcpStream::connect(listener.local_addr()?)?;
+        let (mut answering, _) = listener.accept()?;
+        answering.write_all(b"a")?;
+        let (mut told, mut written) = (0, Ok(()));
         let bytes = answer(asking, ANSWER, || {
             told += 1;
-            answering.write_all(b"b").unwrap();
+            written = answering.write_all(b"b");
             drop(answering);
-        });
-        assert_eq!((bytes.unwrap().as_slice(), told), (&b"ab"[..], 1));
+        })?;
+        written?;
+        assert_eq!((bytes.as_slice(), told), (&b"ab"[..], 1));
+        Ok(())
     }
 
     #[test]
-    fn who_takes_too_long_is_said_to_go_on() {
-        let listener = std::net::TcpListener::bind("127.0.0.1:0").unwrap();
-        let address = listener.local_addr().unwrap().to_string();
+    fn who_takes_too_long_is_said_to_go_on() -> Result<()> {
+        let listener = std::net::TcpListener::bind("127.0.0.1:0")?;
+        let address = listener.local_addr()?.to_string();
         let said = |method| {
             let tried = reply(&address, method, "/flush", Duration::from_secs(1));
             format!("{:#}", tried.unwrap_err())
@@ -198,6 +201,7 @@ mod tests {
         );
         let question = said("GET");
         assert!(question.contains("in 1 seconds: ask again"), "{question}");
+        Ok(())
     }
 
     #[test]

@@ -45,7 +45,9 @@ fn what_is_in_the_place_of_a_copy_stays() -> Result<()> {
     let place = Copy::of(data.path(), temporary.path())?.0.clone();
     std::fs::create_dir(&place)?;
     std::fs::write(place.join("another's"), "a")?;
-    let error = Copy::of(data.path(), temporary.path()).err().unwrap();
+    let Err(error) = Copy::of(data.path(), temporary.path()) else {
+        bail!("it is taken for a place of its own");
+    };
     assert!(format!("{error:#}").contains("can't be made"), "{error:#}");
     assert!(place.join("another's").exists());
     Ok(())
