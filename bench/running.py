@@ -67,12 +67,15 @@ def words_of(pid):
 
 
 def as_served(arguments):
-    """The options and the environment that the service gives its gateway, read from one that it has started."""
+    """The options and the environment that the service gives its gateway, read from one that it has started, but for the
+    library by which that has Unix sockets: here it has TCP's."""
     with serving(arguments) as one:
         pid, = one.gateways()
         words = words_of(pid)
         shared = [word for name in SHARED if name in words for word in (name, words[words.index(name) + 1])]
-        return shared, environment_of(pid)
+        environment = environment_of(pid)
+        preloaded = [it for it in environment.pop("LD_PRELOAD").split(":") if not it.startswith("/proc/self/fd/")]
+        return shared, environment | ({"LD_PRELOAD": preloaded[0]} if preloaded else {})
 
 
 def shown(environment):

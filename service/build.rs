@@ -1,8 +1,19 @@
-//! Compares the version that Cargo.toml has with the one that holds for all: the file VERSION at the top.
+//! Compares the version that Cargo.toml has with the one that holds for all, the file VERSION at the top; and builds the
+//! library that gives a gateway its sockets.
+
+use std::path::PathBuf;
+
+const SOCKETS: &str = "src/gateway/sockets.c";
 
 fn main() {
     println!("cargo:rerun-if-changed=../VERSION");
     println!("cargo:rerun-if-changed=build.rs");
+    println!("cargo:rerun-if-changed={SOCKETS}");
+    compare_versions();
+    build_sockets();
+}
+
+fn compare_versions() {
     let own = std::env::var("CARGO_PKG_VERSION").expect("cargo tells the version");
     match std::fs::read_to_string("../VERSION") {
         Ok(text) if text.trim() == own => {}
@@ -11,5 +22,27 @@ fn main() {
             text.trim()
         ),
         Err(error) => panic!("the file VERSION can't be read: {error}"),
+    }
+}
+
+fn build_sockets() {
+    let made = PathBuf::from(std::env::var_os("OUT_DIR").expect("cargo tells a folder")).join("sockets.so");
+    let compiler = cc::Build::new()
+        .opt_level(2)
+        .debug(false)
+        .pic(true)
+        .warnings(true)
+        .extra_warnings(true)
+        .warnings_into_errors(true)
+        .get_compiler();
+    let built = compiler
+        .to_command()
+        .args(["-shared", "-s", SOCKETS, "-o"])
+        .arg(made)
+        .status();
+    match built {
+        Ok(status) if status.success() => {}
+        Ok(status) => panic!("{SOCKETS} can't be compiled: {status}"),
+        Err(error) => panic!("no C compiler can be run: {error}"),
     }
 }

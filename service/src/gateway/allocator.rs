@@ -30,13 +30,10 @@ pub fn library(named: Option<&Path>) -> Result<Option<PathBuf>, NoLibrary> {
     }
 }
 
-/// What the environment of a gateway has for it.
-pub(super) fn variable(library: Option<&Path>, memory: Option<u64>) -> Option<(&'static str, PathBuf)> {
-    match library {
-        Some(library) => Some(("LD_PRELOAD", library.into())),
-        None if memory.is_some_and(|bound| bound < ROOMY) => Some(("MALLOC_ARENA_MAX", "1".into())),
-        None => None,
-    }
+/// What the environment of a gateway has for the C library's own, where that is its allocator.
+pub(super) fn variable(library: Option<&Path>, memory: Option<u64>) -> Option<(&'static str, &'static str)> {
+    let is_short = library.is_none() && memory.is_some_and(|bound| bound < ROOMY);
+    is_short.then_some(("MALLOC_ARENA_MAX", "1"))
 }
 
 #[cfg(test)]
@@ -58,15 +55,8 @@ mod tests {
 
     #[test]
     fn the_c_library_has_one_arena_where_memory_is_short() {
-        let library = Path::new("/a.so");
-        assert_eq!(
-            variable(Some(library), Some(1)),
-            Some(("LD_PRELOAD", library.into()))
-        );
-        assert_eq!(
-            variable(None, Some(ROOMY - 1)),
-            Some(("MALLOC_ARENA_MAX", "1".into()))
-        );
+        assert_eq!(variable(Some(Path::new("/a.so")), Some(1)), None);
+        assert_eq!(variable(None, Some(ROOMY - 1)), Some(("MALLOC_ARENA_MAX", "1")));
         assert_eq!(variable(None, Some(ROOMY)), None);
         assert_eq!(variable(None, None), None);
     }

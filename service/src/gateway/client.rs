@@ -1,18 +1,17 @@
 //! Asks the gateway: one request on a connection of its own, since the gateway closes each behind its answer.
 
 use super::message::read_answer;
-use super::socket::Line;
+use super::socket::{Line, Peer};
 use super::Answer;
 use crate::work::{pause, within};
 use std::io::{ErrorKind, Result};
-use std::net::SocketAddr;
 use std::time::Duration;
 
 /// How long an answer may take. A gateway that hangs holds its senders so long, and is then replaced.
 pub(super) const PATIENCE: Duration = Duration::from_secs(20);
 /// The same for a gateway that is refilled: nobody is served meanwhile, so a start anew is worth more waiting.
 pub(super) const PATIENCE_OF_REFILL: Duration = Duration::from_secs(60);
-/// How long before a connection is tried again that this side had no port or descriptor for.
+/// How long before a connection is tried again that found no place in the queue, or this side no descriptor for.
 pub(super) const PAUSE: Duration = Duration::from_millis(5);
 
 pub(super) struct Request<'a> {
@@ -53,14 +52,10 @@ impl<'a> Request<'a> {
 
 /// Asks, and reads the whole answer. Each may take so long: to send the request, and to get the answer. An error says
 /// that the answer did not come or can't be read.
-pub(super) async fn exchange(
-    patience: Duration,
-    address: SocketAddr,
-    request: &Request<'_>,
-) -> Result<Answer> {
+pub(super) async fn exchange(patience: Duration, peer: &Peer, request: &Request<'_>) -> Result<Answer> {
     let late = || std::io::Error::new(ErrorKind::TimedOut, format!("nothing came within {patience:?}"));
     let (head, body) = request.message();
-    let (mut line, sent) = within(patience, open(address, &head, body))
+    let (mut line, sent) = within(patience, open(peer, &head, body))
         .await
         .ok_or_else(late)??;
     // What else this thread has to do goes first: as a rule the answer is there then, and nothing has to be waited for.
@@ -68,39 +63,34 @@ pub(super) async fn exchange(
     let answer = within(patience, read_answer(&mut line)).await.ok_or_else(late)?;
     // An answer may come before all is sent: a refusal by the head. What counts is whether there is one.
     match (answer, sent) {
-        (Ok((status, body)), sent) => {
-            if sent.is_ok() {
-                line.end();
-            }
-            Ok(Answer { status, body })
-        }
+        (Ok((status, body)), _) => Ok(Answer { status, body }),
         (Err(_), Err(fault)) => Err(fault),
         (Err(fault), Ok(())) => Err(fault),
     }
 }
 
-/// Where this side has no port or no descriptor left, nothing was asked of the gateway: that is no doubt, and is tried
-/// again.
-async fn open(address: SocketAddr, head: &[u8], body: &[u8]) -> Result<(Line, Result<()>)> {
+/// Where this side has no descriptor left, or the gateway's queue no place, nothing was asked of the gateway: that is no
+/// doubt, and is tried again.
+async fn open(peer: &Peer, head: &[u8], body: &[u8]) -> Result<(Line, Result<()>)> {
     loop {
-        match Line::open(address, head, body).await {
-            Err(fault) if is_of_this_side(&fault) => pause(PAUSE).await,
+        match Line::open(peer, head, body).await {
+            Err(fault) if is_passing(&fault) => pause(PAUSE).await,
             other => return other,
         }
     }
 }
 
-fn is_of_this_side(fault: &std::io::Error) -> bool {
+fn is_passing(fault: &std::io::Error) -> bool {
     let of_files = [libc::EMFILE, libc::ENFILE];
-    fault.kind() == ErrorKind::AddrNotAvailable
-        || fault.raw_os_error().is_some_and(|code| of_files.contains(&code))
+    fault.kind() == ErrorKind::WouldBlock || fault.raw_os_error().is_some_and(|code| of_files.contains(&code))
 }
 
 #[cfg(test)]
 mod tests {
+    use super::super::names::Names;
     use super::*;
     use tokio::io::{AsyncReadExt, AsyncWriteExt};
-    use tokio::net::TcpListener;
+    use tokio::net::UnixListener;
 
     const SHORT: Duration = Duration::from_millis(200);
 
@@ -133,14 +123,21 @@ mod tests {
         }
     }
 
+    /// A listener of this process.
+    fn listening() -> (Peer, UnixListener) {
+        let name = Names::draw().listens;
+        let listener = UnixListener::from_std(name.listen().unwrap()).unwrap();
+        let pid = std::process::id();
+        (Peer { name, pid }, listener)
+    }
+
     /// A listener that reads `length` bytes of one connection, writes `answer`, and closes after `rest`.
     async fn listener(
         length: usize,
         answer: &'static [u8],
         rest: Duration,
-    ) -> (SocketAddr, tokio::task::JoinHandle<Vec<u8>>) {
-        let listener = TcpListener::bind("127.0.0.1:0").await.unwrap();
-        let address = listener.local_addr().unwrap();
+    ) -> (Peer, tokio::task::JoinHandle<Vec<u8>>) {
+        let (peer, listener) = listening();
         let task = tokio::spawn(async move {
             let (mut stream, _) = listener.accept().await.unwrap();
             let mut bytes = vec![0; length];
@@ -149,21 +146,21 @@ mod tests {
             tokio::time::sleep(rest).await;
             bytes
         });
-        (address, task)
+        (peer, task)
     }
 
     #[tokio::test]
     async fn an_exchange_is_one_request_and_one_answer() {
         let request = post(b"{}");
         let length = length_of(&request);
-        let (address, task) = listener(
+        let (peer, task) = listener(
             length,
             b"HTTP/1.1 200 OK\r\nContent-Length: 2\r\n\r\n{}",
             SHORT * 5,
         )
         .await;
         let begun = std::time::Instant::now();
-        let answer = exchange(PATIENCE, address, &request).await.unwrap();
+        let answer = exchange(PATIENCE, &peer, &request).await.unwrap();
         assert!(
             begun.elapsed() < SHORT * 4,
             "the end of the connection was waited for"
@@ -187,13 +184,13 @@ mod tests {
         let body = vec![b'x'; 4 << 20];
         let request = post(&body);
         let length = length_of(&request);
-        let (address, task) = listener(
+        let (peer, task) = listener(
             length,
             b"HTTP/1.1 200 OK\r\nContent-Length: 0\r\n\r\n",
             Duration::ZERO,
         )
         .await;
-        assert_eq!(exchange(PATIENCE, address, &request).await.unwrap().status, 200);
+        assert_eq!(exchange(PATIENCE, &peer, &request).await.unwrap().status, 200);
         assert!(task.await.unwrap().ends_with(&body));
     }
 
@@ -201,9 +198,9 @@ mod tests {
     async fn a_refusal_by_the_head_is_read() {
         let body = vec![b'x'; 8 << 20];
         let answer = b"HTTP/1.1 413 Payload Too Large\r\nContent-Length: 0\r\n\r\n";
-        let (address, _task) = listener(100, answer, SHORT).await;
+        let (peer, _task) = listener(100, answer, SHORT).await;
         // The listener closes with bytes unread, so the answer may be lost with the connection: then it is a fault.
-        if let Ok(answer) = exchange(PATIENCE, address, &post(&body)).await {
+        if let Ok(answer) = exchange(PATIENCE, &peer, &post(&body)).await {
             assert_eq!(answer.status, 413);
         }
     }
@@ -217,55 +214,17 @@ mod tests {
             b"HTTP/1.1 200 OK\r\nContent-Len",
             b"HTTP/1.1 200 OK\r\nContent-Length: 9\r\n\r\n{}",
         ] {
-            let (address, _task) = listener(length, cut, Duration::ZERO).await;
-            exchange(PATIENCE, address, &request).await.unwrap_err();
+            let (peer, _task) = listener(length, cut, Duration::ZERO).await;
+            exchange(PATIENCE, &peer, &request).await.unwrap_err();
         }
-        let (address, _task) = listener(length, b"", SHORT * 10).await;
-        let late = exchange(SHORT, address, &request).await.unwrap_err();
+        let (peer, _task) = listener(length, b"", SHORT * 10).await;
+        let late = exchange(SHORT, &peer, &request).await.unwrap_err();
         assert_eq!(late.kind(), ErrorKind::TimedOut);
-        let nobody = TcpListener::bind("127.0.0.1:0")
-            .await
-            .unwrap()
-            .local_addr()
-            .unwrap();
+        let (nobody, listener) = listening();
+        drop(listener);
         assert_eq!(
-            exchange(PATIENCE, nobody, &request).await.unwrap_err().kind(),
+            exchange(PATIENCE, &nobody, &request).await.unwrap_err().kind(),
             ErrorKind::ConnectionRefused
         );
-    }
-
-    /// A listener that answers each connection with its number and something more, or not at all.
-    async fn numbering(connections: &'static [bool]) -> SocketAddr {
-        let listener = TcpListener::bind("127.0.0.1:0").await.unwrap();
-        let address = listener.local_addr().unwrap();
-        tokio::spawn(async move {
-            for (number, answers) in connections.iter().enumerate() {
-                let (mut stream, _) = listener.accept().await.unwrap();
-                let mut bytes = vec![0; length_of(&post(b"{}"))];
-                stream.read_exact(&mut bytes).await.unwrap();
-                if *answers {
-                    let text = format!("HTTP/1.1 200 OK\r\nContent-Length: 1\r\n\r\n{number}and more");
-                    stream.write_all(text.as_bytes()).await.unwrap();
-                }
-            }
-        });
-        address
-    }
-
-    #[tokio::test]
-    async fn a_socket_is_used_again_behind_a_whole_answer_alone() {
-        let first = numbering(&[true, true, false, true]).await;
-        for number in ["0", "1"] {
-            let answer = exchange(PATIENCE, first, &post(b"{}")).await.unwrap();
-            assert_eq!((answer.body, super::super::socket::spares()), (number.into(), 1));
-        }
-        exchange(PATIENCE, first, &post(b"{}")).await.unwrap_err();
-        assert_eq!(super::super::socket::spares(), 0, "nobody knows what comes on it");
-        assert_eq!(exchange(PATIENCE, first, &post(b"{}")).await.unwrap().body, "3");
-        // Its listener is gone now, as that of a gateway that was killed; the next gateway is elsewhere.
-        tokio::task::yield_now().await;
-        exchange(PATIENCE, first, &post(b"{}")).await.unwrap_err();
-        let second = numbering(&[true]).await;
-        assert_eq!(exchange(PATIENCE, second, &post(b"{}")).await.unwrap().body, "0");
     }
 }

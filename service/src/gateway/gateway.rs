@@ -2,9 +2,10 @@
 
 use super::back::BackSide;
 use super::client::{exchange, Request, PATIENCE, PATIENCE_OF_REFILL};
-use super::{listening, Answer, Doubt, Options, Starter};
+use super::names::Names;
+use super::socket::Peer;
+use super::{Answer, Doubt, Options, Starter};
 use bytes::Bytes;
-use std::net::SocketAddr;
 use std::process::Child;
 use std::sync::atomic::{AtomicBool, AtomicU64, Ordering};
 use std::sync::{Mutex, MutexGuard, PoisonError};
@@ -13,8 +14,6 @@ use std::time::{Duration, Instant};
 /// How long a gateway may take until it listens.
 const BEGINNING: Duration = Duration::from_secs(10);
 const LOOK: Duration = Duration::from_millis(2);
-/// How often another port is taken, where somebody else got it first.
-const PORTS: usize = 5;
 /// What a post may be answered with. Anything else was not answered by a gateway.
 const POST_STATUSES: [u16; 6] = [200, 400, 403, 413, 415, 503];
 /// The gateway has at most so many flushers.
@@ -23,7 +22,7 @@ const FLUSHERS: u16 = 4;
 /// A gateway that listens. It is killed when this is dropped.
 pub struct Gateway {
     process: Process,
-    address: SocketAddr,
+    peer: Peer,
     back: BackSide,
     connections: u64,
     flushers: u16,
@@ -45,37 +44,29 @@ struct FlushAnswer {
 
 impl Gateway {
     pub async fn start(starter: &Starter, options: &Options) -> Result<Gateway, Doubt> {
-        let mut last = String::new();
-        for _ in 0..PORTS {
-            match Gateway::start_once(starter, options).await? {
-                Ok(gateway) => return Ok(gateway),
-                Err(why) => last = why,
-            }
-        }
-        Err(Doubt::Start(last))
-    }
-
-    /// The inner error is one that another port may cure.
-    async fn start_once(starter: &Starter, options: &Options) -> Result<Result<Gateway, String>, Doubt> {
-        let of_program = |fault| Doubt::Start(format!("{}: {fault}", options.program.display()));
-        let of_socket = |fault| Doubt::Start(format!("no socket on loopback: {fault}"));
-        let back = BackSide::open().await.map_err(of_socket)?;
-        let address = starter.home.free_address().map_err(of_socket)?;
+        let of_program =
+            |fault: &dyn std::fmt::Display| Doubt::Start(format!("{}: {fault}", options.program.display()));
+        let names = Names::draw();
+        let back =
+            BackSide::open(&names.forwards).map_err(|fault| Doubt::Start(format!("no socket: {fault}")))?;
         let child = starter
-            .start(options, address, back.address)
+            .start(options, &names)
             .await
-            .map_err(of_program)?;
+            .map_err(|fault| of_program(&fault))?;
+        back.takes_from(child.id());
+        let peer = Peer {
+            name: names.listens,
+            pid: child.id(),
+        };
         let process = Process {
             starter: starter.clone(),
             pid: child.id(),
             state: Mutex::new(State::Running(child)),
         };
-        if let Err(why) = process.listens(address).await {
-            return Ok(Err(format!("{}: {why}", options.program.display())));
-        }
-        Ok(Ok(Gateway {
+        process.listens(&peer).await.map_err(|why| of_program(&why))?;
+        Ok(Gateway {
             process,
-            address,
+            peer,
             back,
             connections: options.connections,
             flushers: options.flushers.clamp(1, FLUSHERS),
@@ -83,7 +74,7 @@ impl Gateway {
             // The one by which it was seen that it listens.
             used: AtomicU64::new(1),
             doubted: AtomicBool::new(false),
-        }))
+        })
     }
 
     /// Posts a body of a sender. None where the connections are nearly used up: those left are for what else is asked.
@@ -139,7 +130,7 @@ impl Gateway {
 
     async fn exchange(&self, patience: Duration, request: &Request<'_>) -> Result<Answer, Doubt> {
         self.is_sound()?;
-        let answer = exchange(patience, self.address, request).await;
+        let answer = exchange(patience, &self.peer, request).await;
         answer.map_err(|fault| {
             self.doubt(Doubt::NoAnswer(format!(
                 "{} {}: {fault}",
@@ -296,24 +287,22 @@ impl Process {
         }
     }
 
-    /// Waits until it listens at the address, itself and nobody else.
-    async fn listens(&self, address: SocketAddr) -> Result<(), String> {
+    /// Waits until it listens.
+    async fn listens(&self, peer: &Peer) -> Result<(), String> {
         let begun = Instant::now();
         while begun.elapsed() < BEGINNING {
             if let Some(status) = self.ended() {
                 return Err(format!("it ended at once, {status}"));
             }
             // A connection that is refused is none of its count.
-            if tokio::net::TcpStream::connect(address).await.is_ok() {
-                return match listening::is_listener_of(self.pid, address) {
-                    Ok(true) => Ok(()),
-                    Ok(false) => Err(format!("another program got {address} first")),
-                    Err(fault) => Err(format!("who listens at {address} can't be known: {fault}")),
-                };
+            if peer.name.connect(peer.pid).is_ok() {
+                return Ok(());
             }
             tokio::time::sleep(LOOK).await;
         }
-        Err(format!("it does not listen at {address} after {BEGINNING:?}"))
+        Err(format!(
+            "it does not listen after {BEGINNING:?}; it has to be a program that a library can be preloaded into"
+        ))
     }
 }
 

@@ -1,7 +1,7 @@
-//! One gateway process: started, asked over loopback, and what it forwards.
+//! One gateway process: started, asked over Unix sockets, and what it forwards.
 //!
-//! `start` runs the program, `client` asks it over a `socket`, `back` takes what it forwards, `gateway` is the process as others
-//! see it. A gateway that was doubted once refuses all that is asked of it from then on: no checkpoint may use it.
+//! `starter` runs the program, `client` asks it over a `socket`, `back` takes what it forwards, `names` says where both are, and
+//! `gateway` is the process as others see it. A gateway that was doubted once refuses all that is asked of it from then on: no checkpoint may use it.
 
 pub mod allocator;
 mod back;
@@ -9,8 +9,8 @@ mod client;
 mod find;
 #[allow(clippy::module_inception)] // The room is named after what it has.
 mod gateway;
-mod listening;
 mod message;
+mod names;
 mod socket;
 mod starter;
 mod system;

@@ -3,9 +3,10 @@
 //! The kernel kills a gateway when the thread that started it ends. So that thread has to live as long as any
 //! gateway: it ends when the last `Starter` is gone, and each gateway has one.
 
-use super::listening::Home;
+use super::names::{Library, Names};
 use super::{allocator, system, Options};
-use std::net::SocketAddr;
+use std::ffi::OsString;
+use std::path::Path;
 use std::process::{Child, Command, Stdio};
 use std::sync::mpsc::{sync_channel, Receiver, SyncSender};
 use std::sync::Arc;
@@ -29,8 +30,7 @@ enum Order {
 #[derive(Clone)]
 pub struct Starter {
     orders: SyncSender<Order>,
-    /// Where all gateways of this service listen.
-    pub(super) home: Arc<Home>,
+    sockets: Arc<Library>,
 }
 
 impl Starter {
@@ -39,19 +39,14 @@ impl Starter {
         std::thread::Builder::new()
             .name("starter".into())
             .spawn(move || carry_out(todo))?;
-        let home = Arc::new(Home::draw()?);
-        Ok(Starter { orders, home })
+        let sockets = Arc::new(Library::new()?);
+        Ok(Starter { orders, sockets })
     }
 
-    /// Starts a gateway that listens at one address and forwards to another.
-    pub(super) async fn start(
-        &self,
-        options: &Options,
-        listen: SocketAddr,
-        back: SocketAddr,
-    ) -> std::io::Result<Child> {
+    /// Starts a gateway that listens and forwards by these names.
+    pub(super) async fn start(&self, options: &Options, names: &Names) -> std::io::Result<Child> {
         let (answer, started) = oneshot::channel();
-        let command = Box::new(command_line(options, listen, back));
+        let command = Box::new(command_line(options, names, &self.sockets));
         let order = Order::Start {
             command,
             memory: options.memory,
@@ -107,17 +102,15 @@ fn reap(mut process: Child) {
     }
 }
 
-fn command_line(options: &Options, listen: SocketAddr, back: SocketAddr) -> Command {
+/// What a gateway is given for addresses: it has sockets of other names in their place.
+const LISTEN: &str = "127.0.0.1:1";
+const BACKEND: &str = "127.0.0.1:2";
+
+fn command_line(options: &Options, names: &Names, sockets: &Library) -> Command {
     use std::os::unix::process::CommandExt;
     let mut command = Command::new(&options.program);
     command
-        .args([
-            "serve",
-            "--listen",
-            &listen.to_string(),
-            "--backend",
-            &back.to_string(),
-        ])
+        .args(["serve", "--listen", LISTEN, "--backend", BACKEND])
         .args(["--connections", &options.connections.to_string()])
         .args([
             "--receivers",
@@ -131,15 +124,27 @@ fn command_line(options: &Options, listen: SocketAddr, back: SocketAddr) -> Comm
         .stdout(Stdio::null())
         // An interrupt from a terminal is for the service alone, which then needs the gateway for a last flush.
         .process_group(0);
+    command.envs(names.variables());
+    command.env("LD_PRELOAD", preloaded(options.allocator.as_deref(), sockets));
     command.envs(allocator::variable(options.allocator.as_deref(), options.memory));
     command
+}
+
+/// The library of its allocator, where it has one, and that of its sockets.
+fn preloaded(allocator: Option<&Path>, sockets: &Library) -> OsString {
+    let mut libraries = OsString::new();
+    if let Some(allocator) = allocator {
+        libraries.push(allocator);
+        libraries.push(":");
+    }
+    libraries.push(sockets.path());
+    libraries
 }
 
 #[cfg(test)]
 mod tests {
     use super::*;
     use std::os::unix::fs::PermissionsExt;
-    use std::path::Path;
     use std::time::{Duration, Instant};
 
     fn script(folder: &Path, text: &str) -> Options {
@@ -155,10 +160,6 @@ mod tests {
             memory: None,
             allocator: None,
         }
-    }
-
-    fn somewhere() -> SocketAddr {
-        SocketAddr::from(([127, 0, 0, 1], 9))
     }
 
     fn ends(child: &mut Child) -> bool {
@@ -178,7 +179,7 @@ mod tests {
         let options = script(folder.path(), "exec sleep 100");
         let starter = Starter::new().unwrap();
         let other = starter.clone();
-        let mut child = starter.start(&options, somewhere(), somewhere()).await.unwrap();
+        let mut child = starter.start(&options, &Names::draw()).await.unwrap();
         drop(starter);
         std::thread::sleep(Duration::from_millis(50));
         assert!(
@@ -201,7 +202,7 @@ mod tests {
         let folder = tempfile::tempdir().unwrap();
         let options = script(folder.path(), "exec sleep 100");
         let starter = Starter::new().unwrap();
-        let first = starter.start(&options, somewhere(), somewhere()).await.unwrap();
+        let first = starter.start(&options, &Names::draw()).await.unwrap();
         let mut debugger = Command::new("python3")
             .args(["-c", DEBUGGER, &first.id().to_string()])
             .stdout(Stdio::piped())
@@ -211,7 +212,8 @@ mod tests {
         let mut lines = BufReader::new(debugger.stdout.take().unwrap());
         lines.read_line(&mut attached).unwrap();
         starter.end(first);
-        let second = starter.start(&options, somewhere(), somewhere());
+        let names = Names::draw();
+        let second = starter.start(&options, &names);
         let second = tokio::time::timeout(Duration::from_secs(10), second).await;
         debugger.kill().unwrap();
         debugger.wait().unwrap();
@@ -231,9 +233,7 @@ mod tests {
             ..script(folder.path(), &text)
         };
         let starter = Starter::new().unwrap();
-        assert!(ends(
-            &mut starter.start(&options, somewhere(), somewhere()).await.unwrap()
-        ));
+        assert!(ends(&mut starter.start(&options, &Names::draw()).await.unwrap()));
         assert_eq!(
             std::fs::read_to_string(&out).unwrap(),
             "524288\n1 serve --listen --connections\n"
@@ -247,7 +247,7 @@ mod tests {
         options.program = folder.path().join("none");
         let fault = Starter::new()
             .unwrap()
-            .start(&options, somewhere(), somewhere())
+            .start(&options, &Names::draw())
             .await
             .unwrap_err();
         assert_eq!(fault.kind(), std::io::ErrorKind::NotFound);

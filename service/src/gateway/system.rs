@@ -1,8 +1,10 @@
 //! The calls of the system that have no safe form in what is used here. All `unsafe` of the service is in this file.
 
 use nix::sys::resource::{setrlimit, Resource};
+use std::ffi::CStr;
+use std::fs::File;
 use std::io;
-use std::os::fd::AsRawFd;
+use std::os::fd::FromRawFd;
 use std::os::unix::process::CommandExt;
 use std::process::Command;
 
@@ -29,35 +31,12 @@ pub(super) fn bind_to_this_thread(command: &mut Command, memory: Option<u64>) {
     unsafe { command.pre_exec(prepare) };
 }
 
-/// The handshake's last packet is then carried by the request: one packet less for each exchange, on all connections that
-/// the socket will have.
-pub(super) fn delay_acknowledgement(socket: &impl AsRawFd) {
-    let on: libc::c_int = 1;
-    let value = std::ptr::addr_of!(on).cast();
-    let size = std::mem::size_of_val(&on) as libc::socklen_t;
-    // SAFETY: `value` points to `size` bytes that live through the call. The option is a wish: a refusal changes
-    // nothing but the time.
-    unsafe {
-        libc::setsockopt(
-            socket.as_raw_fd(),
-            libc::IPPROTO_TCP,
-            libc::TCP_DEFER_ACCEPT,
-            value,
-            size,
-        )
-    };
-}
-
-/// Ends the connection of a socket by a reset, and leaves the socket: it may be connected again.
-pub(super) fn disconnect(socket: &impl AsRawFd) -> io::Result<()> {
-    let nowhere = libc::sockaddr {
-        sa_family: libc::AF_UNSPEC as libc::sa_family_t,
-        sa_data: [0; 14],
-    };
-    let size = std::mem::size_of_val(&nowhere) as libc::socklen_t;
-    // SAFETY: `nowhere` is `size` bytes that live through the call, which writes to none of them.
-    match unsafe { libc::connect(socket.as_raw_fd(), &nowhere, size) } {
-        0 => Ok(()),
-        _ => Err(io::Error::last_os_error()),
+/// A file in memory, which the processes that are started inherit.
+pub(super) fn inherited_file(name: &CStr) -> io::Result<File> {
+    // SAFETY: `name` ends by a zero and lives through the call, which reads nothing else.
+    match unsafe { libc::memfd_create(name.as_ptr(), 0) } {
+        -1 => Err(io::Error::last_os_error()),
+        // SAFETY: the call has made this descriptor just now, so nobody else owns it.
+        made => Ok(unsafe { File::from_raw_fd(made) }),
     }
 }

@@ -6,4 +6,5 @@
 mod doubts;
 mod real;
 mod requests;
+mod strangers;
 mod support;

@@ -1,0 +1,74 @@
+//! Another process, also of the same user, gets no connection to a gateway, and forwards nothing in its name.
+
+use crate::support::{all, message, point, sums, Place, Run};
+use std::process::Command;
+
+/// Sends a request to the socket that a process has by a name in its environment, and prints what comes back.
+const STRANGER: &str = r#"
+import os, socket, sys
+pid, variable, request = sys.argv[1:]
+with open(f"/proc/{pid}/environ", "rb") as file:
+    environment = dict(pair.split(b"=", 1) for pair in file.read().split(b"\0") if pair)
+with socket.socket(socket.AF_UNIX) as stream:
+    stream.settimeout(20)
+    stream.connect(b"\0" + environment[variable.encode()])
+    try:
+        stream.sendall(request.encode())
+        print(stream.recv(4096))
+    except OSError as fault:
+        assert not isinstance(fault, TimeoutError)
+"#;
+
+fn answer_to_stranger(run: &Run, variable: &str, line: &str, body: &str) -> String {
+    let request = format!(
+        "{line} HTTP/1.1\r\nHost: h\r\nContent-Type: application/json\r\nx-sender: A\r\nContent-Length: {}\r\n\r\n{body}",
+        body.len()
+    );
+    let pid = run.slot.gateway().unwrap().to_string();
+    let asked = Command::new("python3")
+        .args(["-c", STRANGER, &pid, variable, &request])
+        .output()
+        .unwrap();
+    assert!(asked.status.success(), "{asked:?}");
+    String::from_utf8(asked.stdout).unwrap()
+}
+
+async fn keeps_out(place: Place) {
+    let run = place.run().await;
+    assert_eq!(run.post("A", point("a", 10, 20, 5)).await, all());
+    let shown = run.slot.gateway();
+    let body = String::from_utf8(point("a", 20, 30, 7).to_vec()).unwrap();
+    for (variable, line) in [
+        ("TOTXEGUN_LISTENS", "POST /v1/metrics"),
+        ("TOTXEGUN_LISTENS", "POST /flush"),
+        ("TOTXEGUN_FORWARDS", "POST /v1/metrics"),
+    ] {
+        let answer = answer_to_stranger(&run, variable, line, &body);
+        assert!(
+            answer.is_empty() || answer == "b''\n",
+            "{variable}, {line}: {answer}"
+        );
+    }
+    assert_eq!(run.slot.gateway(), shown);
+    assert_eq!(
+        run.post("A", point("a", 20, 30, 1)).await,
+        all(),
+        "a stranger's point was taken"
+    );
+    let repeat = run.post("A", point("a", 20, 30, 1)).await;
+    assert_eq!(message(&repeat), (400, "out of order: point 0, frontier 30"));
+    assert_eq!(run.recoveries(), 1);
+    assert_eq!(sums(&run.stop().await), [("a", 6)]);
+}
+
+#[tokio::test(flavor = "multi_thread")]
+async fn a_stranger_is_kept_out() {
+    keeps_out(Place::of_fake()).await;
+}
+
+#[tokio::test(flavor = "multi_thread")]
+async fn a_stranger_is_kept_out_of_the_real_gateway() {
+    if let Some(place) = Place::of_real() {
+        keeps_out(place).await;
+    }
+}
