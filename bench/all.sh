@@ -18,7 +18,7 @@ part() {
     { echo "bench/$script $*"; "$top/bench/$script" --gateway "$gateway" --totxegun "$totxegun" "$@" 2>&1; } | tee "$out/$name.txt"
 }
 
-part service service.py --runs 3 --seconds 0.7 --parties gateway,relay,process,disk
+part service service.py --runs 3 --seconds 0.7 --parties gateway,process,disk
 part plain gateway.py --beside plain,plain-tree,plain-answers,plain-fast --allocators service --receivers 4 --runs 7 --seconds 0.6
 part instructions instructions.py
 part allocators gateway.py --allocators libc,mimalloc --seconds 0.7

@@ -7,11 +7,10 @@
 The programs are bin/totxegun and bin/gateway, as `make build` makes them, where none is named. Rows: json-1, json-20,
 protobuf-103, gzip-103, grpc-1, grpc-103, by the encoding and the points of a post, over 800 series. Parties: gateway, which is the bare
 one, process and disk, which are the service with this durability and a SQLite file as its sink; more options of it are
-in WORDS; and, where it is named, relay, which is bench/relay.c before a bare gateway: the least that a program between
-senders and gateway takes. With --slots the service has so many gateways, which share the senders; the bare one stays one.
-The bare gateway gets a connection a request, the others kept connections, a sender each. It and the relay get protobuf's
-points as JSON: they read no other. It has the options and the environment that the service gives its own gateway. The
-folder of the service is made in DIR, which is out/bench where none is named: the disk that `disk` waits for.
+in WORDS. With --slots the service has so many gateways, which share the senders; the bare one stays one. The bare gateway
+gets a connection a request, over TCP, and protobuf's points as JSON: it reads no other. The service gets kept connections,
+a sender each. The bare gateway has the options and the allocator that the service gives its own gateway. The folder of the
+service is made in DIR, which is out/bench where none is named: the disk that `disk` waits for.
 
 The parties run in turn, each run in fresh processes whose series are there already, and of about so many seconds.
 Figures are medians over the runs, with the least and the most in brackets; a ratio is one of a run of the service to the
@@ -20,7 +19,6 @@ journal and outbox take meanwhile.
 """
 import contextlib
 import os
-import subprocess
 
 import loading
 from loading import Posts, Senders, rounded
@@ -28,7 +26,6 @@ from process import file_system, numbers, processor_seconds, spread
 from running import as_served, bare, options, serving, shown
 
 from loopback import free_port
-from shipped import listens, wait_until
 
 # Each row with what is posted, and how many posts a second are looked for where it is not known yet.
 ROWS = {"json-1": ("json", 1, 4000), "json-20": ("json", 20, 1000), "protobuf-103": ("protobuf", 103, 300), "gzip-103": ("gzip", 103, 300),
@@ -58,21 +55,6 @@ def measured(port, pids, clients, posts, requests):
     return loaded, [processor_seconds(pid) - least for pid, least in zip(pids, before)]
 
 
-@contextlib.contextmanager
-def relaying(gateway):
-    """A relay to a gateway's port, with as many threads as there are processors: its port and its process."""
-    port = free_port()
-    words = [loading.build("relay"), str(port), str(gateway), str(len(os.sched_getaffinity(0)))]
-    process = subprocess.Popen(words)
-    try:
-        if not wait_until(lambda: listens(port)):
-            raise SystemExit("the relay does not listen")
-        yield port, process
-    finally:
-        process.kill()
-        process.wait()
-
-
 def run(party, arguments, served, row, clients, requests):
     """The figures of one run."""
     encoding, points, _ = ROWS[row]
@@ -86,12 +68,7 @@ def run(party, arguments, served, row, clients, requests):
         else:
             words = [arguments.gateway, "serve", "--connections", "1000000", *served[0]]
             port, gateway = stack.enter_context(bare(words, served[1]))
-            pids, encoding = [gateway.pid], "json"
-            if party == "gateway":
-                connections = "each"
-            else:
-                port, between = stack.enter_context(relaying(port))
-                pids.insert(0, between.pid)
+            pids, encoding, connections = [gateway.pid], "json", "each"
         posts = Posts("sum", points, arguments.series, encoding, connections)
         loaded, times = measured(port, pids, clients, posts, requests)
         own = 0 if party == "gateway" else times.pop(0)

@@ -165,8 +165,13 @@ async fn a_series_that_has_all_that_a_gateway_adds_up_is_taken_by_a_fresh_one() 
     let more = point("a", 30, 40, 5);
     assert_eq!(message(&run.post("A", more.clone()).await), (503, "too large"));
     assert_eq!(run.post_until_answered("A", more).await, all());
-    assert_eq!(run.metrics.renewals.get(), 1);
+    let metrics = run.metrics.clone();
     assert_eq!(sums(&run.stop().await), [("a", i64::MAX - 4)]);
+    assert_eq!(
+        metrics.renewals.get(),
+        1,
+        "it is counted behind the first post that goes on"
+    );
 }
 
 /// Senders that repeat until they are answered, for a while; how much they posted to each series.
