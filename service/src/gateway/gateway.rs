@@ -44,15 +44,12 @@ struct FlushAnswer {
 
 impl Gateway {
     pub async fn start(starter: &Starter, options: &Options) -> Result<Gateway, Doubt> {
-        let of_program =
-            |fault: &dyn std::fmt::Display| Doubt::Start(format!("{}: {fault}", options.program.display()));
+        let program = options.program.display();
         let names = Names::draw();
         let back =
             BackSide::open(&names.forwards).map_err(|fault| Doubt::Start(format!("no socket: {fault}")))?;
-        let child = starter
-            .start(options, &names)
-            .await
-            .map_err(|fault| of_program(&fault))?;
+        let started = starter.start(options, &names).await;
+        let child = started.map_err(|fault| Doubt::Start(format!("{program}: {fault}")))?;
         back.takes_from(child.id());
         let peer = Peer {
             name: names.listens,
@@ -63,7 +60,8 @@ impl Gateway {
             pid: child.id(),
             state: Mutex::new(State::Running(child)),
         };
-        process.listens(&peer).await.map_err(|why| of_program(&why))?;
+        let listens = process.listens(&peer).await;
+        listens.map_err(|why| Doubt::Start(format!("{program}: {why}")))?;
         Ok(Gateway {
             process,
             peer,
