@@ -68,7 +68,7 @@ def make_names(at, senders=SENDERS):
     with open(f"{at}/tokens.map", "w") as file:
         file.writelines(f"{token} {name}\n" for token, name in tokens.items())
     with open(f"{at}/tokens.nginx", "w") as file:
-        file.writelines(f'"Bearer {token}" {name};\n' for token, name in tokens.items())
+        file.writelines(f'"~^Bearer \\Q{token}\\E$" {name};\n' for token, name in tokens.items())
 
 
 def context(at, certificate=None, key=None):
@@ -177,6 +177,7 @@ def names(checks, proxy, service, post):
     kind = proxy.kind
     checks.same(f"{kind}: no name but its own", 401, post())
     checks.same(f"{kind}: a token of nobody", 401, post("no"))
+    checks.same(f"{kind}: a token in other letters", 401, post("T0KEN"))
     checks.same(f"{kind}: a certificate of no sender", 401, post(certificate="nameless"))
     checks.same(f"{kind}: that with a token", 401, post("t0ken", certificate="nameless"))
     checks.true(f"{kind}: a certificate that nobody signed", (found := post("t0ken", certificate="stranger", key="stranger")) != 200, found)
