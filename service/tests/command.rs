@@ -117,6 +117,8 @@ fn a_faulty_line_has_status_2() {
     let serve = ["serve", "--data", "d", "--gateway", "/bin/true"];
     for (words, part) in [
         (&[&serve[..], &["--sink-gzip"]].concat()[..], "for a sink of OTLP"),
+        (&[&serve[..], &["--listen", "4318"]].concat(), "write HOST:PORT"),
+        (&[&serve[..], &["--sink-header", "host: h"]].concat(), "`host`"),
         (
             &[&serve[..], &["--whole", "s=us,s=ms"]].concat(),
             "two rules for the unit `s`",
@@ -234,11 +236,6 @@ fn what_is_not_possible_has_status_1_and_is_named() {
         &[&serve[..], &["--listen", &address]].concat(),
         1,
         &format!("--listen {address} can't be listened on: end what listens there"),
-    );
-    refused(
-        &[&serve[..], &["--listen", "4318"]].concat(),
-        1,
-        "write HOST:PORT",
     );
     refused(
         &[&serve[..], &["--listen", "127.0.0.1:0", "--operate", &address]].concat(),

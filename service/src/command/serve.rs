@@ -1,7 +1,7 @@
 //! `totxegun serve`: its options, and its run.
 
 use super::reading::OfReading;
-use super::values::{size, time, time_or_never, MayBeNever};
+use super::values::{place, size, time, time_or_never, MayBeNever};
 use super::version::Versions;
 use super::Failure;
 use crate::files::{Durability, MOST_SLOTS};
@@ -9,7 +9,7 @@ use crate::gateway;
 use crate::log;
 use crate::metrics::Metrics;
 use crate::service::{self, init, Settings};
-use crate::sinks::Address;
+use crate::sinks::{header_of, Address};
 use anyhow::{bail, Context};
 use clap::{value_parser, Args};
 use std::path::{Path, PathBuf};
@@ -44,18 +44,20 @@ pub struct Options {
         long,
         env = "TOTXEGUN_LISTEN",
         value_name = "ADDRESS",
-        default_value = "127.0.0.1:4318"
+        default_value = "127.0.0.1:4318",
+        value_parser = place
     )]
     listen: String,
     /// Where senders call OTLP/gRPC, as 127.0.0.1:4317 [default: nowhere]
-    #[arg(long, env = "TOTXEGUN_LISTEN_GRPC", value_name = "ADDRESS")]
+    #[arg(long, env = "TOTXEGUN_LISTEN_GRPC", value_name = "ADDRESS", value_parser = place)]
     listen_grpc: Option<String>,
     /// Where operators ask: who reaches it can do all that this program can
     #[arg(
         long,
         env = "TOTXEGUN_OPERATE",
         value_name = "ADDRESS",
-        default_value = "127.0.0.1:4319"
+        default_value = "127.0.0.1:4319",
+        value_parser = place
     )]
     operate: String,
     /// Where to deliver: sqlite:PATH, postgres://USER@HOST:PORT/DB, http://HOST:PORT/PATH or https://HOST/PATH [default: sqlite:DIR/metrics.db]
@@ -151,7 +153,9 @@ fn most_bytes(text: &str) -> Result<u64, String> {
 
 fn header(text: &str) -> Result<(String, String), String> {
     let (name, value) = text.split_once(':').ok_or("write a name, a colon and a value")?;
-    Ok((name.trim().to_string(), value.trim().to_string()))
+    let (name, value) = (name.trim(), value.trim());
+    header_of(name, value).map_err(|why| why.to_string())?;
+    Ok((name.to_string(), value.to_string()))
 }
 
 #[derive(Args)]

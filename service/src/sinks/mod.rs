@@ -14,6 +14,7 @@ pub mod sqlite;
 
 pub use address::{Address, BadAddress};
 pub use delivery::{deliver, of_part, Delivery};
+pub use otlp::header_of;
 
 use std::future::Future;
 use std::pin::Pin;
