@@ -10,6 +10,7 @@
 //! OTLP names 429, 502, 503 and 504 as those to repeat. 408 and 425 say the same of themselves: nothing was taken. The
 //! other 5xx are of a sink that failed, which may pass (`delivery`).
 
+use super::without_query;
 use crate::otlp::{partial_success, Encoding, ExportMetricsServiceResponse};
 use crate::sinks::Fate;
 use hyper::body::HttpBody;
@@ -79,7 +80,7 @@ pub(super) async fn fate(response: Response<Body>, sent: Encoding, deadline: Ins
                 .unwrap_or("nowhere");
             reason(format!(
                 "redirected to {}: give the sink's final address",
-                shown(location)
+                shown(&without_query(location))
             ))
         }
         _ => reason(message(body, encoding)),

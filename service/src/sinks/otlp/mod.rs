@@ -150,7 +150,7 @@ impl Sink for OtlpSink {
     }
 
     fn name(&self) -> String {
-        format!("otlp {}", self.url)
+        format!("otlp {}", without_query(&self.url.to_string()))
     }
 }
 
@@ -179,6 +179,14 @@ pub fn header_of(name: &str, value: &str) -> Result<(HeaderName, HeaderValue), B
     let mut value = HeaderValue::from_str(value).map_err(|_| BadOtlp::HeaderValue(name.into()))?;
     value.set_sensitive(true);
     Ok((key, value))
+}
+
+/// A URL as it is shown: a key may stand behind the question mark.
+fn without_query(url: &str) -> String {
+    match url.split_once('?') {
+        Some((place, _)) => format!("{place}?.."),
+        None => url.into(),
+    }
 }
 
 /// An error with its causes.

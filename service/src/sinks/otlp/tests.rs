@@ -184,8 +184,17 @@ async fn what_will_not_change_is_refused() {
             other => panic!("{status}: {other:?}"),
         }
     }
-    match fate_of("307 Temporary Redirect", "location: http://elsewhere/\r\n", "").await {
-        Fate::Refused { reason } => assert!(reason.contains("http://elsewhere/"), "{reason}"),
+    match fate_of(
+        "307 Temporary Redirect",
+        "location: http://elsewhere/?key=secret\r\n",
+        "",
+    )
+    .await
+    {
+        Fate::Refused { reason } => assert!(
+            reason.contains("http://elsewhere/?..: ") && !reason.contains("secret"),
+            "{reason}"
+        ),
         other => panic!("{other:?}"),
     }
 }
@@ -314,6 +323,14 @@ async fn a_request_that_is_sent_again_has_the_same_bytes_and_key() {
             .expect("gzip");
         assert_eq!(plain, request(9).body);
     }
+}
+
+/// A key may be written there.
+#[test]
+fn what_an_address_asks_for_is_not_shown() {
+    let name = |url: &str| OtlpSink::open(url, false, false, &[]).expect("a sink").name();
+    assert_eq!(name("http://h:1/v1/metrics"), "otlp http://h:1/v1/metrics");
+    assert_eq!(name("http://h:1/otlp?api_key=secret"), "otlp http://h:1/otlp?..");
 }
 
 #[test]
