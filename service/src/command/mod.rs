@@ -230,6 +230,7 @@ mod tests {
             ("serve --data d --memory 1X", "--memory"),
             ("serve --data d --most-bytes 256", "1MiB"),
             ("serve --data d --sink nats://h", "--sink"),
+            ("serve --data d --sink https://127.0.0.1/", "certificate"),
             ("serve --data d --sink-header content-type:x", "`content-type`"),
             ("serve --data d --sink-header \u{fc}:x", "no name of a header"),
             ("serve --data d --sink-header x:\u{1}", "`x`"),
