@@ -220,6 +220,35 @@ fn few_open_files_are_few_connections() {
     }
 }
 
+/// It may be gigabytes of what senders sent.
+#[test]
+fn an_interrupt_leaves_no_copy_of_a_folder() {
+    use nix::sys::signal::{kill, Signal};
+    let (data, temporary) = (tempfile::tempdir().unwrap(), tempfile::tempdir().unwrap());
+    std::fs::write(data.path().join("lock"), "").unwrap();
+    std::fs::create_dir(data.path().join("dead")).unwrap();
+    // Who copies it waits for somebody who writes.
+    let pipe = data.path().join("dead/0-a-1.json");
+    nix::unistd::mkfifo(&pipe, nix::sys::stat::Mode::from_bits_truncate(0o600)).unwrap();
+    for signal in [Signal::SIGINT, Signal::SIGTERM] {
+        let words = ["check", data.path().to_str().unwrap(), "--temporary"];
+        let mut check = program(&words).arg(temporary.path()).spawn().unwrap();
+        let copied = || std::fs::read_dir(temporary.path()).unwrap().count();
+        while copied() == 0 {
+            assert!(check.try_wait().unwrap().is_none(), "it ended by itself");
+            std::thread::sleep(std::time::Duration::from_millis(10));
+        }
+        std::thread::sleep(std::time::Duration::from_millis(100));
+        kill(nix::unistd::Pid::from_raw(check.id() as i32), signal).unwrap();
+        let status = check.wait().unwrap();
+        assert_eq!(
+            (status.code(), copied()),
+            (Some(128 + signal as i32), 0),
+            "{signal}"
+        );
+    }
+}
+
 #[test]
 fn what_is_not_possible_has_status_1_and_is_named() {
     let folder = tempfile::tempdir().unwrap();
