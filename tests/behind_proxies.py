@@ -206,12 +206,20 @@ def by_curl(checks, proxy):
     asking = ["-H", "Expect: 100-continue", "--expect100-timeout", str(SECONDS)]
     # The second one repeats the first. nginx asks nobody to go on over HTTP/2.
     for how, wanted in ((["--http2", "-H", "Expect:"], "200 2"), (["--http1.1", *asking], "400 1.1")):
-        run = subprocess.run(
-            ["curl", "-s", "-m", str(SECONDS), *how, "-o", "/dev/null", "-w", "%{http_code} %{http_version}",
-             "--cacert", f"{proxy.at}/ca.pem", "-H", "Content-Type: application/json", "-H", "Authorization: Bearer t0ken",
-             "--data-binary", f"@{proxy.at}/body", f"https://localhost:{proxy.port}/v1/metrics"],
-            capture_output=True, text=True, timeout=2 * SECONDS)
-        checks.same(f"{proxy.kind}: curl {how[0]}", wanted, run.stdout)
+        checks.same(f"{proxy.kind}: curl {how[0]}", wanted, curl(proxy, "t0ken", *how, "--data-binary", f"@{proxy.at}/body"))
+    # Who is refused before all of it is there has an answer too: as often as it takes to find one that has none.
+    found = {curl(proxy, "no", "--http2", "--data-binary", "x" * 1000) for _ in range(20)}
+    checks.same(f"{proxy.kind}: curl --http2 with a token of nobody", {"401 2"}, found)
+
+
+def curl(proxy, token, *words):
+    """The status and the version of an answer."""
+    run = subprocess.run(
+        ["curl", "-s", "-m", str(SECONDS), "-o", "/dev/null", "-w", "%{http_code} %{http_version}",
+         "--cacert", f"{proxy.at}/ca.pem", "-H", "Content-Type: application/json", "-H", f"Authorization: Bearer {token}",
+         *words, f"https://localhost:{proxy.port}/v1/metrics"],
+        capture_output=True, text=True, timeout=2 * SECONDS, check=False)
+    return run.stdout
 
 
 def kills(proxy, service):
