@@ -126,7 +126,10 @@ async fn trouble_that_passes_is_tried_again() {
 async fn a_sink_that_fails_says_not_whether_it_passes() {
     for status in ["500 X", "501 X", "505 X", "599 X"] {
         match fate_of(status, "retry-after: 7\r\n", r#"{"message":"broken"}"#).await {
-            Fate::Failed { reason } => assert!(reason.contains("broken"), "{reason}"),
+            Fate::Failed { reason, after } => {
+                assert!(reason.contains("broken"), "{reason}");
+                assert_eq!(after, Some(Duration::from_secs(7)));
+            }
             other => panic!("{status}: {other:?}"),
         }
     }
