@@ -228,6 +228,7 @@ mod tests {
             ("serve --data d --flushers 0", "--flushers"),
             ("serve --data d --durable never", "--durable"),
             ("serve --data d --memory 1X", "--memory"),
+            ("serve --data d --memory 127MiB", "128MiB"),
             ("serve --data d --most-bytes 256", "1MiB"),
             ("serve --data d --sink nats://h", "--sink"),
             ("serve --data d --sink https://127.0.0.1/", "certificate"),

@@ -34,6 +34,9 @@ const FILES_OF_A_THREAD: u64 = 64;
 /// With less than this most posts would be refused as too long for good, and lost.
 const LEAST_BYTES: u64 = 1 << 20;
 
+/// With less than some 100 MiB no gateway starts, or it never has room for a request of 4 MiB.
+const LEAST_MEMORY: u64 = 128 << 20;
+
 #[derive(Args)]
 pub struct Options {
     /// The folder of all files; it is made where there is none
@@ -151,6 +154,14 @@ fn most_bytes(text: &str) -> Result<u64, String> {
     }
 }
 
+fn memory(text: &str) -> Result<u64, String> {
+    let bytes = size(text)?;
+    match bytes >= LEAST_MEMORY {
+        true => Ok(bytes),
+        false => Err("with less than 128MiB no gateway starts, or takes a long request".to_string()),
+    }
+}
+
 fn header(text: &str) -> Result<(String, String), String> {
     let (name, value) = text.split_once(':').ok_or("write a name, a colon and a value")?;
     let (name, value) = (name.trim(), value.trim());
@@ -162,7 +173,7 @@ fn header(text: &str) -> Result<(String, String), String> {
 #[command(next_help_heading = "Options of the gateway")]
 struct OfGateway {
     /// The most address space of each gateway, as by `ulimit -v`
-    #[arg(long, env = "TOTXEGUN_MEMORY", value_name = "BYTES", value_parser = size)]
+    #[arg(long, env = "TOTXEGUN_MEMORY", value_name = "BYTES", value_parser = memory)]
     memory: Option<u64>,
     /// An allocator's library, preloaded; `none` is the C library's own [default: tcmalloc, where it is installed]
     #[arg(long, env = "TOTXEGUN_ALLOCATOR", value_name = "LIB")]
