@@ -10,8 +10,8 @@ InfluxDB has it on disk. A number past 63 bits is refused.
 
 A tag for each attribute of the point and the resource, in which a backslash is shown as `/` and a line's end as a space; and
 `series_id`, a digest that tells two series apart for good. A name that InfluxDB can't have has `_` before it: an empty one, a
-metric's that begins with `#`, which would be a comment, and an attribute's that is `time`. Fields: `value` of a sum; `count`,
-`sum`, `bucket_0`, .. of a histogram; `start`, where the span begins.
+metric's that begins with `#`, which would be a comment, or with a tab or NUL, and an attribute's that is `time`. Fields:
+`value` of a sum; `count`, `sum`, `bucket_0`, .. of a histogram; `start`, where the span begins.
 """
 import hashlib
 import http.client
@@ -21,6 +21,8 @@ import sys
 import urllib.parse
 
 MOST = 2**63 - 1
+# InfluxDB takes 25 MB at a time by default, and ends the connection at more.
+PIECE = 4 << 20
 
 
 class Refused(Exception):
@@ -44,7 +46,7 @@ def tags_of(attributes):
 
 
 def metric_of(name):
-    return escaped(f"_{name}" if not name or name[0] == "#" else name, ", ")
+    return escaped(f"_{name}" if not name or name[0] in "#\t\0" else name, ", ")
 
 
 def key_of(name):
@@ -80,21 +82,35 @@ def lines_of(request):
                     yield f"{metric_of(metric['name'])}{shown} {fields_of(point)} {point['timeUnixNano']}"
 
 
+def pieces_of(lines):
+    """The lines as bodies, each of one line at least."""
+    piece, size = [], 0
+    for line in map(str.encode, lines):
+        if piece and size + len(line) >= PIECE:
+            yield b"\n".join(piece)
+            piece, size = [], 0
+        piece.append(line)
+        size += len(line) + 1
+    yield b"\n".join(piece)
+
+
 def write(influxdb, database, lines):
     """The status and text for totxegun: 200 once InfluxDB has all, 503 where it is to come again."""
     connection = http.client.HTTPConnection(influxdb, timeout=20)
+    path = "/write?" + urllib.parse.urlencode({"db": database, "precision": "ns"})
     try:
-        path = "/write?" + urllib.parse.urlencode({"db": database, "precision": "ns"})
-        connection.request("POST", path, "\n".join(lines).encode())
-        answer = connection.getresponse()
-        text = answer.read().decode(errors="replace")
+        for piece in list(pieces_of(lines)):  # nothing is written of what is refused
+            connection.request("POST", path, piece)
+            answer = connection.getresponse()
+            text = answer.read().decode(errors="replace")
+            # What was written stays, and is written again to the same points.
+            if answer.status != 204:
+                return (400 if answer.status in (400, 413) else 503), f"InfluxDB: {answer.status} {text.strip()}"
     except (OSError, http.client.HTTPException) as error:
         return 503, f"InfluxDB: {error}"
     finally:
         connection.close()
-    if answer.status == 204:
-        return 200, ""
-    return (400 if answer.status in (400, 413) else 503), f"InfluxDB: {answer.status} {text.strip()}"
+    return 200, ""
 
 
 def handler(influxdb, database):
@@ -104,7 +120,7 @@ def handler(influxdb, database):
         def do_POST(self):
             body = self.rfile.read(int(self.headers["Content-Length"]))
             try:
-                status, text = write(influxdb, database, lines_of(json.loads(body)))
+                status, text = self.taken(body)
             except Refused as why:
                 status, text = 400, str(why)
             answer = json.dumps({"message": text} if text else {}).encode()
@@ -113,6 +129,12 @@ def handler(influxdb, database):
             self.send_header("Content-Length", str(len(answer)))
             self.end_headers()
             self.wfile.write(answer)
+
+        def taken(self, body):
+            # It waits until totxegun is started without these.
+            if self.headers.get_content_type() != "application/json" or "Content-Encoding" in self.headers:
+                return 503, "the bridge reads JSON that is not packed: leave --sink-protobuf and --sink-gzip out"
+            return write(influxdb, database, lines_of(json.loads(body)))
 
         def log_message(self, *_):
             pass

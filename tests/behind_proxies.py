@@ -68,7 +68,7 @@ def make_names(at, senders=SENDERS):
     with open(f"{at}/tokens.map", "w") as file:
         file.writelines(f"{token} {name}\n" for token, name in tokens.items())
     with open(f"{at}/tokens.nginx", "w") as file:
-        file.writelines(f'"Bearer {token}" {name};\n' for token, name in tokens.items())
+        file.writelines(f'"~^Bearer \\Q{token}\\E$" {name};\n' for token, name in tokens.items())
 
 
 def context(at, certificate=None, key=None):
@@ -177,6 +177,7 @@ def names(checks, proxy, service, post):
     kind = proxy.kind
     checks.same(f"{kind}: no name but its own", 401, post())
     checks.same(f"{kind}: a token of nobody", 401, post("no"))
+    checks.same(f"{kind}: a token in other letters", 401, post("T0KEN"))
     checks.same(f"{kind}: a certificate of no sender", 401, post(certificate="nameless"))
     checks.same(f"{kind}: that with a token", 401, post("t0ken", certificate="nameless"))
     checks.true(f"{kind}: a certificate that nobody signed", (found := post("t0ken", certificate="stranger", key="stranger")) != 200, found)
@@ -205,12 +206,20 @@ def by_curl(checks, proxy):
     asking = ["-H", "Expect: 100-continue", "--expect100-timeout", str(SECONDS)]
     # The second one repeats the first. nginx asks nobody to go on over HTTP/2.
     for how, wanted in ((["--http2", "-H", "Expect:"], "200 2"), (["--http1.1", *asking], "400 1.1")):
-        run = subprocess.run(
-            ["curl", "-s", "-m", str(SECONDS), *how, "-o", "/dev/null", "-w", "%{http_code} %{http_version}",
-             "--cacert", f"{proxy.at}/ca.pem", "-H", "Content-Type: application/json", "-H", "Authorization: Bearer t0ken",
-             "--data-binary", f"@{proxy.at}/body", f"https://localhost:{proxy.port}/v1/metrics"],
-            capture_output=True, text=True, timeout=2 * SECONDS)
-        checks.same(f"{proxy.kind}: curl {how[0]}", wanted, run.stdout)
+        checks.same(f"{proxy.kind}: curl {how[0]}", wanted, curl(proxy, "t0ken", *how, "--data-binary", f"@{proxy.at}/body"))
+    # Who is refused before all of it is there has an answer too: as often as it takes to find one that has none.
+    found = {curl(proxy, "no", "--http2", "--data-binary", "x" * 1000) for _ in range(20)}
+    checks.same(f"{proxy.kind}: curl --http2 with a token of nobody", {"401 2"}, found)
+
+
+def curl(proxy, token, *words):
+    """The status and the version of an answer."""
+    run = subprocess.run(
+        ["curl", "-s", "-m", str(SECONDS), "-o", "/dev/null", "-w", "%{http_code} %{http_version}",
+         "--cacert", f"{proxy.at}/ca.pem", "-H", "Content-Type: application/json", "-H", f"Authorization: Bearer {token}",
+         *words, f"https://localhost:{proxy.port}/v1/metrics"],
+        capture_output=True, text=True, timeout=2 * SECONDS, check=False)
+    return run.stdout
 
 
 def kills(proxy, service):

@@ -31,6 +31,7 @@ SECONDS = 20
 SENDERS = 3
 DATABASE = "totals"
 ODD = "odd"
+LONG = "long"
 SETTINGS = """\
 reporting-disabled = true
 bind-address = "127.0.0.1:{more}"
@@ -89,21 +90,53 @@ class InfluxDb(Program):
         return found
 
 
-def odd_names(checks, influxdb):
-    """Each point is there, also where InfluxDB can't have its names as they are."""
+def bridge_module():
     spec = importlib.util.spec_from_file_location("bridge", BRIDGE)
     bridge = importlib.util.module_from_spec(spec)
     spec.loader.exec_module(bridge)
+    return bridge
+
+
+def request(names, key, value):
+    """A point of each name, with one attribute."""
+    attributes = [{"key": key, "value": {"stringValue": value}}]
+    point = {"asInt": "5", "startTimeUnixNano": "1", "timeUnixNano": "2", "attributes": attributes}
+    data = {"aggregationTemporality": 1, "dataPoints": [point], "isMonotonic": True}
+    metrics = [{"name": name, "unit": "", "sum": data} for name in names]
+    scope = {"metrics": metrics, "scope": {"attributes": [], "name": "", "version": ""}}
+    return {"resourceMetrics": [{"resource": {"attributes": []}, "scopeMetrics": [scope]}]}
+
+
+def odd_names(checks, influxdb):
+    """Each point is there, also where InfluxDB can't have its names as they are."""
+    bridge = bridge_module()
     influxdb.ask(f"create database {ODD}")
-    names = [("#metric", "a"), ("", "a"), ("a,b= c", "a,b= c"), ("b", ""), ("c", "time"), ("d", "a\\"), ("d", "a/"), ("e\n", "a\n"), ("f", "#")]
+    names = [("#metric", "a"), ("", "a"), ("a,b= c", "a,b= c"), ("b", ""), ("c", "time"), ("d", "a\\"), ("d", "a/"),
+             ("e\n", "a\n"), ("f", "#"), ("\t", "a"), ("\0g", "a")]
     for name, key in names:
-        point = {"asInt": "5", "startTimeUnixNano": "1", "timeUnixNano": "2", "attributes": [{"key": key, "value": {"stringValue": "x"}}]}
-        metric = {"name": name, "unit": "", "sum": {"aggregationTemporality": 1, "dataPoints": [point], "isMonotonic": True}}
-        scope = {"metrics": [metric], "scope": {"attributes": [], "name": "", "version": ""}}
-        lines = bridge.lines_of({"resourceMetrics": [{"resource": {"attributes": []}, "scopeMetrics": [scope]}]})
+        lines = bridge.lines_of(request([name], key, "x"))
         checks.same(f"{name!r} with {key!r} is written", (200, ""), bridge.write(f"127.0.0.1:{influxdb.port}", ODD, lines))
     found = influxdb.ask("select value from /.*/", ODD)
     checks.same("all of them are there", len(names), sum(len(one["values"]) for one in found))
+
+
+def long_request(checks, influxdb):
+    """36 MB as lines: InfluxDB takes 25 at a time."""
+    bridge = bridge_module()
+    influxdb.ask(f"create database {LONG}")
+    names = [f"m{number}" for number in range(3000)]
+    lines = bridge.lines_of(request(names, "key", "v" * 12_000))
+    checks.same("a long request is written", (200, ""), bridge.write(f"127.0.0.1:{influxdb.port}", LONG, lines))
+    found = influxdb.ask("select value from /.*/", LONG)
+    checks.same("all of it is there", len(names), sum(len(one["values"]) for one in found))
+
+
+def other_forms(checks, port):
+    """They wait until the service is started as the bridge wants it."""
+    for headers in ({"Content-Type": "application/x-protobuf"}, {"Content-Type": "application/json", "Content-Encoding": "gzip"}):
+        wait_until(lambda: ask(port, "POST", "/v1/metrics", b"\n\0", headers)[0] is not None)
+        status, body = ask(port, "POST", "/v1/metrics", b"\n\0", headers)
+        checks.true(f"{headers} waits, and is told why", status == 503 and b"--sink-protobuf" in body, (status, body))
 
 
 def trouble(service, bridge, influxdb, until, chance):
@@ -132,7 +165,9 @@ def run(checks, program, gateway, folder, seconds, seed):
         is_made = wait_until(lambda: influxdb.ask(f"create database {DATABASE}") is not None)
         checks.true("InfluxDB is there", is_made, influxdb.log)
         odd_names(checks, influxdb)
+        long_request(checks, influxdb)
         bridge.start()
+        other_forms(checks, port)
         service.start()
         checks.true("the service is ready", service.wait_ready(), service.last_lines())
         until = time.monotonic() + seconds

@@ -117,6 +117,8 @@ fn a_faulty_line_has_status_2() {
     let serve = ["serve", "--data", "d", "--gateway", "/bin/true"];
     for (words, part) in [
         (&[&serve[..], &["--sink-gzip"]].concat()[..], "for a sink of OTLP"),
+        (&[&serve[..], &["--listen", "4318"]].concat(), "write HOST:PORT"),
+        (&[&serve[..], &["--sink-header", "host: h"]].concat(), "`host`"),
         (
             &[&serve[..], &["--whole", "s=us,s=ms"]].concat(),
             "two rules for the unit `s`",
@@ -218,6 +220,35 @@ fn few_open_files_are_few_connections() {
     }
 }
 
+/// It may be gigabytes of what senders sent.
+#[test]
+fn an_interrupt_leaves_no_copy_of_a_folder() {
+    use nix::sys::signal::{kill, Signal};
+    let (data, temporary) = (tempfile::tempdir().unwrap(), tempfile::tempdir().unwrap());
+    std::fs::write(data.path().join("lock"), "").unwrap();
+    std::fs::create_dir(data.path().join("dead")).unwrap();
+    // Who copies it waits for somebody who writes.
+    let pipe = data.path().join("dead/0-a-1.json");
+    nix::unistd::mkfifo(&pipe, nix::sys::stat::Mode::from_bits_truncate(0o600)).unwrap();
+    for signal in [Signal::SIGINT, Signal::SIGTERM] {
+        let words = ["check", data.path().to_str().unwrap(), "--temporary"];
+        let mut check = program(&words).arg(temporary.path()).spawn().unwrap();
+        let copied = || std::fs::read_dir(temporary.path()).unwrap().count();
+        while copied() == 0 {
+            assert!(check.try_wait().unwrap().is_none(), "it ended by itself");
+            std::thread::sleep(std::time::Duration::from_millis(10));
+        }
+        std::thread::sleep(std::time::Duration::from_millis(100));
+        kill(nix::unistd::Pid::from_raw(check.id() as i32), signal).unwrap();
+        let status = check.wait().unwrap();
+        assert_eq!(
+            (status.code(), copied()),
+            (Some(128 + signal as i32), 0),
+            "{signal}"
+        );
+    }
+}
+
 #[test]
 fn what_is_not_possible_has_status_1_and_is_named() {
     let folder = tempfile::tempdir().unwrap();
@@ -234,11 +265,6 @@ fn what_is_not_possible_has_status_1_and_is_named() {
         &[&serve[..], &["--listen", &address]].concat(),
         1,
         &format!("--listen {address} can't be listened on: end what listens there"),
-    );
-    refused(
-        &[&serve[..], &["--listen", "4318"]].concat(),
-        1,
-        "write HOST:PORT",
     );
     refused(
         &[&serve[..], &["--listen", "127.0.0.1:0", "--operate", &address]].concat(),

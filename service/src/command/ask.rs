@@ -1,6 +1,7 @@
 //! Orders to the running service: flush, renew, quarantine, lift.
 
-use super::{client, line, values::counted, Form};
+use super::values::{counted, place};
+use super::{client, line, Form};
 use crate::slot::is_sender;
 use anyhow::{Context, Result};
 use clap::Args;
@@ -13,7 +14,8 @@ pub struct Address {
         long,
         env = "TOTXEGUN_OPERATE",
         value_name = "ADDRESS",
-        default_value = "127.0.0.1:4319"
+        default_value = "127.0.0.1:4319",
+        value_parser = place
     )]
     pub operate: String,
 }

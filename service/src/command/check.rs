@@ -9,6 +9,7 @@ use crate::slot::slot_of;
 use anyhow::{anyhow, bail, Context};
 use clap::Args;
 use nix::fcntl::{flock, FlockArg};
+use nix::sys::signal::{SigSet, Signal};
 use serde::Serialize;
 use std::collections::HashSet;
 use std::fs::{DirBuilder, File};
@@ -16,6 +17,9 @@ use std::io::ErrorKind;
 use std::os::fd::AsRawFd;
 use std::os::unix::fs::DirBuilderExt;
 use std::path::{Path, PathBuf};
+
+/// How often a copy is tried to be removed.
+const REMOVALS: usize = 100;
 
 #[derive(Args)]
 pub struct Options {
@@ -52,7 +56,10 @@ impl Options {
     pub fn run(self) -> Result<Vec<u8>, Failure> {
         let _kept_still = lock(&self.data)?;
         let temporary = self.temporary.clone().unwrap_or_else(std::env::temp_dir);
-        let copy = Copy::of(&self.data, &temporary)?;
+        let interrupts = interrupts().context("signals can't be received")?;
+        let copy = Copy::made(&temporary)?;
+        remove_at(interrupts, copy.0.clone()).context("no thread could be started")?;
+        copy.fill(&self.data, &temporary)?;
         let found = found(&copy.0).map_err(|failure| in_the_original(failure, &copy.0, &self.data))?;
         match self.form.json {
             true => Ok(json(&found)?),
@@ -81,24 +88,65 @@ fn lock(data: &Path) -> anyhow::Result<File> {
     Ok(file)
 }
 
+/// What ends a command from outside, from here on for who waits for it alone.
+fn interrupts() -> nix::Result<SigSet> {
+    let mut signals = SigSet::empty();
+    signals.add(Signal::SIGINT);
+    signals.add(Signal::SIGTERM);
+    signals.thread_block()?;
+    Ok(signals)
+}
+
+/// Has them remove a copy too: it may be gigabytes of what senders sent. The status is what a shell calls such an end.
+fn remove_at(interrupts: SigSet, copy: PathBuf) -> std::io::Result<()> {
+    let ended = move || {
+        if let Ok(signal) = interrupts.wait() {
+            remove(&copy);
+            std::process::exit(128 + signal as i32);
+        }
+    };
+    std::thread::Builder::new()
+        .name("interrupt".into())
+        .spawn(ended)?;
+    Ok(())
+}
+
+/// Also while a file of it is being made.
+fn remove(copy: &Path) {
+    let mut fault = None;
+    for _ in 0..REMOVALS {
+        match std::fs::remove_dir_all(copy) {
+            Err(error) if error.kind() != ErrorKind::NotFound => fault = Some(error),
+            _ => return,
+        }
+    }
+    if let Some(error) = fault {
+        crate::complain(format_args!("{} could not be removed: {error}", copy.display()));
+    }
+}
+
 /// A copy of the journal, the outbox and the dead letters; removed when it is dropped.
 struct Copy(PathBuf);
 
 impl Copy {
-    fn of(data: &Path, temporary: &Path) -> anyhow::Result<Copy> {
+    /// An empty one.
+    fn made(temporary: &Path) -> anyhow::Result<Copy> {
         let place = temporary.join(format!("totxegun-check-{}", std::process::id()));
         DirBuilder::new()
             .mode(0o700)
             .create(&place)
             .with_context(|| format!("{} can't be made", place.display()))?;
-        let copy = Copy(place); // and not before: what was there already is not this one's to remove
+        Ok(Copy(place)) // and not before: what was there already is not this one's to remove
+    }
+
+    fn fill(&self, data: &Path, temporary: &Path) -> anyhow::Result<()> {
         for entry in std::fs::read_dir(data)? {
             let name = entry?.file_name();
             let is_ours = name
                 .to_str()
                 .is_some_and(|name| name == "version" || name == "dead" || name.starts_with("slot-"));
             if is_ours {
-                copy_all(&data.join(&name), &copy.0.join(&name)).with_context(|| {
+                copy_all(&data.join(&name), &self.0.join(&name)).with_context(|| {
                     format!(
                         "{} can't be copied to {}: give --temporary",
                         data.display(),
@@ -107,15 +155,13 @@ impl Copy {
                 })?;
             }
         }
-        Ok(copy)
+        Ok(())
     }
 }
 
 impl Drop for Copy {
     fn drop(&mut self) {
-        if let Err(error) = std::fs::remove_dir_all(&self.0) {
-            crate::complain(format_args!("{} could not be removed: {error}", self.0.display()));
-        }
+        remove(&self.0);
     }
 }
 

@@ -3,7 +3,7 @@
 use anyhow::{anyhow, bail, Context, Result};
 use std::io::{Error, ErrorKind, Read, Write};
 use std::net::{TcpStream, ToSocketAddrs};
-use std::time::Duration;
+use std::time::{Duration, Instant};
 
 const CONNECT: Duration = Duration::from_secs(5);
 
@@ -15,19 +15,24 @@ const SOON: Duration = Duration::from_secs(3);
 /// What who listens says of a path that it does not have: an operator's address has all that are asked for here.
 const NO_PATH: &str = "no such path";
 
+/// Of an answer that is not as this program reads it.
+pub const OTHER_VERSION: &str = "the running service is of another version: ask it by its own totxegun";
+
 /// What is read of an answer at most.
 const MOST: u64 = 256 << 20;
 
 #[derive(Debug)]
 pub struct Reply {
     pub status: u16,
+    pub is_json: bool,
     pub body: Vec<u8>,
 }
 
-/// Asks, and returns the answer's body where its status is 200, else its message.
+/// Asks, and returns the answer's body where its status is 200, else its message. All that is asked for is JSON.
 pub fn ask(address: &str, method: &str, path: &str) -> Result<Vec<u8>> {
     let reply = reply(address, method, path, ANSWER)?;
     match reply.status {
+        _ if !reply.is_json => bail!(another(address)),
         200 => Ok(reply.body),
         status => match message(&reply.body) {
             said if said == NO_PATH => bail!(another(address)),
@@ -65,21 +70,39 @@ pub fn another(address: &str) -> String {
 
 /// What comes until the connection ends. Who waits is told so once: an order waits for a gateway that is not there.
 fn answer(stream: TcpStream, patience: Duration, tell: impl FnOnce()) -> std::io::Result<Vec<u8>> {
-    let mut bytes = Vec::new();
+    let begun = Instant::now();
     let soon = patience.min(SOON);
-    stream.set_read_timeout(Some(soon))?;
-    let mut coming = (&stream).take(MOST);
-    match coming.read_to_end(&mut bytes) {
-        Err(error) if is_late(error.kind()) && soon < patience => {
-            tell();
-            stream.set_read_timeout(Some(patience - soon))?;
-            coming.read_to_end(&mut bytes)?;
-        }
-        ended => {
-            ended?;
+    let mut bytes = Vec::new();
+    if ends_until(&stream, begun + soon, &mut bytes)? {
+        return Ok(bytes);
+    }
+    if soon < patience {
+        tell();
+        if ends_until(&stream, begun + patience, &mut bytes)? {
+            return Ok(bytes);
         }
     }
-    Ok(bytes)
+    Err(ErrorKind::TimedOut.into())
+}
+
+/// Reads, and says whether the connection has ended until then: also one on which a little comes again and again.
+fn ends_until(mut stream: &TcpStream, until: Instant, bytes: &mut Vec<u8>) -> std::io::Result<bool> {
+    let mut part = [0; 1 << 14];
+    while (bytes.len() as u64) < MOST {
+        let left = until.saturating_duration_since(Instant::now());
+        if left.is_zero() {
+            return Ok(false);
+        }
+        stream.set_read_timeout(Some(left))?;
+        match stream.read(&mut part) {
+            Ok(0) => return Ok(true),
+            Ok(length) => bytes.extend_from_slice(&part[..length]),
+            Err(error) if is_late(error.kind()) => return Ok(false),
+            Err(error) if error.kind() == ErrorKind::Interrupted => {}
+            Err(error) => return Err(error),
+        }
+    }
+    Ok(true)
 }
 
 fn is_late(kind: ErrorKind) -> bool {
@@ -119,24 +142,23 @@ fn parsed(bytes: &[u8]) -> Result<Reply> {
         .position(|four| four == b"\r\n\r\n")
         .context("there is no whole head")?;
     let head = std::str::from_utf8(&bytes[..end])?;
-    let mut lines = head.split("\r\n");
-    let status = lines
-        .next()
-        .and_then(|line| line.strip_prefix("HTTP/1.1 ")?.get(..3)?.parse().ok());
-    let length = |line: &str| {
-        let (name, value) = line.split_once(':')?;
-        name.eq_ignore_ascii_case("content-length")
-            .then(|| value.trim().parse::<usize>().ok())?
+    let status = head
+        .strip_prefix("HTTP/1.1 ")
+        .and_then(|rest| rest.get(..3)?.parse().ok());
+    let field = |wanted: &str| {
+        let fields = head.split("\r\n").filter_map(|line| line.split_once(':'));
+        let mut found = fields.filter(|(name, _)| name.eq_ignore_ascii_case(wanted));
+        found.next().map(|(_, value)| value.trim())
     };
-    let length = lines
-        .find_map(length)
-        .context("the answer does not say its length")?;
+    let length: Option<usize> = field("content-length").and_then(|length| length.parse().ok());
+    let length = length.context("the answer does not say its length")?;
     let body = &bytes[end + 4..];
     if body.len() != length {
         bail!("the answer has {} of {length} bytes", body.len());
     }
     Ok(Reply {
         status: status.context("the answer has no status")?,
+        is_json: field("content-type").is_some_and(|kind| kind.starts_with("application/json")),
         body: body.to_vec(),
     })
 }
@@ -156,7 +178,13 @@ mod tests {
     #[test]
     fn an_answer_is_read_whole_or_not() -> Result<()> {
         let reply = parsed(b"HTTP/1.1 503 Service Unavailable\r\nContent-Length: 2\r\n\r\n{}")?;
-        assert_eq!((reply.status, reply.body.as_slice()), (503, &b"{}"[..]));
+        assert_eq!(
+            (reply.status, reply.is_json, reply.body.as_slice()),
+            (503, false, &b"{}"[..])
+        );
+        let reply =
+            parsed(b"HTTP/1.1 200 OK\r\ncontent-type: application/json\r\ncontent-length: 0\r\n\r\n")?;
+        assert!(reply.is_json);
         for bytes in [
             &b""[..],
             b"HTTP/1.1 200 OK\r\ncontent-length: 2\r\n\r\n{",
@@ -201,6 +229,56 @@ mod tests {
         );
         let question = said("GET");
         assert!(question.contains("in 1 seconds: ask again"), "{question}");
+        Ok(())
+    }
+
+    /// A connection whose request has come.
+    fn asked(listener: &std::net::TcpListener) -> std::io::Result<TcpStream> {
+        let (mut stream, _) = listener.accept()?;
+        let mut request = Vec::new();
+        while !request.ends_with(b"\r\n\r\n") {
+            let mut one = [0];
+            stream.read_exact(&mut one)?;
+            request.extend(one);
+        }
+        Ok(stream)
+    }
+
+    #[test]
+    fn who_answers_bit_by_bit_holds_nobody_up() -> Result<()> {
+        let listener = std::net::TcpListener::bind("127.0.0.1:0")?;
+        let address = listener.local_addr()?.to_string();
+        let answering = std::thread::spawn(move || {
+            let mut stream = asked(&listener)?;
+            for _ in 0..50 {
+                stream.write_all(b"x")?;
+                std::thread::sleep(Duration::from_millis(100));
+            }
+            Ok::<(), Error>(())
+        });
+        let tried = reply(&address, "GET", "/status", Duration::from_secs(1));
+        let said = format!("{:#}", tried.unwrap_err());
+        assert!(said.contains("did not answer in 1 seconds"), "{said}");
+        assert!(!answering.is_finished(), "it was waited for");
+        Ok(())
+    }
+
+    /// Whatever its status is: else an order would be said to be done.
+    #[test]
+    fn another_server_is_told_of_as_such() -> Result<()> {
+        for status in ["200 OK", "404 Not Found"] {
+            let listener = std::net::TcpListener::bind("127.0.0.1:0")?;
+            let address = listener.local_addr()?.to_string();
+            let answering = std::thread::spawn(move || {
+                let mut stream = asked(&listener)?;
+                let head =
+                    format!("HTTP/1.1 {status}\r\nContent-Type: text/html\r\nContent-Length: 6\r\n\r\n");
+                stream.write_all(format!("{head}<html>").as_bytes())
+            });
+            let said = format!("{:#}", ask(&address, "POST", "/quarantine/A").unwrap_err());
+            assert_eq!(said, another(&address), "{status}");
+            answering.join().expect("it ended")?;
+        }
         Ok(())
     }
 

@@ -2,7 +2,7 @@
 
 use super::{ask::Address, client, line, table::Table, values, with_end, Form};
 use crate::operate::Resent;
-use anyhow::{bail, Result};
+use anyhow::{bail, Context, Result};
 use clap::Subcommand;
 use serde::Deserialize;
 
@@ -68,7 +68,7 @@ fn list(at: &Address, form: Form) -> Result<Vec<u8>> {
     if form.json {
         return Ok(with_end(body));
     }
-    let letters: Vec<Letter> = serde_json::from_slice(&body)?;
+    let letters: Vec<Letter> = serde_json::from_slice(&body).context(client::OTHER_VERSION)?;
     if letters.is_empty() {
         return Ok(line("the sink has refused nothing for good"));
     }
@@ -85,7 +85,7 @@ fn list(at: &Address, form: Form) -> Result<Vec<u8>> {
 
 fn resend(key: &str, at: &Address) -> Result<Vec<u8>> {
     let body = client::ask(&at.operate, "POST", &format!("/dead/{}/resend", checked(key)?))?;
-    let resent: Resent = serde_json::from_slice(&body)?;
+    let resent: Resent = serde_json::from_slice(&body).context(client::OTHER_VERSION)?;
     match resent.reason {
         None => Ok(line(format_args!("done: the sink has {key}"))),
         Some(reason) if resent.taken => {

@@ -1,7 +1,7 @@
 //! `totxegun serve`: its options, and its run.
 
 use super::reading::OfReading;
-use super::values::{size, time, time_or_never, MayBeNever};
+use super::values::{place, size, time, time_or_never, MayBeNever};
 use super::version::Versions;
 use super::Failure;
 use crate::files::{Durability, MOST_SLOTS};
@@ -9,7 +9,7 @@ use crate::gateway;
 use crate::log;
 use crate::metrics::Metrics;
 use crate::service::{self, init, Settings};
-use crate::sinks::Address;
+use crate::sinks::{header_of, Address};
 use anyhow::{bail, Context};
 use clap::{value_parser, Args};
 use std::path::{Path, PathBuf};
@@ -34,6 +34,9 @@ const FILES_OF_A_THREAD: u64 = 64;
 /// With less than this most posts would be refused as too long for good, and lost.
 const LEAST_BYTES: u64 = 1 << 20;
 
+/// With less than some 100 MiB no gateway starts, or it never has room for a request of 4 MiB.
+const LEAST_MEMORY: u64 = 128 << 20;
+
 #[derive(Args)]
 pub struct Options {
     /// The folder of all files; it is made where there is none
@@ -44,18 +47,20 @@ pub struct Options {
         long,
         env = "TOTXEGUN_LISTEN",
         value_name = "ADDRESS",
-        default_value = "127.0.0.1:4318"
+        default_value = "127.0.0.1:4318",
+        value_parser = place
     )]
     listen: String,
     /// Where senders call OTLP/gRPC, as 127.0.0.1:4317 [default: nowhere]
-    #[arg(long, env = "TOTXEGUN_LISTEN_GRPC", value_name = "ADDRESS")]
+    #[arg(long, env = "TOTXEGUN_LISTEN_GRPC", value_name = "ADDRESS", value_parser = place)]
     listen_grpc: Option<String>,
     /// Where operators ask: who reaches it can do all that this program can
     #[arg(
         long,
         env = "TOTXEGUN_OPERATE",
         value_name = "ADDRESS",
-        default_value = "127.0.0.1:4319"
+        default_value = "127.0.0.1:4319",
+        value_parser = place
     )]
     operate: String,
     /// Where to deliver: sqlite:PATH, postgres://USER@HOST:PORT/DB, http://HOST:PORT/PATH or https://HOST/PATH [default: sqlite:DIR/metrics.db]
@@ -149,16 +154,26 @@ fn most_bytes(text: &str) -> Result<u64, String> {
     }
 }
 
+fn memory(text: &str) -> Result<u64, String> {
+    let bytes = size(text)?;
+    match bytes >= LEAST_MEMORY {
+        true => Ok(bytes),
+        false => Err("with less than 128MiB no gateway starts, or takes a long request".to_string()),
+    }
+}
+
 fn header(text: &str) -> Result<(String, String), String> {
     let (name, value) = text.split_once(':').ok_or("write a name, a colon and a value")?;
-    Ok((name.trim().to_string(), value.trim().to_string()))
+    let (name, value) = (name.trim(), value.trim());
+    header_of(name, value).map_err(|why| why.to_string())?;
+    Ok((name.to_string(), value.to_string()))
 }
 
 #[derive(Args)]
 #[command(next_help_heading = "Options of the gateway")]
 struct OfGateway {
     /// The most address space of each gateway, as by `ulimit -v`
-    #[arg(long, env = "TOTXEGUN_MEMORY", value_name = "BYTES", value_parser = size)]
+    #[arg(long, env = "TOTXEGUN_MEMORY", value_name = "BYTES", value_parser = memory)]
     memory: Option<u64>,
     /// An allocator's library, preloaded; `none` is the C library's own [default: tcmalloc, where it is installed]
     #[arg(long, env = "TOTXEGUN_ALLOCATOR", value_name = "LIB")]

@@ -10,8 +10,7 @@ pub fn run(shown: &Shown) -> Result<Vec<u8>> {
     if shown.form.json {
         return Ok(with_end(body));
     }
-    let status: Status = serde_json::from_slice(&body)
-        .context("the running service is of another version: ask it by its own totxegun")?;
+    let status: Status = serde_json::from_slice(&body).context(client::OTHER_VERSION)?;
     Ok(text(&status).into())
 }
 

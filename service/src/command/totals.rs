@@ -66,8 +66,7 @@ impl Options {
             None => {}
         }
         let body = client::ask(&self.at.operate, "GET", "/status")?;
-        let status: Status = serde_json::from_slice(&body)
-            .context("the running service is of another version: ask it by its own totxegun")?;
+        let status: Status = serde_json::from_slice(&body).context(client::OTHER_VERSION)?;
         if status.sink.starts_with("postgres ") {
             bail!(IN_POSTGRES);
         }

@@ -47,6 +47,14 @@ pub fn size(text: &str) -> Result<u64, String> {
         .ok_or_else(|| "write a whole number, and KiB, MiB or GiB behind it or nothing: 256MiB".to_string())
 }
 
+/// `127.0.0.1:4318`: a host and its port. Whether there is such a one is another question.
+pub fn place(text: &str) -> Result<String, String> {
+    match text.rsplit_once(':') {
+        Some((host, port)) if !host.is_empty() && port.parse::<u16>().is_ok() => Ok(text.to_string()),
+        _ => Err("write HOST:PORT, as 127.0.0.1:4318".to_string()),
+    }
+}
+
 fn scaled(text: &str, units: &[(&str, u64)]) -> Option<u64> {
     let digits = text
         .find(|letter: char| !letter.is_ascii_digit())
@@ -135,6 +143,16 @@ mod tests {
         assert_eq!(size("100"), Ok(100));
         for text in ["", "MiB", "1.5M", "1T", "-1", "18446744073709551615G"] {
             assert!(size(text).is_err(), "{text}");
+        }
+    }
+
+    #[test]
+    fn places_are_read() {
+        for text in ["127.0.0.1:4318", "[::1]:0", "localhost:65535"] {
+            assert_eq!(place(text), Ok(text.to_string()));
+        }
+        for text in ["", "nowhere", ":4318", "h:", "h:65536", "h:x", "[::1]"] {
+            assert!(place(text).is_err(), "{text}");
         }
     }
 

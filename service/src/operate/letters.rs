@@ -64,7 +64,9 @@ impl Desk {
                 let reason = of_part(rejected, &reason, left.is_some());
                 return self.keep_part(key, &request.body, &reason, left);
             }
-            Fate::Again { reason, .. } | Fate::Failed { reason } | Fate::Refused { reason } => Some(reason),
+            Fate::Again { reason, .. } | Fate::Failed { reason, .. } | Fate::Refused { reason } => {
+                Some(reason)
+            }
         };
         if reason.is_none() {
             if let Err(fault) = self.dead.drop_letter(key) {

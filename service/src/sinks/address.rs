@@ -1,6 +1,7 @@
 //! How a sink is written on the command line.
 
 use super::postgres::Server;
+use super::roots;
 use std::path::PathBuf;
 use std::str::FromStr;
 
@@ -91,6 +92,9 @@ fn otlp(url: String) -> Result<Address, BadAddress> {
     if port.is_some_and(|port| !port.parse().is_ok_and(|port: u16| port > 0)) {
         return Err(bad("its port is none of 1 to 65535"));
     }
+    if uri.scheme_str() == Some("https") && !roots::is_name(authority.host()) {
+        return Err(bad(roots::NO_NAME));
+    }
     let path = match uri.path_and_query().map(|path| path.as_str()) {
         None | Some("" | "/") => "/v1/metrics",
         Some(path) => path,
@@ -152,6 +156,8 @@ mod tests {
             ("http://h:4318x/", "1 to 65535"),
             ("https://[::1]:0", "1 to 65535"),
             ("http://h:/", "1 to 65535"),
+            ("https://127.0.0.1:4318/", "name of a host"),
+            ("HTTPS://[::1]/", "name of a host"),
         ] {
             let error = text.parse::<Address>().expect_err(text);
             let said = error.to_string();

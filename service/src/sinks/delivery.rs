@@ -161,7 +161,7 @@ impl<S: Store> Run<S> {
                     let wait = backoff::wait(tries, after);
                     self.unless_stopped(tokio::time::sleep(wait)).await?;
                 }
-                Fate::Refused { reason } | Fate::Failed { reason } => {
+                Fate::Refused { reason } | Fate::Failed { reason, .. } => {
                     let (sink, key) = (self.sink.name(), request.key());
                     tracing::error!("{sink} refused request {key} for good: {reason}; it is kept in dead/");
                     self.files.keep(key, reason, request.body).await?;
@@ -180,8 +180,10 @@ impl<S: Store> Run<S> {
     /// What the sink fails at is sent again, until it has done so for long, one time after the other.
     fn with_patience(&self, fate: Fate, failing: &mut Option<Instant>) -> Fate {
         match fate {
-            Fate::Failed { reason } if failing.get_or_insert_with(Instant::now).elapsed() < self.failing => {
-                Fate::again(reason)
+            Fate::Failed { reason, after }
+                if failing.get_or_insert_with(Instant::now).elapsed() < self.failing =>
+            {
+                Fate::Again { reason, after }
             }
             Fate::Failed { .. } => fate,
             other => {

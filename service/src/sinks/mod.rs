@@ -14,6 +14,7 @@ pub mod sqlite;
 
 pub use address::{Address, BadAddress};
 pub use delivery::{deliver, of_part, Delivery};
+pub use otlp::header_of;
 
 use std::future::Future;
 use std::pin::Pin;
@@ -37,9 +38,11 @@ pub enum Fate {
         reason: String,
         after: Option<Duration>,
     },
-    /// The sink says that it has failed, not whether that passes. It is sent again for a while, and then put aside.
+    /// The sink says that it has failed, not whether that passes. It is sent again for a while, not before so long, and
+    /// then put aside.
     Failed {
         reason: String,
+        after: Option<Duration>,
     },
     /// It is never taken: it is put aside.
     Refused {

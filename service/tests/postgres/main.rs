@@ -144,13 +144,9 @@ async fn of_a_request_the_spans_that_overlap_alone_are_left() {
 async fn by_tls() {
     let Some(mut server) = Server::start() else { return };
     server.ask("create role shop login superuser password 'p'");
-    server.with_tls();
-    let address = |host: &str| {
-        format!(
-            "postgres://shop:p@{host}:{}/postgres?sslmode=require",
-            server.port
-        )
-    };
+    server.with_tls("localhost");
+    let port = server.port;
+    let address = |host: &str| format!("postgres://shop:p@{host}:{port}/postgres?sslmode=require");
     std::env::set_var("SSL_CERT_FILE", server.folder.path().join("root.pem"));
     let sink = open(&address("localhost"));
     taken(&*sink, 1, sum("a", 1, 2, 1)).await;
@@ -158,11 +154,21 @@ async fn by_tls() {
         server.ask("select ssl from pg_stat_ssl join pg_stat_activity using (pid) where usename = 'shop'"),
         "t"
     );
-    // A name that the certificate does not have, and a root that did not sign it.
-    again(&*open(&address("127.0.0.1")), 2, sum("a", 2, 3, 1), "TLS").await;
+    // A root that did not sign it, a name that the certificate does not have, and none, though it has the address.
     std::env::set_var("SSL_CERT_FILE", server.folder.path().join("other.pem"));
     again(&*open(&address("localhost")), 2, sum("a", 2, 3, 1), "TLS").await;
+    server.with_tls("elsewhere");
+    std::env::set_var("SSL_CERT_FILE", server.folder.path().join("root.pem"));
+    again(
+        &*open(&address("localhost")),
+        2,
+        sum("a", 2, 3, 1),
+        "NotValidForName",
+    )
+    .await;
     std::env::remove_var("SSL_CERT_FILE");
+    let refused = address("127.0.0.1").parse::<sinks::Address>().unwrap_err();
+    assert!(refused.to_string().contains("name of a host"), "{refused}");
     assert_eq!(server.ask("select points from totxegun.totals"), "1");
 }
 

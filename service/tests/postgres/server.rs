@@ -116,8 +116,8 @@ impl Server {
         panic!("the server has not started");
     }
 
-    /// Starts anew with a certificate for `localhost`, by a root of its own. `other.pem` is another root.
-    pub fn with_tls(&mut self) {
+    /// Starts anew with a certificate for this name, by a root of its own. `other.pem` is another root.
+    pub fn with_tls(&mut self, name: &str) {
         self.stop();
         let key = "-newkey ec -pkeyopt ec_paramgen_curve:prime256v1 -nodes";
         for root in ["root", "other"] {
@@ -125,9 +125,10 @@ impl Server {
                 "req -x509 {key} -keyout {root}.key -out {root}.pem -subj /CN={root} -days 2"
             ));
         }
-        std::fs::write(self.folder.path().join("names"), "subjectAltName=DNS:localhost\n").unwrap();
+        let names = format!("subjectAltName=DNS:{name},IP:127.0.0.1\n");
+        std::fs::write(self.folder.path().join("names"), names).unwrap();
         self.openssl(&format!(
-            "req {key} -keyout server.key -out request.pem -subj /CN=localhost"
+            "req {key} -keyout server.key -out request.pem -subj /CN={name}"
         ));
         self.openssl("x509 -req -in request.pem -CA root.pem -CAkey root.key -CAcreateserial -days 2 -extfile names -out server.pem");
         let (conf, folder) = (self.data().join("postgresql.conf"), self.folder.path().display());

@@ -31,7 +31,8 @@ fn a_copy_has_what_a_start_reads_and_goes_away() -> Result<()> {
     std::fs::create_dir_all(data.path().join("slot-0/journal"))?;
     std::fs::write(data.path().join("slot-0/journal/1"), "a")?;
     std::fs::write(data.path().join("metrics.db"), "not copied")?;
-    let copy = Copy::of(data.path(), temporary.path())?;
+    let copy = Copy::made(temporary.path())?;
+    copy.fill(data.path(), temporary.path())?;
     assert_eq!(std::fs::read(copy.0.join("slot-0/journal/1"))?, b"a");
     assert!(!copy.0.join("metrics.db").exists());
     drop(copy);
@@ -41,11 +42,11 @@ fn a_copy_has_what_a_start_reads_and_goes_away() -> Result<()> {
 
 #[test]
 fn what_is_in_the_place_of_a_copy_stays() -> Result<()> {
-    let (data, temporary) = (tempdir()?, tempdir()?);
-    let place = Copy::of(data.path(), temporary.path())?.0.clone();
+    let temporary = tempdir()?;
+    let place = Copy::made(temporary.path())?.0.clone();
     std::fs::create_dir(&place)?;
     std::fs::write(place.join("another's"), "a")?;
-    let Err(error) = Copy::of(data.path(), temporary.path()) else {
+    let Err(error) = Copy::made(temporary.path()) else {
         bail!("it is taken for a place of its own");
     };
     assert!(format!("{error:#}").contains("can't be made"), "{error:#}");

@@ -1,7 +1,7 @@
 //! Why a point is foreign, and that in words (docs/FORMATS.md, "Reading OTLP/JSON").
 
 use crate::otlp::json::{Kind, Value};
-use crate::otlp::number::double_shown;
+use crate::otlp::number::{double_shown, MAX_WHOLE_DOUBLE};
 use std::fmt;
 
 /// How much of a value stands in words.
@@ -92,6 +92,7 @@ impl fmt::Display for Why<'_> {
             What::EmptySpan => write!(out, "timeUnixNano is {value}, not over its start"),
             What::NotRecorded => out.write_str("its flags say that no value was recorded"),
             What::NoNumber => out.write_str("it has no asInt"),
+            What::Double if is_past_whole(&value) => write!(out, "it is a double, {value}, which also --whole takes for no whole number"),
             What::Double => write!(out, "it is a double, {value}: use an instrument of whole numbers, or serve with --whole UNIT=FINER"),
             What::NotWhole => write!(out, "{field} is {value}, no whole number{}", whole_help(field)),
             What::Negative => write!(out, "{field} is {value}, below zero"),
@@ -103,6 +104,12 @@ impl fmt::Display for Why<'_> {
             What::NotAdding => out.write_str("bucketCounts do not add up to the count"),
         }
     }
+}
+
+/// Whether `--whole` takes no such double, by whatever rule.
+fn is_past_whole(shown: &str) -> bool {
+    let double: f64 = shown.parse().unwrap_or(0.0);
+    double.is_nan() || double.abs() > MAX_WHOLE_DOUBLE as f64
 }
 
 fn whole_help(field: &str) -> &'static str {

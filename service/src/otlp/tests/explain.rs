@@ -152,6 +152,19 @@ fn each_kind_of_foreign_point_has_its_reason() {
         ),
         (point(r#""asDouble":1.25"#), "it is a double, 1.25"),
         (point(r#""asDouble":5"#), "it is a double, 5"),
+        (point(r#""asDouble":9007199254740992"#), "serve with --whole"),
+        (
+            point(r#""asDouble":1e300"#),
+            "it is a double, 1e300, which also --whole",
+        ),
+        (
+            point(r#""asDouble":"NaN""#),
+            "it is a double, NaN, which also --whole",
+        ),
+        (
+            point(r#""asDouble":"-Infinity""#),
+            "it is a double, -Infinity, which also --whole",
+        ),
         (point(r#""flags":0"#), "it has no asInt"),
         (point(r#""asInt":5.5"#), "asInt is 5.5, no whole number"),
         (

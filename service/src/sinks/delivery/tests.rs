@@ -260,7 +260,15 @@ async fn what_is_refused_is_kept_and_the_next_goes_on() {
 /// A sink that is down for a moment takes it then; one that never can is not asked for ever.
 #[tokio::test]
 async fn what_a_sink_fails_at_is_sent_again_for_a_while() {
-    let failed = || Fate::Failed { reason: "500".into() };
+    let failed_for = |after| Fate::Failed {
+        reason: "500".into(),
+        after,
+    };
+    let failed = || failed_for(None);
+    let memory = waiting([1]);
+    let (begun, asked) = (std::time::Instant::now(), Duration::from_millis(700));
+    run(&memory, vec![failed_for(Some(asked))]).await;
+    assert!(begun.elapsed() >= asked, "it came back too early");
     let memory = waiting([1]);
     let tried = run(&memory, vec![failed(), failed()]).await;
     assert_eq!((tried.outcome("taken"), tried.outcome("again")), (1, 2));

@@ -4,12 +4,13 @@
 //! |---|---|
 //! | 2xx | is taken; where a partial success names rejected points, taken in part |
 //! | 408, 425, 429, 502, 503, 504 | is sent again, by `Retry-After` where it is there |
-//! | any other 5xx | is sent again for a while, and then refused for good |
+//! | any other 5xx | is sent again so for a while, and then refused for good |
 //! | any other | is refused for good |
 //!
 //! OTLP names 429, 502, 503 and 504 as those to repeat. 408 and 425 say the same of themselves: nothing was taken. The
 //! other 5xx are of a sink that failed, which may pass (`delivery`).
 
+use super::without_query;
 use crate::otlp::{partial_success, Encoding, ExportMetricsServiceResponse};
 use crate::sinks::Fate;
 use hyper::body::HttpBody;
@@ -63,13 +64,11 @@ pub(super) async fn fate(response: Response<Body>, sent: Encoding, deadline: Ins
         200..=299 => taken(body, encoding),
         408 | 425 | 429 | 502..=504 => Fate::Again {
             reason: join(&head.status.to_string(), &message(body, encoding)),
-            after: head
-                .headers
-                .get(RETRY_AFTER)
-                .and_then(|value| after(value.to_str().ok()?)),
+            after: asked(&head.headers),
         },
         500..=599 => Fate::Failed {
             reason: join(&head.status.to_string(), &message(body, encoding)),
+            after: asked(&head.headers),
         },
         300..=399 => {
             let location = head
@@ -79,7 +78,7 @@ pub(super) async fn fate(response: Response<Body>, sent: Encoding, deadline: Ins
                 .unwrap_or("nowhere");
             reason(format!(
                 "redirected to {}: give the sink's final address",
-                shown(location)
+                shown(&without_query(location))
             ))
         }
         _ => reason(message(body, encoding)),
@@ -166,6 +165,10 @@ fn join(status: &str, more: &str) -> String {
     } else {
         format!("{status}: {more}")
     }
+}
+
+fn asked(headers: &HeaderMap) -> Option<Duration> {
+    after(headers.get(RETRY_AFTER)?.to_str().ok()?)
 }
 
 /// `Retry-After`, in seconds or as a date. A date that has passed means now.

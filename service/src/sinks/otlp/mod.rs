@@ -38,10 +38,11 @@ const OWN: [&str; 8] = [
 
 #[derive(Debug, thiserror::Error)]
 pub enum BadOtlp {
-    #[error("`{0}` is no URL: {1}")]
-    Url(String, String),
-    #[error("`{0}` is no name of a header")]
-    HeaderName(String),
+    #[error("the sink's address is no URL: {0}")]
+    Url(String),
+    /// It is not shown: where the name was forgotten, it is a part of the value.
+    #[error("what is before the colon is no name of a header")]
+    HeaderName,
     #[error("the value of header `{0}` has bytes that no header has")]
     HeaderValue(String),
     #[error("header `{0}` is the service's own: leave it out")]
@@ -72,9 +73,7 @@ impl OtlpSink {
             Encoding::Json
         };
         let headers = read_headers(headers)?;
-        let url: Uri = url
-            .parse()
-            .map_err(|error| BadOtlp::Url(url.into(), format!("{error}")))?;
+        let url: Uri = url.parse().map_err(|error| BadOtlp::Url(format!("{error}")))?;
         let client = connect::client(url.scheme_str() == Some("https"))?;
         Ok(OtlpSink {
             url,
@@ -151,7 +150,7 @@ impl Sink for OtlpSink {
     }
 
     fn name(&self) -> String {
-        format!("otlp {}", self.url)
+        format!("otlp {}", without_query(&self.url.to_string()))
     }
 }
 
@@ -165,15 +164,29 @@ fn packed(body: &[u8]) -> std::io::Result<Vec<u8>> {
 fn read_headers(pairs: &[(String, String)]) -> Result<HeaderMap, BadOtlp> {
     let mut headers = HeaderMap::new();
     for (name, value) in pairs {
-        if OWN.iter().any(|own| own.eq_ignore_ascii_case(name)) {
-            return Err(BadOtlp::OwnHeader(name.clone()));
-        }
-        let key = HeaderName::from_bytes(name.as_bytes()).map_err(|_| BadOtlp::HeaderName(name.clone()))?;
-        let mut value = HeaderValue::from_str(value).map_err(|_| BadOtlp::HeaderValue(name.clone()))?;
-        value.set_sensitive(true);
-        headers.append(key, value);
+        let (name, value) = header_of(name, value)?;
+        headers.append(name, value);
     }
     Ok(headers)
+}
+
+/// A header that an operator may give.
+pub fn header_of(name: &str, value: &str) -> Result<(HeaderName, HeaderValue), BadOtlp> {
+    if OWN.iter().any(|own| own.eq_ignore_ascii_case(name)) {
+        return Err(BadOtlp::OwnHeader(name.into()));
+    }
+    let key = HeaderName::from_bytes(name.as_bytes()).map_err(|_| BadOtlp::HeaderName)?;
+    let mut value = HeaderValue::from_str(value).map_err(|_| BadOtlp::HeaderValue(name.into()))?;
+    value.set_sensitive(true);
+    Ok((key, value))
+}
+
+/// A URL as it is shown: a key may stand behind the question mark.
+fn without_query(url: &str) -> String {
+    match url.split_once('?') {
+        Some((place, _)) => format!("{place}?.."),
+        None => url.into(),
+    }
 }
 
 /// An error with its causes.

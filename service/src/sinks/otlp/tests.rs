@@ -126,7 +126,10 @@ async fn trouble_that_passes_is_tried_again() {
 async fn a_sink_that_fails_says_not_whether_it_passes() {
     for status in ["500 X", "501 X", "505 X", "599 X"] {
         match fate_of(status, "retry-after: 7\r\n", r#"{"message":"broken"}"#).await {
-            Fate::Failed { reason } => assert!(reason.contains("broken"), "{reason}"),
+            Fate::Failed { reason, after } => {
+                assert!(reason.contains("broken"), "{reason}");
+                assert_eq!(after, Some(Duration::from_secs(7)));
+            }
             other => panic!("{status}: {other:?}"),
         }
     }
@@ -184,8 +187,17 @@ async fn what_will_not_change_is_refused() {
             other => panic!("{status}: {other:?}"),
         }
     }
-    match fate_of("307 Temporary Redirect", "location: http://elsewhere/\r\n", "").await {
-        Fate::Refused { reason } => assert!(reason.contains("http://elsewhere/"), "{reason}"),
+    match fate_of(
+        "307 Temporary Redirect",
+        "location: http://elsewhere/?key=secret\r\n",
+        "",
+    )
+    .await
+    {
+        Fate::Refused { reason } => assert!(
+            reason.contains("http://elsewhere/?..: ") && !reason.contains("secret"),
+            "{reason}"
+        ),
         other => panic!("{other:?}"),
     }
 }
@@ -316,6 +328,14 @@ async fn a_request_that_is_sent_again_has_the_same_bytes_and_key() {
     }
 }
 
+/// A key may be written there.
+#[test]
+fn what_an_address_asks_for_is_not_shown() {
+    let name = |url: &str| OtlpSink::open(url, false, false, &[]).expect("a sink").name();
+    assert_eq!(name("http://h:1/v1/metrics"), "otlp http://h:1/v1/metrics");
+    assert_eq!(name("http://h:1/otlp?api_key=secret"), "otlp http://h:1/otlp?..");
+}
+
 #[test]
 fn bad_headers_are_named() {
     let open =
@@ -324,12 +344,16 @@ fn bad_headers_are_named() {
         ("content-type", "x"),
         ("Accept-Encoding", "gzip"),
         ("Idempotency-Key", "x"),
-        ("a b", "x"),
-        ("secret", "a\nb"),
+        ("x-a", "secret\nb"),
     ] {
         let error = open(name, value).err().expect(name).to_string();
-        assert!(error.contains(name) && !error.contains('\n'), "{error}");
+        assert!(error.contains(name) && !error.contains("secret"), "{error}");
     }
+    let forgotten = open("Bearer secret", "b").err().expect("no name").to_string();
+    assert!(
+        forgotten.contains("name") && !forgotten.contains("secret"),
+        "{forgotten}"
+    );
     assert!(open("x-a", "b").is_ok());
 }
 

@@ -1,13 +1,16 @@
 //! Where a server is, and as whom to come to it.
 
+use crate::sinks::roots;
 use std::str::FromStr;
 use std::time::Duration;
-use tokio_postgres::config::{Host, SslMode};
+use tokio_postgres::config::{ChannelBinding, Host, SslMode};
 use tokio_postgres::Config;
 
 /// How long a connection may take to be made.
 const CONNECT: Duration = Duration::from_secs(5);
 const PORT: u16 = 5432;
+/// How long a connection is silent before it is asked whether it is there.
+const KEEPALIVE: Duration = Duration::from_secs(30);
 
 /// What is written for TLS whose certificate is looked at. Here it always is, so it is one with `require`.
 const VERIFY: &str = "sslmode=verify-full";
@@ -31,20 +34,20 @@ impl Server {
         if config.get_dbname().is_none_or(str::is_empty) {
             return Err("there is no database".into());
         }
-        match config.get_hosts() {
-            [] => return Err("there is no host".into()),
-            [Host::Unix(_)] if config.get_ssl_mode() == SslMode::Require => {
-                return Err("a Unix socket has no TLS: leave `sslmode` out".into())
-            }
-            [_] => {}
-            _ => return Err("there is more than one host, and two servers would count apart".into()),
+        one_host(&config)?;
+        if config.get_channel_binding() == ChannelBinding::Require {
+            return Err("`channel_binding=require` is not known here: leave it out".into());
         }
         // Only what was asked for: TLS that is left out where a server has none is no protection.
         if config.get_ssl_mode() != SslMode::Require {
             config.ssl_mode(SslMode::Disable);
         }
-        config.application_name("totxegun");
-        config.keepalives_idle(Duration::from_secs(30));
+        if config.get_application_name().is_none() {
+            config.application_name("totxegun");
+        }
+        if !rest.contains("keepalives_idle=") {
+            config.keepalives_idle(KEEPALIVE);
+        }
         if config.get_connect_timeout().is_none() {
             config.connect_timeout(CONNECT);
         }
@@ -64,6 +67,18 @@ impl Server {
             }
         }
         config
+    }
+}
+
+/// One host, to which there can be the TLS that is asked for.
+fn one_host(config: &Config) -> Result<(), &'static str> {
+    let wants_tls = config.get_ssl_mode() == SslMode::Require;
+    match config.get_hosts() {
+        [] => Err("there is no host"),
+        [Host::Unix(_)] if wants_tls => Err("a Unix socket has no TLS: leave `sslmode` out"),
+        [Host::Tcp(host)] if wants_tls && !roots::is_name(host) => Err(roots::NO_NAME),
+        [_] => Ok(()),
+        _ => Err("there is more than one host, and two servers would count apart"),
     }
 }
 
@@ -105,6 +120,17 @@ mod tests {
     }
 
     #[test]
+    fn what_an_address_says_counts() {
+        let config = |rest| Server::read(rest).expect(rest).config();
+        let own = config("//u@127.0.0.1/d");
+        assert_eq!(own.get_application_name(), Some("totxegun"));
+        assert_eq!(own.get_keepalives_idle(), KEEPALIVE);
+        let asked = config("//u@h/d?application_name=shop&keepalives_idle=7");
+        assert_eq!(asked.get_application_name(), Some("shop"));
+        assert_eq!(asked.get_keepalives_idle(), Duration::from_secs(7));
+    }
+
+    #[test]
     fn faulty_addresses_say_why_and_show_nothing() {
         for (rest, part) in [
             ("u@h/d", "`//`"),
@@ -115,6 +141,9 @@ mod tests {
             ("//u:secret@h/d?sslmode=verify-ca", "sslmode"),
             ("//u@/d?host=/run/pg&sslmode=require", "no TLS"),
             ("//u:secret@h:x/d", "port"),
+            ("//u:secret@127.0.0.1/d?sslmode=require", "name of a host"),
+            ("//u:secret@[::1]/d?sslmode=verify-full", "name of a host"),
+            ("//u:secret@h/d?channel_binding=require", "channel_binding"),
         ] {
             let error = Server::read(rest).expect_err(rest);
             assert!(
