@@ -31,10 +31,6 @@ abbrev pub json_response : List ℕ → Response
 json_response body =
     record { status = 200; kind = codes "application/json"; allow = None; body = body }
 
--- 200, with that text
-abbrev pub text_response : List ℕ → Response
-text_response body = record { status = 200; kind = codes "text/plain"; allow = None; body = body }
-
 abbrev pub refusal_response : Refusal → Response
 refusal_response why =
     record {
@@ -66,7 +62,8 @@ order_response (Err fault) = refusal_response (of_order fault)
 
 abbrev pub report_response : Option (List SeriesTotals) → Response
 report_response None = refusal_response NoMemory
-report_response (Some rows) = text_response (report_text rows)
+report_response (Some rows) =
+    record { status = 200; kind = codes "text/plain"; allow = None; body = report_text rows }
 
 -- how much of the response was written, and its status
 pub record IsSaid (old new : Option (List ℕ)) (r : Response) (status : ℕ)

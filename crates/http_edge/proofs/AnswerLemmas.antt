@@ -10,12 +10,11 @@ use Rattle.http_edge.specs.declared.framing.Framing.{Framing}
 use Rattle.http_edge.specs.declared.request.Request.{Request}
 use Rattle.http_edge.specs.Form.{IsAnswer, Gives, Delivers, IsClosed}
 use Rattle.http_edge.specs.Message.{Message, IsHeadAt}
-use Rattle.http_edge.specs.inner.Message.{NeverHead}
 use Rattle.http_edge.specs.Reading.{HasBody, framing_in, BeginsWith, IsTooLong, NotYet}
 use Rattle.http_edge.specs.Request.{message_in}
 use Rattle.http_edge.specs.Answer.{Explains, request_form, Fails, ReportsTooLong}
 use Rattle.http_edge.specs.Delivery.{Says, ReportsSize}
-use Rattle.http_edge.proofs.HeadLemmas.{never_bad, never_few, never_short}
+use Rattle.http_edge.proofs.HeadLemmas.{NeverHead, never_bad, never_few, never_short}
 use Rattle.http_edge.proofs.FaultLemmas.{begins-append, fails_more}
 use Rattle.http_edge.proofs.FormLemmas as form
 use Rattle.http_edge.proofs.FormLemmas.{IsSilent, Laws}
@@ -40,8 +39,7 @@ silent BadLength bytes is x = unframed bytes x.1 x.0 x.2 x.3
 silent BadChunk bytes is x = subst NotYet (append-nil bytes) (x.4 [])
 silent Truncated bytes is x = x.1
 silent Io bytes is x = absurd x
-silent BodyTooLong bytes is x = absurd is
-silent NoMemory bytes is x = absurd is
+silent e bytes is x = absurd is
 
 -- a message has a byte
 pub message_has_bytes : (bytes : List ℕ) (m : Message) → BeginsWith bytes m → bytes ≢ []

@@ -14,11 +14,6 @@ use Rattle.http_edge.specs.Head.{HasTooManyFields, HasLongHead}
 use Rattle.http_edge.specs.Reading.{framing_in, BeginsWith, IsTooLong, NotYet, Never}
 use Rattle.http_edge.specs.Request.{message_in}
 
--- the head is whole, and its fields frame no body
-abbrev pub HasBadLength : List ℕ → Type 0
-HasBadLength bytes =
-    (head : RequestHead) × (after : List ℕ) × IsHeadAt bytes head after × (framing_in head ≡ None)
-
 -- the head is whole and frames a body, and whatever follows, no message begins so
 abbrev pub HasBadBody : List ℕ → Type 0
 HasBadBody bytes =
@@ -31,7 +26,8 @@ Explains Closed bytes = bytes ≡ []
 Explains BadHead bytes = NeverHasRequest bytes
 Explains TooManyHeaders bytes = HasTooManyFields bytes
 Explains HeadTooLong bytes = HasLongHead bytes
-Explains BadLength bytes = HasBadLength bytes
+Explains BadLength bytes =
+    (head : RequestHead) × (after : List ℕ) × IsHeadAt bytes head after × (framing_in head ≡ None)
 Explains BodyTooLong bytes = IsTooLong bytes
 Explains BadChunk bytes = HasBadBody bytes
 Explains Truncated bytes = (bytes ≢ []) × NotYet bytes

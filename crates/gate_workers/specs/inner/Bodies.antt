@@ -7,11 +7,8 @@ use Rattle.gate_workers.specs.declared.response.Body.TheVariants.{NoMemory}
 
 -- its media type
 abbrev pub kind_of : Body → List ℕ
-kind_of (Json text) = codes "application/json"
 kind_of (Plain text) = codes "text/plain"
-kind_of Empty = codes "application/json"
-kind_of Idle = codes "application/json"
-kind_of NoMemory = codes "application/json"
+kind_of body = codes "application/json"
 
 abbrev pub text_of : Body → List ℕ
 text_of (Json text) = text.items

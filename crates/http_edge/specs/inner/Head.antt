@@ -2,8 +2,7 @@
 use Rattle.std.specs.Prelude.{ℕ, ◌≤◌, List, length, Option, Some, None, Result, Ok, Err}
 use Rattle.httparse.specs.declared.spans.HeaderSpan.{HeaderSpan}
 use Rattle.httparse.specs.declared.spans.RequestSpans.{RequestSpans}
-use Rattle.httparse.specs.Grammar.{RequestHead, print_request}
-use Rattle.httparse.specs.Grammar.{NeverHasRequest}
+use Rattle.httparse.specs.Grammar.{RequestHead, print_request, NeverHasRequest}
 use Rattle.httparse.specs.Spans.{IsRequestAt, IsRequestWithin}
 use Rattle.http_edge.specs.declared.fault.HttpFault.{HttpFault}
 use Rattle.http_edge.specs.declared.fault.HttpFault.TheVariants.{BadHead, TooManyHeaders}
