@@ -8,7 +8,7 @@ use Rattle.http_edge.specs.declared.fault.HttpFault.{HttpFault}
 use Rattle.http_edge.specs.declared.fault.HttpFault.TheVariants.{Closed, BadHead, TooManyHeaders, HeadTooLong, BadLength, BodyTooLong, BadChunk, Truncated, Io, NoMemory}
 use Rattle.http_edge.specs.declared.framing.Framing.{Framing}
 use Rattle.http_edge.specs.declared.request.Request.{Request}
-use Rattle.http_edge.specs.Form.{IsAnswer, Gives, Delivers, IsClosed}
+use Rattle.http_edge.specs.Form.{IsAnswer}
 use Rattle.http_edge.specs.Message.{Message, IsHeadAt}
 use Rattle.http_edge.specs.Reading.{HasBody, framing_in, BeginsWith, IsTooLong, NotYet}
 use Rattle.http_edge.specs.Request.{message_in}
@@ -61,9 +61,6 @@ request_laws = record {
 
 -- ---- what is answered
 
-pub gives : (bytes : List ℕ) (m : Message) (r : Result Request HttpFault) → IsAnswer request_form bytes r → BeginsWith bytes m → Gives request_form m r
-gives bytes m r x b = form.gives request_form request_laws r bytes m x b
-
 size_or_memory : (e : HttpFault) (bytes : List ℕ) → (e ≡ NoMemory) ⊎ ((e ≡ BodyTooLong) ⊎ IsSilent e) → Explains e bytes → IsTooLong bytes → (e ≡ BodyTooLong) ⊎ (e ≡ NoMemory)
 size_or_memory e bytes (inl is) x t = inr is
 size_or_memory e bytes (inr (inl is)) x t = inl is
@@ -84,11 +81,5 @@ fault_lasts e bytes more m f b = form.only_memory request_form request_laws e (b
 
 -- ---- what a reading says
 
-pub delivers : (bytes : List ℕ) (r : Result Request HttpFault) → Says bytes r → Delivers request_form bytes r
-delivers bytes r x = form.delivers request_form request_laws r bytes x
-
 pub reports_size : (bytes : List ℕ) (r : Result Request HttpFault) → Says bytes r → ReportsSize bytes r
 reports_size bytes r x t = elim (form.answer_said request_form request_laws r bytes x) [ inl io ↦ inl io | inr a ↦ inr (reports_too_long bytes r a t) ]
-
-pub closed_at_no_byte : (r : Result Request HttpFault) → Says [] r → IsClosed r
-closed_at_no_byte r x = form.closed_at_no_byte request_form request_laws r x

@@ -40,9 +40,9 @@ only_memory_at form laws e bytes m (inr (inr is)) x b = absurd (laws.exclusive b
 pub only_memory : {M R : Type 0} (form : Form M R) (laws : Laws M R form) (e : HttpFault) (bytes : List ℕ) (m : M) → form.explains e bytes → form.begins bytes m → e ≡ NoMemory
 only_memory form laws e bytes m x b = only_memory_at form laws e bytes m (sort e) x b
 
-pub gives : {M R : Type 0} (form : Form M R) (laws : Laws M R form) (r : Result R HttpFault) (bytes : List ℕ) (m : M) → IsAnswer form bytes r → form.begins bytes m → Gives form m r
-gives form laws (Ok r) bytes m x b = laws.unique bytes (form.view r) m x b
-gives form laws (Err e) bytes m x b = only_memory form laws e bytes m x b
+pub gives : {M R : Type 0} (form : Form M R) (laws : Laws M R form) (bytes : List ℕ) (m : M) (r : Result R HttpFault) → IsAnswer form bytes r → form.begins bytes m → Gives form m r
+gives form laws bytes m (Ok r) x b = laws.unique bytes (form.view r) m x b
+gives form laws bytes m (Err e) x b = only_memory form laws e bytes m x b
 
 -- ---- from what an answer says
 
@@ -58,8 +58,8 @@ pub answer_said : {M R : Type 0} (form : Form M R) (laws : Laws M R form) (r : R
 answer_said form laws (Ok r) bytes x = inr x
 answer_said form laws (Err e) bytes x = elim (fault_means form laws e bytes x) [ inl is ↦ inl (ap (λ (f : HttpFault). Err f) is) | inr a ↦ inr a ]
 
-pub delivers : {M R : Type 0} (form : Form M R) (laws : Laws M R form) (r : Result R HttpFault) (bytes : List ℕ) → AnswerSays form bytes r → Delivers form bytes r
-delivers form laws r bytes x m b = elim (answer_said form laws r bytes x) [ inl io ↦ inl io | inr a ↦ inr (gives form laws r bytes m a b) ]
+pub delivers : {M R : Type 0} (form : Form M R) (laws : Laws M R form) (bytes : List ℕ) (r : Result R HttpFault) → AnswerSays form bytes r → Delivers form bytes r
+delivers form laws bytes r x m b = elim (answer_said form laws r bytes x) [ inl io ↦ inl io | inr a ↦ inr (gives form laws bytes m r a b) ]
 
 closed_fault : {M R : Type 0} (form : Form M R) (laws : Laws M R form) (e : HttpFault) → FaultSays form e [] → (e ≡ Closed) ⊎ (e ≡ Io)
 closed_fault form laws Closed x = inl refl

@@ -289,11 +289,8 @@ whole_there p bytes m sound fine h b = by_answer (is_done p) refl (reports_at p 
 
 -- ---- a body by what its feeding answered
 
-advance_at : (head : List ℕ) (old new : BodyState) (piece : List ℕ) (done : Bool) → length head ≤ 16384 → Reaches old new piece → done ≡ is_whole new.phase → Advances (in_body head old) (in_body head new) piece done
-advance_at head old new piece done short reaches is = let P : Bool → Type 0 = λ b. Advances (in_body head old) (in_body head new) piece b in subst P (sym is) (goes_on_behind head old new piece short reaches)
-
 pub advance_in_body : (r : Result Bool HttpFault) (head : List ℕ) (old new : BodyState) (piece : List ℕ) → length head ≤ 16384 → IfOk r (λ done. Reaches old new piece × (done ≡ is_whole new.phase)) → IfOk r (Advances (in_body head old) (in_body head new) piece)
-advance_in_body (Ok done) head old new piece short ok = advance_at head old new piece done short ok.0 ok.1
+advance_in_body (Ok done) head old new piece short ok = let P : Bool → Type 0 = λ b. Advances (in_body head old) (in_body head new) piece b in subst P (sym ok.1) (goes_on_behind head old new piece short ok.0)
 advance_in_body (Err e) head old new piece short ok = tt
 
 pub stop_in_body : (r : Result Bool HttpFault) (head : List ℕ) (old : BodyState) (piece : List ℕ) → IfErr r (λ e. Refuses e old piece) → IfErr r (Stops (in_body head old) piece)

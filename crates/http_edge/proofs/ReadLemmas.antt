@@ -26,11 +26,8 @@ pub record Fed (old now : Option (List ℕ)) (p : Progress) (fed : List ℕ) : T
   pub fine : fault_in p ≡ None
   pub is_open : NotYet fed
 
-nothing_yet : NotYet []
-nothing_yet = not_yet_in_head [] [] start_is_sound.0 refl
-
 pub begins : (old : Option (List ℕ)) (p : Progress) → Holds p [] → fault_in p ≡ None → Fed old old p []
-begins old p holds fine = record { holds = holds; known = Consumes-nil old; fine = fine; is_open = nothing_yet }
+begins old p holds fine = record { holds = holds; known = Consumes-nil old; fine = fine; is_open = not_yet_in_head [] [] start_is_sound.0 refl }
 
 pub goes_on : (old now next : Option (List ℕ)) (p q : Progress) (fed piece : List ℕ) → Fed old now p fed → Consumes now next piece → Holds q (fed ++ piece) → fault_in q ≡ None → NotYet (fed ++ piece) → Fed old next q (fed ++ piece)
 goes_on old now next p q fed piece so took holds fine none = record { holds = holds; known = Consumes-trans old now next fed piece so.known took; fine = fine; is_open = none }

@@ -1,5 +1,5 @@
 -- The head of a response that is being read.
-use Rattle.std.proofs.Common.{◌≡◌, ◌≢◌, ℕ, ◌+◌, ◌<◌, ◌≤◌, true, false, List, [], ◌∷◌, ◌++◌, length, map, take, drop, get_or, Option, Some, None, refl, sym, ap, subst, ◌∙◌, arith, append_assoc}
+use Rattle.std.proofs.Common.{◌≡◌, ℕ, ◌+◌, ◌<◌, ◌≤◌, true, false, List, [], ◌∷◌, ◌++◌, length, map, take, drop, get_or, Option, Some, None, refl, sym, ap, subst, ◌∙◌, arith, append_assoc}
 use Rattle.std.specs.Prelude.{codes, Result, IfSome}
 use Rattle.std.specs.Char.{is_ascii_digit}
 use Rattle.std.proofs.lemmas.List.Elements.{All-cons, All-nil}
@@ -132,16 +132,13 @@ silent Truncated bytes is x k after b = x.1 k after b
 silent NoMemory bytes is x k after b = is
 silent e bytes is x k after b = x
 
-reply_has_bytes : (bytes : List ℕ) (t : ReplyHead) → BeginsWithReply bytes t → bytes ≢ []
-reply_has_bytes bytes t b e = omega (arith, some_bytes bytes b.1 b.0 b.2.reads, ap length e)
-
 pub reply_laws : Laws ReplyHead Reply reply_form
 reply_laws = record {
   unique = one_reply;
   exclusive = λ bytes t b none. none b.0 b.1 b.2;
   silent = silent;
   sized = λ bytes t b x. x;
-  some = reply_has_bytes;
+  some = λ bytes t b e. omega (arith, some_bytes bytes b.1 b.0 b.2.reads, ap length e);
   some_sized = λ bytes x. absurd x;
   memory = λ bytes. tt;
 }
