@@ -10,8 +10,7 @@ use Rattle.out_texts.specs.Answers.{status_text, turn_text}
 use Rattle.out_texts.specs.Report.{report_text}
 use Rattle.gate_workers.specs.declared.order.OrderFault.{OrderFault}
 use Rattle.gate_workers.specs.declared.flush.Turn.{Turn}
-use Rattle.gate_workers.specs.declared.flush.Turn.TheVariants.{Idle, Full as turn_full}
-use Rattle.gate_workers.specs.declared.flush.Turn.TheVariants.{NoMemory as turn_memory, Done}
+use Rattle.gate_workers.specs.declared.flush.Turn.TheVariants as turn
 use Rattle.gate_workers.specs.declared.refusal.Refusal.{Refusal}
 use Rattle.gate_workers.specs.declared.refusal.Refusal.TheVariants.{Full, NoMemory}
 use Rattle.gate_workers.specs.Refusals.{refusal_status, refusal_message, refusal_allow, of_order}
@@ -50,10 +49,10 @@ abbrev pub IsThatOrNoMemory : Response → Response → Type 0
 IsThatOrNoMemory said response = (mark : Bool) × (response ≡ or_no_memory mark said)
 
 abbrev pub turn_response : Turn → Response
-turn_response Idle = json_response (codes "{\"act\":\"nothing\"}")
-turn_response turn_full = refusal_response Full
-turn_response turn_memory = refusal_response NoMemory
-turn_response (Done flush points answer act) =
+turn_response turn.Idle = json_response (codes "{\"act\":\"nothing\"}")
+turn_response turn.Full = refusal_response Full
+turn_response turn.NoMemory = refusal_response NoMemory
+turn_response (turn.Done flush points answer act) =
     json_response (turn_text flush points act (asked_wait answer))
 
 abbrev pub order_response : Result Turn OrderFault → Response

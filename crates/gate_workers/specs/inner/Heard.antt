@@ -3,8 +3,7 @@ use Rattle.std.specs.Prelude.{◌≡◌, ◌⊎◌, ℕ, List, Option, IfSome, �
 use Rattle.http_edge.specs.declared.fault.HttpFault.{HttpFault}
 use Rattle.http_edge.specs.declared.fault.HttpFault.TheVariants as http
 use Rattle.gate_workers.specs.declared.refusal.Refusal.{Refusal}
-use Rattle.gate_workers.specs.declared.refusal.Refusal.TheVariants.{Malformed, BodyTooLong}
-use Rattle.gate_workers.specs.declared.refusal.Refusal.TheVariants.{NoMemory}
+use Rattle.gate_workers.specs.declared.refusal.Refusal.TheVariants as refusal
 use Rattle.gate_workers.specs.declared.request.Ask.TheVariants as ask
 use Rattle.gate_workers.specs.declared.service.Heard.{Heard}
 use Rattle.gate_workers.specs.declared.service.Heard.TheVariants as heard
@@ -18,9 +17,9 @@ use Rattle.gate_workers.specs.inner.Shown.{shown}
 abbrev pub heard_of : HttpFault → Heard
 heard_of http.Closed = heard.Closed
 heard_of http.Io = heard.Broken
-heard_of http.BodyTooLong = heard.Asks (ask.Refused BodyTooLong)
-heard_of http.NoMemory = heard.Asks (ask.Refused NoMemory)
-heard_of fault = heard.Asks (ask.Refused Malformed)
+heard_of http.BodyTooLong = heard.Asks (ask.Refused refusal.BodyTooLong)
+heard_of http.NoMemory = heard.Asks (ask.Refused refusal.NoMemory)
+heard_of fault = heard.Asks (ask.Refused refusal.Malformed)
 
 -- what is read of these bytes, where they are known
 abbrev pub Hears : Option (List ℕ) → Heard → Type 0
@@ -33,8 +32,8 @@ abbrev pub HearingFails : (ℕ → ℕ) → ℕ → ℕ → Heard → Type 0
 HearingFails one_more old new heard.Broken = new ≡ one_more old
 HearingFails one_more old new h = new ≡ old
 
--- a request was read whole, and the pace was asked once; or a refusal is asked for, as of bytes that
--- were not, and the pace was not asked
+-- a request was read whole, and the pace was asked once; or a refusal is asked for, as of bytes
+-- that were not, and the pace was not asked
 abbrev pub HearingAsks : {P : Type 0} → Reaching P → Option (List ℕ) → P → P → Heard → Type 0
 HearingAsks reaches input p p' (heard.Asks ask) =
     (IfSome input HasRequest × reaches p BodyRead p')

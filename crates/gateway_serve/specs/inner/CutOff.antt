@@ -2,8 +2,7 @@
 use Rattle.std.specs.Prelude.{◌≡◌, ◌==◌, ◌||◌, Bool, false}
 use Rattle.gate_workers.specs.Paced.{Reaching}
 use Rattle.gate_workers.specs.Refusals.{refusal_status}
-use Rattle.gate_workers.specs.declared.refusal.Refusal.TheVariants.{Malformed, BodyTooLong}
-use Rattle.gate_workers.specs.declared.refusal.Refusal.TheVariants.{NoMemory}
+use Rattle.gate_workers.specs.declared.refusal.Refusal.TheVariants as refusal
 use Rattle.gate_workers.specs.declared.service.Served.{Served}
 use Rattle.gate_workers.specs.declared.service.Served.TheVariants.{Replied}
 use Rattle.gate_workers.specs.declared.worker.Spot.{Spot}
@@ -24,6 +23,6 @@ IsNoted reading spot reading' = reading' ≡ reading_at spot reading
 -- the status of such a refusal
 abbrev pub is_cut_off : Served → Reading → Bool
 is_cut_off (Replied status written end) Open =
-    (status == refusal_status Malformed) || (status == refusal_status BodyTooLong)
-    || (status == refusal_status NoMemory)
+    (status == refusal_status refusal.Malformed) || (status == refusal_status refusal.BodyTooLong)
+    || (status == refusal_status refusal.NoMemory)
 is_cut_off served reading = false
