@@ -21,7 +21,7 @@ use Rattle.delta_book.specs.declared.faults.QuarantineFault.{QuarantineFault}
 use Rattle.delta_book.specs.declared.faults.QuarantineFault.TheVariants as holding
 use Rattle.delta_book.specs.declared.faults.NotQuarantined.{NotQuarantined}
 use Rattle.http_edge.specs.declared.written.Written.{Written}
-use Rattle.http_edge.specs.declared.written.Written.TheVariants.{All, None_, Part}
+use Rattle.http_edge.specs.declared.written.Written.TheVariants.{None_}
 use Rattle.gate_workers.specs.declared.service.End.{End}
 use Rattle.gate_workers.specs.declared.service.End.TheVariants.{NoBatch, Undone}
 use Rattle.gate_workers.specs.declared.book_keeper.BookKeeper.{BookKeeper}
@@ -78,8 +78,7 @@ module _ {U : Type 0} (sends : U → List ℕ → Answer → U → Type 0) where
   closed : (m k : BookKeeper U) (n : ℕ) (end : End) (written : Written) → confirm_refusal (history m.seated.book) n ≡ None → undo_refusal (history m.seated.book) n ≡ None
       → IsClosed (KeeperOver sends) n written m k end → Closes m k (closed_by written n) × (end ≡ end_by written)
   closed m k n end None_ opened can h = undone m h.1 k n end h.0 can h.2 h.3
-  closed m k n end All opened can h = (confirmed m k n h.0 opened h.1, h.2)
-  closed m k n end (Part i) opened can h = (confirmed m k n h.0 opened h.1, h.2)
+  closed m k n end written opened can h = (confirmed m k n h.0 opened h.1, h.2)
 
   module _ (written : Written) (k : BookKeeper U) (response : Response) where
     -- the seat and the size stay, and the journal, the uplink and the response are those of the definition

@@ -8,7 +8,7 @@ use Rattle.back_answers.specs.Answers.{act_of}
 use Rattle.back_answers.specs.declared.answer.Answer.{Answer}
 use Rattle.back_answers.specs.declared.answer.Answer.TheVariants.{Unknown}
 use Rattle.back_answers.specs.declared.answer.Act.{Act}
-use Rattle.back_answers.specs.declared.answer.Act.TheVariants.{Settle, GiveBack, DropFlush}
+use Rattle.back_answers.specs.declared.answer.Act.TheVariants.{Settle, GiveBack}
 use Rattle.delta_book.specs.Journal.{Journal, journal_of, history, Appends}
 use Rattle.delta_book.proofs.Journaled.{grows}
 use Rattle.delta_book.specs.Refusals.{flush_refusal}
@@ -65,10 +65,8 @@ module _ (seat max : ℕ) (J M J' : Journal) (flush : Flush) where
   both_added : (act : Act) (r : Result (Unit {0}) NotLive) → IsTaken → BookGives seat M (closing act flush.number r) J' → Adds seat J J' (Take flush.number (pick (history J) max) ∷ book.event_of act flush.number ∷ [])
   both_added Settle (Ok x) h e = two_added seat J M J' _ _ h.journal e.journal
   both_added Settle (Err x) h e = absurd (is_live x h e.answers)
-  both_added GiveBack (Ok x) h e = two_added seat J M J' _ _ h.journal e.journal
-  both_added GiveBack (Err x) h e = absurd (is_live x h e.answers)
-  both_added DropFlush (Ok x) h e = two_added seat J M J' _ _ h.journal e.journal
-  both_added DropFlush (Err x) h e = absurd (is_live x h e.answers)
+  both_added act (Ok x) h e = two_added seat J M J' _ _ h.journal e.journal
+  both_added act (Err x) h e = absurd (is_live x h e.answers)
 
 module _ {U : Type 0} (sends : U → List ℕ → Answer → U → Type 0) (max : ℕ) where
   module _ (seat : ℕ) (J J' : Journal) (u u' : U) where
@@ -116,8 +114,6 @@ module _ {U : Type 0} (sends : U → List ℕ → Answer → U → Type 0) (max 
   idle k k' u u' t h same_uplink = rw (← same_uplink) (unsent k h.1 k' u t h.0 h.2 h.3)
 
   pub seated_turn : (k k' : SeatedBook) (u u' : U) (t : Turn) → IsTurn SeatedGives sends max k k' u u' t → IsSeatedTurn k k' u u' t
-  seated_turn k k' u u' Idle h = idle k k' u u' Idle h.0 h.1
-  seated_turn k k' u u' Full h = idle k k' u u' Full h.0 h.1
-  seated_turn k k' u u' NoMemory h = idle k k' u u' NoMemory h.0 h.1
   seated_turn k k' u u' (Done number points answer act) h =
       rw (h.5, h.6, h.7) (h.4.1.0 ∙ h.2.0, sent_turn k.seat k.book k'.book u u' h.1.book h.0 answer h.4.0 h.2.1 h.3 (rw h.2.0 at h.4.1.1))
+  seated_turn k k' u u' t h = idle k k' u u' t h.0 h.1

@@ -7,12 +7,12 @@ use Rattle.delta_book.specs.Calls as book
 use Rattle.delta_book.specs.declared.totals.SeriesTotals.{SeriesTotals}
 use Rattle.delta_book.specs.declared.faults.AdmitFault.{AdmitFault}
 use Rattle.delta_book.specs.declared.faults.UndoFault.{UndoFault}
-use Rattle.delta_book.specs.declared.faults.UndoFault.TheVariants.{Taken, NotOpen as not_open}
+use Rattle.delta_book.specs.declared.faults.UndoFault.TheVariants.{Taken}
 use Rattle.delta_book.specs.declared.faults.NotOpen.{NotOpen}
 use Rattle.delta_book.specs.declared.faults.QuarantineFault.{QuarantineFault}
 use Rattle.delta_book.specs.declared.faults.NotQuarantined.{NotQuarantined}
 use Rattle.http_edge.specs.declared.written.Written.{Written}
-use Rattle.http_edge.specs.declared.written.Written.TheVariants.{All, None_, Part}
+use Rattle.http_edge.specs.declared.written.Written.TheVariants.{None_}
 use Rattle.gate_workers.specs.declared.order.OrderFault.{OrderFault}
 use Rattle.gate_workers.specs.declared.flush.Turn.{Turn}
 use Rattle.gate_workers.specs.declared.service.End.{End}
@@ -35,16 +35,14 @@ IsConfirmed gives batch k k' end =
 abbrev pub IsUndone : {K : Type 0} → Giving K → ℕ → Result (Unit {0}) UndoFault → K → K → End
     → Type 0
 IsUndone gives batch (Err Taken) k k' end = IsConfirmed gives batch k k' end
-IsUndone gives batch (Err not_open) k k' end = (k ≡ k') × (end ≡ Undone)
-IsUndone gives batch (Ok u) k k' end = (k ≡ k') × (end ≡ Undone)
+IsUndone gives batch r k k' end = (k ≡ k') × (end ≡ Undone)
 
 -- an admitted batch is closed by how much of the response was written
 abbrev pub IsClosed : {K : Type 0} → Giving K → ℕ → Written → K → K → End → Type 0
 IsClosed {K} gives batch None_ k k' end =
     (r : Result (Unit {0}) UndoFault) × (m : K) × gives k (on_book (book.undo batch r)) m
     × IsUndone gives batch r m k' end
-IsClosed {K} gives batch All k k' end = IsConfirmed gives batch k k' end
-IsClosed {K} gives batch (Part n) k k' end = IsConfirmed gives batch k k' end
+IsClosed {K} gives batch written k k' end = IsConfirmed gives batch k k' end
 
 -- the batch of a request, where it has one, is closed by how much of the response was written
 abbrev pub IsEnded : {K : Type 0} → Giving K → Option ℕ → Written → K → K → End → Type 0

@@ -9,7 +9,7 @@ use Rattle.http_edge.specs.declared.reply.Reply.{Reply}
 use Rattle.http_edge.specs.declared.fault.HttpFault.{HttpFault}
 use Rattle.http_edge.specs.declared.fault.HttpFault.TheVariants.{Io}
 use Rattle.http_edge.specs.declared.written.Written.{Written}
-use Rattle.http_edge.specs.declared.written.Written.TheVariants.{All, None_, Part}
+use Rattle.http_edge.specs.declared.written.Written.TheVariants.{All}
 
 -- the class of the head that was read; unknown without one
 abbrev pub answer_to : Result Reply HttpFault → Answer
@@ -33,7 +33,5 @@ abbrev pub IsAnswered : Option (List ℕ) → Option (List ℕ) → ℕ → (ℕ
     → Type 0
 IsAnswered input left given one_more old new All answer =
     (r : Result Reply HttpFault) × IsRead input left given one_more old new r answer
-IsAnswered input left given one_more old new None_ answer =
-    (answer ≡ Unknown) × (left ≡ input) × (new ≡ old)
-IsAnswered input left given one_more old new (Part n) answer =
+IsAnswered input left given one_more old new written answer =
     (answer ≡ Unknown) × (left ≡ input) × (new ≡ old)

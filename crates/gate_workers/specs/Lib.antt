@@ -6,7 +6,6 @@ pub mod Responses
 pub mod Conversations
 pub mod Turns
 pub mod BookCalls
-pub mod Keepers
 pub mod Served
 pub mod Paced
 pub mod ServedBook

@@ -4,11 +4,11 @@ use Rattle.http_edge.specs.Message.{Message}
 use Rattle.http_edge.specs.Reading.{BeginsWith, IsTooLong}
 use Rattle.http_edge.specs.Delivery.{IsMalformed}
 use Rattle.gate_workers.specs.declared.flush.Turn.{Turn}
-use Rattle.gate_workers.specs.declared.flush.Turn.TheVariants.{Idle, Full, NoMemory, Done}
+use Rattle.gate_workers.specs.declared.flush.Turn.TheVariants.{Done}
 use Rattle.gate_workers.specs.declared.refusal.Refusal.{Refusal}
 use Rattle.gate_workers.specs.declared.refusal.Refusal.TheVariants as refusal
 use Rattle.gate_workers.specs.declared.service.Served.{Served}
-use Rattle.gate_workers.specs.declared.service.Served.TheVariants.{Closed, Broken, Replied}
+use Rattle.gate_workers.specs.declared.service.Served.TheVariants.{Replied}
 use Rattle.gate_workers.specs.declared.worker.Spot.{Spot}
 use Rattle.gate_workers.specs.declared.worker.Spot.TheVariants.{BodyRead, BeforeSend}
 use Rattle.gate_workers.specs.Refusals.{refusal_status}
@@ -19,10 +19,8 @@ Reaching P = P → Spot → P → Type 0
 
 -- a flush turn asks once where a flush is sent, and else never
 abbrev pub IsTurnPaced : {P : Type 0} → Reaching P → P → P → Turn → Type 0
-IsTurnPaced reaches p p' Idle = p' ≡ p
-IsTurnPaced reaches p p' Full = p' ≡ p
-IsTurnPaced reaches p p' NoMemory = p' ≡ p
 IsTurnPaced reaches p p' (Done flush points answer act) = reaches p BeforeSend p'
+IsTurnPaced reaches p p' t = p' ≡ p
 
 -- the bytes begin with a whole request
 abbrev pub HasRequest : List ℕ → Type 0
@@ -35,12 +33,12 @@ IsUnread input why =
     ⊎ ((IfSome input IsTooLong × (why ≡ refusal.BodyTooLong))
     ⊎ (IfSome input IsMalformed × (why ≡ refusal.Malformed)))
 
--- a request asks once where it was read whole, and else never: then the keeper is as before
+-- a request that was read whole asks once; one that was not never asks, and leaves the keeper as it
+-- was. One that is answered `no memory` may be either
 abbrev pub IsPaced : {K P : Type 0} → Reaching P → Option (List ℕ) → K → K → P → P → Served
     → Type 0
-IsPaced reaches input k k' p p' Closed = p' ≡ p
-IsPaced reaches input k k' p p' Broken = p' ≡ p
 IsPaced reaches input k k' p p' (Replied status written end) =
     (IfSome input HasRequest × reaches p BodyRead p')
     ⊎ ((why : Refusal) × IsUnread input why × (status ≡ refusal_status why) × (k' ≡ k)
     × (p' ≡ p))
+IsPaced reaches input k k' p p' served = p' ≡ p

@@ -4,6 +4,7 @@ use Rattle.std.specs.Prelude.{ℕ, Bool, false, not, ◌&&◌, ◌||◌, ◌==�
 use Rattle.std.specs.Prelude.{take, drop, position, if◌then◌else◌, Option, Some, None, Result, Ok}
 use Rattle.std.specs.Prelude.{Err}
 use Rattle.std.specs.List.{list_all}
+use Rattle.std.specs.Option.{option_map_or}
 use Rattle.std.specs.Str.{bytes_eq, str_eq_ignore_ascii_case}
 use Rattle.metric_events.specs.Senders.{name_fault}
 use Rattle.metric_events.specs.declared.sender_name.NameFault.{NameFault}
@@ -14,6 +15,7 @@ use Rattle.otlp_read.specs.declared.place.Place.{Place}
 use Rattle.out_texts.specs.Answers.{success_text}
 use Rattle.http_edge.specs.Message.{Message, Header}
 use Rattle.http_edge.specs.Framing.{is_named, values_of}
+use Rattle.http_edge.specs.Reply.{first_of}
 use Rattle.gate_workers.specs.declared.refusal.Allowed.{Allowed}
 use Rattle.gate_workers.specs.declared.refusal.Allowed.TheVariants.{Post, Get}
 use Rattle.gate_workers.specs.declared.refusal.Refusal.{Refusal}
@@ -38,20 +40,13 @@ up_to (Some i) bytes = take i bytes
 unfoldable pub before : ℕ → List ℕ → List ℕ
 before mark bytes = up_to (position (λ b. b == mark) bytes) bytes
 
--- the target up to its first '?'
-abbrev pub path : List ℕ → List ℕ
-path target = before 63 target
-
 abbrev pub begins : List ℕ → List ℕ → Bool
 begins prefix p = bytes_eq (take (length prefix) p) prefix
 
 -- a name that a sender may have
-abbrev pub if_named : (List ℕ → Requested) → List ℕ → Option NameFault → Requested
-if_named asks name None = asks name
-if_named asks name (Some fault) = Refused BadSender
-
 abbrev pub with_name : (List ℕ → Requested) → List ℕ → Requested
-with_name asks name = if_named asks name (name_fault name)
+with_name asks name =
+    option_map_or (λ (fault : NameFault). Refused BadSender) (name_fault name) (asks name)
 
 abbrev pub by_method : Allowed → Message → Requested → Requested
 by_method allowed m asked =
@@ -72,21 +67,15 @@ abbrev pub is_json_type : Option (List ℕ) → Bool
 is_json_type None = false
 is_json_type (Some value) = is_words (codes "application/json") (before 59 value)
 
-abbrev pub is_identity : List ℕ → Bool
-is_identity coding = str_eq_ignore_ascii_case coding (codes "identity")
-
--- a field that names no coding but that one
+-- a field that names no coding but identity
 abbrev pub is_uncoded : Header → Bool
-is_uncoded h = not (is_named (codes "content-encoding") h) || is_identity h.1
-
-abbrev pub first : List (List ℕ) → Option (List ℕ)
-first [] = None
-first (v ∷ vs) = Some v
+is_uncoded h =
+    not (is_named (codes "content-encoding") h) || str_eq_ignore_ascii_case h.1 (codes "identity")
 
 -- the first content type is that of JSON, and there is no content coding
 abbrev pub is_plain_json : List Header → Bool
 is_plain_json hs =
-    is_json_type (first (values_of (codes "content-type") hs)) && list_all is_uncoded hs
+    is_json_type (first_of (values_of (codes "content-type") hs)) && list_all is_uncoded hs
 
 abbrev pub read_as : List ℕ → Option (Result Tally Place) → Requested
 read_as sender None = Refused NotJson
@@ -118,5 +107,6 @@ asked_at p m =
     else (if begins (codes "/lift/") p then by_method Post m (with_name Lift (drop 6 p))
     else Refused NoSuchPath))))
 
+-- the path is the target up to its first '?'
 abbrev pub asked : Message → Requested
-asked m = asked_at (path m.target) m
+asked m = asked_at (before 63 m.target) m

@@ -10,8 +10,7 @@ use Rattle.out_texts.specs.Answers.{status_text, turn_text}
 use Rattle.out_texts.specs.Report.{report_text}
 use Rattle.gate_workers.specs.declared.order.OrderFault.{OrderFault}
 use Rattle.gate_workers.specs.declared.flush.Turn.{Turn}
-use Rattle.gate_workers.specs.declared.flush.Turn.TheVariants.{Idle, Full as turn_full}
-use Rattle.gate_workers.specs.declared.flush.Turn.TheVariants.{NoMemory as turn_memory, Done}
+use Rattle.gate_workers.specs.declared.flush.Turn.TheVariants as turn
 use Rattle.gate_workers.specs.declared.refusal.Refusal.{Refusal}
 use Rattle.gate_workers.specs.declared.refusal.Refusal.TheVariants.{Full, NoMemory}
 use Rattle.gate_workers.specs.Refusals.{refusal_status, refusal_message, refusal_allow, of_order}
@@ -30,10 +29,6 @@ bytes_of r = response_text r.status r.kind r.allow r.body
 abbrev pub json_response : List ℕ → Response
 json_response body =
     record { status = 200; kind = codes "application/json"; allow = None; body = body }
-
--- 200, with that text
-abbrev pub text_response : List ℕ → Response
-text_response body = record { status = 200; kind = codes "text/plain"; allow = None; body = body }
 
 abbrev pub refusal_response : Refusal → Response
 refusal_response why =
@@ -54,10 +49,10 @@ abbrev pub IsThatOrNoMemory : Response → Response → Type 0
 IsThatOrNoMemory said response = (mark : Bool) × (response ≡ or_no_memory mark said)
 
 abbrev pub turn_response : Turn → Response
-turn_response Idle = json_response (codes "{\"act\":\"nothing\"}")
-turn_response turn_full = refusal_response Full
-turn_response turn_memory = refusal_response NoMemory
-turn_response (Done flush points answer act) =
+turn_response turn.Idle = json_response (codes "{\"act\":\"nothing\"}")
+turn_response turn.Full = refusal_response Full
+turn_response turn.NoMemory = refusal_response NoMemory
+turn_response (turn.Done flush points answer act) =
     json_response (turn_text flush points act (asked_wait answer))
 
 abbrev pub order_response : Result Turn OrderFault → Response
@@ -66,7 +61,8 @@ order_response (Err fault) = refusal_response (of_order fault)
 
 abbrev pub report_response : Option (List SeriesTotals) → Response
 report_response None = refusal_response NoMemory
-report_response (Some rows) = text_response (report_text rows)
+report_response (Some rows) =
+    record { status = 200; kind = codes "text/plain"; allow = None; body = report_text rows }
 
 -- how much of the response was written, and its status
 pub record IsSaid (old new : Option (List ℕ)) (r : Response) (status : ℕ)

@@ -19,12 +19,10 @@ IsServed gives input k k' old new (Replied status written end) =
 
 -- the reader's count of failed calls, before and after: one more at Broken
 abbrev pub ReadingFails : (ℕ → ℕ) → ℕ → ℕ → Served → Type 0
-ReadingFails one_more old new Closed = new ≡ old
 ReadingFails one_more old new Broken = new ≡ one_more old
-ReadingFails one_more old new (Replied status written end) = new ≡ old
+ReadingFails one_more old new served = new ≡ old
 
 -- the writer's: one more where a response was not written whole
 abbrev pub WritingFails : (ℕ → ℕ) → ℕ → ℕ → Served → Type 0
-WritingFails one_more old new Closed = new ≡ old
-WritingFails one_more old new Broken = new ≡ old
 WritingFails one_more old new (Replied status written end) = Failed one_more old new written
+WritingFails one_more old new served = new ≡ old

@@ -11,7 +11,7 @@ use Rattle.delta_book.specs.Journal.{Journal, history, admits}
 use Rattle.delta_book.specs.Outcomes as book
 use Rattle.delta_book.specs.Totals.{totals_rows}
 use Rattle.http_edge.specs.declared.written.Written.{Written}
-use Rattle.http_edge.specs.declared.written.Written.TheVariants.{All, None_, Part}
+use Rattle.http_edge.specs.declared.written.Written.TheVariants.{None_}
 use Rattle.gate_workers.specs.declared.service.End.{End}
 use Rattle.gate_workers.specs.declared.service.End.TheVariants.{NoBatch, Confirmed, Undone}
 use Rattle.gate_workers.specs.declared.refusal.Refusal.{Refusal}
@@ -37,9 +37,6 @@ pub record Effects : Type 0 where
 abbrev pub only_says : Response → Effects
 only_says r = record { response = r; end = NoBatch; events = []; sent = [] }
 
-abbrev pub happens : Response → Event → Effects
-happens r e = record { response = r; end = NoBatch; events = e ∷ []; sent = [] }
-
 -- by what a call of the book does: its event, or a refusal of its fault
 abbrev pub by_call : {F : Type 0} → (F → Refusal) → (Event → Effects) → Result Event F → Effects
 by_call why effects (Ok e) = effects e
@@ -48,13 +45,11 @@ by_call why effects (Err fault) = only_says (refusal_response (why fault))
 -- a batch is undone where nothing of its response was written, and else confirmed
 abbrev pub end_by : Written → End
 end_by None_ = Undone
-end_by All = Confirmed
-end_by (Part n) = Confirmed
+end_by written = Confirmed
 
 abbrev pub closed_by : Written → ℕ → Event
 closed_by None_ b = Undo b
-closed_by All b = Confirm b
-closed_by (Part n) b = Confirm b
+closed_by written b = Confirm b
 
 -- a batch b that an event admits
 abbrev pub admission_effects : ℕ → List ℕ → Written → Event → Effects
@@ -75,7 +70,8 @@ post_effects E sender (p ∷ ps) text written =
 
 -- the event, and a response with an empty object
 abbrev pub done : Event → Effects
-done e = happens (json_response (codes "{}")) e
+done e =
+    record { response = json_response (codes "{}"); end = NoBatch; events = e ∷ []; sent = [] }
 
 -- a turn has its effects, also without memory for the response's text
 abbrev pub flush_effects : Bool → Made → Effects

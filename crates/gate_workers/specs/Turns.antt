@@ -48,14 +48,12 @@ IsIdleTurn {K} gives max k k' t =
 -- the calls of a turn and what was sent
 abbrev pub IsTurn : {K U : Type 0} → (K → Call → K → Type 0) → (U → List ℕ → Answer → U → Type 0)
     → ℕ → K → K → U → U → Turn → Type 0
-IsTurn gives sends max k k' u u' Idle = IsIdleTurn gives max k k' Idle × (u ≡ u')
-IsTurn gives sends max k k' u u' Full = IsIdleTurn gives max k k' Full × (u ≡ u')
-IsTurn gives sends max k k' u u' NoMemory = IsIdleTurn gives max k k' NoMemory × (u ≡ u')
 IsTurn {K} {U} gives sends max k k' u u' (Done number points answer act) =
     (flush : Flush) × (m : K) × gives k (on_book (call.take max (Ok (Some flush)))) m
     × sends u (request_text flush.points) answer u'
     × IsClosing gives (act_of answer) flush.number m k'
     × (number ≡ flush.number) × (points ≡ length flush.points) × (act ≡ act_of answer)
+IsTurn gives sends max k k' u u' t = IsIdleTurn gives max k k' t × (u ≡ u')
 
 -- where a turn is out of memory: nowhere, at its flush, or at the flush's text
 pub data Want : Type 0 where

@@ -1,5 +1,3 @@
 pub mod Shown
-pub mod Naming
 pub mod Heard
 pub mod Bodies
-pub mod Orders

@@ -99,16 +99,14 @@ pub fn book_turn<U: Uplink, P: Pace>(
 }
 
 impl<U: Uplink + Drop> BookKeeper<U> {
-    ghost use Rattle.gate_workers.specs.Keepers.{book_of, seat_of, uplink_of, max_of};
-
     /// A keeper of this book. A flush takes at most `max` series.
     pub fn new(alloc: Global, book: Book, seat: u16, uplink: U, max: usize) -> BookKeeper<U>
         requires low { 1 ≤ max }
         requires high { max ≤ MAX_TAKEN }
-        ensures book { book_of result ≡ book }
-        ensures seat { seat_of result ≡ seat }
-        ensures uplink { uplink_of result ≡ uplink }
-        ensures max { max_of result ≡ max }
+        ensures book { result.seated.book ≡ book }
+        ensures seat { result.seated.seat ≡ seat }
+        ensures uplink { result.uplink ≡ uplink }
+        ensures max { result.max ≡ max }
     {
         BookKeeper {
             seated: SeatedBook { book, seat },
@@ -120,7 +118,7 @@ impl<U: Uplink + Drop> BookKeeper<U> {
 
     /// The book, with all entries.
     pub fn into_book(self) -> Book
-        ensures { result ≡ book_of self }
+        ensures { result ≡ self.seated.book }
     {
         let BookKeeper { seated, .. } = self;
         let SeatedBook { book, .. } = seated;

@@ -4,6 +4,7 @@ ghost use Rattle.gate_workers.specs.Requested as spec;
 ghost use Rattle.std.specs.Str.{str_eq_ignore_ascii_case};
 ghost use Rattle.std.specs.List.{list_all};
 ghost use Rattle.http_edge.specs.Framing.{values_of};
+ghost use Rattle.http_edge.specs.Reply.{first_of};
 ghost use Rattle.http_edge.specs.Request.{header_in, headers_in};
 
 use http_edge::{Header, find_in};
@@ -68,7 +69,7 @@ fn are_uncoded(headers: &[Header]) -> bool
 /// Whether the first content type is JSON's.
 fn is_json(headers: &[Header]) -> bool
     ensures { result ≡ spec.is_json_type
-        (spec.first (values_of (codes "content-type") (headers_in headers.now))) }
+        (first_of (values_of (codes "content-type") (headers_in headers.now))) }
 {
     match find_in(headers, b"content-type") {
         None => false,

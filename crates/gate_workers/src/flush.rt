@@ -1,5 +1,5 @@
 //! A flush turn, and its exchange with the back end.
-ghost use Rattle.std.specs.Prelude.{ℕ, List, ◌≡◌, ◌≤◌, length, ◌<◌, ◌^◌};
+ghost use Rattle.std.specs.Prelude.{ℕ, List, ◌≤◌, length, ◌<◌, ◌^◌};
 ghost use Rattle.back_answers.specs.declared.answer.Answer.{Answer};
 ghost use Rattle.gate_workers.specs.Turns.{IsTurn, IsClosing};
 ghost use Rattle.gate_workers.specs.Paced.{IsTurnPaced};

@@ -1,6 +1,5 @@
 //! Orders for flush turns.
-ghost use Rattle.std.specs.Prelude.{◌≡◌, Ok, Err};
-ghost use Rattle.gate_workers.specs.inner.Orders.{turn_or_gone};
+ghost use Rattle.std.specs.Prelude.{◌≡◌, Ok, IsErr, MatchResult};
 
 use crate::flush::Turn;
 use crossbeam_channel::{RecvError, Sender, bounded};
@@ -26,7 +25,8 @@ pub struct Order {
 
 /// The answer to an order. Where no turn came back, the flusher is gone.
 fn turn_or_gone(answer: Result<Turn, RecvError>) -> Result<Turn, OrderFault>
-    ensures { result ≡ turn_or_gone answer }
+    ensures { MatchResult result (λ turn. answer ≡ Ok turn)
+        (λ fault. (fault ≡ OrderFault.Gone) × IsErr answer) }
 {
     match answer {
         Ok(turn) => Ok(turn),

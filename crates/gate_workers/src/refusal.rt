@@ -1,8 +1,7 @@
 //! Why a request is refused.
 ghost use Rattle.std.specs.Prelude.{◌≡◌, ◌<◌, ◌^◌, IfOk, string_bytes, option_map, length};
 ghost use Rattle.gate_workers.specs.Refusals.{allowed_name, refusal_status, refusal_message};
-ghost use Rattle.gate_workers.specs.Refusals.{refusal_allow};
-ghost use Rattle.gate_workers.specs.Refusals.{of_admit, of_quarantine, of_order};
+ghost use Rattle.gate_workers.specs.Refusals.{refusal_allow, of_admit, of_quarantine, of_order};
 
 use crate::order::OrderFault;
 use delta_book::faults::{AdmitFault, QuarantineFault};

@@ -1,9 +1,9 @@
 //! The routes: what a request asks for.
-ghost use Rattle.std.specs.Prelude.{◌≡◌, codes, IfOk};
+ghost use Rattle.std.specs.Prelude.{◌≡◌, ◌≢◌, codes, IfOk, None, MatchOption};
 ghost use Rattle.http_edge.specs.Request.{message_in};
 ghost use Rattle.gate_workers.specs.Requested as spec;
 ghost use Rattle.gate_workers.specs.inner.Shown.{shown};
-ghost use Rattle.gate_workers.specs.inner.Naming.{IsName};
+ghost use Rattle.metric_events.specs.Senders.{name_fault};
 ghost use Rattle.otlp_read.specs.Reading.{text_reading};
 ghost use Rattle.std.specs.Str.{bytes_eq};
 
@@ -36,7 +36,8 @@ pub enum Ask {
 
 /// The sender's name in these bytes, where they are one.
 fn name_of(alloc: Global, bytes: &[u8]) -> Result<Option<SenderName>, AllocError>
-    ensures { IfOk result (λ o. IsName bytes.now o) }
+    ensures { IfOk result (λ o. MatchOption o (name_fault bytes.now ≢ None)
+        (λ name. (name ≡ bytes.now) × (name_fault bytes.now ≡ None))) }
 {
     match SenderName::new(alloc, bytes) {
         Ok(name) => Ok(Some(name)),

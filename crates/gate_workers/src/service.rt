@@ -6,7 +6,6 @@ ghost use Rattle.gate_workers.specs.Conversations.{IsConfirmed, IsClosed, IsEnde
 ghost use Rattle.gate_workers.specs.Served.{IsServed, ReadingFails, WritingFails};
 ghost use Rattle.gate_workers.specs.ServedBook.{IsServedBook};
 ghost use Rattle.gate_workers.specs.Paced.{IsPaced};
-ghost use Rattle.gate_workers.specs.Keepers.{book_of, seat_of, uplink_of, max_of};
 
 use crate::book_keeper::BookKeeper;
 use crate::flush::Uplink;
@@ -206,11 +205,11 @@ pub fn serve_book<U: Uplink + Drop, S: Source, W: Sink, P: Pace>(
     writer: &mut W,
     pace: &mut P,
 ) -> Served
-    ensures seat { seat_of keeper.new ≡ seat_of keeper.old }
-    ensures max { max_of keeper.new ≡ max_of keeper.old }
-    ensures served { IsServedBook U.sends (seat_of keeper.old) (max_of keeper.old)
-        (S.remaining reader.old) (book_of keeper.old) (book_of keeper.new)
-        (uplink_of keeper.old) (uplink_of keeper.new)
+    ensures seat { keeper.new.seated.seat ≡ keeper.old.seated.seat }
+    ensures max { keeper.new.max ≡ keeper.old.max }
+    ensures served { IsServedBook U.sends keeper.old.seated.seat keeper.old.max
+        (S.remaining reader.old) keeper.old.seated.book keeper.new.seated.book
+        keeper.old.uplink keeper.new.uplink
         (W.contents writer.old) (W.contents writer.new) result }
     ensures stops { StopsReading IsStillOpen (S.remaining reader.old)
         (S.remaining reader.new) (S.given reader.new) }

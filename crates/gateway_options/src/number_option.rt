@@ -1,7 +1,6 @@
-ghost use Rattle.std.specs.Prelude.{◌≡◌, ◌≤◌, IfNone, IfSome, false};
+ghost use Rattle.std.specs.Prelude.{◌≡◌, ◌≤◌, ℕ, IfNone, IfSome, false};
 ghost use Rattle.clap.specs.Words.{found_of, rows_of, rule_of};
 ghost use Rattle.gateway_options.specs.CommandLine.{IsNumber, number_rule};
-ghost use Rattle.gateway_options.specs.inner.CommandLine.{HasNoNumber};
 ghost use Rattle.gateway_options.specs.inner.NumberOption.{described};
 
 use clap::{Arg, ArgMatches, value_parser};
@@ -45,8 +44,8 @@ impl<'a> NumberOption<'a> {
     pub fn read(&self, matches: &ArgMatches<'_>) -> Option<u64>
         ensures number { IfSome result (λ n. (n ≤ self.now.most)
             × IsNumber (described self.now) (rows_of (found_of matches.now)) n) }
-        ensures none { IfNone result (HasNoNumber (described self.now)
-            (rows_of (found_of matches.now))) }
+        ensures none { IfNone result ((n : ℕ) →
+            ¬ (IsNumber (described self.now) (rows_of (found_of matches.now)) n)) }
     {
         let number = number_up_to(matches.get_str(self.name)?.as_bytes(), u64::from(self.most))?;
         if number < u64::from(self.least) {

@@ -5,7 +5,7 @@ use Rattle.back_answers.specs.declared.answer.Answer.{Answer}
 use Rattle.http_edge.specs.Delivery.{StopsReading}
 use Rattle.http_edge.specs.Sent.{Sent}
 use Rattle.http_edge.specs.declared.written.Written.{Written}
-use Rattle.http_edge.specs.declared.written.Written.TheVariants.{All, None_, Part}
+use Rattle.http_edge.specs.declared.written.Written.TheVariants.{All}
 use Rattle.gate_workers.specs.Conversations.{Giving}
 use Rattle.gate_workers.specs.Exchanged.{IsAnswered}
 use Rattle.gate_workers.specs.Served.{IsServed}
@@ -24,8 +24,7 @@ answered_within : (i l : Option (List ℕ)) (given most : ℕ) (one_more : ℕ �
 answered_within i l given most one_more old new All a few h =
     let s = h.1.stops in
     (h.0, record { says = h.1.says; stops = (s.0, s.1, s.2, omega (arith, s.3, few), s.4); io = h.1.io; well = h.1.well; class = h.1.class })
-answered_within i l given most one_more old new None_ a few h = h
-answered_within i l given most one_more old new (Part n) a few h = h
+answered_within i l given most one_more old new w a few h = h
 
 -- an exchange with the back end
 pub exchanged_at_ends : (i j l m o p t u : Option (List ℕ)) (given most : ℕ) (one_more : ℕ → ℕ) (old new : ℕ) (request : List ℕ) (w : Written) (a : Answer) → i ≡ j → l ≡ m → o ≡ p → t ≡ u → given ≤ most → Sent o t request w → IsAnswered i l given one_more old new w a → (Sent p u request w) × IsAnswered j m most one_more old new w a

@@ -57,7 +57,7 @@ fn work_of(channel: &OrderChannel, flushers: u16, number: u16) -> Result<Work, G
     }
 }
 
-/// Timeouts for all workers, and gives their seats.
+/// Waits for all workers, and gives their seats.
 fn join_all<L: Ledger, R: Threads>(
     rt: &R,
     alloc: Global,

@@ -8,14 +8,13 @@ use Rattle.http_edge.specs.declared.fault.HttpFault.{HttpFault}
 use Rattle.http_edge.specs.declared.fault.HttpFault.TheVariants.{Closed, BadHead, TooManyHeaders, HeadTooLong, BadLength, BodyTooLong, BadChunk, Truncated, Io, NoMemory}
 use Rattle.http_edge.specs.declared.framing.Framing.{Framing}
 use Rattle.http_edge.specs.declared.request.Request.{Request}
-use Rattle.http_edge.specs.Form.{IsAnswer, Gives, Delivers, IsClosed}
+use Rattle.http_edge.specs.Form.{IsAnswer}
 use Rattle.http_edge.specs.Message.{Message, IsHeadAt}
-use Rattle.http_edge.specs.inner.Message.{NeverHead}
 use Rattle.http_edge.specs.Reading.{HasBody, framing_in, BeginsWith, IsTooLong, NotYet}
 use Rattle.http_edge.specs.Request.{message_in}
 use Rattle.http_edge.specs.Answer.{Explains, request_form, Fails, ReportsTooLong}
 use Rattle.http_edge.specs.Delivery.{Says, ReportsSize}
-use Rattle.http_edge.proofs.HeadLemmas.{never_bad, never_few, never_short}
+use Rattle.http_edge.proofs.HeadLemmas.{NeverHead, never_bad, never_few, never_short}
 use Rattle.http_edge.proofs.FaultLemmas.{begins-append, fails_more}
 use Rattle.http_edge.proofs.FormLemmas as form
 use Rattle.http_edge.proofs.FormLemmas.{IsSilent, Laws}
@@ -40,8 +39,7 @@ silent BadLength bytes is x = unframed bytes x.1 x.0 x.2 x.3
 silent BadChunk bytes is x = subst NotYet (append-nil bytes) (x.4 [])
 silent Truncated bytes is x = x.1
 silent Io bytes is x = absurd x
-silent BodyTooLong bytes is x = absurd is
-silent NoMemory bytes is x = absurd is
+silent e bytes is x = absurd is
 
 -- a message has a byte
 pub message_has_bytes : (bytes : List ℕ) (m : Message) → BeginsWith bytes m → bytes ≢ []
@@ -63,9 +61,6 @@ request_laws = record {
 
 -- ---- what is answered
 
-pub gives : (bytes : List ℕ) (m : Message) (r : Result Request HttpFault) → IsAnswer request_form bytes r → BeginsWith bytes m → Gives request_form m r
-gives bytes m r x b = form.gives request_form request_laws r bytes m x b
-
 size_or_memory : (e : HttpFault) (bytes : List ℕ) → (e ≡ NoMemory) ⊎ ((e ≡ BodyTooLong) ⊎ IsSilent e) → Explains e bytes → IsTooLong bytes → (e ≡ BodyTooLong) ⊎ (e ≡ NoMemory)
 size_or_memory e bytes (inl is) x t = inr is
 size_or_memory e bytes (inr (inl is)) x t = inl is
@@ -86,11 +81,5 @@ fault_lasts e bytes more m f b = form.only_memory request_form request_laws e (b
 
 -- ---- what a reading says
 
-pub delivers : (bytes : List ℕ) (r : Result Request HttpFault) → Says bytes r → Delivers request_form bytes r
-delivers bytes r x = form.delivers request_form request_laws r bytes x
-
 pub reports_size : (bytes : List ℕ) (r : Result Request HttpFault) → Says bytes r → ReportsSize bytes r
 reports_size bytes r x t = elim (form.answer_said request_form request_laws r bytes x) [ inl io ↦ inl io | inr a ↦ inr (reports_too_long bytes r a t) ]
-
-pub closed_at_no_byte : (r : Result Request HttpFault) → Says [] r → IsClosed r
-closed_at_no_byte r x = form.closed_at_no_byte request_form request_laws r x

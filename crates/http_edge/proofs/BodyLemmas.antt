@@ -9,13 +9,13 @@ use Rattle.httparse.specs.declared.spans.HeaderSpan.{HeaderSpan}
 use Rattle.httparse.specs.Grammar.{ChunkLine, print_chunk_line, chunk_size, HasNoChunkLine, MayBecomeChunkLine, Field, LineEnd, crlf, lf, print_field, print_section, HasNoSection, MayBecomeSection}
 use Rattle.httparse.specs.Spans.{IsChunkLineAt, IsSectionAt, IsSectionWithin, SectionOverflows, header_bytes, name_and_value}
 use Rattle.http_edge.specs.declared.fault.HttpFault.{HttpFault}
-use Rattle.http_edge.specs.declared.fault.HttpFault.TheVariants.{Closed, BadHead, TooManyHeaders, HeadTooLong, BadLength, BodyTooLong, BadChunk, Truncated, Io, NoMemory}
+use Rattle.http_edge.specs.declared.fault.HttpFault.TheVariants.{BodyTooLong, BadChunk}
 use Rattle.http_edge.specs.declared.phase.Phase.{Phase}
 use Rattle.http_edge.specs.declared.phase.Phase.TheVariants.{Counted, Line, Content, Return, LineFeed, Trailer, Whole}
 use Rattle.http_edge.specs.Chunks.{room, HasTrailer, AreChunks, HasChunks}
 use Rattle.http_edge.specs.Body.{BodyState, Becomes, bare, IsOpen}
 use Rattle.http_edge.specs.inner.Body.{Splits, Reaches, Refuses}
-use Rattle.http_edge.proofs.ListLemmas.{front_of, rest_of, behind_same, text_taken}
+use Rattle.http_edge.proofs.ListLemmas.{front_of, rest_of, behind_same, text_taken, EndsIn}
 use Rattle.http_edge.proofs.ChunkLemmas.{IsLine, HasContent, zero_forward, zero_not_over, zero_backward, fits_forward, fits_backward, over}
 
 abbrev pub at : Phase → List ℕ → List ℕ → BodyState
@@ -41,14 +41,14 @@ counted_backward n b c p u more None is short h = h
 counted_backward n b c p u more (Some body) is short h =
     (u ++ h.0, h.1, omega (arith, length-append u h.0, h.2, short), ap (λ s. u ++ s) h.3 ∙ sym (append_assoc u h.0 h.1), h.4 ∙ ap (λ s. s ++ h.0) is ∙ append_assoc b u h.0)
 
-pub counted_more : (n : ℕ) (b c p u : List ℕ) → IsOpen (at (Counted n) b p) → c ≡ b ++ u → length u < n → Reaches (at (Counted n) b p) (at (Counted (n - length u)) c p) u
-counted_more n b c p u is_open is short = record {
+pub counted_more : (n k : ℕ) (b c p u : List ℕ) → IsOpen (at (Counted n) b p) → c ≡ b ++ u → length u ≡ k → k < n → Reaches (at (Counted n) b p) (at (Counted (n - k)) c p) u
+counted_more n k b c p u is_open is len less = let short : length u < n = omega (arith, len, less) in rw (← len) (record {
   opened = (omega (arith, short), omega (arith, ap length is, length-append b u, short, is_open.1), is_open.2);
   steps = record { forward = λ more body h. counted_forward n b c p u more body is short h; backward = λ more body h. counted_backward n b c p u more body is short h };
   splits = record { past = u; are = no_part p p u is_open.2 is_open.2; backward = λ more body h. counted_backward n b c [] u more body is short h };
   kept = λ e. refl;
   less = λ e. omega (arith, short);
-}
+})
 
 last_forward : (n : ℕ) (b c p u more : List ℕ) (body : Option (List ℕ)) → c ≡ b ++ u → length u ≡ n → Becomes (at (Counted n) b p) (u ++ more) body → Becomes (at Whole c p) more body
 last_forward n b c p u more None is len h = h
@@ -85,14 +85,14 @@ content_backward n b c u more body is short h =
     let P : List ℕ → Type 0 = λ s. HasChunks s h.1 body in
     (u ++ h.0, h.1, omega (arith, length-append u h.0, h.2, short), ap (λ s. u ++ s) h.3 ∙ sym (append_assoc u h.0 (13 ∷ 10 ∷ h.1)), subst P grown h.4)
 
-pub content_more : (n : ℕ) (b c p u : List ℕ) → IsOpen (at (Content n) b p) → c ≡ b ++ u → length u < n → Reaches (at (Content n) b p) (at (Content (n - length u)) c p) u
-content_more n b c p u is_open is short = record {
+pub content_more : (n k : ℕ) (b c p u : List ℕ) → IsOpen (at (Content n) b p) → c ≡ b ++ u → length u ≡ k → k < n → Reaches (at (Content n) b p) (at (Content (n - k)) c p) u
+content_more n k b c p u is_open is len less = let short : length u < n = omega (arith, len, less) in rw (← len) (record {
   opened = (omega (arith, short), omega (arith, ap length is, length-append b u, short, is_open.1), is_open.2);
   steps = record { forward = λ more body h. content_forward n b c u more body is short h; backward = λ more body h. content_backward n b c u more body is short h };
   splits = record { past = u; are = no_part p p u is_open.2 is_open.2; backward = λ more body h. content_backward n b c u more body is short h };
   kept = λ e. refl;
   less = λ e. omega (arith, short, ap length is, length-append b u, is_open.1);
-}
+})
 
 end_forward : (n : ℕ) (b c p u more : List ℕ) (body : Option (List ℕ)) → c ≡ b ++ u → length u ≡ n → HasContent n b (u ++ more) body → Becomes (at Return c p) more body
 end_forward n b c p u more body is len h =
@@ -152,26 +152,12 @@ line_feed_reaches b p is_open = record {
 -- ---- a size line
 
 -- the line that was found, and where it ends in the piece
-pub record AtLine (part piece : List ℕ) (had n len size : ℕ) (l : ChunkLine) : Type 0 where
-  pub some : had < len
-  pub within : len - had ≤ n
-  pub text : part ++ take (len - had) piece ≡ print_chunk_line l
-  pub line : IsLine l
-  pub size_is : size ≡ chunk_size l
-
-pub at_line : (b part piece buf : List ℕ) (had n len size : ℕ) (l : ChunkLine) → IsOpen (at Line b part) → had ≡ length part → n ≤ length piece → n ≤ 1024 - had → buf ≡ part ++ take n piece → IsChunkLineAt buf len size l → AtLine part piece had n len size l
+pub at_line : (b part piece buf : List ℕ) (had n len size : ℕ) (l : ChunkLine) → IsOpen (at Line b part) → had ≡ length part → n ≤ length piece → n ≤ 1024 - had → buf ≡ part ++ take n piece → IsChunkLineAt buf len size l → EndsIn part piece (print_chunk_line l) had n len × IsLine l
 at_line b part piece buf had n len size l is_open had_is within fits is found =
     let P : List ℕ → Type 0 = λ s. IsChunkLineAt s len size l in
     let there = subst P is found in
-    let text = print_chunk_line l in
-    let t = text_taken part piece text (drop len (part ++ take n piece)) had n len had_is there.len_is within there.reads.1 (λ after e. is_open.2 l after (there.reads.0, e)) in
-    record {
-      some = t.some;
-      within = t.within;
-      text = t.front;
-      line = record { valid = found.reads.0; short = omega (arith, found.len_is, t.within, t.some, fits) };
-      size_is = found.size_is;
-    }
+    let t = text_taken part piece (print_chunk_line l) (drop len (part ++ take n piece)) had n len had_is there.len_is within there.reads.1 (λ after e. is_open.2 l after (there.reads.0, e)) in
+    (t, record { valid = found.reads.0; short = omega (arith, found.len_is, t.within, t.some, fits) })
 
 -- a line that is not whole yet
 pub line_more : (b part buf u : List ℕ) → IsOpen (at Line b part) → buf ≡ part ++ u → HasNoChunkLine buf → MayBecomeChunkLine buf → length buf < 1024 → Reaches (at Line b part) (at Line b buf) u
@@ -363,11 +349,4 @@ goes_on old mid new u v first second =
 pub refused_later : (old mid : BodyState) (u v : List ℕ) (e : HttpFault) → Reaches old mid u → Refuses e mid v → Refuses e old (u ++ v)
 refused_later old mid u v BadChunk first h = λ more body is. h more body (first.steps.forward (v ++ more) body (subst (λ (s : List ℕ). Becomes old s body) (append_assoc u v more) is))
 refused_later old mid u v BodyTooLong first h = λ more. subst (λ (s : List ℕ). Becomes old s None) (sym (append_assoc u v more)) (first.steps.backward (v ++ more) None (h more))
-refused_later old mid u v NoMemory first h = h
-refused_later old mid u v Closed first h = h
-refused_later old mid u v BadHead first h = h
-refused_later old mid u v TooManyHeaders first h = h
-refused_later old mid u v HeadTooLong first h = h
-refused_later old mid u v BadLength first h = h
-refused_later old mid u v Truncated first h = h
-refused_later old mid u v Io first h = h
+refused_later old mid u v e first h = h

@@ -1,13 +1,13 @@
 -- What a fault says of bytes, it says of more bytes.
-use Rattle.std.proofs.Common.{◌≡◌, ℕ, List, [], ◌∷◌, ◌++◌, drop, Option, Some, None, Err, sym, ap, subst, ◌∙◌, arith, append_assoc}
-use Rattle.std.proofs.lemmas.List.{length-append}
+use Rattle.std.proofs.Common.{◌≡◌, ℕ, List, [], ◌∷◌, ◌++◌, drop, take, Option, Some, None, Err, sym, ap, subst, ◌∙◌, arith, append_assoc}
+use Rattle.std.proofs.lemmas.List.{length-append, take-append-drop}
 use Rattle.httparse.specs.Grammar.{RequestHead, ReadsRequest, ChunkLine}
 use Rattle.httparse.specs.declared.spans.HeaderSpan.{HeaderSpan}
 use Rattle.httparse.specs.declared.spans.RequestSpans.{RequestSpans}
 use Rattle.httparse.proofs.ChunkLemmas.{ReadsChunkLine-append}
 use Rattle.httparse.proofs.GrammarLemmas.{ReadsRequest-append, ReadsSection-append}
 use Rattle.http_edge.specs.declared.fault.HttpFault.{HttpFault}
-use Rattle.http_edge.specs.declared.fault.HttpFault.TheVariants.{Closed, BadHead, TooManyHeaders, HeadTooLong, BadLength, BodyTooLong, BadChunk, Truncated, Io, NoMemory}
+use Rattle.http_edge.specs.declared.fault.HttpFault.TheVariants.{BadHead, TooManyHeaders, HeadTooLong, BadLength, BodyTooLong, BadChunk, NoMemory}
 use Rattle.http_edge.specs.declared.framing.Framing.{Framing}
 use Rattle.http_edge.specs.declared.framing.Framing.TheVariants.{Sized, Chunked}
 use Rattle.http_edge.specs.Chunks.{Chunk, IsSizeLine, HasTrailer, AreChunks}
@@ -60,12 +60,15 @@ explains_more BadLength bytes more lasts is = (is.0, is.1 ++ more, IsHeadAt-appe
 explains_more BodyTooLong bytes more lasts is = (is.0, reads-append bytes more is.0 None is.1)
 explains_more BadChunk bytes more lasts is = (is.0, is.1 ++ more, IsHeadAt-append bytes more is.0 is.1 is.2, is.3, λ m. subst NotYet (sym (append_assoc bytes more m)) (is.4 (more ++ m)))
 explains_more NoMemory bytes more lasts is = is
-explains_more Closed bytes more lasts is = absurd lasts
-explains_more Truncated bytes more lasts is = absurd lasts
-explains_more Io bytes more lasts is = absurd lasts
+explains_more e bytes more lasts is = absurd lasts
 
 pub fails_more : (e : HttpFault) (bytes more : List ℕ) → Fails e bytes → Fails e (bytes ++ more)
 fails_more e bytes more f = (f.0, explains_more e bytes more f.0 f.1)
+
+-- what a fault says of the part so far and the front of a piece, it says of that part and the piece
+pub fails_whole : (e : HttpFault) (buf part piece : List ℕ) (n : ℕ) → buf ≡ part ++ take n piece → Fails e buf → Fails e (part ++ piece)
+fails_whole e buf part piece n is f =
+    subst (Fails e) (ap (λ s. s ++ drop n piece) is ∙ append_assoc part (take n piece) (drop n piece) ∙ ap (λ s. part ++ s) (take-append-drop n piece)) (fails_more e buf (drop n piece) f)
 
 -- ---- faults of a head
 
@@ -73,13 +76,7 @@ pub looks_fails : (e : HttpFault) (buf : List ℕ) (spans : List HeaderSpan) →
 looks_fails BadHead buf spans is = (tt, is)
 looks_fails TooManyHeaders buf spans is = (tt, is)
 looks_fails HeadTooLong buf spans is = (tt, is)
-looks_fails BadLength buf spans is = absurd is
-looks_fails BodyTooLong buf spans is = absurd is
-looks_fails BadChunk buf spans is = absurd is
-looks_fails NoMemory buf spans is = absurd is
-looks_fails Closed buf spans is = absurd is
-looks_fails Truncated buf spans is = absurd is
-looks_fails Io buf spans is = absurd is
+looks_fails e buf spans is = absurd is
 
 pub head_found : (buf : List ℕ) (spans : List HeaderSpan) (r : RequestSpans) (k : RequestHead) → FindsHead buf spans r k → IsHeadAt buf k (drop r.len buf)
 head_found buf spans r k found = record { reads = found.at.reads; few = found.few; short = found.short }
@@ -89,11 +86,4 @@ frames_fails BadLength buf after k framing at is f = (tt, (k, after, at, sym is 
 frames_fails BodyTooLong buf after k framing at is f =
     let P : Option Framing → Type 0 = λ x. HasBody x after None in
     (tt, (k, (after, record { at = at; has = subst P (sym f.1 ∙ is) f.2 })))
-frames_fails BadHead buf after k framing at is f = absurd f
-frames_fails TooManyHeaders buf after k framing at is f = absurd f
-frames_fails HeadTooLong buf after k framing at is f = absurd f
-frames_fails BadChunk buf after k framing at is f = absurd f
-frames_fails NoMemory buf after k framing at is f = absurd f
-frames_fails Closed buf after k framing at is f = absurd f
-frames_fails Truncated buf after k framing at is f = absurd f
-frames_fails Io buf after k framing at is f = absurd f
+frames_fails e buf after k framing at is f = absurd f

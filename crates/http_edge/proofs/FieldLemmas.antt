@@ -7,6 +7,10 @@ use Rattle.httparse.specs.Spans.{header_bytes}
 use Rattle.http_edge.specs.Framing.{is_named, values_of}
 use Rattle.http_edge.specs.Message.{Header}
 
+-- a header of no bytes
+abbrev pub unset : HeaderSpan
+unset = record { name = record { start = 0; end = 0 }; value = record { start = 0; end = 0 } }
+
 pub values_of-append : (name : List ℕ) (hs gs : List Header) → values_of name (hs ++ gs) ≡ values_of name hs ++ values_of name gs
 unfolding values_of
 values_of-append name hs gs = ap (map (λ h. h.1)) (filter-append (is_named name) hs gs) ∙ map-append (λ h. h.1) (filter (is_named name) hs) (filter (is_named name) gs)

@@ -1,10 +1,12 @@
 -- What an answer rules out, for each form of message.
 use Rattle.std.proofs.Common.{◌≡◌, ◌≢◌, ◌<◌, ℕ, List, [], ◌++◌, length, append_assoc, arith, Option, Some, None, Ok, Err, inl, inr, refl, sym, ap, subst, ◌∙◌}
 use Rattle.std.specs.Prelude.{Result, IfSome, ◌⊎◌, ⊤}
-use Rattle.std.proofs.lemmas.List.{append-nil, length-append}
+use Rattle.std.proofs.lemmas.List.{length-append}
+use Rattle.std.proofs.lemmas.Option.{IfSome_then}
 use Rattle.std.specs.Io.KnownBytes.{Consumes, IsAtEnd}
+use Rattle.std.proofs.KnownBytes.{Consumes-whole}
 use Rattle.http_edge.specs.declared.fault.HttpFault.{HttpFault}
-use Rattle.http_edge.specs.declared.fault.HttpFault.TheVariants.{Closed, BadHead, TooManyHeaders, HeadTooLong, BadLength, BodyTooLong, BadChunk, Truncated, Io, NoMemory}
+use Rattle.http_edge.specs.declared.fault.HttpFault.TheVariants.{Closed, BodyTooLong, Io, NoMemory}
 use Rattle.http_edge.specs.Form.{Form, IsAnswer, FaultSays, AnswerSays, Gives, Delivers, IsClosed}
 
 -- a fault that says that the bytes begin with nothing yet
@@ -27,14 +29,7 @@ pub record Laws (M R : Type 0) (form : Form M R) : Type 0 where
 pub sort : (e : HttpFault) → (e ≡ NoMemory) ⊎ ((e ≡ BodyTooLong) ⊎ IsSilent e)
 sort NoMemory = inl refl
 sort BodyTooLong = inr (inl refl)
-sort Closed = inr (inr tt)
-sort BadHead = inr (inr tt)
-sort TooManyHeaders = inr (inr tt)
-sort HeadTooLong = inr (inr tt)
-sort BadLength = inr (inr tt)
-sort BadChunk = inr (inr tt)
-sort Truncated = inr (inr tt)
-sort Io = inr (inr tt)
+sort e = inr (inr tt)
 
 only_memory_at : {M R : Type 0} (form : Form M R) (laws : Laws M R form) (e : HttpFault) (bytes : List ℕ) (m : M) → (e ≡ NoMemory) ⊎ ((e ≡ BodyTooLong) ⊎ IsSilent e) → form.explains e bytes → form.begins bytes m → e ≡ NoMemory
 only_memory_at form laws e bytes m (inl is) x b = is
@@ -45,9 +40,9 @@ only_memory_at form laws e bytes m (inr (inr is)) x b = absurd (laws.exclusive b
 pub only_memory : {M R : Type 0} (form : Form M R) (laws : Laws M R form) (e : HttpFault) (bytes : List ℕ) (m : M) → form.explains e bytes → form.begins bytes m → e ≡ NoMemory
 only_memory form laws e bytes m x b = only_memory_at form laws e bytes m (sort e) x b
 
-pub gives : {M R : Type 0} (form : Form M R) (laws : Laws M R form) (r : Result R HttpFault) (bytes : List ℕ) (m : M) → IsAnswer form bytes r → form.begins bytes m → Gives form m r
-gives form laws (Ok r) bytes m x b = laws.unique bytes (form.view r) m x b
-gives form laws (Err e) bytes m x b = only_memory form laws e bytes m x b
+pub gives : {M R : Type 0} (form : Form M R) (laws : Laws M R form) (bytes : List ℕ) (m : M) (r : Result R HttpFault) → IsAnswer form bytes r → form.begins bytes m → Gives form m r
+gives form laws bytes m (Ok r) x b = laws.unique bytes (form.view r) m x b
+gives form laws bytes m (Err e) x b = only_memory form laws e bytes m x b
 
 -- ---- from what an answer says
 
@@ -56,32 +51,22 @@ fault_means form laws Io bytes x = inl refl
 fault_means form laws NoMemory bytes x = inr (laws.memory bytes)
 fault_means form laws Closed bytes x = inr x
 fault_means form laws BodyTooLong bytes x = inr x
-fault_means form laws BadHead bytes x = inr x.1
-fault_means form laws TooManyHeaders bytes x = inr x.1
-fault_means form laws HeadTooLong bytes x = inr x.1
-fault_means form laws BadLength bytes x = inr x.1
-fault_means form laws BadChunk bytes x = inr x.1
-fault_means form laws Truncated bytes x = inr x.1
+fault_means form laws e bytes x = inr x.1
 
 -- what is said of all the bytes is an answer about them, unless a call failed
 pub answer_said : {M R : Type 0} (form : Form M R) (laws : Laws M R form) (r : Result R HttpFault) (bytes : List ℕ) → AnswerSays form bytes r → (r ≡ Err Io) ⊎ IsAnswer form bytes r
 answer_said form laws (Ok r) bytes x = inr x
 answer_said form laws (Err e) bytes x = elim (fault_means form laws e bytes x) [ inl is ↦ inl (ap (λ (f : HttpFault). Err f) is) | inr a ↦ inr a ]
 
-pub delivers : {M R : Type 0} (form : Form M R) (laws : Laws M R form) (r : Result R HttpFault) (bytes : List ℕ) → AnswerSays form bytes r → Delivers form bytes r
-delivers form laws r bytes x m b = elim (answer_said form laws r bytes x) [ inl io ↦ inl io | inr a ↦ inr (gives form laws r bytes m a b) ]
+pub delivers : {M R : Type 0} (form : Form M R) (laws : Laws M R form) (bytes : List ℕ) (r : Result R HttpFault) → AnswerSays form bytes r → Delivers form bytes r
+delivers form laws bytes r x m b = elim (answer_said form laws r bytes x) [ inl io ↦ inl io | inr a ↦ inr (gives form laws bytes m r a b) ]
 
 closed_fault : {M R : Type 0} (form : Form M R) (laws : Laws M R form) (e : HttpFault) → FaultSays form e [] → (e ≡ Closed) ⊎ (e ≡ Io)
 closed_fault form laws Closed x = inl refl
 closed_fault form laws Io x = inr refl
 closed_fault form laws BodyTooLong x = absurd (laws.some_sized [] x refl)
 closed_fault form laws NoMemory x = absurd (x refl)
-closed_fault form laws BadHead x = absurd (x.0.0 refl)
-closed_fault form laws TooManyHeaders x = absurd (x.0.0 refl)
-closed_fault form laws HeadTooLong x = absurd (x.0.0 refl)
-closed_fault form laws BadLength x = absurd (x.0.0 refl)
-closed_fault form laws BadChunk x = absurd (x.0.0 refl)
-closed_fault form laws Truncated x = absurd (x.0.0 refl)
+closed_fault form laws e x = absurd (x.0.0 refl)
 
 pub closed_at_no_byte : {M R : Type 0} (form : Form M R) (laws : Laws M R form) (r : Result R HttpFault) → AnswerSays form [] r → IsClosed r
 closed_at_no_byte form laws (Ok r) x = absurd (laws.some [] (form.view r) x refl)
@@ -102,12 +87,7 @@ says_fault form laws Closed bytes some x = x
 says_fault form laws BodyTooLong bytes some x = x
 says_fault form laws Io bytes some x = tt
 says_fault form laws NoMemory bytes some x = some (λ h. cc) (λ h. cc)
-says_fault form laws BadHead bytes some x = ((some (λ h. cc) (λ h. cc), laws.silent BadHead bytes tt x), x)
-says_fault form laws TooManyHeaders bytes some x = ((some (λ h. cc) (λ h. cc), laws.silent TooManyHeaders bytes tt x), x)
-says_fault form laws HeadTooLong bytes some x = ((some (λ h. cc) (λ h. cc), laws.silent HeadTooLong bytes tt x), x)
-says_fault form laws BadLength bytes some x = ((some (λ h. cc) (λ h. cc), laws.silent BadLength bytes tt x), x)
-says_fault form laws BadChunk bytes some x = ((some (λ h. cc) (λ h. cc), laws.silent BadChunk bytes tt x), x)
-says_fault form laws Truncated bytes some x = ((some (λ h. cc) (λ h. cc), laws.silent Truncated bytes tt x), x)
+says_fault form laws e bytes some x = ((some (λ h. cc) (λ h. cc), laws.silent e bytes tt x), x)
 
 says_of : {M R : Type 0} (form : Form M R) (laws : Laws M R form) (r : Result R HttpFault) (bytes : List ℕ) → (bytes ≡ [] → IsClosed r) → (r ≡ Err Io) ⊎ IsAnswer form bytes r → AnswerSays form bytes r
 says_of form laws r bytes closed (inl io) = subst (AnswerSays form bytes) (sym io) tt
@@ -125,13 +105,11 @@ abbrev pub BeginsAs : Option (List ℕ) → List ℕ → Type 0
 BeginsAs old front = IfSome old (λ bytes. (left : List ℕ) × (bytes ≡ front ++ left))
 
 pub shorter_front : (old : Option (List ℕ)) (front back : List ℕ) → BeginsAs old (front ++ back) → BeginsAs old front
-shorter_front None front back is = tt
-shorter_front (Some bytes) front back is = (back ++ is.0, is.1 ∙ append_assoc front back is.0)
+shorter_front old front back is = IfSome_then old is (λ bytes b. (back ++ b.0, b.1 ∙ append_assoc front back b.0))
 
 -- where there is a byte, nothing has to be said of a source without one
 pub not_empty : (old : Option (List ℕ)) (front : List ℕ) (P : Type 0) → BeginsAs old front → 0 < length front → IfSome old (λ bytes. bytes ≡ [] → P)
-not_empty None front P is some = tt
-not_empty (Some bytes) front P is some = λ e. absurd (omega (arith, ap length e, ap length is.1, length-append front is.0, some))
+not_empty old front P is some = IfSome_then old is (λ bytes b e. absurd (omega (arith, ap length e, ap length b.1, length-append front b.0, some)))
 
 pub known_front : (old now : Option (List ℕ)) (fed : List ℕ) → Consumes old now fed → BeginsAs old fed
 known_front None now fed known = tt
@@ -140,8 +118,7 @@ known_front (Some bytes) (Some left) fed known = (left, known)
 
 -- what more bytes do not change is said of all the bytes
 pub said_of_front : {M R : Type 0} (form : Form M R) (old : Option (List ℕ)) (front : List ℕ) (r : Result R HttpFault) → BeginsAs old front → ((more : List ℕ) → IsAnswer form (front ++ more) r) → Said form old r
-said_of_front form None front r is answers = tt
-said_of_front form (Some bytes) front r is answers = inr (subst (λ (s : List ℕ). IsAnswer form s r) (sym is.1) (answers is.0))
+said_of_front form old front r is answers = IfSome_then old is (λ bytes b. inr (subst (λ (s : List ℕ). IsAnswer form s r) (sym b.1) (answers b.0)))
 
 pub said_of_memory : {M R : Type 0} (form : Form M R) (laws : Laws M R form) (old : Option (List ℕ)) → Said form old (Err NoMemory)
 said_of_memory form laws None = tt
@@ -149,6 +126,4 @@ said_of_memory form laws (Some bytes) = inr (laws.memory bytes)
 
 -- at its end the source has given all its bytes
 pub said_at_end : {M R : Type 0} (form : Form M R) (old now : Option (List ℕ)) (fed : List ℕ) (r : Result R HttpFault) → Consumes old now fed → IsAtEnd now → IsAnswer form fed r → Said form old r
-said_at_end form None now fed r known ended a = tt
-said_at_end form (Some bytes) None fed r known ended a = absurd known
-said_at_end form (Some bytes) (Some left) fed r known ended a = inr (subst (λ (s : List ℕ). IsAnswer form s r) (sym (known ∙ ap (λ x. fed ++ x) ended ∙ append-nil fed)) a)
+said_at_end form old now fed r known ended a = Consumes-whole old now fed (λ bytes. (r ≡ Err Io) ⊎ IsAnswer form bytes r) known ended (inr a)

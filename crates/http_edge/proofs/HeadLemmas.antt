@@ -1,7 +1,7 @@
 -- A head within the limits, and what follows it.
-use Rattle.std.proofs.Common.{ℕ, ◌<◌, ◌≤◌, List, length, drop, arith}
-use Rattle.httparse.specs.Grammar.{print_request, HasNoRequest, NeverHasRequest}
-use Rattle.http_edge.specs.inner.Message.{NeverHead}
+use Rattle.std.proofs.Common.{ℕ, ◌<◌, ◌≤◌, List, ◌++◌, length, drop, arith}
+use Rattle.httparse.specs.Grammar.{RequestHead, print_request, HasNoRequest, NeverHasRequest}
+use Rattle.http_edge.specs.Message.{IsHeadAt}
 use Rattle.http_edge.specs.Head.{HasTooManyFields, HasLongHead}
 use Rattle.http_edge.proofs.ListLemmas.{front_of}
 
@@ -18,6 +18,10 @@ has_long_head buf none long = (
 )
 
 -- ---- where there is never a head
+
+-- whatever bytes follow, they do not begin with a head within the limits
+abbrev pub NeverHead : List ℕ → Type 0
+NeverHead buf = (more : List ℕ) (head : RequestHead) (after : List ℕ) → ¬ (IsHeadAt (buf ++ more) head after)
 
 pub never_bad : (buf : List ℕ) → NeverHasRequest buf → NeverHead buf
 never_bad buf never more head after h = never more head after h.reads

@@ -1,9 +1,8 @@
 -- What a machine holds, step by step.
-use Rattle.std.proofs.Common.{◌≡◌, ◌≢◌, ℕ, ◌-◌, ◌<◌, ◌≤◌, Bool, true, false, zero, suc, List, [], ◌∷◌, ◌++◌, length, map, drop, take, min, Option, Some, None, Ok, Err, inl, refl, sym, ap, subst, ◌∙◌, arith, append_assoc}
-use Rattle.std.specs.Prelude.{Result, IfOk, IfErr}
+use Rattle.std.proofs.Common.{◌≡◌, ◌≢◌, ℕ, ◌-◌, ◌<◌, ◌≤◌, Bool, true, false, zero, suc, List, [], ◌∷◌, ◌++◌, length, map, drop, take, Option, Some, None, Ok, Err, inl, refl, sym, ap, subst, ◌∙◌, arith, append_assoc}
+use Rattle.std.specs.Prelude.{Result, IfOk, IfErr, IsAscii}
 use Rattle.std.proofs.lemmas.Str.{IsUtf8-from_ascii}
 use Rattle.std.proofs.lemmas.List.Elements.{All-cons, All-nil}
-use Rattle.std.specs.Prelude.{IsAscii}
 use Rattle.std.proofs.lemmas.List.{length-append, length-take, length-drop, append-nil, take-append-drop, take_at, nil_from_length}
 use Rattle.httparse.specs.Grammar.{RequestHead, print_request, ReadsRequest, HasNoRequest, MayBecomeRequest, lf, is_token_byte, is_uri_byte}
 use Rattle.httparse.specs.declared.spans.HeaderSpan.{HeaderSpan}
@@ -11,7 +10,7 @@ use Rattle.httparse.specs.declared.spans.RequestSpans.{RequestSpans}
 use Rattle.httparse.specs.Spans.{IsRequestAt, header_bytes}
 use Rattle.httparse.proofs.GrammarLemmas.{request_prefix_free}
 use Rattle.http_edge.specs.declared.fault.HttpFault.{HttpFault}
-use Rattle.http_edge.specs.declared.fault.HttpFault.TheVariants.{Closed, BadHead, TooManyHeaders, HeadTooLong, BadLength, BodyTooLong, BadChunk, Truncated, Io, NoMemory}
+use Rattle.http_edge.specs.declared.fault.HttpFault.TheVariants.{BodyTooLong, BadChunk, NoMemory}
 use Rattle.http_edge.specs.declared.framing.Framing.{Framing}
 use Rattle.http_edge.specs.declared.framing.Framing.TheVariants.{Sized, Chunked}
 use Rattle.http_edge.specs.declared.phase.Phase.{Phase}
@@ -81,9 +80,6 @@ head_whole part piece buf text had n spans r k w had_is within none is found tex
       fits = fits;
     }
 
-take_len : (n : ℕ) (piece : List ℕ) → length (take n piece) ≡ min n (length piece)
-take_len n piece = length-take n piece
-
 -- ---- at the end of a head
 
 nothing_fed : (head bytes : List ℕ) (k : RequestHead) (w : Framing) (body : BodyState) → bytes ≡ head → length head ≤ 16384 → IsHeadAt head k [] → framing_in k ≡ Some w → Starts w body → IsBehind head body bytes k []
@@ -144,13 +140,7 @@ stops_body BodyTooLong head old piece refuses bytes h =
     let P : List ℕ → Type 0 = λ s. Reads (bytes ++ s) k None in
     (tt, (k, subst P (append-nil piece) (reads_ahead head bytes fed (piece ++ []) old k None is (is.backward (piece ++ []) None (refuses [])))))
 stops_body NoMemory head old piece refuses bytes h = (tt, tt)
-stops_body Closed head old piece refuses bytes h = absurd refuses
-stops_body BadHead head old piece refuses bytes h = absurd refuses
-stops_body TooManyHeaders head old piece refuses bytes h = absurd refuses
-stops_body HeadTooLong head old piece refuses bytes h = absurd refuses
-stops_body BadLength head old piece refuses bytes h = absurd refuses
-stops_body Truncated head old piece refuses bytes h = absurd refuses
-stops_body Io head old piece refuses bytes h = absurd refuses
+stops_body e head old piece refuses bytes h = absurd refuses
 
 pub goes_on_behind : (head : List ℕ) (old new : BodyState) (piece : List ℕ) → length head ≤ 16384 → Reaches old new piece → Advances (in_body head old) (in_body head new) piece (is_whole new.phase)
 goes_on_behind head old new piece short reaches = record {
@@ -189,31 +179,22 @@ not_yet_in_head head bytes none is k o r = let P : List ℕ → Type 0 = λ s. R
 
 pub whole_is : (p : Phase) → is_whole p ≡ true → p ≡ Whole
 whole_is Whole e = refl
-whole_is (Counted n) e = absurd cc
-whole_is Line e = absurd cc
-whole_is (Content n) e = absurd cc
-whole_is Return e = absurd cc
-whole_is LineFeed e = absurd cc
-whole_is Trailer e = absurd cc
+whole_is p e = absurd cc
 
 nowhere : (p : Phase) (content part : List ℕ) → IsOpen (at p content part) → is_whole p ≡ false → (o : Option (List ℕ)) → ¬ (Becomes (at p content part) [] o)
 nowhere Whole content part opened is_open o h = absurd cc
-nowhere (Counted n) content part opened is_open None h = h
 nowhere (Counted n) content part opened is_open (Some body) h = omega (arith, opened.0, h.2, ap length h.3, length-append h.0 h.1)
 nowhere Line content part opened is_open o h = let P : List ℕ → Type 0 = λ s. HasChunks content s o in no_chunks content part opened.2 o (subst P (append-nil part) h)
 nowhere (Content n) content part opened is_open o h = omega (arith, ap length h.3, length-append h.0 (13 ∷ 10 ∷ h.1))
 nowhere Return content part opened is_open o h = let e : [] ≡ 13 ∷ 10 ∷ h.0 = h.1 in cc
 nowhere LineFeed content part opened is_open o h = let e : [] ≡ 10 ∷ h.0 = h.1 in cc
-nowhere Trailer content part opened is_open None h = h
 nowhere Trailer content part opened is_open (Some body) h = let t = subst HasTrailer (append-nil part) h.0 in opened.2 t.0 t.1 t.2 t.3.reads
-
-ends_nowhere : (s : BodyState) → IsOpen s → is_whole s.phase ≡ false → (o : Option (List ℕ)) → ¬ (Becomes s [] o)
-ends_nowhere s opened is_open o h = nowhere s.phase s.content s.part opened is_open o h
+nowhere p content part opened is_open None h = h
 
 pub not_yet_in_body : (head bytes fed : List ℕ) (body : BodyState) (k : RequestHead) → IsOpen body → is_whole body.phase ≡ false → IsBehind head body bytes k fed → NotYet bytes
 not_yet_in_body head bytes fed body k opened is_open is j o reads =
     let P : List ℕ → Type 0 = λ s. Reads s j o in
-    ends_nowhere body opened is_open o (is.forward [] o (reads_behind head bytes fed [] body k j o is (subst P (sym (append-nil bytes)) reads)))
+    nowhere body.phase body.content body.part opened is_open o (is.forward [] o (reads_behind head bytes fed [] body k j o is (subst P (sym (append-nil bytes)) reads)))
 
 pub whole_in_body : (head bytes fed content part : List ℕ) (k : RequestHead) → IsBehind head (at Whole content part) bytes k fed → BeginsWith bytes (message_of k content)
 whole_in_body head bytes fed content part k is =
@@ -249,7 +230,7 @@ into_body part text piece n w first new ends starts reaches =
       fine = refl;
       done_is = refl;
       holds = λ bytes h. subst P (split part text piece bytes n ends.front h) (goes.holds text (ends.head, [], nothing_fed text text ends.head w first refl ends.short ends.at ends.framed starts));
-      less = λ e. omega (arith, reaches.less e, starts.less, ap length ends.front, length-append part (take n piece), take_len n piece, length-drop n piece, ends.within, ends.short);
+      less = λ e. omega (arith, reaches.less e, starts.less, ap length ends.front, length-append part (take n piece), length-take n piece, length-drop n piece, ends.within, ends.short);
     }
 
 pub stops_behind : (e : HttpFault) (part text piece : List ℕ) (n : ℕ) (w : Framing) (first : BodyState) → EndsHead part text piece n w → Starts w first → Refuses e first (drop n piece) → Stops (in_head part) piece e
@@ -308,11 +289,8 @@ whole_there p bytes m sound fine h b = by_answer (is_done p) refl (reports_at p 
 
 -- ---- a body by what its feeding answered
 
-advance_at : (head : List ℕ) (old new : BodyState) (piece : List ℕ) (done : Bool) → length head ≤ 16384 → Reaches old new piece → done ≡ is_whole new.phase → Advances (in_body head old) (in_body head new) piece done
-advance_at head old new piece done short reaches is = let P : Bool → Type 0 = λ b. Advances (in_body head old) (in_body head new) piece b in subst P (sym is) (goes_on_behind head old new piece short reaches)
-
 pub advance_in_body : (r : Result Bool HttpFault) (head : List ℕ) (old new : BodyState) (piece : List ℕ) → length head ≤ 16384 → IfOk r (λ done. Reaches old new piece × (done ≡ is_whole new.phase)) → IfOk r (Advances (in_body head old) (in_body head new) piece)
-advance_in_body (Ok done) head old new piece short ok = advance_at head old new piece done short ok.0 ok.1
+advance_in_body (Ok done) head old new piece short ok = let P : Bool → Type 0 = λ b. Advances (in_body head old) (in_body head new) piece b in subst P (sym ok.1) (goes_on_behind head old new piece short ok.0)
 advance_in_body (Err e) head old new piece short ok = tt
 
 pub stop_in_body : (r : Result Bool HttpFault) (head : List ℕ) (old : BodyState) (piece : List ℕ) → IfErr r (λ e. Refuses e old piece) → IfErr r (Stops (in_body head old) piece)

@@ -1,24 +1,26 @@
 -- The head of a response that is being read.
-use Rattle.std.proofs.Common.{◌≡◌, ◌≢◌, ℕ, ◌+◌, ◌<◌, ◌≤◌, true, false, List, [], ◌∷◌, ◌++◌, length, map, take, drop, get_or, Option, Some, None, Ok, Err, refl, sym, ap, subst, ◌∙◌, arith, append_assoc}
-use Rattle.std.specs.Prelude.{codes}
+use Rattle.std.proofs.Common.{◌≡◌, ℕ, ◌+◌, ◌<◌, ◌≤◌, true, false, List, [], ◌∷◌, ◌++◌, length, map, take, drop, get_or, Option, Some, None, refl, sym, ap, subst, ◌∙◌, arith, append_assoc}
+use Rattle.std.specs.Prelude.{codes, Result, IfSome}
 use Rattle.std.specs.Char.{is_ascii_digit}
 use Rattle.std.proofs.lemmas.List.Elements.{All-cons, All-nil}
-use Rattle.std.proofs.lemmas.List.{length-append, append-nil, take-append-drop, map-append, length-map, length-take-le}
+use Rattle.std.proofs.lemmas.List.{length-append, append-nil, take-append-drop, map-append, length-map, length-take-le, take-take}
 use Rattle.std.specs.Io.KnownBytes.{Consumes}
+use Rattle.std.proofs.KnownBytes.{Consumes-nil, Consumes-trans}
 use Rattle.httparse.specs.Grammar.{ResponseHead, print_response, ReadsResponse, HasNoResponse, MayBecomeResponse, lf}
 use Rattle.httparse.specs.declared.spans.HeaderSpan.{HeaderSpan}
 use Rattle.httparse.specs.declared.spans.ResponseSpans.{ResponseSpans}
 use Rattle.httparse.specs.Spans.{header_bytes, name_and_value, IsSectionWithin, IsResponseAt as IsResponseIn}
 use Rattle.httparse.proofs.GrammarLemmas.{ReadsResponse-append, response_unique}
 use Rattle.http_edge.specs.declared.fault.HttpFault.{HttpFault}
-use Rattle.http_edge.specs.declared.fault.HttpFault.TheVariants.{Closed, BadHead, TooManyHeaders, HeadTooLong, BadLength, BodyTooLong, BadChunk, Truncated, Io, NoMemory}
+use Rattle.http_edge.specs.declared.fault.HttpFault.TheVariants.{Closed, BadHead, TooManyHeaders, HeadTooLong, Truncated, NoMemory}
 use Rattle.http_edge.specs.declared.reply.Reply.{Reply}
+use Rattle.http_edge.specs.Delivery.{StopsReading}
 use Rattle.http_edge.specs.Message.{Header}
 use Rattle.http_edge.specs.Framing.{is_named, values_of}
-use Rattle.http_edge.specs.Reply.{ReplyHead, first_of, reply_of, reply_in, BeginsWithReply, NoReply, IsReplyOpen, ExplainsReply, reply_form}
-use Rattle.http_edge.specs.Form.{IsLasting}
-use Rattle.http_edge.proofs.FormLemmas.{IsSilent, Laws, Said, BeginsAs, known_front, shorter_front, said_of_front}
-use Rattle.http_edge.proofs.SourceLemmas.{known_more}
+use Rattle.http_edge.specs.Reply.{ReplyHead, first_of, reply_of, BeginsWithReply, NoReply, IsReplyOpen, ExplainsReply, reply_form, SaysReply}
+use Rattle.http_edge.specs.Form.{IsAnswer, IsLasting}
+use Rattle.http_edge.proofs.FormLemmas.{IsSilent, Laws, BeginsAs, says, known_front, shorter_front, said_of_front}
+use Rattle.http_edge.proofs.SourceLemmas.{some_given, stops}
 use Rattle.http_edge.proofs.FieldLemmas.{values_of-append, values_of_more}
 use Rattle.http_edge.proofs.ListLemmas.{front_of}
 use Rattle.http_edge.proofs.HeadLemmas.{long_or_front}
@@ -104,18 +106,14 @@ begins-append buf more t b = (b.0, b.1 ++ more, record { reads = ReadsResponse-a
 later : (bytes more m : List ℕ) (k : ResponseHead) (rest : List ℕ) → ReadsResponse ((bytes ++ more) ++ m) k rest → ReadsResponse (bytes ++ (more ++ m)) k rest
 later bytes more m k rest r = subst (λ (s : List ℕ). ReadsResponse s k rest) (append_assoc bytes more m) r
 
-explains_more : (e : HttpFault) (bytes more : List ℕ) → IsLasting e → ExplainsReply e bytes → ExplainsReply e (bytes ++ more)
+pub explains_more : (e : HttpFault) (bytes more : List ℕ) → IsLasting e → ExplainsReply e bytes → ExplainsReply e (bytes ++ more)
 explains_more BadHead bytes more lasts is = λ m k rest r. is (more ++ m) k rest (later bytes more m k rest r)
 explains_more TooManyHeaders bytes more lasts is =
     let x = is.1 in (λ m k rest r. is.0 (more ++ m) k rest (later bytes more m k rest r), (x.0, x.1 ++ more, ap (λ s. s ++ more) x.2 ∙ append_assoc x.0 x.1 more, x.3, x.4, x.5))
 explains_more HeadTooLong bytes more lasts is = (omega (arith, is.0, length-append bytes more), λ m k rest r. is.1 (more ++ m) k rest (later bytes more m k rest r))
-explains_more NoMemory bytes more lasts is = is
 explains_more Closed bytes more lasts is = absurd lasts
-explains_more BadLength bytes more lasts is = is
-explains_more BodyTooLong bytes more lasts is = is
-explains_more BadChunk bytes more lasts is = is
 explains_more Truncated bytes more lasts is = absurd lasts
-explains_more Io bytes more lasts is = absurd lasts
+explains_more e bytes more lasts is = is
 
 -- ---- what is answered
 
@@ -131,14 +129,8 @@ silent BadHead bytes is x k after b = never bytes (λ j rest r few short. x [] j
 silent TooManyHeaders bytes is x k after b = never bytes (λ j rest r few short. omega (arith, x.0 [] j rest r, few)) k after b
 silent HeadTooLong bytes is x k after b = never bytes (λ j rest r few short. omega (arith, x.1 [] j rest r, short)) k after b
 silent Truncated bytes is x k after b = x.1 k after b
-silent BadLength bytes is x k after b = x
-silent BadChunk bytes is x k after b = x
-silent Io bytes is x k after b = x
-silent BodyTooLong bytes is x k after b = is
 silent NoMemory bytes is x k after b = is
-
-reply_has_bytes : (bytes : List ℕ) (t : ReplyHead) → BeginsWithReply bytes t → bytes ≢ []
-reply_has_bytes bytes t b e = omega (arith, some_bytes bytes b.1 b.0 b.2.reads, ap length e)
+silent e bytes is x k after b = x
 
 pub reply_laws : Laws ReplyHead Reply reply_form
 reply_laws = record {
@@ -146,7 +138,7 @@ reply_laws = record {
   exclusive = λ bytes t b none. none b.0 b.1 b.2;
   silent = silent;
   sized = λ bytes t b x. x;
-  some = reply_has_bytes;
+  some = λ bytes t b e. omega (arith, some_bytes bytes b.1 b.0 b.2.reads, ap length e);
   some_sized = λ bytes x. absurd x;
   memory = λ bytes. tt;
 }
@@ -160,20 +152,17 @@ pub record HeadSoFar (old now : Option (List ℕ)) (kept : List ℕ) : Type 0 wh
   pub unfinished : MayBecomeResponse kept
 
 pub begins : (old : Option (List ℕ)) → HeadSoFar old old []
-begins None = record { known = tt; none = none_at_first; short = omega arith; unfinished = reply_may_come }
-begins (Some bytes) = record { known = refl; none = none_at_first; short = omega arith; unfinished = reply_may_come }
+begins old = record { known = Consumes-nil old; none = none_at_first; short = omega arith; unfinished = reply_may_come }
 
-pub reply_open : (old now : Option (List ℕ)) (kept : List ℕ) → HeadSoFar old now kept → IsReplyOpen kept
-reply_open old now kept so = (so.none, so.short, so.unfinished)
+pub stops_reply : (old now next : Option (List ℕ)) (given n : ℕ) (kept buf : List ℕ) → HeadSoFar old now kept → Consumes now next (take n buf) → n ≤ length buf → given ≡ n → StopsReading IsReplyOpen old next given
+stops_reply old now next given n kept buf so took within is = stops IsReplyOpen old now next given n kept buf so.known took within is (so.none, so.short, so.unfinished)
 
--- the front of a piece was kept
-pub grows : (old now next : Option (List ℕ)) (kept piece front back new : List ℕ) → Consumes old now kept → Consumes now next piece → piece ≡ front ++ back → new ≡ kept ++ front → BeginsAs old new
-grows old now next kept piece front back new known took cut is =
-    let e : kept ++ piece ≡ new ++ back = ap (λ x. kept ++ x) cut ∙ sym (append_assoc kept front back) ∙ ap (λ x. x ++ back) (sym is) in
-    shorter_front old new back (subst (BeginsAs old) e (known_front old next (kept ++ piece) (known_more old now next kept piece known took)))
-
-pub head_says : (old : Option (List ℕ)) (new : List ℕ) (r : Reply) → BeginsAs old new → BeginsWithReply new (reply_in r) → Said reply_form old (Ok r)
-head_says old new r is b = said_of_front reply_form old new (Ok r) is (λ more. begins-append new more (reply_in r) b)
-
-pub fault_says : (old : Option (List ℕ)) (new : List ℕ) (e : HttpFault) → BeginsAs old new → IsLasting e → ExplainsReply e new → Said reply_form old (Err e)
-fault_says old new e is lasts x = said_of_front reply_form old new (Err e) is (λ more. explains_more e new more lasts x)
+-- what is said where the front of a piece was kept
+pub kept_says : (old now next : Option (List ℕ)) (kept buf new : List ℕ) (n m : ℕ) (r : Result Reply HttpFault) → HeadSoFar old now kept → Consumes now next (take n buf) → n ≤ length buf → 0 < n → m ≤ n → new ≡ kept ++ take m buf
+    → ((more : List ℕ) → IsAnswer reply_form (new ++ more) r) → IfSome old (λ bytes. SaysReply bytes r)
+kept_says old now next kept buf new n m r so took within some few is answers =
+    let piece = take n buf in
+    let cut : kept ++ piece ≡ new ++ drop m piece =
+    ap (λ s. kept ++ s) (sym (take-append-drop m piece) ∙ ap (λ s. s ++ drop m piece) (take-take m n buf few)) ∙ sym (append_assoc kept (take m buf) (drop m piece)) ∙ ap (λ s. s ++ drop m piece) (sym is) in
+    let front = shorter_front old new (drop m piece) (subst (BeginsAs old) cut (known_front old next (kept ++ piece) (Consumes-trans old now next kept piece so.known took))) in
+    says reply_form reply_laws old r (said_of_front reply_form old new r front answers) (some_given old now next kept buf n _ so.known took within some)

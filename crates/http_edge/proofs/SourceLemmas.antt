@@ -1,20 +1,21 @@
 -- What a source gave, call by call.
-use Rattle.std.proofs.Common.{◌≡◌, ◌≤◌, List, ℕ, [], ◌++◌, length, take, Option, Some, None, sym, ap, ◌∙◌, append_assoc, arith}
+use Rattle.std.proofs.Common.{◌≡◌, ◌<◌, ◌≤◌, List, ℕ, [], ◌++◌, length, take, Option, Some, None, sym, ◌∙◌, arith}
 use Rattle.std.specs.Prelude.{IfSome}
-use Rattle.std.proofs.lemmas.List.{length-take-le}
+use Rattle.std.proofs.lemmas.List.{length-append, length-take-le}
 use Rattle.std.specs.Io.KnownBytes.{Consumes, IsAtEnd}
+use Rattle.std.proofs.KnownBytes.{Consumes-trans}
 use Rattle.http_edge.specs.Delivery.{StopsReading}
+use Rattle.http_edge.proofs.FormLemmas.{known_front, not_empty}
 
--- one piece behind others
-pub known_more : (old now next : Option (List ℕ)) (before piece : List ℕ) → Consumes old now before → Consumes now next piece → Consumes old next (before ++ piece)
-known_more None now next before piece known took = tt
-known_more (Some bytes) None next before piece known took = absurd known
-known_more (Some bytes) (Some left) None before piece known took = absurd took
-known_more (Some bytes) (Some left) (Some more) before piece known took = known ∙ ap (λ x. before ++ x) took ∙ sym (append_assoc before piece more)
+-- where a piece has a byte, nothing has to be said of a source without one
+pub some_given : (old now next : Option (List ℕ)) (before buf : List ℕ) (n : ℕ) (P : Type 0) → Consumes old now before → Consumes now next (take n buf) → n ≤ length buf → 0 < n → IfSome old (λ bytes. bytes ≡ [] → P)
+some_given old now next before buf n P known took within some =
+    let all = before ++ take n buf in
+    not_empty old all P (known_front old next all (Consumes-trans old now next before (take n buf) known took)) (omega (arith, length-append before (take n buf), length-take-le n buf within, some))
 
 -- how far it was read, where n bytes came last
 pub stops : (Open : List ℕ → Type 0) (old now next : Option (List ℕ)) (given n : ℕ) (before buf : List ℕ) → Consumes old now before → Consumes now next (take n buf) → n ≤ length buf → given ≡ n → Open before → StopsReading Open old next given
-stops Open old now next given n before buf known took within is o = (before, take n buf, known_more old now next before (take n buf) known took, omega (arith, is, length-take-le n buf within), o)
+stops Open old now next given n before buf known took within is o = (before, take n buf, Consumes-trans old now next before (take n buf) known took, omega (arith, is, length-take-le n buf within), o)
 
 -- a call that gave nothing left the source at its end
 pub at_end : (old now next : Option (List ℕ)) (before : List ℕ) (P : Type 0) → Consumes old now before → Consumes now next [] → IsAtEnd now → IfSome old (λ _. P → IsAtEnd next)

@@ -7,20 +7,16 @@ use Rattle.http_edge.specs.declared.written.Written.{Written}
 use Rattle.http_edge.specs.Sent.{Sent}
 use Rattle.http_edge.specs.Texts.{response_of, post_request}
 
-same_response : (a b p q k l z y t m n body : List ℕ) → a ≡ b → p ≡ q → k ≡ l → z ≡ y → m ≡ n → response_of a p k z t m body ≡ response_of b q l y t n body
-same_response a b p q k l z y t m n body e f g h i =
-    ap (λ x. response_of x p k z t m body) e ∙ ap (λ x. response_of b x k z t m body) f ∙ ap (λ x. response_of b q x z t m body) g ∙ ap (λ x. response_of b q l x t m body) h
-    ∙ ap (λ x. response_of b q l y t x body) i
-
 pub sent_response : (old new : Option (List ℕ)) (w : Written) (a p k z t m digits phrase kind size methods body : List ℕ) → a ≡ digits → p ≡ phrase → k ≡ kind → z ≡ size → m ≡ methods
     → Sent old new (response_of a p k z t m body) w → Sent old new (response_of digits phrase kind size t methods body) w
 sent_response old new w a p k z t m digits phrase kind size methods body e f g h i s =
-    let P : List ℕ → Type 0 = λ x. Sent old new x w in subst P (same_response a digits p phrase k kind z size t m methods body e f g h i) s
+    let same : response_of a p k z t m body ≡ response_of digits phrase kind size t methods body = cc in
+    subst (λ (x : List ℕ). Sent old new x w) same s
 
 pub sent_post : (old new : Option (List ℕ)) (w : Written) (h z host size body : List ℕ) → h ≡ host → z ≡ size → Sent old new (post_request h z (body ++ [])) w → Sent old new (post_request host size body) w
 sent_post old new w h z host size body e f s =
-    let P : List ℕ → Type 0 = λ x. Sent old new x w in
-    subst P (ap (λ x. post_request x z (body ++ [])) e ∙ ap (λ x. post_request host x (body ++ [])) f ∙ ap (λ x. post_request host size x) (append-nil body)) s
+    let same : post_request h z (body ++ []) ≡ post_request host size body = cc (append-nil body) in
+    subst (λ (x : List ℕ). Sent old new x w) same s
 
 -- ---- the phrase of a status
 

@@ -1,9 +1,9 @@
 -- Bytes wait before they are written.
-use Rattle.std.proofs.Common.{◌≡◌, ℕ, ◌+◌, ◌<◌, List, [], ◌∷◌, ◌++◌, length, take, get_or, Option, Some, None, sym, ap, subst, ◌∙◌, append_assoc, arith, zero, suc, zero-add}
+use Rattle.std.proofs.Common.{◌≡◌, ℕ, ◌+◌, ◌<◌, List, [], ◌++◌, length, take, get_or, Option, Some, None, sym, ap, subst, ◌∙◌, append_assoc, arith, zero, suc, zero-add}
 use Rattle.std.specs.Io.KnownBytes.{Appends, Keeps}
 use Rattle.std.proofs.KnownBytes.{Appends-trans}
-use Rattle.std.proofs.lemmas.List.{append-nil, length-append, take_more, take-append-le}
-use Rattle.std.proofs.lemmas.List.Concat.{flat_map-append, flat_map-cons}
+use Rattle.std.proofs.Math.Seq.{take-append-add}
+use Rattle.std.proofs.lemmas.List.{append-nil, length-append, take_more, take-append-le, flat_map_more}
 use Rattle.std.specs.List.{flat_map}
 use Rattle.http_edge.specs.declared.write_buffer.WriteBuffer.{WriteBuffer}
 use Rattle.http_edge.specs.declared.written.Written.{Written}
@@ -11,7 +11,6 @@ use Rattle.http_edge.specs.declared.written.Written.TheVariants.{All, None_, Par
 use Rattle.http_edge.specs.Sent.{Sent}
 use Rattle.http_edge.specs.inner.Sent.{IsCut, Ends, cut_after}
 use Rattle.http_edge.specs.inner.WriteBuffer.{waiting_bytes, Passes}
-use Rattle.http_edge.proofs.WriteLemmas.{part_taken}
 
 -- how much was sent or waits
 pub passes_length : (o n : Option (List ℕ)) (sent : ℕ) (j : WriteBuffer) (bytes : List ℕ) → Passes o n sent j bytes → j.sent + length (waiting_bytes j) ≡ sent + length bytes
@@ -30,8 +29,7 @@ passes_then o m n sent j k bytes part p q = record {
 pub passes_cut : (o m n : Option (List ℕ)) (sent : ℕ) (j : WriteBuffer) (bytes part : List ℕ) (w : Written) → Passes o m sent j bytes → IsCut m n j.sent (waiting_bytes j ++ part) w → IsCut o n sent (bytes ++ part) w
 passes_cut o m n sent j bytes part w p c =
     let whole : bytes ++ part ≡ p.done ++ (waiting_bytes j ++ part) = ap (λ x. x ++ part) p.rest ∙ append_assoc p.done (waiting_bytes j) part in
-    let first : take (length p.done + c.many) (bytes ++ part) ≡ p.done ++ take c.many (waiting_bytes j ++ part) =
-    ap (take (length p.done + c.many)) (whole ∙ ap (λ x. p.done ++ x) (sym (append-nil (waiting_bytes j ++ part)))) ∙ part_taken p.done (waiting_bytes j ++ part) [] c.many (omega (arith, c.fewer)) in
+    let first = ap (take (length p.done + c.many)) whole ∙ take-append-add p.done (waiting_bytes j ++ part) c.many in
     record {
       many = length p.done + c.many;
       fewer = omega (arith, c.fewer, ap length whole, length-append p.done (waiting_bytes j ++ part));
@@ -89,5 +87,4 @@ sent_at_end o m n j full (Part k) p c = sent_cut_in o m n j full [] [] full (Par
 
 -- one part more
 pub next_part : {X : Type 0} (f : X → List ℕ) (xs : List X) (i : ℕ) (x : X) → i < length xs → flat_map f (take (i + 1) xs) ≡ flat_map f (take i xs) ++ f (get_or xs i x)
-next_part f xs i x within =
-    ap (flat_map f) (take_more xs i x within) ∙ (flat_map-append f (take i xs) (get_or xs i x ∷ []) ∙ ap (λ ys. flat_map f (take i xs) ++ ys) (flat_map-cons f (get_or xs i x) [] ∙ append-nil (f (get_or xs i x))))
+next_part f xs i x within = ap (flat_map f) (take_more xs i x within) ∙ sym (flat_map_more f [] (take i xs) (get_or xs i x))

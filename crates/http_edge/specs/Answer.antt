@@ -3,21 +3,13 @@ use Rattle.std.specs.Prelude.{◌≡◌, ◌≢◌, ◌⊎◌, ℕ, List, [], Bo
 use Rattle.std.specs.Prelude.{⊤}
 use Rattle.httparse.specs.Grammar.{RequestHead, NeverHasRequest}
 use Rattle.http_edge.specs.declared.fault.HttpFault.{HttpFault}
-use Rattle.http_edge.specs.declared.fault.HttpFault.TheVariants.{Closed, BadHead, TooManyHeaders}
-use Rattle.http_edge.specs.declared.fault.HttpFault.TheVariants.{HeadTooLong, BadLength}
-use Rattle.http_edge.specs.declared.fault.HttpFault.TheVariants.{BodyTooLong, BadChunk, Truncated}
-use Rattle.http_edge.specs.declared.fault.HttpFault.TheVariants.{Io, NoMemory}
+use Rattle.http_edge.specs.declared.fault.HttpFault.TheVariants as fault
 use Rattle.http_edge.specs.declared.request.Request.{Request}
 use Rattle.http_edge.specs.Form.{Form, IsLasting}
 use Rattle.http_edge.specs.Message.{Message, IsHeadAt}
 use Rattle.http_edge.specs.Head.{HasTooManyFields, HasLongHead}
 use Rattle.http_edge.specs.Reading.{framing_in, BeginsWith, IsTooLong, NotYet, Never}
 use Rattle.http_edge.specs.Request.{message_in}
-
--- the head is whole, and its fields frame no body
-abbrev pub HasBadLength : List ℕ → Type 0
-HasBadLength bytes =
-    (head : RequestHead) × (after : List ℕ) × IsHeadAt bytes head after × (framing_in head ≡ None)
 
 -- the head is whole and frames a body, and whatever follows, no message begins so
 abbrev pub HasBadBody : List ℕ → Type 0
@@ -27,16 +19,17 @@ HasBadBody bytes =
 
 -- what each fault says of the bytes; NoMemory says nothing of them, and Io is none of theirs
 abbrev pub Explains : HttpFault → List ℕ → Type 0
-Explains Closed bytes = bytes ≡ []
-Explains BadHead bytes = NeverHasRequest bytes
-Explains TooManyHeaders bytes = HasTooManyFields bytes
-Explains HeadTooLong bytes = HasLongHead bytes
-Explains BadLength bytes = HasBadLength bytes
-Explains BodyTooLong bytes = IsTooLong bytes
-Explains BadChunk bytes = HasBadBody bytes
-Explains Truncated bytes = (bytes ≢ []) × NotYet bytes
-Explains Io bytes = ⊥
-Explains NoMemory bytes = ⊤
+Explains fault.Closed bytes = bytes ≡ []
+Explains fault.BadHead bytes = NeverHasRequest bytes
+Explains fault.TooManyHeaders bytes = HasTooManyFields bytes
+Explains fault.HeadTooLong bytes = HasLongHead bytes
+Explains fault.BadLength bytes =
+    (head : RequestHead) × (after : List ℕ) × IsHeadAt bytes head after × (framing_in head ≡ None)
+Explains fault.BodyTooLong bytes = IsTooLong bytes
+Explains fault.BadChunk bytes = HasBadBody bytes
+Explains fault.Truncated bytes = (bytes ≢ []) × NotYet bytes
+Explains fault.Io bytes = ⊥
+Explains fault.NoMemory bytes = ⊤
 
 -- a request as a form of message
 abbrev pub request_form : Form Message Request
@@ -56,4 +49,4 @@ Reports bytes (Err e) = Fails e bytes
 -- where the size is the first thing that is wrong, BodyTooLong is answered, unless memory ran out
 abbrev pub ReportsTooLong : Result Request HttpFault → Type 0
 ReportsTooLong (Ok r) = ⊥
-ReportsTooLong (Err e) = (e ≡ BodyTooLong) ⊎ (e ≡ NoMemory)
+ReportsTooLong (Err e) = (e ≡ fault.BodyTooLong) ⊎ (e ≡ fault.NoMemory)

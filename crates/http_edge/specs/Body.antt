@@ -21,7 +21,6 @@ pub record BodyState : Type 0 where
 abbrev pub Grows : Phase → List ℕ → List ℕ → List ℕ → Option (List ℕ) → Type 0
 Grows (Counted n) content part more (Some body) =
     (y : List ℕ) × (rest : List ℕ) × (length y ≡ n) × (more ≡ y ++ rest) × (body ≡ content ++ y)
-Grows (Counted n) content part more None = ⊥
 Grows Line content part more body = HasChunks content (part ++ more) body
 Grows (Content n) content part more body =
     (y : List ℕ) × (after : List ℕ) × (length y ≡ n) × (more ≡ y ++ 13 ∷ 10 ∷ after)
@@ -31,9 +30,8 @@ Grows Return content part more body =
 Grows LineFeed content part more body =
     (after : List ℕ) × (more ≡ 10 ∷ after) × HasChunks content after body
 Grows Trailer content part more (Some body) = HasTrailer (part ++ more) × (body ≡ content)
-Grows Trailer content part more None = ⊥
 Grows Whole content part more (Some body) = body ≡ content
-Grows Whole content part more None = ⊥
+Grows phase content part more None = ⊥
 
 abbrev pub Becomes : BodyState → List ℕ → Option (List ℕ) → Type 0
 Becomes s more body = Grows s.phase s.content s.part more body
@@ -49,24 +47,17 @@ Fits Line content part =
     (length part < MAX_LINE) × (length content ≤ MAX_BODY) × HasNoChunkLine part
     × MayBecomeChunkLine part
 Fits (Content n) content part = (0 < n) × (length content + n ≤ MAX_BODY) × (part ≡ [])
-Fits Return content part = (length content ≤ MAX_BODY) × (part ≡ [])
-Fits LineFeed content part = (length content ≤ MAX_BODY) × (part ≡ [])
 Fits Trailer content part =
     (length part < MAX_TRAILER) × (length content ≤ MAX_BODY) × HasNoSection part
     × MayBecomeSection part
-Fits Whole content part = (length content ≤ MAX_BODY) × (part ≡ [])
+Fits phase content part = (length content ≤ MAX_BODY) × (part ≡ [])
 
 abbrev pub IsOpen : BodyState → Type 0
 IsOpen s = Fits s.phase s.content s.part
 
 abbrev pub is_whole : Phase → Bool
 is_whole Whole = true
-is_whole (Counted n) = false
-is_whole Line = false
-is_whole (Content n) = false
-is_whole Return = false
-is_whole LineFeed = false
-is_whole Trailer = false
+is_whole phase = false
 
 -- the most bytes of chunks that have so much room, up to the end: a chunk has a byte, a line and
 -- two line ends

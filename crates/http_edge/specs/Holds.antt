@@ -55,15 +55,13 @@ Holds (failed e) bytes = Fails e bytes
 
 -- the fault that was returned, if one was
 abbrev pub fault_in : Progress → Option HttpFault
-fault_in (in_head head) = None
-fault_in (in_body head body) = None
 fault_in (failed e) = Some e
+fault_in p = None
 
 -- the decoded body so far
 abbrev pub content_in : Progress → List ℕ
-content_in (in_head head) = []
 content_in (in_body head body) = body.content
-content_in (failed e) = []
+content_in p = []
 
 -- how many bytes are kept: of the head, the body so far, and the part so far of a size line or of
 -- the trailers

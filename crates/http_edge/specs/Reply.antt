@@ -5,8 +5,7 @@ use Rattle.httparse.specs.Grammar.{ResponseHead, print_response, ReadsResponse, 
 use Rattle.httparse.specs.Grammar.{NeverHasResponse, MayBecomeResponse, status_code}
 use Rattle.httparse.specs.Spans.{name_and_value, ResponseOverflows, ResponseExceeds}
 use Rattle.http_edge.specs.declared.fault.HttpFault.{HttpFault}
-use Rattle.http_edge.specs.declared.fault.HttpFault.TheVariants.{Closed, BadHead, TooManyHeaders}
-use Rattle.http_edge.specs.declared.fault.HttpFault.TheVariants.{HeadTooLong, Truncated, NoMemory}
+use Rattle.http_edge.specs.declared.fault.HttpFault.TheVariants as fault
 use Rattle.http_edge.specs.declared.reply.Reply.{Reply}
 use Rattle.http_edge.specs.declared.limits.TheConstants.{MAX_FIELDS, MAX_HEAD}
 use Rattle.http_edge.specs.Form.{Form, AnswerSays}
@@ -55,15 +54,15 @@ IsReplyOpen buf = HasNoResponse buf × (length buf < MAX_HEAD) × MayBecomeRespo
 
 -- what each fault says of the bytes; NoMemory says nothing of them, and no other fault comes
 abbrev pub ExplainsReply : HttpFault → List ℕ → Type 0
-ExplainsReply Closed bytes = bytes ≡ []
-ExplainsReply BadHead bytes = NeverHasResponse bytes
-ExplainsReply TooManyHeaders bytes =
+ExplainsReply fault.Closed bytes = bytes ≡ []
+ExplainsReply fault.BadHead bytes = NeverHasResponse bytes
+ExplainsReply fault.TooManyHeaders bytes =
     ResponseOverflows MAX_FIELDS bytes × ResponseExceeds MAX_FIELDS bytes
-ExplainsReply HeadTooLong bytes =
+ExplainsReply fault.HeadTooLong bytes =
     (MAX_HEAD ≤ length bytes) × ((more : List ℕ) (k : ResponseHead) (after : List ℕ)
     → ReadsResponse (bytes ++ more) k after → MAX_HEAD < length (print_response k))
-ExplainsReply Truncated bytes = (bytes ≢ []) × NoReply bytes
-ExplainsReply NoMemory bytes = ⊤
+ExplainsReply fault.Truncated bytes = (bytes ≢ []) × NoReply bytes
+ExplainsReply fault.NoMemory bytes = ⊤
 ExplainsReply e bytes = ⊥
 
 -- the head of a response as a form of message

@@ -14,5 +14,4 @@ Sent old new text (Part n) = Appends old new (take n text) × (0 < n) × (n < le
 -- tried again
 abbrev pub Failed : (ℕ → ℕ) → ℕ → ℕ → Written → Type 0
 Failed one_more old new All = new ≡ old
-Failed one_more old new None_ = new ≡ one_more old
-Failed one_more old new (Part n) = new ≡ one_more old
+Failed one_more old new written = new ≡ one_more old

@@ -13,20 +13,16 @@ response_of digits phrase content_type size label methods body =
     ++ (content_type ++ (codes "\r\nContent-Length: "
     ++ (size ++ (label ++ (methods ++ (codes "\r\nConnection: close\r\n\r\n" ++ body))))))))))
 
--- the phrase of a status, which is empty where it has none
-abbrev pub phrase : ℕ → List ℕ
-phrase status = unwrap_or (reason_phrase status) []
-
 -- the label of the methods that are allowed, where there are some
 abbrev pub allow_label : Option (List ℕ) → List ℕ
 allow_label None = []
 allow_label (Some methods) = codes "\r\nAllow: "
 
--- the response with that status and body
+-- the response with that status and body; the phrase is empty where the status has none
 abbrev pub response_text : ℕ → List ℕ → Option (List ℕ) → List ℕ → List ℕ
 response_text status content_type allow body =
-    response_of (code_digits status) (phrase status) content_type (decimal (length body))
-    (allow_label allow) (unwrap_or allow []) body
+    response_of (code_digits status) (unwrap_or (reason_phrase status) []) content_type
+    (decimal (length body)) (allow_label allow) (unwrap_or allow []) body
 
 -- a request to that host, of that length
 abbrev pub post_request : List ℕ → List ℕ → List ℕ → List ℕ

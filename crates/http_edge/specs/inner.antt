@@ -1,10 +1,8 @@
-pub mod Message
 pub mod Framing
 pub mod Body
 pub mod Head
 pub mod Holds
 pub mod Request
-pub mod Delivery
 pub mod Sent
 pub mod WriteBuffer
 pub mod Reply

@@ -1,5 +1,5 @@
 //! How the fields of a head frame its body (RFC 9112, section 6).
-ghost use Rattle.std.specs.Prelude.{◌≡◌, ◌∷◌, ◌++◌, [], ◌≤◌, ◌<◌, length, map, All, MatchResult};
+ghost use Rattle.std.specs.Prelude.{◌≡◌, ◌∷◌, ◌++◌, [], ◌<◌, length, map, All, MatchResult};
 ghost use Rattle.std.specs.Prelude.{option_to_list, option_copied};
 ghost use Rattle.httparse.specs.Spans.{header_bytes, IsHeaderWithin};
 ghost use Rattle.http_edge.specs.Framing.{is_named, values_of};

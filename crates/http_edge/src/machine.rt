@@ -9,11 +9,9 @@ ghost use Rattle.http_edge.specs.Message.{IsHeadAt};
 ghost use Rattle.http_edge.specs.Reading.{NotYet, message_of};
 ghost use Rattle.http_edge.specs.Body.{is_whole, IsOpen};
 ghost use Rattle.http_edge.specs.inner.Body.{body_state, Reaches, Refuses};
-ghost use Rattle.http_edge.specs.Holds.{fault_in, content_in};
-ghost use Rattle.http_edge.specs.inner.Holds.{progress_of, start};
-ghost use Rattle.http_edge.specs.Holds.{kept_len, IsSound, Holds};
-ghost use Rattle.http_edge.specs.inner.Holds.{TakesHead, IsFed};
-ghost use Rattle.http_edge.specs.inner.Holds.{IsFramed, Starts};
+ghost use Rattle.http_edge.specs.Holds.{fault_in, content_in, kept_len, IsSound, Holds};
+ghost use Rattle.http_edge.specs.inner.Holds.{progress_of, start, TakesHead, IsFed, IsFramed};
+ghost use Rattle.http_edge.specs.inner.Holds.{Starts};
 
 use crate::body::Body;
 use crate::fault::HttpFault;

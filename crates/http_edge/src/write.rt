@@ -3,8 +3,7 @@ ghost use Rattle.std.specs.Prelude.{◌≡◌, ◌<◌, ◌+◌, ◌^◌, length
 ghost use Rattle.std.specs.List.{flat_map};
 ghost use Rattle.http.specs.StatusCode.{reason_phrase};
 ghost use Rattle.http_edge.specs.Sent.{Sent, Failed};
-ghost use Rattle.http_edge.specs.Texts.{response_of};
-ghost use Rattle.http_edge.specs.Texts.{response_text, post_text};
+ghost use Rattle.http_edge.specs.Texts.{response_of, response_text, post_text};
 
 use crate::write_buffer::WriteBuffer;
 use crate::written::Written;

@@ -2,10 +2,9 @@
 use Rattle.std.specs.Prelude.{◌≡◌, ◌==◌, ◌||◌, Bool, false}
 use Rattle.gate_workers.specs.Paced.{Reaching}
 use Rattle.gate_workers.specs.Refusals.{refusal_status}
-use Rattle.gate_workers.specs.declared.refusal.Refusal.TheVariants.{Malformed, BodyTooLong}
-use Rattle.gate_workers.specs.declared.refusal.Refusal.TheVariants.{NoMemory}
+use Rattle.gate_workers.specs.declared.refusal.Refusal.TheVariants as refusal
 use Rattle.gate_workers.specs.declared.service.Served.{Served}
-use Rattle.gate_workers.specs.declared.service.Served.TheVariants.{Closed, Broken, Replied}
+use Rattle.gate_workers.specs.declared.service.Served.TheVariants.{Replied}
 use Rattle.gate_workers.specs.declared.worker.Spot.{Spot}
 use Rattle.gate_workers.specs.declared.worker.Spot.TheVariants.{BodyRead, BeforeSend}
 use Rattle.gateway_serve.specs.declared.reading.Reading.{Reading}
@@ -23,9 +22,7 @@ IsNoted reading spot reading' = reading' ≡ reading_at spot reading
 -- the request may have been refused before all of it was read: no more of it is known, and it has
 -- the status of such a refusal
 abbrev pub is_cut_off : Served → Reading → Bool
-is_cut_off Closed reading = false
-is_cut_off Broken reading = false
-is_cut_off (Replied status written end) Whole = false
 is_cut_off (Replied status written end) Open =
-    (status == refusal_status Malformed) || (status == refusal_status BodyTooLong)
-    || (status == refusal_status NoMemory)
+    (status == refusal_status refusal.Malformed) || (status == refusal_status refusal.BodyTooLong)
+    || (status == refusal_status refusal.NoMemory)
+is_cut_off served reading = false

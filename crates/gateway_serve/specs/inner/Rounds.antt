@@ -1,6 +1,5 @@
 -- What serves one round after another.
-use Rattle.std.specs.Prelude.{◌≡◌, ℕ, ◌-◌, ◌*◌, ◌<◌, ◌≤◌, List, [], ◌∷◌, length}
-use Rattle.std.specs.Prelude.{Result, Ok}
+use Rattle.std.specs.Prelude.{◌≡◌, ℕ, ◌-◌, ◌*◌, ◌<◌, ◌≤◌, List, [], ◌∷◌, length, Result, Ok}
 use Rattle.metric_events.specs.Legal.{IsLegal}
 use Rattle.metric_events.specs.Standing.{standing}
 use Rattle.delta_book.specs.Journal.{Journal, history}
@@ -51,6 +50,4 @@ pub record CanServe {S : Type 0} (can : S → Journal → ℕ → Type 0)
 -- why a round can't be closed, as the gateway ends by it: out of memory, or what the book refuses
 abbrev pub close_fault : RoundFault → GatewayFault
 close_fault why.NoMemory = NoMemory
-close_fault why.BatchOpen = AuditFailed
-close_fault why.FlushLive = AuditFailed
-close_fault why.LastRound = AuditFailed
+close_fault refused = AuditFailed

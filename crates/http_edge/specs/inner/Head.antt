@@ -2,12 +2,10 @@
 use Rattle.std.specs.Prelude.{ℕ, ◌≤◌, List, length, Option, Some, None, Result, Ok, Err}
 use Rattle.httparse.specs.declared.spans.HeaderSpan.{HeaderSpan}
 use Rattle.httparse.specs.declared.spans.RequestSpans.{RequestSpans}
-use Rattle.httparse.specs.Grammar.{RequestHead, print_request}
-use Rattle.httparse.specs.Grammar.{NeverHasRequest}
+use Rattle.httparse.specs.Grammar.{RequestHead, print_request, NeverHasRequest}
 use Rattle.httparse.specs.Spans.{IsRequestAt, IsRequestWithin}
 use Rattle.http_edge.specs.declared.fault.HttpFault.{HttpFault}
-use Rattle.http_edge.specs.declared.fault.HttpFault.TheVariants.{BadHead, TooManyHeaders}
-use Rattle.http_edge.specs.declared.fault.HttpFault.TheVariants.{HeadTooLong}
+use Rattle.http_edge.specs.declared.fault.HttpFault.TheVariants as fault
 use Rattle.http_edge.specs.declared.limits.TheConstants.{MAX_FIELDS, MAX_HEAD}
 use Rattle.http_edge.specs.Head.{HasTooManyFields, HasLongHead, IsHeadOpen}
 
@@ -22,7 +20,7 @@ pub record FindsHead (buf : List ℕ) (spans : List HeaderSpan) (r : RequestSpan
 abbrev pub LooksForHead : List ℕ → List HeaderSpan → Result (Option RequestSpans) HttpFault → Type 0
 LooksForHead buf spans (Ok (Some r)) = (head : RequestHead) × FindsHead buf spans r head
 LooksForHead buf spans (Ok None) = IsHeadOpen buf
-LooksForHead buf spans (Err BadHead) = NeverHasRequest buf
-LooksForHead buf spans (Err TooManyHeaders) = HasTooManyFields buf
-LooksForHead buf spans (Err HeadTooLong) = HasLongHead buf
+LooksForHead buf spans (Err fault.BadHead) = NeverHasRequest buf
+LooksForHead buf spans (Err fault.TooManyHeaders) = HasTooManyFields buf
+LooksForHead buf spans (Err fault.HeadTooLong) = HasLongHead buf
 LooksForHead buf spans (Err e) = ⊥

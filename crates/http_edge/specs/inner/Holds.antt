@@ -11,9 +11,8 @@ use Rattle.http_edge.specs.declared.limits.TheConstants.{MAX_BODY, MAX_HEAD}
 use Rattle.http_edge.specs.Message.{IsHeadAt}
 use Rattle.http_edge.specs.Head.{IsHeadOpen}
 use Rattle.http_edge.specs.Reading.{HasBody, framing_in}
-use Rattle.http_edge.specs.Body.{BodyState, Becomes, IsOpen, is_whole, most_left}
+use Rattle.http_edge.specs.Body.{BodyState, Becomes, IsOpen, is_whole, most_left, most_of_chunks}
 use Rattle.http_edge.specs.inner.Body.{body_state}
-use Rattle.http_edge.specs.Body.{most_of_chunks}
 use Rattle.http_edge.specs.Answer.{Fails}
 use Rattle.http_edge.specs.Holds.{Progress, IsSound, Holds, fault_in, most_to_come, in_head}
 use Rattle.http_edge.specs.Holds.{in_body, failed}
@@ -29,9 +28,8 @@ start = in_head []
 
 -- the message is whole
 abbrev pub is_done : Progress → Bool
-is_done (in_head head) = false
 is_done (in_body head body) = is_whole body.phase
-is_done (failed e) = false
+is_done p = false
 
 -- a body within the limit
 abbrev pub IsFramed : Framing → Type 0

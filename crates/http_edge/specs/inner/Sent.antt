@@ -20,5 +20,4 @@ pub record IsCut (old new : Option (List ℕ)) (sent : ℕ) (bytes : List ℕ)
 -- the sink took all of the bytes, or was cut
 abbrev pub Ends : Option (List ℕ) → Option (List ℕ) → ℕ → List ℕ → Written → Type 0
 Ends old new sent bytes All = Appends old new bytes
-Ends old new sent bytes None_ = IsCut old new sent bytes None_
-Ends old new sent bytes (Part n) = IsCut old new sent bytes (Part n)
+Ends old new sent bytes written = IsCut old new sent bytes written

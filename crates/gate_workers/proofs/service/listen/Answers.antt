@@ -1,7 +1,7 @@
 use Rattle.std.proofs.Common.{inl}
 use Rattle.http_edge.specs.Request.{message_in}
 use Rattle.gate_workers.specs.inner.Shown.{shown}
-use Rattle.gate_workers.proofs.Hearing.{heard_fault, heard_message, heard_without_memory}
+use Rattle.gate_workers.proofs.Hearing.{unasked, heard_fault, heard_message, heard_without_memory}
 use Rattle.gate_workers.proofs.Pacing.{whole}
 use Rattle.gate_workers.proofs.service.listen.Goals as goal
 
@@ -19,3 +19,6 @@ returns-in-Ok-ask_of-clause-paced g c = inl (whole (g.S.Source.remaining c.args.
 
 pub returns-in-Err-ask_of-clause-paced : goal.returns-in-Err-ask_of-clause-paced
 returns-in-Err-ask_of-clause-paced g c = inl (whole (g.S.Source.remaining c.args.reader.now) (message_in c.in-Ok.request) c.in-Ok.ensures.says, c.at.ensures)
+
+pub returns-in-Err-clause-paced : goal.returns-in-Err-clause-paced
+returns-in-Err-clause-paced g c = rw c.heard_of.ensures (unasked g.P.Pace.reaches (g.S.Source.remaining c.args.reader.now) c.in-Err.fault c.args.pace.now c.in-Err.ensures.says)

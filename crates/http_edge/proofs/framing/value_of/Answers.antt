@@ -1,13 +1,9 @@
 use Rattle.std.proofs.Common.{◌++◌, ◌∷◌, ◌<◌, ◌+◌, [], map, take, ap, sym, refl, ◌∙◌, length, get_or, arith}
 use Rattle.std.proofs.lemmas.Result.{err_from_is_err_and}
-use Rattle.httparse.specs.declared.spans.HeaderSpan.{HeaderSpan}
 use Rattle.httparse.specs.Spans.{header_bytes}
 use Rattle.http_edge.specs.Framing.{values_of}
-use Rattle.http_edge.proofs.FieldLemmas.{values_of_more, values_of_grow}
+use Rattle.http_edge.proofs.FieldLemmas.{unset, values_of_more, values_of_grow}
 use Rattle.http_edge.proofs.framing.value_of.Goals as goal
-
-abbrev unset : HeaderSpan
-unset = record { name = record { start = 0; end = 0 }; value = record { start = 0; end = 0 } }
 
 pub loop-header-init : goal.loop-header-init
 unfolding values_of

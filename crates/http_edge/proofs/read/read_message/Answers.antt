@@ -1,14 +1,12 @@
-use Rattle.std.proofs.Common.{◌<◌, [], refl, ◌++◌, length, take, arith, true, false, Ok, Err, subst}
-use Rattle.std.specs.Io.KnownBytes.{Consumes}
-use Rattle.std.proofs.lemmas.List.{length-take-le, length-append}
+use Rattle.std.proofs.Common.{[], refl, ◌++◌, take, arith, true, false, Ok, Err, subst}
+use Rattle.std.proofs.KnownBytes.{Consumes-trans}
 use Rattle.std.proofs.lemmas.Result.{err_from_is_err_and}
 use Rattle.http_edge.specs.Answer.{request_form, Reports}
-use Rattle.http_edge.specs.Delivery.{IsStillOpen}
 use Rattle.http_edge.specs.Holds.{IsSound}
 use Rattle.http_edge.proofs.AnswerLemmas.{request_laws}
-use Rattle.http_edge.proofs.FormLemmas.{says, said_at_end, known_front, not_empty}
-use Rattle.http_edge.proofs.ReadLemmas.{begins, goes_on, at_message, at_fault, closed_at_end, not_cut, still_open}
-use Rattle.http_edge.proofs.SourceLemmas.{known_more, at_end, stops}
+use Rattle.http_edge.proofs.FormLemmas.{says, said_at_end}
+use Rattle.http_edge.proofs.ReadLemmas.{begins, goes_on, at_message, at_fault, closed_at_end, not_cut, stops_open}
+use Rattle.http_edge.proofs.SourceLemmas.{at_end, some_given}
 use Rattle.http_edge.proofs.read.read_message.Goals as goal
 
 pub pieces-init : goal.pieces-init
@@ -38,9 +36,7 @@ returns-then-n-eq0-clause-says g c =
     says request_form request_laws r0 c.finish.result (said_at_end request_form r0 r1 fed c.finish.result so.known ended (c.finish.ensures.answers fed so.holds)) closed
 
 pub returns-then-n-eq0-clause-stops : goal.returns-then-n-eq0-clause-stops
-returns-then-n-eq0-clause-stops g c =
-    stops IsStillOpen (g.S.Source.remaining c.args.source.now) (g.S.Source.remaining c.pieces.source) (g.S.Source.remaining c.read.new.self) (g.S.Source.given c.read.new.self) c.in-Ok.n c.pieces.invariant.so_far.0 c.read.new.buf c.pieces.invariant.so_far.1.known c.in-Ok.ensures.bytes.0
-    c.in-Ok.ensures.bound c.in-Ok.ensures.given (still_open (g.S.Source.remaining c.args.source.now) (g.S.Source.remaining c.pieces.source) _ c.pieces.invariant.so_far.0 (subst IsSound c.decoder.view_is c.decoder.invariant) c.pieces.invariant.so_far.1)
+returns-then-n-eq0-clause-stops g c = stops_open (g.S.Source.remaining c.args.source.now) (g.S.Source.remaining c.pieces.source) (g.S.Source.remaining c.read.new.self) (g.S.Source.given c.read.new.self) c.in-Ok.n _ c.pieces.invariant.so_far.0 c.read.new.buf (subst IsSound c.decoder.view_is c.decoder.invariant) c.pieces.invariant.so_far.1 c.in-Ok.ensures.bytes.0 c.in-Ok.ensures.bound c.in-Ok.ensures.given
 
 pub returns-then-n-eq0-clause-truncated : goal.returns-then-n-eq0-clause-truncated
 returns-then-n-eq0-clause-truncated g c =
@@ -52,46 +48,35 @@ returns-then-n-eq0-clause-truncated g c =
 
 pub returns-in_err-feed-clause-says : goal.returns-in_err-feed-clause-says
 returns-in_err-feed-clause-says g c =
-    let r0 = g.S.Source.remaining c.args.source.now in
-    let r1 = g.S.Source.remaining c.pieces.source in
-    let r2 = g.S.Source.remaining c.read.new.self in
+    let old = g.S.Source.remaining c.args.source.now in
+    let now = g.S.Source.remaining c.pieces.source in
+    let next = g.S.Source.remaining c.read.new.self in
     let fed = c.pieces.invariant.so_far.0 in
     let so = c.pieces.invariant.so_far.1 in
-    let piece = take c.in-Ok.n c.read.new.buf in
-    let took : Consumes r1 r2 piece = c.in-Ok.ensures.bytes.0 in
-    let some : 0 < length (fed ++ piece) = omega (arith, length-append fed piece, length-take-le c.in-Ok.n c.read.new.buf c.in-Ok.ensures.bound, c.if-n-eq0.false) in
-    let front = known_front r0 r2 (fed ++ piece) (known_more r0 r1 r2 fed piece so.known took) in
     let p = err_from_is_err_and c.from_residual.result c.from_residual.ensures.1 in
     let e = c.in_err-feed.field-0.0 in
-    rw (p.1, p.2) (says request_form request_laws r0 (Err e) (at_fault r0 r1 r2 c.pieces.decoder fed piece e so took (c.in_err-feed.ensures.reports fed so.holds)) (not_empty r0 (fed ++ piece) _ front some))
+    rw (p.1, p.2) (says request_form request_laws old (Err e) (at_fault old now next c.pieces.decoder fed (take c.in-Ok.n c.read.new.buf) e so c.in-Ok.ensures.bytes.0 (c.in_err-feed.ensures.reports fed so.holds)) (some_given old now next fed c.read.new.buf c.in-Ok.n _ so.known c.in-Ok.ensures.bytes.0 c.in-Ok.ensures.bound (omega arith)))
 
 pub returns-in_err-feed-clause-stops : goal.returns-in_err-feed-clause-stops
-returns-in_err-feed-clause-stops g c =
-    stops IsStillOpen (g.S.Source.remaining c.args.source.now) (g.S.Source.remaining c.pieces.source) (g.S.Source.remaining c.read.new.self) (g.S.Source.given c.read.new.self) c.in-Ok.n c.pieces.invariant.so_far.0 c.read.new.buf c.pieces.invariant.so_far.1.known c.in-Ok.ensures.bytes.0
-    c.in-Ok.ensures.bound c.in-Ok.ensures.given (still_open (g.S.Source.remaining c.args.source.now) (g.S.Source.remaining c.pieces.source) _ c.pieces.invariant.so_far.0 (subst IsSound c.decoder.view_is c.decoder.invariant) c.pieces.invariant.so_far.1)
+returns-in_err-feed-clause-stops g c = stops_open (g.S.Source.remaining c.args.source.now) (g.S.Source.remaining c.pieces.source) (g.S.Source.remaining c.read.new.self) (g.S.Source.given c.read.new.self) c.in-Ok.n _ c.pieces.invariant.so_far.0 c.read.new.buf (subst IsSound c.decoder.view_is c.decoder.invariant) c.pieces.invariant.so_far.1 c.in-Ok.ensures.bytes.0 c.in-Ok.ensures.bound c.in-Ok.ensures.given
 
 -- ---- a message was fed
 
 pub returns-then-branch-clause-says : goal.returns-then-branch-clause-says
 returns-then-branch-clause-says g c =
-    let r0 = g.S.Source.remaining c.args.source.now in
-    let r1 = g.S.Source.remaining c.pieces.source in
-    let r2 = g.S.Source.remaining c.read.new.self in
+    let old = g.S.Source.remaining c.args.source.now in
+    let now = g.S.Source.remaining c.pieces.source in
+    let next = g.S.Source.remaining c.read.new.self in
     let fed = c.pieces.invariant.so_far.0 in
     let so = c.pieces.invariant.so_far.1 in
     let piece = take c.in-Ok.n c.read.new.buf in
-    let took : Consumes r1 r2 piece = c.in-Ok.ensures.bytes.0 in
-    let some : 0 < length (fed ++ piece) = omega (arith, length-append fed piece, length-take-le c.in-Ok.n c.read.new.buf c.in-Ok.ensures.bound, c.if-n-eq0.false) in
-    let known = known_more r0 r1 r2 fed piece so.known took in
     let whole : Reports (fed ++ piece) (Ok true) = rw c.if-branch.true at (c.in_ok-feed.ensures.reports fed so.holds) in
     let r = c.finish-then-branch.result in
     let answers = c.finish-then-branch.ensures.answers (fed ++ piece) (c.feed.ensures.holds fed so.holds) in
-    says request_form request_laws r0 r (at_message r0 r2 (fed ++ piece) r whole.0 known whole.1 answers) (not_empty r0 (fed ++ piece) _ (known_front r0 r2 (fed ++ piece) known) some)
+    says request_form request_laws old r (at_message old next (fed ++ piece) r whole.0 (Consumes-trans old now next fed piece so.known c.in-Ok.ensures.bytes.0) whole.1 answers) (some_given old now next fed c.read.new.buf c.in-Ok.n _ so.known c.in-Ok.ensures.bytes.0 c.in-Ok.ensures.bound (omega arith))
 
 pub returns-then-branch-clause-stops : goal.returns-then-branch-clause-stops
-returns-then-branch-clause-stops g c =
-    stops IsStillOpen (g.S.Source.remaining c.args.source.now) (g.S.Source.remaining c.pieces.source) (g.S.Source.remaining c.read.new.self) (g.S.Source.given c.read.new.self) c.in-Ok.n c.pieces.invariant.so_far.0 c.read.new.buf c.pieces.invariant.so_far.1.known c.in-Ok.ensures.bytes.0
-    c.in-Ok.ensures.bound c.in-Ok.ensures.given (still_open (g.S.Source.remaining c.args.source.now) (g.S.Source.remaining c.pieces.source) _ c.pieces.invariant.so_far.0 (subst IsSound c.decoder.view_is c.decoder.invariant) c.pieces.invariant.so_far.1)
+returns-then-branch-clause-stops g c = stops_open (g.S.Source.remaining c.args.source.now) (g.S.Source.remaining c.pieces.source) (g.S.Source.remaining c.read.new.self) (g.S.Source.given c.read.new.self) c.in-Ok.n _ c.pieces.invariant.so_far.0 c.read.new.buf (subst IsSound c.decoder.view_is c.decoder.invariant) c.pieces.invariant.so_far.1 c.in-Ok.ensures.bytes.0 c.in-Ok.ensures.bound c.in-Ok.ensures.given
 
 pub returns-then-branch-clause-truncated : goal.returns-then-branch-clause-truncated
 returns-then-branch-clause-truncated g c =

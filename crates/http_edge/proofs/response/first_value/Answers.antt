@@ -1,12 +1,9 @@
 use Rattle.std.proofs.Common.{Some, refl, ap, sym, ◌∙◌, get_or, ◌≡◌, true, false}
-use Rattle.httparse.specs.declared.spans.HeaderSpan.{HeaderSpan}
 use Rattle.httparse.specs.Spans.{header_bytes, span_bytes}
 use Rattle.http_edge.specs.Framing.{values_of, is_named}
+use Rattle.http_edge.proofs.FieldLemmas.{unset}
 use Rattle.http_edge.proofs.ReplyLemmas.{first_here, values_here, none_more}
 use Rattle.http_edge.proofs.response.first_value.Goals as goal
-
-abbrev unset : HeaderSpan
-unset = record { name = record { start = 0; end = 0 }; value = record { start = 0; end = 0 } }
 
 pub loop-header-init : goal.loop-header-init
 unfolding values_of

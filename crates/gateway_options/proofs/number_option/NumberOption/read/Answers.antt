@@ -4,8 +4,7 @@ use Rattle.clap.specs.declared.parser.matches.Found.{Found}
 use Rattle.clap.specs.Words.{Row, Text, first_of, first_value, found_of, rows_of}
 use Rattle.clap.proofs.WalkLemmas.{first_value-rows}
 use Rattle.decimals.specs.Numbers.{at_most, number, number_up_to}
-use Rattle.gateway_options.specs.CommandLine.{Number}
-use Rattle.gateway_options.specs.inner.CommandLine.{HasNoNumber}
+use Rattle.gateway_options.specs.CommandLine.{Number, IsNumber}
 use Rattle.gateway_options.specs.inner.NumberOption.{described}
 use Rattle.gateway_options.proofs.number_option.NumberOption.read.Goals as goal
 
@@ -18,12 +17,12 @@ found_text : (found : Found) (name : Text) (most : ℕ) (text : Text) (o : Optio
 found_text found name most text o value read =
     ap (option_and_then (number_up_to most)) (sym (first_value-rows found name) ∙ sym value) ∙ sym read
 
-unread : (n : Number) (rows : List Row) → option_and_then (number_up_to n.most) (first_of n.name rows) ≡ None → HasNoNumber n rows
+unread : (n : Number) (rows : List Row) → option_and_then (number_up_to n.most) (first_of n.name rows) ≡ None → (v : ℕ) → ¬ (IsNumber n rows v)
 unread n rows e v h =
     let bad : None ≡ Some v = sym e ∙ h.0 in
     cc
 
-too_small : (n : Number) (rows : List Row) (k : ℕ) → option_and_then (number_up_to n.most) (first_of n.name rows) ≡ Some k → k < n.least → HasNoNumber n rows
+too_small : (n : Number) (rows : List Row) (k : ℕ) → option_and_then (number_up_to n.most) (first_of n.name rows) ≡ Some k → k < n.least → (v : ℕ) → ¬ (IsNumber n rows v)
 too_small n rows k e l v h =
     let same : k ≡ v = ap (λ o. unwrap_or o 0) (sym e ∙ h.0) in
     omega (arith, same, l, h.1)
