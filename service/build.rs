@@ -1,9 +1,11 @@
 //! Compares the version that Cargo.toml has with the one that holds for all, the file VERSION at the top; and builds the
 //! library that gives a gateway its sockets.
 
-use std::path::PathBuf;
+use std::path::{Path, PathBuf};
 
 const SOCKETS: &str = "src/gateway/sockets.c";
+/// From the file that has the library, to this folder.
+const UP: &str = "../..";
 
 fn main() {
     println!("cargo:rerun-if-changed=../VERSION");
@@ -26,7 +28,7 @@ fn compare_versions() {
 }
 
 fn build_sockets() {
-    let made = PathBuf::from(std::env::var_os("OUT_DIR").expect("cargo tells a folder")).join("sockets.so");
+    let made = folder("OUT_DIR").join("sockets.so");
     let compiler = cc::Build::new()
         .opt_level(2)
         .debug(false)
@@ -38,11 +40,23 @@ fn build_sockets() {
     let built = compiler
         .to_command()
         .args(["-shared", "-s", SOCKETS, "-o"])
-        .arg(made)
+        .arg(&made)
         .status();
     match built {
-        Ok(status) if status.success() => {}
+        Ok(status) if status.success() => println!("cargo:rustc-env=SOCKETS={}", named(&made).display()),
         Ok(status) => panic!("{SOCKETS} can't be compiled: {status}"),
         Err(error) => panic!("no C compiler can be run: {error}"),
     }
+}
+
+/// By a path without the folder in which all is built, where it is in that: two folders make the same program.
+fn named(made: &Path) -> PathBuf {
+    match made.strip_prefix(folder("CARGO_MANIFEST_DIR")) {
+        Ok(within) => Path::new(UP).join(within),
+        Err(_) => made.into(),
+    }
+}
+
+fn folder(name: &str) -> PathBuf {
+    std::env::var_os(name).expect("cargo tells it").into()
 }

@@ -15,7 +15,7 @@ use std::os::linux::net::SocketAddrExt;
 use std::os::unix::net::{SocketAddr, UnixListener, UnixStream};
 
 /// The library that `build.rs` compiles from sockets.c.
-const SOCKETS: &[u8] = include_bytes!(concat!(env!("OUT_DIR"), "/sockets.so"));
+const SOCKETS: &[u8] = include_bytes!(env!("SOCKETS"));
 
 /// The library as a file without a name. Gateways inherit it.
 pub(super) struct Library(File);
