@@ -13,7 +13,7 @@ use Rattle.metric_events.specs.Legal.{IsLegal, is_open}
 use Rattle.metric_events.specs.declared.place.Place.TheVariants.{Home, InFlight, Acknowledged, Dropped}
 use Rattle.metric_events.specs.declared.accepted.Accepted.{Accepted}
 use Rattle.metric_events.specs.declared.batch.Batch.{Batch}
-use Rattle.metric_events.specs.declared.event.Event.TheVariants.{Admit, Undo, Confirm, Take, Settle, Drop, GiveBack, Quarantine, Lift}
+use Rattle.metric_events.specs.declared.event.Event.TheVariants.{Admit, Undo, Confirm, Take, Settle, Drop, GiveBack}
 use Rattle.metric_events.proofs.Lists.{all_append, all_filter, all_map, all_weaker, any_filter, any_before, filter_keeps}
 use Rattle.metric_events.proofs.Invariants.{new_points, all_admitted}
 use Rattle.metric_events.proofs.Fits.{taken_point}
@@ -36,39 +36,18 @@ AdmitIn (E ▸ e) b body = AdmitIn E b body
 new_not_in : (E : History) (c b : ℕ) (body : Batch) → IsNewBatch c E → AdmitIn E b body → c ≢ b
 new_not_in (Opened O) c b body n h = absurd h
 new_not_in (E ▸ Admit d some) c b body n h = elim h [ inl p ↦ (λ e. n.0 (p.0 ∙ sym e)) | inr m ↦ new_not_in E c b body n.1 m ]
-new_not_in (E ▸ Undo d) c b body n h = new_not_in E c b body n h
-new_not_in (E ▸ Confirm d) c b body n h = new_not_in E c b body n h
-new_not_in (E ▸ Take f some) c b body n h = new_not_in E c b body n h
-new_not_in (E ▸ Settle f) c b body n h = new_not_in E c b body n h
-new_not_in (E ▸ Drop f) c b body n h = new_not_in E c b body n h
-new_not_in (E ▸ GiveBack f) c b body n h = new_not_in E c b body n h
-new_not_in (E ▸ Quarantine s) c b body n h = new_not_in E c b body n h
-new_not_in (E ▸ Lift s) c b body n h = new_not_in E c b body n h
+new_not_in (E ▸ e) c b body n h = new_not_in E c b body n h
 
 -- a batch of the history is none of an earlier round
 new_above : (E : History) (b : ℕ) → IsNewBatch b E → (opening E).batches < b
 new_above (Opened O) b n = n
 new_above (E ▸ Admit c some) b n = new_above E b n.1
-new_above (E ▸ Undo c) b n = new_above E b n
-new_above (E ▸ Confirm c) b n = new_above E b n
-new_above (E ▸ Take f some) b n = new_above E b n
-new_above (E ▸ Settle f) b n = new_above E b n
-new_above (E ▸ Drop f) b n = new_above E b n
-new_above (E ▸ GiveBack f) b n = new_above E b n
-new_above (E ▸ Quarantine s) b n = new_above E b n
-new_above (E ▸ Lift s) b n = new_above E b n
+new_above (E ▸ e) b n = new_above E b n
 
 pub admitted_above : (E : History) (b : ℕ) (body : Batch) → IsLegal E → AdmitIn E b body → (opening E).batches < b
 admitted_above (Opened O) b body l h = absurd h
 admitted_above (E ▸ Admit c some) b body l h = elim h [ inl p ↦ subst (λ n. (opening E).batches < n) p.0 (new_above E c l.1.fresh) | inr k ↦ admitted_above E b body l.0 k ]
-admitted_above (E ▸ Undo c) b body l h = admitted_above E b body l.0 h
-admitted_above (E ▸ Confirm c) b body l h = admitted_above E b body l.0 h
-admitted_above (E ▸ Take f some) b body l h = admitted_above E b body l.0 h
-admitted_above (E ▸ Settle f) b body l h = admitted_above E b body l.0 h
-admitted_above (E ▸ Drop f) b body l h = admitted_above E b body l.0 h
-admitted_above (E ▸ GiveBack f) b body l h = admitted_above E b body l.0 h
-admitted_above (E ▸ Quarantine s) b body l h = admitted_above E b body l.0 h
-admitted_above (E ▸ Lift s) b body l h = admitted_above E b body l.0 h
+admitted_above (E ▸ e) b body l h = admitted_above E b body l.0 h
 
 -- the batch's points, one after another, with no other of it before or after
 pub record Whole (qs : List Accepted) (b : ℕ) (body : Batch) : Type 0 where
@@ -176,5 +155,4 @@ whole (E ▸ Take f series) b body l h o = whole_moved (taken f series) (moves_t
 whole (E ▸ Settle f) b body l h o = whole_moved (landed f Acknowledged) (moves_landed f Acknowledged) (points E) b body (whole E b body l.0 h o)
 whole (E ▸ Drop f) b body l h o = whole_moved (landed f Dropped) (moves_landed f Dropped) (points E) b body (whole E b body l.0 h o)
 whole (E ▸ GiveBack f) b body l h o = whole_moved (landed f Home) (moves_landed f Home) (points E) b body (whole E b body l.0 h o)
-whole (E ▸ Quarantine s) b body l h o = whole E b body l.0 h o
-whole (E ▸ Lift s) b body l h o = whole E b body l.0 h o
+whole (E ▸ e) b body l h o = whole E b body l.0 h o

@@ -4,7 +4,8 @@ use Rattle.std.specs.Prelude.{nat_lt}
 use Rattle.std.specs.List.{list_all, list_any}
 use Rattle.std.proofs.lemmas.List.{take-append-drop, take_at, map-append}
 use Rattle.std.proofs.lemmas.List.Elements.{filter-append}
-use Rattle.std.proofs.lemmas.Bool.{and_parts, and_from, or_parts, or_left, or_cases}
+use Rattle.std.proofs.lemmas.Bool.{and_parts, and_from, or_parts, or_left, or_cases, true_from_ne_false}
+use Rattle.std.proofs.Math.Bool.{and-false}
 use Rattle.series_id.specs.Identity.{Identity}
 use Rattle.series_id.specs.Order.{same_series, series_before}
 use Rattle.series_id.proofs.Order.{same_series-refl, same_series-exact, before-transitive, before-irreflexive}
@@ -14,19 +15,21 @@ use Rattle.metric_events.specs.Standing.{stands}
 use Rattle.metric_events.specs.Legal.{is_in_live, is_held}
 use Rattle.metric_events.specs.Choice.{is_eligible, first_eligible, is_cargo}
 use Rattle.metric_events.specs.declared.place.Place.{Place}
-use Rattle.metric_events.specs.declared.place.Place.TheVariants.{Home, InFlight, Acknowledged, Dropped}
+use Rattle.metric_events.specs.declared.place.Place.TheVariants.{InFlight}
 use Rattle.metric_events.specs.declared.accepted.Accepted.{Accepted}
 use Rattle.metric_events.specs.declared.flight.Flight.{Flight}
 use Rattle.metric_events.proofs.Identities.{same_series-turned}
 use Rattle.metric_events.proofs.InOrder.{series_ascend, not_among}
 use Rattle.metric_events.proofs.SeriesOnce.{among_in_order}
 use Rattle.metric_events.proofs.Lists.{all_filter, any_none, filter_none, any_weaker, both_at}
+use Rattle.metric_events.proofs.Opened.{any_of_series}
 use Rattle.metric_events.proofs.Moves.{rides, rides_at, rides-in_live}
 use Rattle.series_cell.specs.Cells.{CellView, Stands, AllOwn}
 use Rattle.series_cell.proofs.Reading.{flying_is, stored_is}
 use Rattle.delta_book.specs.Tables.{AreCells, AllStand, id_of}
 use Rattle.delta_book.specs.inner.Tables.{is_full, are_full}
 use Rattle.delta_book.proofs.Picking.{some_filtered}
+use Rattle.delta_book.proofs.Tables.{agree}
 use Rattle.delta_book.specs.Ready.{is_ready}
 use Rattle.delta_book.specs.inner.Ready.{ready_ids, first_ready}
 
@@ -102,11 +105,7 @@ among_filter t z (x ∷ xs) = both (same_series z x) (t x) refl refl (among_filt
 
     both : (v w : Bool) → same_series z x ≡ v → t x ≡ w → is_among z (filter t xs) ≡ (is_among z xs && t z) → is_among z (filter t (x ∷ xs)) ≡ ((same_series z x || is_among z xs) && t z)
     both true true e f r = let tz : t z ≡ true = ap t (same_series-exact z x e) ∙ f in rw (f, e) (sym tz)
-    both true false e f r = let tz : t z ≡ false = ap t (same_series-exact z x e) ∙ f in rw (f, e) (r ∙ (ap (λ v. is_among z xs && v) tz ∙ (and_false (is_among z xs) ∙ sym tz)))
-      where
-        and_false : (v : Bool) → (v && false) ≡ false
-        and_false true = refl
-        and_false false = refl
+    both true false e f r = let tz : t z ≡ false = ap t (same_series-exact z x e) ∙ f in rw (f, e) (r ∙ (ap (λ v. is_among z xs && v) tz ∙ (and-false (is_among z xs) ∙ sym tz)))
     both false true e f r = rw (f, e) r
     both false false e f r = rw (f, e) r
 
@@ -191,16 +190,12 @@ none_filtered : (t : Accepted → Bool) (qs : List Accepted) → list_any t qs �
 none_filtered t qs e = filter_none t qs (any_none t qs e)
 
 pub any_ready : (cs : List CellView) (qs : List Accepted) (live : List Flight) (held : List (List ℕ)) → AreCells cs qs → AreTied qs live → list_any (is_ready held) cs ≡ list_any (is_eligible live held) qs
-any_ready cs qs live held h t = cells (list_any (is_ready held) cs) (list_any (is_eligible live held) qs) refl refl
+any_ready cs qs live held h t = agree
+    (λ a. true_from_ne_false _ (λ b. some_ids held cs a (ids ∙ ap series_in_order (none_filtered (is_eligible live held) qs b))))
+    (λ b. true_from_ne_false _ (λ a. some_filtered (is_eligible live held) qs b (sym ids ∙ none_ids held cs a)))
   where
     ids : ready_ids held cs ≡ series_in_order (filter (is_eligible live held) qs)
     ids = ready_filter cs qs live held h.stand t ∙ (ap (filter (λ x. list_any (is_eligible live held) (of_series x qs))) h.ids ∙ series_passing (is_eligible live held) qs)
-
-    cells : (v w : Bool) → list_any (is_ready held) cs ≡ v → list_any (is_eligible live held) qs ≡ w → list_any (is_ready held) cs ≡ list_any (is_eligible live held) qs
-    cells true true a b = a ∙ sym b
-    cells false false a b = a ∙ sym b
-    cells true false a b = absurd (some_ids held cs a (ids ∙ ap series_in_order (none_filtered (is_eligible live held) qs b)))
-    cells false true a b = absurd (some_filtered (is_eligible live held) qs b (sym ids ∙ none_ids held cs a))
 
 -- what a book keeps is tied: a live flush has a point in flight of each of its series, and nothing else flies
 
@@ -217,45 +212,27 @@ flying_of : (x : Identity) (a : Accepted) → (f : ℕ) → is_cargo f x a ≡ t
 flying_of x a f h = by a.place h
   where
     by : (place : Place) → (is_in_flight f place && is_of x a) ≡ true → (is_of x a && is_flying place) ≡ true
-    by Home e = absurd (let k : false ≡ true = e in cc)
     by (InFlight g) e = and_from (is_of x a) true (and_parts (g == f) (is_of x a) e).1 refl
-    by Acknowledged e = absurd (let k : false ≡ true = e in cc)
-    by Dropped e = absurd (let k : false ≡ true = e in cc)
-
-any_of_both : (t : Accepted → Bool) (x : Identity) (qs : List Accepted) → list_any (λ a. is_of x a && t a) qs ≡ list_any t (of_series x qs)
-any_of_both t x [] = refl
-any_of_both t x (a ∷ qs) = both (is_of x a) refl (any_of_both t x qs)
-  where
-    both : (v : Bool) → is_of x a ≡ v → list_any (λ a. is_of x a && t a) qs ≡ list_any t (of_series x qs) → list_any (λ a. is_of x a && t a) (a ∷ qs) ≡ list_any t (of_series x (a ∷ qs))
-    both true e r = rw e (ap (λ v. t a || v) r)
-    both false e r = rw e r
+    by place e = absurd (let k : false ≡ true = e in cc)
 
 live_flies : (qs : List Accepted) (x : Identity) (live : List Flight) → are_full qs live ≡ true → is_in_live live x ≡ true → list_any (stands is_flying) (of_series x qs) ≡ true
 live_flies qs x [] h m = absurd (let q : false ≡ true = m in cc)
 live_flies qs x (l ∷ live) h m =
     let p = and_parts (is_full qs l) (are_full qs live) h in
     elim (or_cases (is_among x l.series) (is_in_live live x) m) [
-      | inl e ↦ sym (any_of_both (stands is_flying) x qs) ∙ any_weaker (is_cargo l.number x) (λ a. is_of x a && is_flying a.place) (λ a k. flying_of x a l.number k) qs (at_series (λ y. list_any (is_cargo l.number y) qs) x l.series p.0 e)
+      | inl e ↦ sym (any_of_series x (stands is_flying) qs) ∙ any_weaker (is_cargo l.number x) (λ a. is_of x a && is_flying a.place) (λ a k. flying_of x a l.number k) qs (at_series (λ y. list_any (is_cargo l.number y) qs) x l.series p.0 e)
       | inr e ↦ live_flies qs x live p.1 e
     ]
 
 flies_live : (qs : List Accepted) (x : Identity) (live : List Flight) → list_all (rides live) qs ≡ true → list_any (stands is_flying) (of_series x qs) ≡ true → is_in_live live x ≡ true
-flies_live qs x live h m = both_at (λ a. is_of x a && is_flying a.place) (rides live) (is_in_live live x ≡ true) (λ a k r. by a.place a (and_parts (is_of x a) (is_flying a.place) k).0 (and_parts (is_of x a) (is_flying a.place) k).1 r) qs (any_of_both (stands is_flying) x qs ∙ m) h
+flies_live qs x live h m = both_at (λ a. is_of x a && is_flying a.place) (rides live) (is_in_live live x ≡ true) (λ a k r. by a.place a (and_parts (is_of x a) (is_flying a.place) k).0 (and_parts (is_of x a) (is_flying a.place) k).1 r) qs (any_of_series x (stands is_flying) qs ∙ m) h
   where
     by : (place : Place) (a : Accepted) → is_of x a ≡ true → is_flying place ≡ true → rides_at live a.point.series place ≡ true → is_in_live live x ≡ true
-    by Home a e f r = absurd (let k : false ≡ true = f in cc)
     by (InFlight g) a e f r = subst (λ y. is_in_live live y ≡ true) (same_series-exact a.point.series x e) (rides-in_live live a.point.series g r)
-    by Acknowledged a e f r = absurd (let k : false ≡ true = f in cc)
-    by Dropped a e f r = absurd (let k : false ≡ true = f in cc)
+    by place a e f r = absurd (let k : false ≡ true = f in cc)
 
 pub tied : (qs : List Accepted) (live : List Flight) → list_all (rides live) qs ≡ true → are_full qs live ≡ true → AreTied qs live
-tied qs live r h = record { tied = λ x. both x (is_in_live live x) (list_any (stands is_flying) (of_series x qs)) refl refl }
-  where
-    both : (x : Identity) (v w : Bool) → is_in_live live x ≡ v → list_any (stands is_flying) (of_series x qs) ≡ w → is_in_live live x ≡ list_any (stands is_flying) (of_series x qs)
-    both x true true a b = a ∙ sym b
-    both x false false a b = a ∙ sym b
-    both x true false a b = absurd (let q : true ≡ false = sym (live_flies qs x live h a) ∙ b in cc)
-    both x false true a b = absurd (let q : true ≡ false = sym (flies_live qs x live r b) ∙ a in cc)
+tied qs live r h = record { tied = λ x. agree (live_flies qs x live h) (flies_live qs x live r) }
 
 -- so many of the first cells are ready, and these are the first
 pub first_upto : (held : List (List ℕ)) (cs : List CellView) (i n : ℕ) → length (ready_ids held (take i cs)) ≡ n → ready_ids held (take i cs) ≡ first_ready held n cs

@@ -1,5 +1,5 @@
 -- How many series there are, counted in series order.
-use Rattle.std.proofs.Common.{◌≡◌, ℕ, ◌+◌, ◌<◌, ◌≤◌, Bool, true, false, not, ◌||◌, List, [], ◌∷◌, ◌++◌, map, take, filter, get_or, length, refl, ap, sym, ◌∙◌, subst, arith, zero, suc, add-one}
+use Rattle.std.proofs.Common.{◌≡◌, ℕ, ◌+◌, ◌<◌, ◌≤◌, Bool, true, false, not, ◌||◌, List, [], ◌∷◌, ◌++◌, map, take, filter, get_or, length, refl, ap, sym, ◌∙◌, subst, arith}
 use Rattle.std.specs.Prelude.{if◌then◌else◌}
 use Rattle.std.specs.List.{list_any, list_all}
 use Rattle.std.proofs.lemmas.Bool.{and_parts, and_from, or_left}
@@ -23,6 +23,7 @@ use Rattle.series_cell.specs.Cells.{CellView}
 use Rattle.delta_book.specs.inner.Batches.{is_point_of}
 use Rattle.delta_book.specs.Tables.{AreCells, AreBooked, id_of}
 use Rattle.delta_book.proofs.CountedSeries.{listed-admitted}
+use Rattle.delta_book.proofs.Tables.{take_next}
 
 -- as many as the series in order
 
@@ -77,20 +78,12 @@ length_placed x (y ∷ ys) h = both (same_series x y) (series_before x y) refl r
 in_order_more : (qs : List Accepted) (a : Accepted) → series_in_order (qs ++ a ∷ []) ≡ placed a.point.series (series_in_order qs)
 in_order_more qs a = fold-append with_series [] qs (a ∷ [])
 
-take_next : {X : Type 0} (xs : List X) (j : ℕ) (x : X) → j < length xs → x ≡ get_or xs j x → take (suc j) xs ≡ take j xs ++ x ∷ []
-take_next [] j x l e = absurd (omega (arith, l))
-take_next (y ∷ xs) zero x l e = ap (λ z. z ∷ []) (sym e)
-take_next (y ∷ xs) (suc j) x l e = ap (λ ys. y ∷ ys) (take_next xs j x (omega arith) e)
-
-pub take_more : {X : Type 0} (xs : List X) (j : ℕ) (x : X) → j < length xs → x ≡ get_or xs j x → take (j + 1) xs ≡ take j xs ++ x ∷ []
-take_more xs j x l e = ap (λ n. take n xs) (add-one j) ∙ take_next xs j x l e
-
 -- the count goes on by one where a series is not known
 pub counted_on : (cs : List CellView) (ps : List DataPoint) (j n : ℕ) (p : DataPoint) (x : Identity) (known : Bool) (one : ℕ) (b : ℕ) (s : List ℕ) (qs : List Accepted) (before : List DataPoint) → AreCells cs qs → j < length ps → p ≡ get_or ps j p → x ≡ p.series → before ≡ take j ps → known ≡ (is_among x (map id_of cs) || list_any (is_point_of x) before) → one ≡ (if known then 0 else 1) → n ≡ length (series_in_order (qs ++ map (admitted b s) (take j ps))) → n + one ≡ length (series_in_order (qs ++ map (admitted b s) (take (j + 1) ps)))
 counted_on cs ps j n p x known one b s qs before h l e sx sb k o r =
     let rs : List Accepted = qs ++ map (admitted b s) (take j ps) in
     let more : qs ++ map (admitted b s) (take (j + 1) ps) ≡ rs ++ admitted b s p ∷ [] =
-    ap (λ ys. qs ++ map (admitted b s) ys) (take_more ps j p l e) ∙ (ap (λ ys. qs ++ ys) (map-append (admitted b s) (take j ps) (p ∷ [])) ∙ sym (append_assoc qs (map (admitted b s) (take j ps)) (admitted b s p ∷ []))) in
+    ap (λ ys. qs ++ map (admitted b s) ys) (take_next ps j p l e) ∙ (ap (λ ys. qs ++ ys) (map-append (admitted b s) (take j ps) (p ∷ [])) ∙ sym (append_assoc qs (map (admitted b s) (take j ps)) (admitted b s p ∷ []))) in
     let there : is_among p.series (series_in_order rs) ≡ known =
     among_in_order p.series rs ∙ (list_any-append (is_of p.series) qs (map (admitted b s) (take j ps))
     ∙ (ap (λ v. list_any (is_of p.series) qs || v) (listed-admitted p.series b s (take j ps))

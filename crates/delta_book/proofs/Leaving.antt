@@ -10,7 +10,7 @@ use Rattle.metric_events.specs.declared.accepted.Accepted.{Accepted}
 use Rattle.metric_events.specs.declared.batch.Batch.{Batch}
 use Rattle.metric_events.specs.declared.entry.Entry.{Entry}
 use Rattle.metric_events.specs.declared.event.Event.{Event}
-use Rattle.metric_events.specs.declared.event.Event.TheVariants.{Admit, Undo, Confirm, Take, Settle, Drop, GiveBack, Quarantine, Lift}
+use Rattle.metric_events.specs.declared.event.Event.TheVariants.{Admit}
 use Rattle.series_cell.specs.Cells.{CellView}
 use Rattle.delta_book.specs.Journal.{history, and_then}
 use Rattle.delta_book.specs.declared.book.Book.TheInside.{Inside}
@@ -25,14 +25,7 @@ use Rattle.delta_book.proofs.Entered.{entered, parts_at_home, rest_is, removes_a
 
 admit_kept : (E : History) (e : Event) (b : ℕ) (body : Batch) → AdmitIn E b body → AdmitIn (E ▸ e) b body
 admit_kept E (Admit c some) b body h = inr h
-admit_kept E (Undo c) b body h = h
-admit_kept E (Confirm c) b body h = h
-admit_kept E (Take f some) b body h = h
-admit_kept E (Settle f) b body h = h
-admit_kept E (Drop f) b body h = h
-admit_kept E (GiveBack f) b body h = h
-admit_kept E (Quarantine s) b body h = h
-admit_kept E (Lift s) b body h = h
+admit_kept E e b body h = h
 
 admit_fold : (E : History) (xs : List Entry) (b : ℕ) (body : Batch) → AdmitIn E b body → AdmitIn (fold and_then E xs) b body
 admit_fold E [] b body h = h

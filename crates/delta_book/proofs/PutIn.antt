@@ -4,7 +4,7 @@ use Rattle.std.specs.declared.result.Result.{Result}
 use Rattle.std.specs.declared.result.Result.TheVariants.{Ok, Err}
 use Rattle.std.specs.Prelude.{OnOk, OnErr, IfErr, nat_lt}
 use Rattle.std.specs.List.{list_all, list_any}
-use Rattle.std.proofs.lemmas.Bool.{and_parts, and_from, ltb-false, ltb-true, or_cases, or_left}
+use Rattle.std.proofs.lemmas.Bool.{and_parts, and_from, ltb-false, ltb-true, or_cases, or_left, not-false}
 use Rattle.std.proofs.lemmas.List.{append-nil, take_all, drop_all}
 use Rattle.std.proofs.lemmas.List.Elements.{filter-append}
 use Rattle.series_id.specs.Identity.{Identity, row_length}
@@ -59,13 +59,9 @@ clear c d s n p e h =
     let k = none_then (not (same_sender d.owner s)) (OtherWriter n) _ (ap (λ (w : CellView). fault_at w s n p) (sym e) ∙ sym h) in
     let m = none_then (nat_lt p.span.start (end_of d)) (OutOfOrder n (end_of d)) None k.1 in
     record {
-      owner = same_sender-exact d.owner s (on (same_sender d.owner s) k.0);
+      owner = same_sender-exact d.owner s (not-false (same_sender d.owner s) k.0);
       order = ltb-false p.span.start (end_of d) m.0;
     }
-  where
-    on : (v : Bool) → not v ≡ false → v ≡ true
-    on true e = refl
-    on false e = cc
 
 -- the rows of a cell are as long as its series wants them
 pub row_long : (cs : List CellView) (i : ℕ) (c : CellView) (s : List ℕ) (p : DataPoint) → i < length cs → c ≡ get_or cs i c → IsSomeReadyFor cs s p → length c.accepted ≡ row_length c.id.kind

@@ -1,7 +1,7 @@
 -- Cells that represent no point are removed.
 use Rattle.std.proofs.Common.{◌≡◌, ◌==◌, ℕ, zero, suc, ◌<◌, Bool, true, false, not, ◌||◌, List, [], ◌∷◌, ◌++◌, map, remove, set, get_or, length, refl, ap, sym, ◌∙◌, subst, arith, inl, inr, ◌⊎◌}
 use Rattle.std.specs.List.{list_all, list_any}
-use Rattle.std.proofs.lemmas.Bool.{and_parts, and_from, or_cases, or_left, or_right, or_from, not-true, eqb-true}
+use Rattle.std.proofs.lemmas.Bool.{and_parts, and_from, or_cases, or_left, or_right, or_from, not-true, not-false, eqb-true}
 use Rattle.series_id.specs.Identity.{Identity}
 use Rattle.series_id.specs.Order.{same_series, series_before}
 use Rattle.series_id.proofs.Order.{same_series-exact}
@@ -21,7 +21,7 @@ use Rattle.delta_book.specs.inner.Batches.{is_point_of}
 use Rattle.delta_book.specs.inner.Rooms.{AreCellsFor, IsListed, KeepsFor}
 use Rattle.delta_book.specs.inner.Tables.{HasPoint, IsTable, IdAt}
 use Rattle.delta_book.proofs.Choosing.{same_ascending}
-use Rattle.delta_book.proofs.Tables.{stands_at, at_id, among_at}
+use Rattle.delta_book.proofs.Tables.{agree, not_first, stands_at, at_id, among_at}
 
 -- the cell has a frontier
 abbrev pub is_some_cell : CellView → Bool
@@ -31,13 +31,9 @@ is_some_cell c = not (end_of c == 0)
 pub empty_cell : (c : CellView) (qs : List Accepted) → Stands c qs → is_some_cell c ≡ false → qs ≡ []
 empty_cell c [] h e = refl
 empty_cell c (a ∷ qs) h e =
-    let z : end_of c ≡ 0 = eqb-true (end_of c) 0 (back (end_of c == 0) e) in
+    let z : end_of c ≡ 0 = eqb-true (end_of c) 0 (not-false (end_of c == 0) e) in
     let own : IsOwn c.owner c.id a = h.own.0 in
     absurd (omega (arith, z, end_is c (a ∷ qs) h, ends_after a.point.span own.span))
-  where
-    back : (v : Bool) → not v ≡ false → v ≡ true
-    back true k = refl
-    back false k = cc
 
 full_cell : (c : CellView) (qs : List Accepted) → Stands c qs → is_some_cell c ≡ true → qs ≡ [] → ⊥
 full_cell c qs h e n =
@@ -122,11 +118,7 @@ gone x [] i u a = absurd a
 gone x (c ∷ cs) zero u a = subst (λ y. is_among y (map id_of cs) ≡ false) a (not-true (is_among c.id (map id_of cs)) (and_parts (not (is_among c.id (map id_of cs))) (are_distinct (map id_of cs)) u).0)
 gone x (c ∷ cs) (suc i) u a =
     let p = and_parts (not (is_among c.id (map id_of cs))) (are_distinct (map id_of cs)) u in
-    or_from (same_series x c.id) (is_among x (map id_of (remove cs i))) (other (same_series x c.id) refl (not-true (is_among c.id (map id_of cs)) p.0)) (gone x cs i p.1 a)
-  where
-    other : (v : Bool) → same_series x c.id ≡ v → is_among c.id (map id_of cs) ≡ false → same_series x c.id ≡ false
-    other true m n = absurd (let k : is_among c.id (map id_of cs) ≡ true = subst (λ y. is_among y (map id_of cs) ≡ true) (same_series-exact x c.id m) (among_at cs i x a) in let q : true ≡ false = sym k ∙ n in cc)
-    other false m n = m
+    or_from (same_series x c.id) (is_among x (map id_of (remove cs i))) (not_first c.id x (map id_of cs) p.0 (among_at cs i x a)) (gone x cs i p.1 a)
 
 -- without the cell of a series that has no point
 table_left : (cs : List CellView) (i : ℕ) (x : Identity) (qs : List Accepted) → IdAt cs i x → list_any (is_of x) qs ≡ false → IsTable cs qs → IsTable (remove cs i) qs
@@ -164,14 +156,9 @@ goes_for cs i c qs ps p l e a m h =
 -- a table whose series all have a point
 pub cells_of_table : (cs : List CellView) (qs : List Accepted) → IsTable cs qs → ((x : Identity) → is_among x (map id_of cs) ≡ true → list_any (is_of x) qs ≡ true) → AreCells cs qs
 cells_of_table cs qs h k = record {
-  ids = same_ascending (map id_of cs) (series_in_order qs) h.ascending (series_ascend qs) (record { same = λ z. both z (is_among z (map id_of cs)) (list_any (is_of z) qs) refl refl ∙ sym (among_in_order z qs) });
+  ids = same_ascending (map id_of cs) (series_in_order qs) h.ascending (series_ascend qs) (record { same = λ z. agree (k z) (covered_by z (map id_of cs) qs h.covered) ∙ sym (among_in_order z qs) });
   stand = h.stand;
 }
-  where
-    both : (z : Identity) (v w : Bool) → is_among z (map id_of cs) ≡ v → list_any (is_of z) qs ≡ w → is_among z (map id_of cs) ≡ list_any (is_of z) qs
-    both z true w e f = e ∙ sym (k z e)
-    both z false true e f = covered_by z (map id_of cs) qs h.covered f ∙ sym f
-    both z false false e f = e ∙ sym f
 
 -- cells for no other point
 pub swept : (cs : List CellView) (qs : List Accepted) → AreCellsFor cs qs [] → AreCells cs qs
