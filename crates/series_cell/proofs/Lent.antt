@@ -1,8 +1,7 @@
 -- What a cell keeps, while it is lent from its box.
 use Rattle.std.proofs.Common.{◌≡◌, ◌∙◌, ap, sym, subst}
 use Rattle.series_cell.specs.Cells.{CellView}
-use Rattle.series_cell.specs.inner.Cells.{IsCell}
-use Rattle.series_cell.specs.inner.CellParts.{view_of, AreWords, IsKept}
+use Rattle.series_cell.specs.inner.CellParts.{view_of, AreWords, IsCell, IsKept}
 use Rattle.series_cell.specs.declared.cell_parts.CellParts.{CellParts}
 
 pub lent_cell : {k boxed : CellParts} → k ≡ boxed → IsKept boxed → IsCell (view_of k)

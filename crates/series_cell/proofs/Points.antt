@@ -258,15 +258,15 @@ landed-away f q (a ∷ qs) h =
     let p = and_parts (is_in_flight f a.place) (list_all (stands (is_in_flight f)) qs) h in
     rw p.0 (ap (λ rs. at q a ∷ rs) (landed-away f q qs p.1))
 
+pub landed_off : (q : Place) → is_landed q ≡ true → is_home q ≡ false
+landed_off Home e = absurd (let k : false ≡ true = e in cc)
+landed_off q e = refl
+
 pub lifted-gone : (f : ℕ) (qs : List Accepted) → list_all (stands is_landed) qs ≡ true → map (lifted f) qs ≡ qs
 lifted-gone f [] h = refl
 lifted-gone f (a ∷ qs) h =
     let p = and_parts (is_landed a.place) (list_all (stands is_landed) qs) h in
-    rw (off a.place p.0) (ap (λ rs. a ∷ rs) (lifted-gone f qs p.1))
-  where
-    off : (place : Place) → is_landed place ≡ true → is_home place ≡ false
-    off Home e = absurd (let k : false ≡ true = e in cc)
-    off place e = refl
+    rw (landed_off a.place p.0) (ap (λ rs. a ∷ rs) (lifted-gone f qs p.1))
 
 pub lifted-home : (f : ℕ) (qs : List Accepted) → list_all (stands is_home) qs ≡ true → map (lifted f) qs ≡ map (at (InFlight f)) qs
 lifted-home f [] h = refl

@@ -17,9 +17,10 @@ use Rattle.metric_events.proofs.Lists.{filter_keeps}
 use Rattle.series_cell.specs.Cells.{CellView, Stands, AllOwn, greatest_end, is_landed, end_of}
 use Rattle.series_cell.specs.Reading.{IsTotalOf}
 use Rattle.series_cell.specs.Spans.{span_of, hull_of}
+use Rattle.series_cell.proofs.Points.{landed_off}
 use Rattle.series_cell.proofs.Carrying.{spans_hull, hull_at_home}
 use Rattle.series_id.proofs.Order.{same_series-refl}
-use Rattle.series_cell.proofs.Standing.{end_is, away_spans, landed_off, flying_off}
+use Rattle.series_cell.proofs.Standing.{end_is, away_spans, flying_off}
 
 -- points that all stand elsewhere
 pub none_stand : (t u : Place → Bool) → ((q : Place) → u q ≡ true → t q ≡ false) → (qs : List Accepted) → list_all (stands u) qs ≡ true → filter (stands t) qs ≡ []

@@ -2,7 +2,7 @@
 use Rattle.std.proofs.Common.{◌≡◌, ℕ, ◌+◌, ◌<◌, ◌≤◌, ◌==◌, Bool, true, false, not, ◌&&◌, ◌||◌, List, [], ◌∷◌, ◌++◌, map, filter, length, remove, take, drop, max, refl, ap, sym, ◌∙◌, subst, arith, inl, inr}
 use Rattle.std.specs.List.{list_all, list_any}
 use Rattle.std.specs.List.Sorted.{IsNonDecreasingBy}
-use Rattle.std.proofs.lemmas.Bool.{and_parts}
+use Rattle.std.proofs.lemmas.Bool.{and_parts, eq-eqb}
 use Rattle.std.proofs.lemmas.List.Folds.{list_any-append}
 use Rattle.std.proofs.lemmas.List.{append_assoc, append-nil, map-append, length-map, length-append, nil_from_length, take_at}
 use Rattle.std.proofs.lemmas.List.Elements.{filter-append}
@@ -24,12 +24,12 @@ use Rattle.metric_events.specs.Legal.{is_batch_home}
 use Rattle.series_cell.specs.Cells.{CellView, Stands, AllOwn, InOrder, greatest_end, is_landed, lifted, end_of, AreTogether, bare, is_of_batch, is_home_of, is_other_or_off}
 use Rattle.series_cell.specs.Spans.{span_of, end_of_spans, place_of, is_span_of, AreInOrder}
 use Rattle.series_cell.specs.declared.batch_span.BatchSpan.{BatchSpan}
-use Rattle.series_cell.proofs.Points.{all_own-append, all_own_first, all_own_last, all_own-map, sum_length, moves_at, moves_landed, moves_lifted, sum-moved, sum_out, row_sum_push, last_end, in_order_push, in_order-map, in_order_without, in_order_first, in_order_last, all_end_by, spans_in_order, last_greatest, greatest_end-append, greatest_end-map, spans_end, spans_moved, all_at, filter_at, filter_off, landed-gone, landed-home, landed-away, lifted-gone, lifted-home, past, place_at, remove_at}
+use Rattle.series_cell.proofs.Points.{all_own-append, all_own_first, all_own_last, all_own-map, sum_length, moves_at, moves_landed, moves_lifted, sum-moved, sum_out, row_sum_push, last_end, in_order_push, in_order-map, in_order_without, in_order_first, in_order_last, all_end_by, spans_in_order, last_greatest, greatest_end-append, greatest_end-map, spans_end, spans_moved, all_at, filter_at, filter_off, landed-gone, landed-home, landed-away, landed_off, lifted-gone, lifted-home, past, place_at, remove_at}
 
 three : (xs ys zs ws : List Accepted) → (xs ++ (ys ++ zs)) ++ ws ≡ xs ++ (ys ++ (zs ++ ws))
 three xs ys zs ws = append_assoc xs (ys ++ zs) ws ∙ ap (λ rs. xs ++ rs) (append_assoc ys zs ws)
 
-map_three : (f : Accepted → Accepted) (xs ys zs : List Accepted) → map f (xs ++ (ys ++ zs)) ≡ map f xs ++ (map f ys ++ map f zs)
+pub map_three : (f : Accepted → Accepted) (xs ys zs : List Accepted) → map f (xs ++ (ys ++ zs)) ≡ map f xs ++ (map f ys ++ map f zs)
 map_three f xs ys zs = map-append f xs (ys ++ zs) ∙ ap (λ rs. map f xs ++ rs) (map-append f ys zs)
 
 -- what has not landed, and what is at home, is the cell's own
@@ -197,7 +197,7 @@ stands_lift c f qs in_flight stored cut h none ef es e =
           ∙ (ap (λ rs. h.gone ++ (map (lifted f) rs ++ map (lifted f) h.home)) empty
           ∙ (ap (λ rs. h.gone ++ rs) (lifted-home f h.home h.are_home) ∙ ap (λ rs. h.gone ++ rs) (sym (append-nil (map (at (InFlight f)) h.home)))))));
       are_gone = h.are_gone;
-      are_away = all_at (is_in_flight f) (InFlight f) h.home (same f);
+      are_away = all_at (is_in_flight f) (InFlight f) h.home (eq-eqb f f refl);
       are_home = refl;
       own = all_own-map c.owner c.id (lifted f) (moves_lifted f) qs h.own;
       ordered = subst InOrder (sym (append-nil (map (at (InFlight f)) h.home))) (in_order-map (at (InFlight f)) (moves_at (InFlight f)) h.home (in_order_last h.away h.home h.ordered));
@@ -213,12 +213,11 @@ stands_lift c f qs in_flight stored cut h none ef es e =
           h.spans
           ∙ (ap (λ rs. map span_of (rs ++ h.home)) empty
           ∙ (sym (spans_moved (at (InFlight f)) (moves_at (InFlight f)) h.home) ∙ ap (map span_of) (sym (append-nil (map (at (InFlight f)) h.home)))));
-      cut = e ∙ (ap length h.spans ∙ (length-map (h.away ++ h.home) span_of ∙ (ap (λ rs. length (rs ++ h.home)) empty ∙ sym (length-map h.home (at (InFlight f))))));
+      cut =
+          e ∙ (ap length h.spans
+          ∙ (length-map (h.away ++ h.home) span_of ∙ (ap (λ rs. length (rs ++ h.home)) empty ∙ sym (length-map h.home (at (InFlight f))))));
       landed = h.landed;
     }
-  where
-    same : (f : ℕ) → (f == f) ≡ true
-    same f = grind arith
 
 landed-three : (f : ℕ) (q : Place) (gone away home : List Accepted) → list_all (stands is_landed) gone ≡ true → list_all (stands (is_in_flight f)) away ≡ true → list_all (stands is_home) home ≡ true → map (landed f q) (gone ++ (away ++ home)) ≡ gone ++ (map (at q) away ++ home)
 landed-three f q gone away home g a h =
@@ -337,10 +336,6 @@ stands_dropped c f qs in_flight dropped spans last spare e h ed =
 marked : (b : ℕ) (qs : List Accepted) → list_any (is_span_of b) (map span_of qs) ≡ list_any (is_of_batch b) qs
 marked b [] = refl
 marked b (a ∷ qs) = ap (λ v. (a.batch == b) || v) (marked b qs)
-
-pub landed_off : (q : Place) → is_landed q ≡ true → is_home q ≡ false
-landed_off Home e = absurd (let k : false ≡ true = e in cc)
-landed_off q e = refl
 
 pub flying_off : (f : ℕ) (q : Place) → is_in_flight f q ≡ true → is_home q ≡ false
 flying_off f Home e = absurd (let k : false ≡ true = e in cc)

@@ -41,7 +41,10 @@ remove-requires c =
     let v : CellView = view_of i in
     let g : HasHome v c.args.batch c.args.point.now = lent (λ (w : CellView). HasHome w c.args.batch c.args.point.now) c.as_mut-kept.ensures.value c.self.view_is c.requires in
     let h = g.1.1 in
-    let at = found v _ c.spans_from.result.now c.args.point.now.span.start c.start.result c.find_start.result h (c.spans_from.ensures ∙ ap (drop i.cut) c.deref.ensures.value) (c.start.ensures ∙ ap (λ (t : Interval). t.start) c.span.ensures) c.find_start.ensures.value in
+    let at =
+    found v _ c.spans_from.result.now c.args.point.now.span.start c.start.result c.find_start.result h
+    (c.spans_from.ensures ∙ ap (drop i.cut) c.deref.ensures.value)
+    (c.start.ensures ∙ ap (λ (t : Interval). t.start) c.span.ensures) c.find_start.ensures.value in
     let inside = span_inside v g.0 g.1.0 (admitted c.args.batch i.owner c.args.point.now) h (parted v g.0 g.1.0 (admitted c.args.batch i.owner c.args.point.now) h refl) in
     omega (arith, inside, at, i.spans.ok.0)
 
@@ -54,7 +57,10 @@ invariant_of-self c =
     let t = taken_from v c.args.batch c.args.point.now g.0 g.1.0 h in
     let s = sized v _ h in
     let left = taken_row i.accepted.items c.args.point.now.row _ _ _ _ i.accepted.len c.deref_mut.ensures.value c.row.ensures.value t.accepted (t.accepted_long ∙ sym s.accepted) c.sub_from.auto.dst c.sub_from.ensures i.accepted.ok.0 in
-    let at = found v _ c.spans_from.result.now c.args.point.now.span.start c.start.result c.find_start.result h (c.spans_from.ensures ∙ ap (drop i.cut) c.deref.ensures.value) (c.start.ensures ∙ ap (λ (t : Interval). t.start) c.span.ensures) c.find_start.ensures.value in
+    let at =
+    found v _ c.spans_from.result.now c.args.point.now.span.start c.start.result c.find_start.result h
+    (c.spans_from.ensures ∙ ap (drop i.cut) c.deref.ensures.value)
+    (c.start.ensures ∙ ap (λ (t : Interval). t.start) c.span.ensures) c.find_start.ensures.value in
     record {
       cell = (
         g.0 ++ g.1.0,
@@ -73,7 +79,10 @@ returns-clause-stands c = λ before after k.
     let h : Stands v (before ++ admitted c.args.batch v.owner c.args.point.now ∷ after) = lent (λ (w : CellView). Stands w (before ++ admitted c.args.batch w.owner c.args.point.now ∷ after)) c.as_mut-kept.ensures.value c.self.view_is k in
     let t = taken_from v c.args.batch c.args.point.now before after h in
     let s = sized v _ h in
-    let at = found v _ c.spans_from.result.now c.args.point.now.span.start c.start.result c.find_start.result h (c.spans_from.ensures ∙ ap (drop i.cut) c.deref.ensures.value) (c.start.ensures ∙ ap (λ (t : Interval). t.start) c.span.ensures) c.find_start.ensures.value in
+    let at =
+    found v _ c.spans_from.result.now c.args.point.now.span.start c.start.result c.find_start.result h
+    (c.spans_from.ensures ∙ ap (drop i.cut) c.deref.ensures.value)
+    (c.start.ensures ∙ ap (λ (t : Interval). t.start) c.span.ensures) c.find_start.ensures.value in
     stands_remove v c.args.batch c.args.point.now before after _ _ _ _ h
     (taken_row i.accepted.items c.args.point.now.row _ _ _ _ i.accepted.len c.deref_mut.ensures.value c.row.ensures.value t.accepted (t.accepted_long ∙ sym s.accepted) c.sub_from.auto.dst c.sub_from.ensures i.accepted.ok.0)
     (taken_row i.stored.items c.args.point.now.row _ _ _ _ i.stored.len c.deref_mut-2.ensures.value c.row-2.ensures.value t.stored (t.stored_long ∙ sym s.stored) c.sub_from-2.auto.dst c.sub_from-2.ensures i.stored.ok.0)
