@@ -2,7 +2,7 @@
 use Rattle.std.proofs.Common.{◌≡◌, ◌≢◌, ℕ, ◌==◌, ◌⊎◌, Bool, true, false, not, cond, ◌&&◌, ◌||◌, List, [], ◌∷◌, ◌++◌, map, filter, refl, ap, sym, ◌∙◌, subst, inl, inr, ◌<◌}
 use Rattle.std.specs.List.{list_all}
 use Rattle.std.proofs.lemmas.Bool.{and_from, ne_eqb, eqb-true, eq-eqb}
-use Rattle.std.proofs.lemmas.List.{append_assoc, append-nil, map-append}
+use Rattle.std.proofs.lemmas.List.{append_assoc, append-nil}
 use Rattle.std.proofs.lemmas.List.Elements.{filter-append}
 use Rattle.metric_events.specs.DataPoint.{DataPoint}
 use Rattle.metric_events.specs.History.{History, Opened, ◌▸◌, IsNewBatch, opening}
@@ -19,6 +19,7 @@ use Rattle.metric_events.proofs.Invariants.{new_points, all_admitted}
 use Rattle.metric_events.proofs.Fits.{taken_point}
 use Rattle.series_cell.specs.Cells.{is_of_batch}
 use Rattle.series_cell.proofs.Points.{MovesOnly, moves_landed}
+use Rattle.series_cell.proofs.Standing.{map_three}
 
 pub moves_taken : (f : ℕ) (series : List Identity) → MovesOnly (taken f series)
 moves_taken f series = record {
@@ -60,9 +61,6 @@ pub record Whole (qs : List Accepted) (b : ℕ) (body : Batch) : Type 0 where
   pub of_it : list_all (is_of_batch b) its ≡ true
   pub are : map (at Home) its ≡ map (admitted b body.sender) body.points
 
-three_map : (g : Accepted → Accepted) (xs ys zs : List Accepted) → map g (xs ++ (ys ++ zs)) ≡ map g xs ++ (map g ys ++ map g zs)
-three_map g xs ys zs = map-append g xs (ys ++ zs) ∙ ap (λ rs. map g xs ++ rs) (map-append g ys zs)
-
 home_again : (g : Accepted → Accepted) → MovesOnly g → (qs : List Accepted) → map (at Home) (map g qs) ≡ map (at Home) qs
 home_again g m [] = refl
 home_again g m (a ∷ qs) = ap (λ (p : DataPoint). record { point = p; batch = (g a).batch; sender = (g a).sender; place = Home } ∷ map (at Home) (map g qs)) (m.point a) ∙ (ap (λ b. record { point = a.point; batch = b; sender = (g a).sender; place = Home } ∷ map (at Home) (map g qs)) (m.batch a) ∙ (ap (λ s. record { point = a.point; batch = a.batch; sender = s; place = Home } ∷ map (at Home) (map g qs)) (m.sender a) ∙ ap (λ rs. at Home a ∷ rs) (home_again g m qs)))
@@ -72,7 +70,7 @@ whole_moved g m qs b body w = record {
   before = map g w.before;
   its = map g w.its;
   after = map g w.after;
-  parts = ap (map g) w.parts ∙ three_map g w.before w.its w.after;
+  parts = ap (map g) w.parts ∙ map_three g w.before w.its w.after;
   none_before = all_map (is_of_other_batch b) (is_of_other_batch b) g (λ a h. ap (λ c. not (c == b)) (m.batch a) ∙ h) w.before w.none_before;
   none_after = all_map (is_of_other_batch b) (is_of_other_batch b) g (λ a h. ap (λ c. not (c == b)) (m.batch a) ∙ h) w.after w.none_after;
   of_it = all_map (is_of_batch b) (is_of_batch b) g (λ a h. ap (λ c. c == b) (m.batch a) ∙ h) w.its w.of_it;

@@ -33,7 +33,7 @@ use Rattle.delta_book.specs.declared.put.Rejection.TheVariants.{Fault, TooLarge}
 use Rattle.delta_book.specs.declared.cells.Fill.{Fill}
 use Rattle.delta_book.specs.declared.cells.Fill.TheVariants.{Point, SpanOnly}
 use Rattle.delta_book.proofs.Asked.{ReadyCell, ready_cell}
-use Rattle.delta_book.proofs.Refused.{none_then}
+use Rattle.series_id.proofs.Refusals.{passed}
 use Rattle.delta_book.proofs.Rooms.{each_at, each_set, some_of_each, for_of}
 use Rattle.delta_book.proofs.Sweeping.{swept}
 use Rattle.delta_book.proofs.Tables.{stands_at, at_id, among_at, set_ids, set_stand}
@@ -56,8 +56,8 @@ pub record Clear (c : CellView) (s : List ℕ) (p : DataPoint) : Type 0 where
 
 pub clear : (c d : CellView) (s : List ℕ) (n : ℕ) (p : DataPoint) → c ≡ d → None ≡ fault_at c s n p → Clear d s p
 clear c d s n p e h =
-    let k = none_then (not (same_sender d.owner s)) (OtherWriter n) _ (ap (λ (w : CellView). fault_at w s n p) (sym e) ∙ sym h) in
-    let m = none_then (nat_lt p.span.start (end_of d)) (OutOfOrder n (end_of d)) None k.1 in
+    let k = passed (not (same_sender d.owner s)) (OtherWriter n) _ (ap (λ (w : CellView). fault_at w s n p) (sym e) ∙ sym h) in
+    let m = passed (nat_lt p.span.start (end_of d)) (OutOfOrder n (end_of d)) None k.1 in
     record {
       owner = same_sender-exact d.owner s (not-false (same_sender d.owner s) k.0);
       order = ltb-false p.span.start (end_of d) m.0;

@@ -13,7 +13,6 @@ use Rattle.metric_events.specs.declared.place.Place.{Place}
 use Rattle.metric_events.specs.declared.place.Place.TheVariants.{Home, InFlight, Acknowledged, Dropped}
 use Rattle.metric_events.specs.declared.event.Event.{Event}
 use Rattle.metric_events.specs.declared.event.Event.TheVariants.{Settle, Drop, GiveBack}
-use Rattle.delta_book.specs.inner.Flushes.{EndsFlush}
 use Rattle.metric_events.specs.declared.limits.TheConstants.{MAX_ENTRIES, MAX_OPEN, MAX_LIVE}
 use Rattle.metric_events.specs.declared.accepted.Accepted.{Accepted}
 use Rattle.metric_events.specs.declared.flight.Flight.{Flight}
@@ -34,7 +33,7 @@ use Rattle.metric_events.proofs.Numbers.{admits-le, takes-le}
 use Rattle.metric_events.proofs.Closing.{opening_is}
 use Rattle.delta_book.specs.Tables.{AreCells, AreBooked}
 use Rattle.delta_book.specs.inner.Tables.{AreOpen, AreFlights, are_full, is_full, series_named}
-use Rattle.delta_book.specs.inner.Tables.{entry_of, on_series, is_other_open}
+use Rattle.delta_book.specs.inner.Tables.{EndsFlush, entry_of, on_series, is_other_open}
 use Rattle.delta_book.specs.declared.open.JournalRef.{JournalRef}
 use Rattle.delta_book.proofs.Journaled.{after_push, legal_push, entries-history, opening-history}
 use Rattle.delta_book.proofs.Opened.{open_length, open_more, open_closed}

@@ -1,6 +1,6 @@
 -- A batch that was just admitted can be undone and confirmed, and a flush that was just taken is live.
-use Rattle.std.proofs.Common.{◌≡◌, ℕ, true, not, ◌||◌, ◌==◌, List, [], ◌∷◌, map, None, refl, rules, tests}
-use Rattle.std.proofs.lemmas.Bool.{or_left}
+use Rattle.std.proofs.Common.{◌≡◌, ℕ, true, not, ◌||◌, ◌==◌, List, [], ◌∷◌, map, None, refl}
+use Rattle.std.proofs.lemmas.Bool.{or_left, eq-eqb}
 use Rattle.std.proofs.Math.Bool.{or-true}
 use Rattle.metric_events.specs.DataPoint.{DataPoint}
 use Rattle.metric_events.specs.History.{History, ◌▸◌, IsNewBatch}
@@ -14,15 +14,12 @@ use Rattle.metric_events.proofs.Lists.{all_append, all_weaker, any_append_right}
 use Rattle.metric_events.proofs.Invariants.{new_points}
 use Rattle.delta_book.specs.Refusals.{undo_refusal}
 
-same : (b : ℕ) → (b == b) ≡ true
-same b = search (rules, tests)
-
 fresh_home : (b : ℕ) (s : List ℕ) (ps : List DataPoint) → is_batch_home b (map (admitted b s) ps) ≡ true
 fresh_home b s [] = refl
 fresh_home b s (p ∷ ps) = rw (or-true (not (b == b))) (fresh_home b s ps)
 
 pub is_now_open : (b : ℕ) (body : Batch) (E : History) → is_open b (open_batches (E ▸ Admit b body)) ≡ true
-is_now_open b body E = any_append_right (λ c. c == b) (open_batches E) (b ∷ []) (rw (same b) refl)
+is_now_open b body E = any_append_right (λ c. c == b) (open_batches E) (b ∷ []) (rw (eq-eqb b b refl) refl)
 
 pub is_now_home : (b : ℕ) (body : Batch) (E : History) → IsNewBatch b E → is_batch_home b (points (E ▸ Admit b body)) ≡ true
 is_now_home b body E new =
@@ -34,4 +31,4 @@ pub can_be_undone : (b : ℕ) (body : Batch) (E : History) → IsNewBatch b E �
 can_be_undone b body E new = rw (is_now_open b body E, is_now_home b body E new) refl
 
 pub is_now_live : (f : ℕ) (series : List Identity) (E : History) → is_live f (live_flushes (E ▸ Take f series)) ≡ true
-is_now_live f series E = any_append_right (λ l. l.number == f) (live_flushes E) (record { number = f; series = series } ∷ []) (rw (same f) refl)
+is_now_live f series E = any_append_right (λ l. l.number == f) (live_flushes E) (record { number = f; series = series } ∷ []) (rw (eq-eqb f f refl) refl)
