@@ -4,7 +4,7 @@ use Rattle.std.specs.Prelude.{nat_lt}
 use Rattle.std.specs.List.{list_all, list_any}
 use Rattle.std.proofs.lemmas.List.{take-append-drop, take_at, map-append}
 use Rattle.std.proofs.lemmas.List.Elements.{filter-append}
-use Rattle.std.proofs.lemmas.Bool.{and_parts, and_from, or_parts, or_left, or_cases, true_from_ne_false}
+use Rattle.std.proofs.lemmas.Bool.{and_parts, and_from, or_left, or_cases, true_from_ne_false}
 use Rattle.std.proofs.Math.Bool.{and-false}
 use Rattle.series_id.specs.Identity.{Identity}
 use Rattle.series_id.specs.Order.{same_series, series_before}
@@ -35,15 +35,8 @@ use Rattle.delta_book.specs.inner.Ready.{ready_ids, first_ready}
 
 -- two ascending lists of the same series are one
 
--- what comes before each of these comes before one of them
-before_of : (x y : Identity) (xs : List Identity) → list_all (series_before x) xs ≡ true → is_among y xs ≡ true → series_before x y ≡ true
-before_of x y [] h m = absurd (let q : false ≡ true = m in cc)
-before_of x y (z ∷ zs) h m =
-    let p = and_parts (series_before x z) (list_all (series_before x) zs) h in
-    elim (or_cases (same_series y z) (is_among y zs) m) [
-      | inl e ↦ subst (λ w. series_before x w ≡ true) (sym (same_series-exact y z e)) p.0
-      | inr e ↦ before_of x y zs p.1 e
-    ]
+at_series : (t : Identity → Bool) (x : Identity) (xs : List Identity) → list_all t xs ≡ true → is_among x xs ≡ true → t x ≡ true
+at_series t x xs h m = both_at (same_series x) t (t x ≡ true) (λ y e k. ap t (same_series-exact x y e) ∙ k) xs m h
 
 pub record SameSeries (xs ys : List Identity) : Type 0 where
   pub same : (z : Identity) → is_among z xs ≡ is_among z ys
@@ -56,8 +49,8 @@ heads x y xs ys h k s = both (same_series x y) refl
     both false e =
         let mx : is_among x ys ≡ true = (let q : (same_series x y || is_among x ys) ≡ true = sym (s.same x) ∙ or_left (same_series x x) (is_among x xs) (same_series-refl x) in later (same_series x y) (is_among x ys) e q) in
         let my : is_among y xs ≡ true = (let q : (same_series y x || is_among y xs) ≡ true = s.same y ∙ or_left (same_series y y) (is_among y ys) (same_series-refl y) in later (same_series y x) (is_among y xs) (same_series-turned y x ∙ e) q) in
-        let bx : series_before y x ≡ true = before_of y x ys k mx in
-        let by : series_before x y ≡ true = before_of x y xs h my in
+        let bx : series_before y x ≡ true = at_series (series_before y) x ys k mx in
+        let by : series_before x y ≡ true = at_series (series_before x) y xs h my in
         absurd (let q : true ≡ false = sym (before-transitive x y x by bx) ∙ before-irreflexive x in cc)
       where
         later : (u v : Bool) → u ≡ false → (u || v) ≡ true → v ≡ true
@@ -120,10 +113,7 @@ any_of_filter t z (a ∷ qs) = both (is_of z a) (t a) refl refl (any_of_filter t
     both false false e f r = rw (e, f) r
 
 none_there : (t : Accepted → Bool) (z : Identity) (qs : List Accepted) → list_any (is_of z) qs ≡ false → list_any t (of_series z qs) ≡ false
-none_there t z [] h = refl
-none_there t z (a ∷ qs) h =
-    let p = or_parts (is_of z a) (list_any (is_of z) qs) h in
-    rw p.0 (none_there t z qs p.1)
+none_there t z qs h = ap (list_any t) (filter_none (is_of z) qs (any_none (is_of z) qs h))
 
 pub series_passing : (t : Accepted → Bool) (qs : List Accepted) → filter (λ x. list_any t (of_series x qs)) (series_in_order qs) ≡ series_in_order (filter t qs)
 series_passing t qs = same_ascending (filter (λ x. list_any t (of_series x qs)) (series_in_order qs)) (series_in_order (filter t qs))
@@ -181,10 +171,7 @@ some_ids held (c ∷ cs) a e = both (is_ready held c) refl (some_ids held cs)
     both false f r = r (rw f at a) (rw f at e)
 
 none_ids : (held : List (List ℕ)) (cs : List CellView) → list_any (is_ready held) cs ≡ false → ready_ids held cs ≡ []
-none_ids held [] a = refl
-none_ids held (c ∷ cs) a =
-    let p = or_parts (is_ready held c) (list_any (is_ready held) cs) a in
-    rw p.0 (none_ids held cs p.1)
+none_ids held cs a = ap (map id_of) (filter_none (is_ready held) cs (any_none (is_ready held) cs a))
 
 none_filtered : (t : Accepted → Bool) (qs : List Accepted) → list_any t qs ≡ false → filter t qs ≡ []
 none_filtered t qs e = filter_none t qs (any_none t qs e)
@@ -198,15 +185,6 @@ any_ready cs qs live held h t = agree
     ids = ready_filter cs qs live held h.stand t ∙ (ap (filter (λ x. list_any (is_eligible live held) (of_series x qs))) h.ids ∙ series_passing (is_eligible live held) qs)
 
 -- what a book keeps is tied: a live flush has a point in flight of each of its series, and nothing else flies
-
-at_series : (t : Identity → Bool) (x : Identity) (xs : List Identity) → list_all t xs ≡ true → is_among x xs ≡ true → t x ≡ true
-at_series t x [] h m = absurd (let q : false ≡ true = m in cc)
-at_series t x (y ∷ ys) h m =
-    let p = and_parts (t y) (list_all t ys) h in
-    elim (or_cases (same_series x y) (is_among x ys) m) [
-      | inl e ↦ ap t (same_series-exact x y e) ∙ p.0
-      | inr e ↦ at_series t x ys p.1 e
-    ]
 
 flying_of : (x : Identity) (a : Accepted) → (f : ℕ) → is_cargo f x a ≡ true → (is_of x a && is_flying a.place) ≡ true
 flying_of x a f h = by a.place h

@@ -2,7 +2,7 @@
 use Rattle.std.proofs.Common.{◌≡◌, ℕ, ◌+◌, ◌<◌, ◌≤◌, Bool, true, false, not, ◌||◌, List, [], ◌∷◌, ◌++◌, map, take, filter, get_or, length, refl, ap, sym, ◌∙◌, subst, arith}
 use Rattle.std.specs.Prelude.{if◌then◌else◌}
 use Rattle.std.specs.List.{list_any, list_all}
-use Rattle.std.proofs.lemmas.Bool.{and_parts, and_from, or_left}
+use Rattle.std.proofs.lemmas.Bool.{and_parts, and_from, or_left, or_right}
 use Rattle.std.proofs.lemmas.Grind.{fold-append}
 use Rattle.std.proofs.lemmas.List.{append_assoc, take_all, map-append, length-map}
 use Rattle.std.proofs.lemmas.List.Folds.{list_any-append}
@@ -46,18 +46,16 @@ count_within (a ∷ qs) xs h = both (list_any (is_of a.point.series) qs) refl (c
         let w : list_all (λ b. is_among b.point.series (filter (λ y. not (same_series a.point.series y)) xs)) qs ≡ true = left_in a.point.series xs qs e p.1 in
         rw e (omega (arith, r (filter (λ y. not (same_series a.point.series y)) xs) w, length_without (same_series a.point.series) (λ y. not (same_series a.point.series y)) (λ y m. ap not m) xs p.0))
 
-each_in : (all : List Accepted) (xs : List Identity) → ((x : Identity) → list_any (is_of x) all ≡ true → is_among x xs ≡ true) → (qs : List Accepted) → ((x : Identity) → list_any (is_of x) qs ≡ true → list_any (is_of x) all ≡ true) → list_all (λ a. is_among a.point.series xs) qs ≡ true
-each_in all xs k [] w = refl
-each_in all xs k (a ∷ qs) w =
+-- where each series of the points is among these, each point's is
+pub each_in : (xs : List Identity) (qs : List Accepted) → ((x : Identity) → list_any (is_of x) qs ≡ true → is_among x xs ≡ true) → list_all (λ a. is_among a.point.series xs) qs ≡ true
+each_in xs [] k = refl
+each_in xs (a ∷ qs) k =
     and_from (is_among a.point.series xs) (list_all (λ a. is_among a.point.series xs) qs)
-    (k a.point.series (w a.point.series (or_left (is_of a.point.series a) (list_any (is_of a.point.series) qs) (same_of a.point.series a.point.series refl))))
-    (each_in all xs k qs (λ x m. w x (or_later x m)))
-  where
-    or_later : (x : Identity) → list_any (is_of x) qs ≡ true → (is_of x a || list_any (is_of x) qs) ≡ true
-    or_later x m = elim (is_of x a) as (λ v. (v || list_any (is_of x) qs) ≡ true) [ true ↦ refl | false ↦ m ]
+    (k a.point.series (or_left (is_of a.point.series a) (list_any (is_of a.point.series) qs) (same_of a.point.series a.point.series refl)))
+    (each_in xs qs (λ x m. k x (or_right (is_of x a) (list_any (is_of x) qs) m)))
 
 pub count_is : (qs : List Accepted) → length (series_in_order qs) ≡ series_count qs
-count_is qs = omega (arith, in_order_few qs, count_within qs (series_in_order qs) (each_in qs (series_in_order qs) (λ x m. among_in_order x qs ∙ m) qs (λ x m. m)))
+count_is qs = omega (arith, in_order_few qs, count_within qs (series_in_order qs) (each_in (series_in_order qs) qs (λ x m. among_in_order x qs ∙ m)))
 
 -- one more, where it is not among them
 

@@ -1,9 +1,9 @@
 -- What an open batch brought, series by series: in each it is at home whole, or not at all.
-use Rattle.std.proofs.Common.{◌≡◌, ℕ, ◌<◌, ◌==◌, Bool, true, false, not, cond, ◌&&◌, ◌||◌, List, [], ◌∷◌, ◌++◌, map, filter, length, get_or, refl, ap, sym, ◌∙◌, subst, inl, inr, arith, zero, suc}
+use Rattle.std.proofs.Common.{◌≡◌, ℕ, ◌<◌, ◌==◌, Bool, true, false, not, cond, ◌&&◌, ◌||◌, List, [], ◌∷◌, ◌++◌, map, filter, length, get_or, refl, ap, sym, ◌∙◌, subst, inl, inr}
 use Rattle.std.specs.List.{list_all, list_any}
-use Rattle.std.proofs.lemmas.Bool.{and_parts, and_from, or_left, or_right, eqb-true, eq-eqb, not-true}
+use Rattle.std.proofs.lemmas.Bool.{and_parts, and_from, or_left, or_right, eqb-true, eq-eqb, false_from_ne_true}
 use Rattle.std.proofs.Math.Bool.{or-false}
-use Rattle.std.proofs.lemmas.List.Folds.{list_any-append}
+use Rattle.std.proofs.lemmas.List.Folds.{list_any-append, list_any_at}
 use Rattle.std.proofs.lemmas.List.Elements.{filter-append}
 use Rattle.series_id.specs.Identity.{Identity}
 use Rattle.series_id.specs.Order.{same_series}
@@ -18,7 +18,7 @@ use Rattle.metric_events.specs.declared.place.Place.TheVariants.{Home, InFlight,
 use Rattle.metric_events.specs.declared.accepted.Accepted.{Accepted}
 use Rattle.metric_events.specs.declared.batch.Batch.{Batch}
 use Rattle.metric_events.specs.declared.event.Event.TheVariants.{Admit, Undo, Take, Settle, Drop, GiveBack}
-use Rattle.metric_events.proofs.Lists.{all_first, all_last, all_filter, all_always, all_weaker, any_none, filter_none, filter_keeps, both_at}
+use Rattle.metric_events.proofs.Lists.{all_first, all_last, all_filter, all_always, all_weaker, any_none, filter_none, filter_keeps, both_at, any_from_filter, any_all_not}
 use Rattle.metric_events.proofs.Invariants.{new_points, all_admitted}
 use Rattle.metric_events.proofs.Opened.{opened_of_no_batch}
 use Rattle.metric_events.proofs.Identities.{same_of}
@@ -31,6 +31,7 @@ use Rattle.delta_book.proofs.Tables.{agree, stands_at, at_id}
 use Rattle.delta_book.proofs.Asked.{none_of}
 use Rattle.delta_book.proofs.CountedSeries.{listed-admitted}
 use Rattle.delta_book.proofs.Batch.{Whole, moves_taken}
+use Rattle.delta_book.proofs.Entries.{by_second}
 
 -- the points of one batch and series are in one place
 
@@ -171,15 +172,7 @@ home_none cs qs b x h n = ap (is_batch_home b) (sym (filter_none (is_of x) qs (a
 -- an open batch is entered
 
 any_other : (b : ℕ) (x : Identity) (qs : List Accepted) → list_all (is_of_other_batch b) qs ≡ true → list_any (is_of_batch b) (of_series x qs) ≡ false
-any_other b x [] h = refl
-any_other b x (a ∷ qs) h = both (is_of x a) refl (any_other b x qs p.1)
-  where
-    p : (not (a.batch == b) ≡ true) × (list_all (is_of_other_batch b) qs ≡ true)
-    p = and_parts (not (a.batch == b)) (list_all (is_of_other_batch b) qs) h
-
-    both : (v : Bool) → is_of x a ≡ v → list_any (is_of_batch b) (of_series x qs) ≡ false → list_any (is_of_batch b) (of_series x (a ∷ qs)) ≡ false
-    both true e r = rw (e, not-true (a.batch == b) p.0) r
-    both false e r = rw e r
+any_other b x qs h = any_from_filter (is_of_batch b) (is_of x) qs (false_from_ne_true _ (λ m. any_all_not (is_of_batch b) qs m h))
 
 any_own : (b : ℕ) (x : Identity) (qs : List Accepted) → list_all (is_of_batch b) qs ≡ true → list_any (is_of_batch b) (of_series x qs) ≡ list_any (is_of x) (map (at Home) qs)
 any_own b x [] h = refl
@@ -213,12 +206,8 @@ home_same b [] h k = refl
 home_same b (a ∷ qs) h k =
     let p = and_parts (a.batch == b) (list_all (is_of_batch b) qs) h in
     let q = and_parts (is_fine b a) (is_batch_home b qs) k in
-    ap (λ rs. at Home a ∷ rs) (home_same b qs p.1 q.1) ∙ ap (λ r. record { point = a.point; batch = a.batch; sender = a.sender; place = r } ∷ qs) (by a.place (second (a.batch == b) (is_home a.place) p.0 q.0))
+    ap (λ rs. at Home a ∷ rs) (home_same b qs p.1 q.1) ∙ ap (λ r. record { point = a.point; batch = a.batch; sender = a.sender; place = r } ∷ qs) (by a.place (by_second (a.batch == b) (is_home a.place) p.0 q.0))
   where
-    second : (v w : Bool) → v ≡ true → (not v || w) ≡ true → w ≡ true
-    second true w e f = f
-    second false w e f = cc
-
     by : (r : Place) → is_home r ≡ true → Home ≡ r
     by Home e = refl
     by r e = absurd (let z : false ≡ true = e in cc)
@@ -248,9 +237,7 @@ removes_all cs qs b body h w k = (body.sender, (w.before, (w.after, subst (AreCe
 -- the series of a point of the batch has a point of it
 
 pub point_there : (ps : List DataPoint) (i : ℕ) (p : DataPoint) → i < length ps → p ≡ get_or ps i p → list_any (is_point_of p.series) ps ≡ true
-point_there [] i p l e = absurd (omega (arith, l))
-point_there (q ∷ ps) zero p l e = or_left (is_point_of p.series q) (list_any (is_point_of p.series) ps) (same_of q.series p.series (ap (λ (r : DataPoint). r.series) (sym e)))
-point_there (q ∷ ps) (suc i) p l e = or_right (is_point_of p.series q) (list_any (is_point_of p.series) ps) (point_there ps i p (omega arith) e)
+point_there ps i p l e = list_any_at (is_point_of p.series) ps i p l (same_of (get_or ps i p).series p.series (ap (λ (r : DataPoint). r.series) (sym e)))
 
 pub some_of_it : (qs : List Accepted) (b : ℕ) (ps : List DataPoint) (i : ℕ) (p : DataPoint) → i < length ps → p ≡ get_or ps i p → IsEntered qs b ps → list_any (is_of_batch b) (of_series p.series qs) ≡ true
 some_of_it qs b ps i p l e h = h.its p.series ∙ point_there ps i p l e

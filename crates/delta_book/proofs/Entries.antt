@@ -42,17 +42,18 @@ take_kept : (E : History) (e : Event) (f : ℕ) (series : List Identity) → Tak
 take_kept E (Take g some) f series h = inr h
 take_kept E e f series h = h
 
-take_fold : (E : History) (xs : List Entry) (f : ℕ) (series : List Identity) → TakeIn E f series → TakeIn (fold and_then E xs) f series
-take_fold E [] f series h = h
-take_fold E (x ∷ xs) f series h = take_fold (E ▸ x.event) xs f series (take_kept E x.event f series h)
+-- what holds from an event on holds of a history with an entry of it
+stays : (P : History → Type 0) → ((E : History) (e : Event) → P E → P (E ▸ e)) → (E : History) (xs : List Entry) → P E → P (fold and_then E xs)
+stays P k E [] h = h
+stays P k E (x ∷ xs) h = stays P k (E ▸ x.event) xs (k E x.event h)
 
-take_at : (E : History) (xs : List Entry) (i : ℕ) (f : ℕ) (series : List Identity) → At xs i (Take f series) → TakeIn (fold and_then E xs) f series
-take_at E [] i f series h = absurd h
-take_at E (x ∷ xs) zero f series h = take_fold (E ▸ x.event) xs f series (subst (λ e. TakeIn (E ▸ e) f series) (sym h) (inl (refl, refl)))
-take_at E (x ∷ xs) (suc i) f series h = take_at (E ▸ x.event) xs i f series h
+pub from_entry : (P : History → Type 0) → ((E : History) (e : Event) → P E → P (E ▸ e)) → (e : Event) → ((E : History) → P (E ▸ e)) → (E : History) (xs : List Entry) (i : ℕ) → At xs i e → P (fold and_then E xs)
+from_entry P k e new E [] i h = absurd h
+from_entry P k e new E (x ∷ xs) zero h = stays P k (E ▸ x.event) xs (subst (λ f. P (E ▸ f)) (sym h) (new E))
+from_entry P k e new E (x ∷ xs) (suc i) h = from_entry P k e new (E ▸ x.event) xs i h
 
 pub take_in : (xs : Journal) (i : ℕ) (f : ℕ) (series : List Identity) → At xs.entries i (Take f series) → TakeIn (history xs) f series
-take_in xs i f series h = take_at (Opened xs.opening) xs.entries i f series h
+take_in xs i f series h = from_entry (λ E. TakeIn E f series) (λ E e k. take_kept E e f series k) (Take f series) (λ E. inl (refl, refl)) (Opened xs.opening) xs.entries i h
 
 pub named_at : (xs : List Entry) (i : ℕ) (f : ℕ) (series : List Identity) → At xs i (Take f series) → series_named xs i ≡ series
 named_at [] i f series h = absurd h
@@ -127,7 +128,12 @@ any_kept t q (x ∷ xs) h k = both (q x) refl (any_kept t q xs p.1)
     both true e r = rw e (elim (or_cases (t x) (list_any t xs) k) [ inl m ↦ or_left (t x) (list_any t (filter q xs)) m | inr m ↦ or_right (t x) (list_any t (filter q xs)) (r m) ])
     both false e r = rw e (elim (or_cases (t x) (list_any t xs) k) [ inl m ↦ absurd (let n : (not true || false) ≡ true = rw (m, e) at p.0 in let z : false ≡ true = n in cc) | inr m ↦ r m ])
 
-all_filtered : {X : Type 0} (t q u : X → Bool) → ((x : X) → t x ≡ true → q x ≡ true → u x ≡ true) → (xs : List X) → list_all t xs ≡ true → list_all u (filter q xs) ≡ true
+-- of two one holds, and it is not the first
+pub by_second : (v w : Bool) → v ≡ true → (not v || w) ≡ true → w ≡ true
+by_second true w e f = f
+by_second false w e f = cc
+
+pub all_filtered : {X : Type 0} (t q u : X → Bool) → ((x : X) → t x ≡ true → q x ≡ true → u x ≡ true) → (xs : List X) → list_all t xs ≡ true → list_all u (filter q xs) ≡ true
 all_filtered t q u k [] h = refl
 all_filtered t q u k (x ∷ xs) h = both (q x) refl (all_filtered t q u k xs (and_parts (t x) (list_all t xs) h).1)
   where

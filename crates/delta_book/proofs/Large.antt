@@ -1,6 +1,6 @@
 -- A sum with one more point, and the sums of a whole batch.
 use Rattle.std.proofs.Common.{◌≡◌, ℕ, ◌+◌, ◌<◌, Bool, true, false, not, List, [], ◌∷◌, ◌++◌, map, take, drop, get_or, length, zero, suc, refl, ap, sym, ◌∙◌, subst, arith, append_assoc}
-use Rattle.std.proofs.lemmas.Bool.{or_parts, or_from, not-false}
+use Rattle.std.proofs.lemmas.Bool.{or_parts, or_from, not-false, true_from_ne_false}
 use Rattle.std.proofs.lemmas.List.{map-append, take-append-drop}
 use Rattle.std.proofs.lemmas.List.Elements.{filter-append}
 use Rattle.series_id.specs.Identity.{Identity, row_length}
@@ -61,7 +61,7 @@ within_at rs (q ∷ ps) zero p l e h = ap (is_over rs) e ∙ (or_parts (is_over 
 within_at rs (q ∷ ps) (suc i) p l e h = within_at rs ps i p (omega (arith, l)) e (or_parts (is_over rs q) (is_too_large rs ps) h).1
 
 pub over_large : (b : ℕ) (s : List ℕ) (qs : List Accepted) (ps : List DataPoint) (i : ℕ) (p : DataPoint) → i < length ps → p ≡ get_or ps i p → fits_with (qs ++ map (admitted b s) (take i ps)) p ≡ false → is_too_large (qs ++ map (admitted b s) ps) ps ≡ true
-over_large b s qs ps i p l e f = both (is_too_large (qs ++ map (admitted b s) ps) ps) refl
+over_large b s qs ps i p l e f = true_from_ne_false (is_too_large all ps) none_over
   where
     all : List Accepted
     all = qs ++ map (admitted b s) ps
@@ -79,8 +79,7 @@ over_large b s qs ps i p l e f = both (is_too_large (qs ++ map (admitted b s) ps
     less : RowLe (add_rows (sum_of p.series before) p.row) (sum_of p.series all)
     less = subst (λ rs. RowLe (add_rows (sum_of p.series before) p.row) (sum_of p.series rs)) (sym split) (subst (λ r. RowLe r (sum_of p.series ((before ++ admitted b s p ∷ []) ++ map (admitted b s) (drop (i + 1) ps)))) (sum_put p.series before (admitted b s p) (same_of p.series p.series refl)) (sum_first p.series (before ++ admitted b s p ∷ []) (map (admitted b s) (drop (i + 1) ps))))
 
-    both : (v : Bool) → is_too_large all ps ≡ v → is_too_large all ps ≡ true
-    both true m = m
-    both false m =
+    none_over : is_too_large all ps ≡ false → ⊥
+    none_over m =
         let fine = fits_le p.series.kind (add_rows (sum_of p.series before) p.row) (sum_of p.series all) less (not-false (fits p.series.kind (sum_of p.series all)) (within_at all ps i p l e m)) in
-        absurd (let q : true ≡ false = sym fine ∙ f in cc)
+        let q : true ≡ false = sym fine ∙ f in cc

@@ -4,7 +4,7 @@ use Rattle.std.specs.declared.result.Result.{Result}
 use Rattle.std.specs.declared.result.Result.TheVariants.{Ok, Err}
 use Rattle.std.specs.Prelude.{OnOk, OnErr, IfErr, nat_lt}
 use Rattle.std.specs.List.{list_all, list_any}
-use Rattle.std.proofs.lemmas.Bool.{and_parts, and_from, ltb-false, ltb-true, or_cases, or_left, not-false}
+use Rattle.std.proofs.lemmas.Bool.{and_parts, and_from, ltb-false, or_cases, or_left, not-false, cases_lt}
 use Rattle.std.proofs.lemmas.List.{append-nil, take_all, drop_all}
 use Rattle.std.proofs.lemmas.List.Elements.{filter-append}
 use Rattle.series_id.specs.Identity.{Identity, row_length}
@@ -172,11 +172,7 @@ all_put cs qs b s fill ps n l h =
 
 -- of the spans all are
 pub all_spans : (n m : ℕ) (P : Type 0) → (n < m → (SpanOnly ≡ Point) × P) → m ≤ n
-all_spans n m P f = both (nat_lt n m) refl
-  where
-    both : (v : Bool) → nat_lt n m ≡ v → m ≤ n
-    both true e = absurd (let q : SpanOnly ≡ Point = (f (ltb-true n m e)).0 in cc)
-    both false e = ltb-false n m e
+all_spans n m P f = elim (cases_lt n m) [ inl l ↦ absurd (let q : SpanOnly ≡ Point = (f l).0 in cc) | inr le ↦ le ]
 
 -- clauses of an answer
 

@@ -1,7 +1,7 @@
 -- Cells that represent no point are removed.
 use Rattle.std.proofs.Common.{◌≡◌, ◌==◌, ℕ, zero, suc, ◌<◌, Bool, true, false, not, ◌||◌, List, [], ◌∷◌, ◌++◌, map, remove, set, get_or, length, refl, ap, sym, ◌∙◌, subst, arith, inl, inr, ◌⊎◌}
 use Rattle.std.specs.List.{list_all, list_any}
-use Rattle.std.proofs.lemmas.Bool.{and_parts, and_from, or_cases, or_left, or_right, or_from, not-true, not-false, eqb-true}
+use Rattle.std.proofs.lemmas.Bool.{and_parts, and_from, or_cases, or_left, or_right, or_from, not-true, not-false, eqb-true, ne_eqb}
 use Rattle.series_id.specs.Identity.{Identity}
 use Rattle.series_id.specs.Order.{same_series, series_before}
 use Rattle.series_id.proofs.Order.{same_series-exact}
@@ -11,7 +11,7 @@ use Rattle.metric_events.specs.Legal.{are_distinct}
 use Rattle.metric_events.specs.Series.{is_of, of_series, series_in_order, is_ascending}
 use Rattle.metric_events.specs.declared.accepted.Accepted.{Accepted}
 use Rattle.metric_events.proofs.InOrder.{series_ascend, ascending_distinct}
-use Rattle.metric_events.proofs.Lists.{all_both, any_none, any_split}
+use Rattle.metric_events.proofs.Lists.{all_both, any_none, any_split, both_at}
 use Rattle.metric_events.proofs.SeriesOnce.{among_in_order}
 use Rattle.series_cell.specs.Cells.{CellView, Stands, IsOwn, greatest_end, end_of}
 use Rattle.metric_events.proofs.Intervals.{ends_after}
@@ -58,13 +58,7 @@ some_of x (a ∷ qs) k = both (is_of x a) refl (some_of x qs)
     both false e r = rw e (r (λ m. k (rw e m)))
 
 pub covered_by : (z : Identity) (xs : List Identity) (qs : List Accepted) → list_all (λ a. is_among a.point.series xs) qs ≡ true → list_any (is_of z) qs ≡ true → is_among z xs ≡ true
-covered_by z xs [] h m = absurd (let q : false ≡ true = m in cc)
-covered_by z xs (a ∷ qs) h m =
-    let p = and_parts (is_among a.point.series xs) (list_all (λ a. is_among a.point.series xs) qs) h in
-    elim (or_cases (is_of z a) (list_any (is_of z) qs) m) [
-      | inl e ↦ subst (λ y. is_among y xs ≡ true) (same_series-exact a.point.series z e) p.0
-      | inr e ↦ covered_by z xs qs p.1 e
-    ]
+covered_by z xs qs h m = both_at (is_of z) (λ a. is_among a.point.series xs) (is_among z xs ≡ true) (λ a e k. subst (λ y. is_among y xs ≡ true) (same_series-exact a.point.series z e) k) qs m h
 
 -- a cell is removed
 
@@ -178,11 +172,7 @@ missed ds cs x y e f h u = subst (λ ks. is_among y (map id_of ks) ≡ false) e 
 -- what the frontier of a cell says
 
 pub has_end : (c : CellView) (n : ℕ) → n ≡ end_of c → (n ≡ 0 → ⊥) → is_some_cell c ≡ true
-has_end c n e k = both (end_of c == 0) refl
-  where
-    both : (v : Bool) → (end_of c == 0) ≡ v → not v ≡ true
-    both true m = absurd (k (e ∙ eqb-true (end_of c) 0 m))
-    both false m = refl
+has_end c n e k = ap not (ne_eqb (end_of c) 0 (λ m. k (e ∙ m)))
 
 pub lacks_end : (c : CellView) (n : ℕ) → n ≡ end_of c → n ≡ 0 → is_some_cell c ≡ false
 lacks_end c n e z = subst (λ j. not (j == 0) ≡ false) (sym z ∙ e) refl
