@@ -1,13 +1,13 @@
 -- The limits of a batch are the same under any number.
-use Rattle.std.proofs.Common.{◌≡◌, ℕ, ◌+◌, true, false, cond, not, ◌||◌, List, [], ◌∷◌, ◌++◌, map, filter, refl, ap, sym, ◌∙◌, Bool, ◌&&◌, append_assoc}
+use Rattle.std.proofs.Common.{◌≡◌, ℕ, ◌+◌, true, false, cond, not, ◌||◌, List, [], ◌∷◌, ◌++◌, map, filter, refl, ap, sym, ◌∙◌}
 use Rattle.std.specs.Prelude.{if◌then◌else◌}
-use Rattle.std.specs.List.{list_any, list_all}
+use Rattle.std.specs.List.{list_any}
 use Rattle.series_id.specs.Identity.{Identity, row_length}
 use Rattle.metric_events.specs.DataPoint.{DataPoint}
 use Rattle.metric_events.specs.Rows.{fits, add_rows}
 use Rattle.metric_events.specs.Points.{admitted}
 use Rattle.metric_events.specs.Series.{is_of, series_count, row_sum, sum_of}
-use Rattle.metric_events.specs.Legal.{is_over, is_too_large, is_clear, is_in_order}
+use Rattle.metric_events.specs.Legal.{is_over, is_too_large}
 use Rattle.metric_events.specs.declared.accepted.Accepted.{Accepted}
 use Rattle.delta_book.specs.inner.Batches.{is_point_of}
 use Rattle.delta_book.proofs.CountedSeries.{count_accepted, count_new}
@@ -44,17 +44,3 @@ any_over qs rs (p ∷ ps) h = ap (λ w. not (fits p.series.kind w) || is_too_lar
 -- so they are over a limit under both or none
 pub same_large : (b c : ℕ) (s : List ℕ) (qs : List Accepted) (ps : List DataPoint) → is_too_large (qs ++ map (admitted b s) ps) ps ≡ is_too_large (qs ++ map (admitted c s) ps) ps
 same_large b c s qs ps = any_over (qs ++ map (admitted b s) ps) (qs ++ map (admitted c s) ps) ps (λ x. same_rows b c s x (row_length x.kind) qs ps)
-
--- and in order under both or none
-same_clear : (t : Accepted → Bool) (qs rs : List Accepted) (a c : Accepted) → t a ≡ t c → list_all t (qs ++ a ∷ rs) ≡ list_all t (qs ++ c ∷ rs)
-same_clear t [] rs a c e = ap (λ v. v && list_all t rs) e
-same_clear t (q ∷ qs) rs a c e = ap (λ v. t q && v) (same_clear t qs rs a c e)
-
-pub same_order : (b c : ℕ) (s : List ℕ) (p : DataPoint) (qs rs : List Accepted) (ps : List DataPoint) → is_in_order (qs ++ admitted b s p ∷ rs) s ps ≡ is_in_order (qs ++ admitted c s p ∷ rs) s ps
-same_order b c s p qs rs [] = refl
-same_order b c s p qs rs (r ∷ ps) =
-    ap (λ v. v && is_in_order ((qs ++ admitted b s p ∷ rs) ++ admitted 0 s r ∷ []) s ps) (same_clear (λ a. is_clear s r a.point a.sender) qs rs (admitted b s p) (admitted c s p) refl)
-    ∙ ap (λ v. list_all (λ a. is_clear s r a.point a.sender) (qs ++ admitted c s p ∷ rs) && v)
-    (ap (λ xs. is_in_order xs s ps) (append_assoc qs (admitted b s p ∷ rs) (admitted 0 s r ∷ []))
-    ∙ (same_order b c s p qs (rs ++ admitted 0 s r ∷ []) ps
-    ∙ ap (λ xs. is_in_order xs s ps) (sym (append_assoc qs (admitted c s p ∷ rs) (admitted 0 s r ∷ [])))))

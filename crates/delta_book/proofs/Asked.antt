@@ -1,13 +1,15 @@
 -- What the cells say of a series that a point of a batch is of.
-use Rattle.std.proofs.Common.{◌≡◌, ℕ, ◌<◌, Bool, true, false, not, ◌||◌, List, [], ◌∷◌, map, get_or, length, refl, ap, sym, ◌∙◌, subst, inl, inr, ◌⊎◌}
+use Rattle.std.proofs.Common.{◌≡◌, ℕ, ◌<◌, Bool, true, false, not, List, [], ◌∷◌, map, get_or, length, refl, ap, sym, ◌∙◌, subst, inl, inr, ◌⊎◌}
 use Rattle.std.specs.List.{list_any}
-use Rattle.std.proofs.lemmas.Bool.{or_parts}
+use Rattle.std.proofs.lemmas.Bool.{or_parts, cases_Bool}
+use Rattle.std.proofs.Math.Bool.{or-false, or_self}
 use Rattle.series_id.specs.Identity.{Identity, row_length}
 use Rattle.metric_events.specs.Points.{is_among}
 use Rattle.metric_events.specs.Rows.{zeros}
 use Rattle.metric_events.specs.Series.{is_of, of_series, frontier, row_sum, sum_of}
 use Rattle.metric_events.specs.Senders.{same_sender}
 use Rattle.metric_events.specs.declared.accepted.Accepted.{Accepted}
+use Rattle.metric_events.proofs.Bare.{none_frontier}
 use Rattle.metric_events.proofs.Lists.{any_none, filter_none}
 use Rattle.metric_events.proofs.SeriesOnce.{among_in_order}
 use Rattle.series_cell.specs.Cells.{CellView, AllOwn, end_of}
@@ -30,37 +32,18 @@ no_writer : (x : Identity) (s : List ℕ) (qs : List Accepted) → list_any (is_
 no_writer x s [] h = refl
 no_writer x s (a ∷ qs) h = let p = or_parts (is_of x a) (list_any (is_of x) qs) h in rw p.0 (no_writer x s qs p.1)
 
-no_end : (x : Identity) (qs : List Accepted) → list_any (is_of x) qs ≡ false → frontier x qs ≡ 0
-no_end x [] h = refl
-no_end x (a ∷ qs) h = let p = or_parts (is_of x a) (list_any (is_of x) qs) h in rw p.0 (no_end x qs p.1)
-
 writer_of : (o : List ℕ) (x : Identity) (s : List ℕ) (qs : List Accepted) → AllOwn o x (of_series x qs) → list_any (is_of x) qs ≡ true → has_other_writer qs x s ≡ not (same_sender o s)
 writer_of o x s [] h m = absurd (let q : false ≡ true = m in cc)
-writer_of o x s (a ∷ qs) h m = both (is_of x a) refl (writer_of o x s qs) (rest (list_any (is_of x) qs) refl)
+writer_of o x s (a ∷ qs) h m = both (is_of x a) refl (writer_of o x s qs) (cases_Bool (list_any (is_of x) qs))
   where
-    none : list_any (is_of x) qs ≡ false → has_other_writer qs x s ≡ false
-    none e = no_writer x s qs e
-
-    rest : (v : Bool) → list_any (is_of x) qs ≡ v → (list_any (is_of x) qs ≡ true) ⊎ (list_any (is_of x) qs ≡ false)
-    rest true e = inl e
-    rest false e = inr e
-
-    twice : (v : Bool) → (v || v) ≡ v
-    twice true = refl
-    twice false = refl
-
     both : (v : Bool) → is_of x a ≡ v → (AllOwn o x (of_series x qs) → list_any (is_of x) qs ≡ true → has_other_writer qs x s ≡ not (same_sender o s)) → (list_any (is_of x) qs ≡ true) ⊎ (list_any (is_of x) qs ≡ false) → has_other_writer (a ∷ qs) x s ≡ not (same_sender o s)
     both true e r d =
         let k : AllOwn o x (a ∷ of_series x qs) = rw e at h in
         let own : not (same_sender a.sender s) ≡ not (same_sender o s) = ap (λ t. not (same_sender t s)) k.0.sender in
         rw (e, own) (elim d [
-          | inl y ↦ rw (r k.1 y) (twice (not (same_sender o s)))
-          | inr n ↦ rw (none n) (or_none (not (same_sender o s)))
+          | inl y ↦ rw (r k.1 y) (or_self (not (same_sender o s)))
+          | inr n ↦ rw (no_writer x s qs n) (or-false (not (same_sender o s)))
         ])
-      where
-        or_none : (v : Bool) → (v || false) ≡ v
-        or_none true = refl
-        or_none false = refl
     both false e r d =
         let k : AllOwn o x (of_series x qs) = rw e at h in
         let n : list_any (is_of x) qs ≡ true = rw e at m in
@@ -70,7 +53,7 @@ pub writer_none : (cs : List CellView) (qs : List Accepted) (x : Identity) (s : 
 writer_none cs qs x s h n = no_writer x s qs (none_of cs qs x h n)
 
 pub end_none : (cs : List CellView) (qs : List Accepted) (x : Identity) → AreCells cs qs → is_among x (map id_of cs) ≡ false → frontier x qs ≡ 0
-end_none cs qs x h n = no_end x qs (none_of cs qs x h n)
+end_none cs qs x h n = none_frontier x qs (none_of cs qs x h n)
 
 pub sum_none : (cs : List CellView) (qs : List Accepted) (x : Identity) → AreCells cs qs → is_among x (map id_of cs) ≡ false → sum_of x qs ≡ zeros (row_length x.kind)
 sum_none cs qs x h n = ap (row_sum (row_length x.kind)) (filter_none (is_of x) qs (any_none (is_of x) qs (none_of cs qs x h n)))

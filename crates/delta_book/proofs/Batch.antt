@@ -2,7 +2,7 @@
 use Rattle.std.proofs.Common.{◌≡◌, ◌≢◌, ℕ, ◌==◌, ◌⊎◌, Bool, true, false, not, cond, ◌&&◌, ◌||◌, List, [], ◌∷◌, ◌++◌, map, filter, refl, ap, sym, ◌∙◌, subst, inl, inr, ◌<◌}
 use Rattle.std.specs.List.{list_all}
 use Rattle.std.proofs.lemmas.Bool.{and_from, ne_eqb, eqb-true, eq-eqb}
-use Rattle.std.proofs.lemmas.List.{append_assoc, append-nil, map-append}
+use Rattle.std.proofs.lemmas.List.{append_assoc, append-nil}
 use Rattle.std.proofs.lemmas.List.Elements.{filter-append}
 use Rattle.metric_events.specs.DataPoint.{DataPoint}
 use Rattle.metric_events.specs.History.{History, Opened, ◌▸◌, IsNewBatch, opening}
@@ -13,12 +13,13 @@ use Rattle.metric_events.specs.Legal.{IsLegal, is_open}
 use Rattle.metric_events.specs.declared.place.Place.TheVariants.{Home, InFlight, Acknowledged, Dropped}
 use Rattle.metric_events.specs.declared.accepted.Accepted.{Accepted}
 use Rattle.metric_events.specs.declared.batch.Batch.{Batch}
-use Rattle.metric_events.specs.declared.event.Event.TheVariants.{Admit, Undo, Confirm, Take, Settle, Drop, GiveBack, Quarantine, Lift}
+use Rattle.metric_events.specs.declared.event.Event.TheVariants.{Admit, Undo, Confirm, Take, Settle, Drop, GiveBack}
 use Rattle.metric_events.proofs.Lists.{all_append, all_filter, all_map, all_weaker, any_filter, any_before, filter_keeps}
 use Rattle.metric_events.proofs.Invariants.{new_points, all_admitted}
 use Rattle.metric_events.proofs.Fits.{taken_point}
 use Rattle.series_cell.specs.Cells.{is_of_batch}
 use Rattle.series_cell.proofs.Points.{MovesOnly, moves_landed}
+use Rattle.series_cell.proofs.Standing.{map_three}
 
 pub moves_taken : (f : ℕ) (series : List Identity) → MovesOnly (taken f series)
 moves_taken f series = record {
@@ -36,39 +37,18 @@ AdmitIn (E ▸ e) b body = AdmitIn E b body
 new_not_in : (E : History) (c b : ℕ) (body : Batch) → IsNewBatch c E → AdmitIn E b body → c ≢ b
 new_not_in (Opened O) c b body n h = absurd h
 new_not_in (E ▸ Admit d some) c b body n h = elim h [ inl p ↦ (λ e. n.0 (p.0 ∙ sym e)) | inr m ↦ new_not_in E c b body n.1 m ]
-new_not_in (E ▸ Undo d) c b body n h = new_not_in E c b body n h
-new_not_in (E ▸ Confirm d) c b body n h = new_not_in E c b body n h
-new_not_in (E ▸ Take f some) c b body n h = new_not_in E c b body n h
-new_not_in (E ▸ Settle f) c b body n h = new_not_in E c b body n h
-new_not_in (E ▸ Drop f) c b body n h = new_not_in E c b body n h
-new_not_in (E ▸ GiveBack f) c b body n h = new_not_in E c b body n h
-new_not_in (E ▸ Quarantine s) c b body n h = new_not_in E c b body n h
-new_not_in (E ▸ Lift s) c b body n h = new_not_in E c b body n h
+new_not_in (E ▸ e) c b body n h = new_not_in E c b body n h
 
 -- a batch of the history is none of an earlier round
 new_above : (E : History) (b : ℕ) → IsNewBatch b E → (opening E).batches < b
 new_above (Opened O) b n = n
 new_above (E ▸ Admit c some) b n = new_above E b n.1
-new_above (E ▸ Undo c) b n = new_above E b n
-new_above (E ▸ Confirm c) b n = new_above E b n
-new_above (E ▸ Take f some) b n = new_above E b n
-new_above (E ▸ Settle f) b n = new_above E b n
-new_above (E ▸ Drop f) b n = new_above E b n
-new_above (E ▸ GiveBack f) b n = new_above E b n
-new_above (E ▸ Quarantine s) b n = new_above E b n
-new_above (E ▸ Lift s) b n = new_above E b n
+new_above (E ▸ e) b n = new_above E b n
 
 pub admitted_above : (E : History) (b : ℕ) (body : Batch) → IsLegal E → AdmitIn E b body → (opening E).batches < b
 admitted_above (Opened O) b body l h = absurd h
 admitted_above (E ▸ Admit c some) b body l h = elim h [ inl p ↦ subst (λ n. (opening E).batches < n) p.0 (new_above E c l.1.fresh) | inr k ↦ admitted_above E b body l.0 k ]
-admitted_above (E ▸ Undo c) b body l h = admitted_above E b body l.0 h
-admitted_above (E ▸ Confirm c) b body l h = admitted_above E b body l.0 h
-admitted_above (E ▸ Take f some) b body l h = admitted_above E b body l.0 h
-admitted_above (E ▸ Settle f) b body l h = admitted_above E b body l.0 h
-admitted_above (E ▸ Drop f) b body l h = admitted_above E b body l.0 h
-admitted_above (E ▸ GiveBack f) b body l h = admitted_above E b body l.0 h
-admitted_above (E ▸ Quarantine s) b body l h = admitted_above E b body l.0 h
-admitted_above (E ▸ Lift s) b body l h = admitted_above E b body l.0 h
+admitted_above (E ▸ e) b body l h = admitted_above E b body l.0 h
 
 -- the batch's points, one after another, with no other of it before or after
 pub record Whole (qs : List Accepted) (b : ℕ) (body : Batch) : Type 0 where
@@ -81,9 +61,6 @@ pub record Whole (qs : List Accepted) (b : ℕ) (body : Batch) : Type 0 where
   pub of_it : list_all (is_of_batch b) its ≡ true
   pub are : map (at Home) its ≡ map (admitted b body.sender) body.points
 
-three_map : (g : Accepted → Accepted) (xs ys zs : List Accepted) → map g (xs ++ (ys ++ zs)) ≡ map g xs ++ (map g ys ++ map g zs)
-three_map g xs ys zs = map-append g xs (ys ++ zs) ∙ ap (λ rs. map g xs ++ rs) (map-append g ys zs)
-
 home_again : (g : Accepted → Accepted) → MovesOnly g → (qs : List Accepted) → map (at Home) (map g qs) ≡ map (at Home) qs
 home_again g m [] = refl
 home_again g m (a ∷ qs) = ap (λ (p : DataPoint). record { point = p; batch = (g a).batch; sender = (g a).sender; place = Home } ∷ map (at Home) (map g qs)) (m.point a) ∙ (ap (λ b. record { point = a.point; batch = b; sender = (g a).sender; place = Home } ∷ map (at Home) (map g qs)) (m.batch a) ∙ (ap (λ s. record { point = a.point; batch = a.batch; sender = s; place = Home } ∷ map (at Home) (map g qs)) (m.sender a) ∙ ap (λ rs. at Home a ∷ rs) (home_again g m qs)))
@@ -93,7 +70,7 @@ whole_moved g m qs b body w = record {
   before = map g w.before;
   its = map g w.its;
   after = map g w.after;
-  parts = ap (map g) w.parts ∙ three_map g w.before w.its w.after;
+  parts = ap (map g) w.parts ∙ map_three g w.before w.its w.after;
   none_before = all_map (is_of_other_batch b) (is_of_other_batch b) g (λ a h. ap (λ c. not (c == b)) (m.batch a) ∙ h) w.before w.none_before;
   none_after = all_map (is_of_other_batch b) (is_of_other_batch b) g (λ a h. ap (λ c. not (c == b)) (m.batch a) ∙ h) w.after w.none_after;
   of_it = all_map (is_of_batch b) (is_of_batch b) g (λ a h. ap (λ c. c == b) (m.batch a) ∙ h) w.its w.of_it;
@@ -176,5 +153,4 @@ whole (E ▸ Take f series) b body l h o = whole_moved (taken f series) (moves_t
 whole (E ▸ Settle f) b body l h o = whole_moved (landed f Acknowledged) (moves_landed f Acknowledged) (points E) b body (whole E b body l.0 h o)
 whole (E ▸ Drop f) b body l h o = whole_moved (landed f Dropped) (moves_landed f Dropped) (points E) b body (whole E b body l.0 h o)
 whole (E ▸ GiveBack f) b body l h o = whole_moved (landed f Home) (moves_landed f Home) (points E) b body (whole E b body l.0 h o)
-whole (E ▸ Quarantine s) b body l h o = whole E b body l.0 h o
-whole (E ▸ Lift s) b body l h o = whole E b body l.0 h o
+whole (E ▸ e) b body l h o = whole E b body l.0 h o

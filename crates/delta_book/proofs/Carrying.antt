@@ -59,41 +59,36 @@ AreCarried (suc i) (c ∷ cs) (d ∷ ds) = CarriedAs c d × AreCarried i cs ds
 pub length_carried : (i : ℕ) (cs ds : List CellView) → AreCarried i cs ds → length ds ≡ length cs
 length_carried zero cs ds h = ap length h
 length_carried (suc i) [] [] h = refl
-length_carried (suc i) [] (d ∷ ds) h = absurd h
-length_carried (suc i) (c ∷ cs) [] h = absurd h
 length_carried (suc i) (c ∷ cs) (d ∷ ds) h = omega (arith, length_carried i cs ds h.1)
+length_carried (suc i) cs ds h = absurd h
 
 pub carried_more : (i : ℕ) (cs ds : List CellView) (c d : CellView) → AreCarried i cs ds → i < length ds → c ≡ get_or ds i c → CarriedAs c d → AreCarried (suc i) cs (set ds i d)
 carried_more zero [] ds c d h l e k = absurd (omega (arith, l, ap length h))
-carried_more zero (x ∷ cs) [] c d h l e k = absurd (omega (arith, l))
 carried_more zero (x ∷ cs) (y ∷ ds) c d h l e k =
     let first : c ≡ x = e ∙ ap (λ zs. get_or zs 0 c) h in
     (subst (λ w. CarriedAs w d) first k, ap (drop 1) h)
-carried_more (suc i) [] [] c d h l e k = absurd (omega (arith, l))
 carried_more (suc i) [] (y ∷ ds) c d h l e k = absurd h
 carried_more (suc i) (x ∷ cs) [] c d h l e k = absurd h
 carried_more (suc i) (x ∷ cs) (y ∷ ds) c d h l e k = (h.0, carried_more i cs ds c d h.1 (omega (arith, l)) e k)
+carried_more i cs [] c d h l e k = absurd (omega (arith, l))
 
 pub carries_at : (i : ℕ) (cs ds : List CellView) (c : CellView) → AllCarry cs → AreCarried i cs ds → i < length ds → c ≡ get_or ds i c → Carries c
 carries_at zero [] ds c a h l e = absurd (omega (arith, l, ap length h))
 carries_at zero (x ∷ cs) ds c a h l e = subst Carries (sym (e ∙ ap (λ zs. get_or zs 0 c) h)) a.0
 carries_at (suc i) [] [] c a h l e = absurd (omega (arith, l))
-carries_at (suc i) [] (y ∷ ds) c a h l e = absurd h
-carries_at (suc i) (x ∷ cs) [] c a h l e = absurd h
 carries_at (suc i) (x ∷ cs) (y ∷ ds) c a h l e = carries_at i cs ds c a.1 h.1 (omega (arith, l)) e
+carries_at (suc i) cs ds c a h l e = absurd h
 
 pub carried_all : (i : ℕ) (cs ds : List CellView) (ss : List OpenedSeries) → AreCarried i cs ds → length ds ≤ i → AllHandOn cs ss → AllOpened ds ss
 carried_all zero [] [] [] h l k = tt
-carried_all zero [] [] (s ∷ ss) h l k = absurd k
 carried_all zero [] (d ∷ ds) ss h l k = absurd (omega (arith, l))
 carried_all zero (c ∷ cs) [] ss h l k = absurd (omega (arith, ap length h))
 carried_all zero (c ∷ cs) (d ∷ ds) ss h l k = absurd (omega (arith, l))
 carried_all (suc i) [] [] [] h l k = tt
-carried_all (suc i) [] [] (s ∷ ss) h l k = absurd k
 carried_all (suc i) [] (d ∷ ds) ss h l k = absurd h
 carried_all (suc i) (c ∷ cs) [] ss h l k = absurd h
-carried_all (suc i) (c ∷ cs) (d ∷ ds) [] h l k = absurd k
 carried_all (suc i) (c ∷ cs) (d ∷ ds) (s ∷ ss) h l k = (h.0 s k.0, carried_all i cs ds ss h.1 (omega (arith, l)) k.1)
+carried_all i cs ds ss h l k = absurd k
 
 -- what may be carried
 
@@ -152,9 +147,8 @@ hands_all before cs qs held h = subst (λ xs. AllHandOn cs (map (handed_on befor
 
 ids_opened : (ds : List CellView) (ss : List OpenedSeries) → AllOpened ds ss → map id_of ds ≡ series_of ss
 ids_opened [] [] h = refl
-ids_opened [] (s ∷ ss) h = absurd h
-ids_opened (d ∷ ds) [] h = absurd h
 ids_opened (d ∷ ds) (s ∷ ss) h = ap (λ x. x ∷ map id_of ds) h.0.id ∙ ap (λ xs. s.series ∷ xs) (ids_opened ds ss h.1)
+ids_opened ds ss h = absurd h
 
 own_points : (s : OpenedSeries) (O : Opening) → entries_of s.series O.series ≡ s ∷ [] → of_series s.series (opened_points O) ≡ opened_with s
 own_points s O e =
@@ -164,10 +158,9 @@ own_points s O e =
 
 stand_opened : (O : Opening) (ds : List CellView) (ss : List OpenedSeries) → AllOpened ds ss → Alone O.series ss → AllStand ds (opened_points O)
 stand_opened O [] [] h a = tt
-stand_opened O [] (s ∷ ss) h a = absurd h
-stand_opened O (d ∷ ds) [] h a = absurd h
 stand_opened O (d ∷ ds) (s ∷ ss) h a =
     (subst (Stands d) (sym (ap (λ x. of_series x (opened_points O)) h.0.id ∙ own_points s O a.0)) h.0.stands, stand_opened O ds ss h.1 a.1)
+stand_opened O ds ss h a = absurd h
 
 opened_cells : (O : Opening) (ds : List CellView) → is_ascending (series_of O.series) ≡ true → AllOpened ds O.series → AreCells ds (opened_points O)
 opened_cells O ds u h = record {

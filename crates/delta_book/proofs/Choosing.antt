@@ -4,7 +4,8 @@ use Rattle.std.specs.Prelude.{nat_lt}
 use Rattle.std.specs.List.{list_all, list_any}
 use Rattle.std.proofs.lemmas.List.{take-append-drop, take_at, map-append}
 use Rattle.std.proofs.lemmas.List.Elements.{filter-append}
-use Rattle.std.proofs.lemmas.Bool.{and_parts, and_from, or_parts, or_left, or_cases}
+use Rattle.std.proofs.lemmas.Bool.{and_parts, and_from, or_left, or_cases, true_from_ne_false}
+use Rattle.std.proofs.Math.Bool.{and-false}
 use Rattle.series_id.specs.Identity.{Identity}
 use Rattle.series_id.specs.Order.{same_series, series_before}
 use Rattle.series_id.proofs.Order.{same_series-refl, same_series-exact, before-transitive, before-irreflexive}
@@ -14,33 +15,28 @@ use Rattle.metric_events.specs.Standing.{stands}
 use Rattle.metric_events.specs.Legal.{is_in_live, is_held}
 use Rattle.metric_events.specs.Choice.{is_eligible, first_eligible, is_cargo}
 use Rattle.metric_events.specs.declared.place.Place.{Place}
-use Rattle.metric_events.specs.declared.place.Place.TheVariants.{Home, InFlight, Acknowledged, Dropped}
+use Rattle.metric_events.specs.declared.place.Place.TheVariants.{InFlight}
 use Rattle.metric_events.specs.declared.accepted.Accepted.{Accepted}
 use Rattle.metric_events.specs.declared.flight.Flight.{Flight}
 use Rattle.metric_events.proofs.Identities.{same_series-turned}
 use Rattle.metric_events.proofs.InOrder.{series_ascend, not_among}
 use Rattle.metric_events.proofs.SeriesOnce.{among_in_order}
 use Rattle.metric_events.proofs.Lists.{all_filter, any_none, filter_none, any_weaker, both_at}
+use Rattle.metric_events.proofs.Opened.{any_of_series}
 use Rattle.metric_events.proofs.Moves.{rides, rides_at, rides-in_live}
 use Rattle.series_cell.specs.Cells.{CellView, Stands, AllOwn}
 use Rattle.series_cell.proofs.Reading.{flying_is, stored_is}
 use Rattle.delta_book.specs.Tables.{AreCells, AllStand, id_of}
 use Rattle.delta_book.specs.inner.Tables.{is_full, are_full}
 use Rattle.delta_book.proofs.Picking.{some_filtered}
+use Rattle.delta_book.proofs.Tables.{agree}
 use Rattle.delta_book.specs.Ready.{is_ready}
 use Rattle.delta_book.specs.inner.Ready.{ready_ids, first_ready}
 
 -- two ascending lists of the same series are one
 
--- what comes before each of these comes before one of them
-before_of : (x y : Identity) (xs : List Identity) → list_all (series_before x) xs ≡ true → is_among y xs ≡ true → series_before x y ≡ true
-before_of x y [] h m = absurd (let q : false ≡ true = m in cc)
-before_of x y (z ∷ zs) h m =
-    let p = and_parts (series_before x z) (list_all (series_before x) zs) h in
-    elim (or_cases (same_series y z) (is_among y zs) m) [
-      | inl e ↦ subst (λ w. series_before x w ≡ true) (sym (same_series-exact y z e)) p.0
-      | inr e ↦ before_of x y zs p.1 e
-    ]
+at_series : (t : Identity → Bool) (x : Identity) (xs : List Identity) → list_all t xs ≡ true → is_among x xs ≡ true → t x ≡ true
+at_series t x xs h m = both_at (same_series x) t (t x ≡ true) (λ y e k. ap t (same_series-exact x y e) ∙ k) xs m h
 
 pub record SameSeries (xs ys : List Identity) : Type 0 where
   pub same : (z : Identity) → is_among z xs ≡ is_among z ys
@@ -53,8 +49,8 @@ heads x y xs ys h k s = both (same_series x y) refl
     both false e =
         let mx : is_among x ys ≡ true = (let q : (same_series x y || is_among x ys) ≡ true = sym (s.same x) ∙ or_left (same_series x x) (is_among x xs) (same_series-refl x) in later (same_series x y) (is_among x ys) e q) in
         let my : is_among y xs ≡ true = (let q : (same_series y x || is_among y xs) ≡ true = s.same y ∙ or_left (same_series y y) (is_among y ys) (same_series-refl y) in later (same_series y x) (is_among y xs) (same_series-turned y x ∙ e) q) in
-        let bx : series_before y x ≡ true = before_of y x ys k mx in
-        let by : series_before x y ≡ true = before_of x y xs h my in
+        let bx : series_before y x ≡ true = at_series (series_before y) x ys k mx in
+        let by : series_before x y ≡ true = at_series (series_before x) y xs h my in
         absurd (let q : true ≡ false = sym (before-transitive x y x by bx) ∙ before-irreflexive x in cc)
       where
         later : (u v : Bool) → u ≡ false → (u || v) ≡ true → v ≡ true
@@ -102,11 +98,7 @@ among_filter t z (x ∷ xs) = both (same_series z x) (t x) refl refl (among_filt
 
     both : (v w : Bool) → same_series z x ≡ v → t x ≡ w → is_among z (filter t xs) ≡ (is_among z xs && t z) → is_among z (filter t (x ∷ xs)) ≡ ((same_series z x || is_among z xs) && t z)
     both true true e f r = let tz : t z ≡ true = ap t (same_series-exact z x e) ∙ f in rw (f, e) (sym tz)
-    both true false e f r = let tz : t z ≡ false = ap t (same_series-exact z x e) ∙ f in rw (f, e) (r ∙ (ap (λ v. is_among z xs && v) tz ∙ (and_false (is_among z xs) ∙ sym tz)))
-      where
-        and_false : (v : Bool) → (v && false) ≡ false
-        and_false true = refl
-        and_false false = refl
+    both true false e f r = let tz : t z ≡ false = ap t (same_series-exact z x e) ∙ f in rw (f, e) (r ∙ (ap (λ v. is_among z xs && v) tz ∙ (and-false (is_among z xs) ∙ sym tz)))
     both false true e f r = rw (f, e) r
     both false false e f r = rw (f, e) r
 
@@ -121,10 +113,7 @@ any_of_filter t z (a ∷ qs) = both (is_of z a) (t a) refl refl (any_of_filter t
     both false false e f r = rw (e, f) r
 
 none_there : (t : Accepted → Bool) (z : Identity) (qs : List Accepted) → list_any (is_of z) qs ≡ false → list_any t (of_series z qs) ≡ false
-none_there t z [] h = refl
-none_there t z (a ∷ qs) h =
-    let p = or_parts (is_of z a) (list_any (is_of z) qs) h in
-    rw p.0 (none_there t z qs p.1)
+none_there t z qs h = ap (list_any t) (filter_none (is_of z) qs (any_none (is_of z) qs h))
 
 pub series_passing : (t : Accepted → Bool) (qs : List Accepted) → filter (λ x. list_any t (of_series x qs)) (series_in_order qs) ≡ series_in_order (filter t qs)
 series_passing t qs = same_ascending (filter (λ x. list_any t (of_series x qs)) (series_in_order qs)) (series_in_order (filter t qs))
@@ -182,80 +171,46 @@ some_ids held (c ∷ cs) a e = both (is_ready held c) refl (some_ids held cs)
     both false f r = r (rw f at a) (rw f at e)
 
 none_ids : (held : List (List ℕ)) (cs : List CellView) → list_any (is_ready held) cs ≡ false → ready_ids held cs ≡ []
-none_ids held [] a = refl
-none_ids held (c ∷ cs) a =
-    let p = or_parts (is_ready held c) (list_any (is_ready held) cs) a in
-    rw p.0 (none_ids held cs p.1)
+none_ids held cs a = ap (map id_of) (filter_none (is_ready held) cs (any_none (is_ready held) cs a))
 
 none_filtered : (t : Accepted → Bool) (qs : List Accepted) → list_any t qs ≡ false → filter t qs ≡ []
 none_filtered t qs e = filter_none t qs (any_none t qs e)
 
 pub any_ready : (cs : List CellView) (qs : List Accepted) (live : List Flight) (held : List (List ℕ)) → AreCells cs qs → AreTied qs live → list_any (is_ready held) cs ≡ list_any (is_eligible live held) qs
-any_ready cs qs live held h t = cells (list_any (is_ready held) cs) (list_any (is_eligible live held) qs) refl refl
+any_ready cs qs live held h t = agree
+    (λ a. true_from_ne_false _ (λ b. some_ids held cs a (ids ∙ ap series_in_order (none_filtered (is_eligible live held) qs b))))
+    (λ b. true_from_ne_false _ (λ a. some_filtered (is_eligible live held) qs b (sym ids ∙ none_ids held cs a)))
   where
     ids : ready_ids held cs ≡ series_in_order (filter (is_eligible live held) qs)
     ids = ready_filter cs qs live held h.stand t ∙ (ap (filter (λ x. list_any (is_eligible live held) (of_series x qs))) h.ids ∙ series_passing (is_eligible live held) qs)
 
-    cells : (v w : Bool) → list_any (is_ready held) cs ≡ v → list_any (is_eligible live held) qs ≡ w → list_any (is_ready held) cs ≡ list_any (is_eligible live held) qs
-    cells true true a b = a ∙ sym b
-    cells false false a b = a ∙ sym b
-    cells true false a b = absurd (some_ids held cs a (ids ∙ ap series_in_order (none_filtered (is_eligible live held) qs b)))
-    cells false true a b = absurd (some_filtered (is_eligible live held) qs b (sym ids ∙ none_ids held cs a))
-
 -- what a book keeps is tied: a live flush has a point in flight of each of its series, and nothing else flies
-
-at_series : (t : Identity → Bool) (x : Identity) (xs : List Identity) → list_all t xs ≡ true → is_among x xs ≡ true → t x ≡ true
-at_series t x [] h m = absurd (let q : false ≡ true = m in cc)
-at_series t x (y ∷ ys) h m =
-    let p = and_parts (t y) (list_all t ys) h in
-    elim (or_cases (same_series x y) (is_among x ys) m) [
-      | inl e ↦ ap t (same_series-exact x y e) ∙ p.0
-      | inr e ↦ at_series t x ys p.1 e
-    ]
 
 flying_of : (x : Identity) (a : Accepted) → (f : ℕ) → is_cargo f x a ≡ true → (is_of x a && is_flying a.place) ≡ true
 flying_of x a f h = by a.place h
   where
     by : (place : Place) → (is_in_flight f place && is_of x a) ≡ true → (is_of x a && is_flying place) ≡ true
-    by Home e = absurd (let k : false ≡ true = e in cc)
     by (InFlight g) e = and_from (is_of x a) true (and_parts (g == f) (is_of x a) e).1 refl
-    by Acknowledged e = absurd (let k : false ≡ true = e in cc)
-    by Dropped e = absurd (let k : false ≡ true = e in cc)
-
-any_of_both : (t : Accepted → Bool) (x : Identity) (qs : List Accepted) → list_any (λ a. is_of x a && t a) qs ≡ list_any t (of_series x qs)
-any_of_both t x [] = refl
-any_of_both t x (a ∷ qs) = both (is_of x a) refl (any_of_both t x qs)
-  where
-    both : (v : Bool) → is_of x a ≡ v → list_any (λ a. is_of x a && t a) qs ≡ list_any t (of_series x qs) → list_any (λ a. is_of x a && t a) (a ∷ qs) ≡ list_any t (of_series x (a ∷ qs))
-    both true e r = rw e (ap (λ v. t a || v) r)
-    both false e r = rw e r
+    by place e = absurd (let k : false ≡ true = e in cc)
 
 live_flies : (qs : List Accepted) (x : Identity) (live : List Flight) → are_full qs live ≡ true → is_in_live live x ≡ true → list_any (stands is_flying) (of_series x qs) ≡ true
 live_flies qs x [] h m = absurd (let q : false ≡ true = m in cc)
 live_flies qs x (l ∷ live) h m =
     let p = and_parts (is_full qs l) (are_full qs live) h in
     elim (or_cases (is_among x l.series) (is_in_live live x) m) [
-      | inl e ↦ sym (any_of_both (stands is_flying) x qs) ∙ any_weaker (is_cargo l.number x) (λ a. is_of x a && is_flying a.place) (λ a k. flying_of x a l.number k) qs (at_series (λ y. list_any (is_cargo l.number y) qs) x l.series p.0 e)
+      | inl e ↦ sym (any_of_series x (stands is_flying) qs) ∙ any_weaker (is_cargo l.number x) (λ a. is_of x a && is_flying a.place) (λ a k. flying_of x a l.number k) qs (at_series (λ y. list_any (is_cargo l.number y) qs) x l.series p.0 e)
       | inr e ↦ live_flies qs x live p.1 e
     ]
 
 flies_live : (qs : List Accepted) (x : Identity) (live : List Flight) → list_all (rides live) qs ≡ true → list_any (stands is_flying) (of_series x qs) ≡ true → is_in_live live x ≡ true
-flies_live qs x live h m = both_at (λ a. is_of x a && is_flying a.place) (rides live) (is_in_live live x ≡ true) (λ a k r. by a.place a (and_parts (is_of x a) (is_flying a.place) k).0 (and_parts (is_of x a) (is_flying a.place) k).1 r) qs (any_of_both (stands is_flying) x qs ∙ m) h
+flies_live qs x live h m = both_at (λ a. is_of x a && is_flying a.place) (rides live) (is_in_live live x ≡ true) (λ a k r. by a.place a (and_parts (is_of x a) (is_flying a.place) k).0 (and_parts (is_of x a) (is_flying a.place) k).1 r) qs (any_of_series x (stands is_flying) qs ∙ m) h
   where
     by : (place : Place) (a : Accepted) → is_of x a ≡ true → is_flying place ≡ true → rides_at live a.point.series place ≡ true → is_in_live live x ≡ true
-    by Home a e f r = absurd (let k : false ≡ true = f in cc)
     by (InFlight g) a e f r = subst (λ y. is_in_live live y ≡ true) (same_series-exact a.point.series x e) (rides-in_live live a.point.series g r)
-    by Acknowledged a e f r = absurd (let k : false ≡ true = f in cc)
-    by Dropped a e f r = absurd (let k : false ≡ true = f in cc)
+    by place a e f r = absurd (let k : false ≡ true = f in cc)
 
 pub tied : (qs : List Accepted) (live : List Flight) → list_all (rides live) qs ≡ true → are_full qs live ≡ true → AreTied qs live
-tied qs live r h = record { tied = λ x. both x (is_in_live live x) (list_any (stands is_flying) (of_series x qs)) refl refl }
-  where
-    both : (x : Identity) (v w : Bool) → is_in_live live x ≡ v → list_any (stands is_flying) (of_series x qs) ≡ w → is_in_live live x ≡ list_any (stands is_flying) (of_series x qs)
-    both x true true a b = a ∙ sym b
-    both x false false a b = a ∙ sym b
-    both x true false a b = absurd (let q : true ≡ false = sym (live_flies qs x live h a) ∙ b in cc)
-    both x false true a b = absurd (let q : true ≡ false = sym (flies_live qs x live r b) ∙ a in cc)
+tied qs live r h = record { tied = λ x. agree (live_flies qs x live h) (flies_live qs x live r) }
 
 -- so many of the first cells are ready, and these are the first
 pub first_upto : (held : List (List ℕ)) (cs : List CellView) (i n : ℕ) → length (ready_ids held (take i cs)) ≡ n → ready_ids held (take i cs) ≡ first_ready held n cs

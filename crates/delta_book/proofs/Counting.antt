@@ -1,8 +1,8 @@
 -- How many series there are, counted in series order.
-use Rattle.std.proofs.Common.{◌≡◌, ℕ, ◌+◌, ◌<◌, ◌≤◌, Bool, true, false, not, ◌||◌, List, [], ◌∷◌, ◌++◌, map, take, filter, get_or, length, refl, ap, sym, ◌∙◌, subst, arith, zero, suc, add-one}
+use Rattle.std.proofs.Common.{◌≡◌, ℕ, ◌+◌, ◌<◌, ◌≤◌, Bool, true, false, not, ◌||◌, List, [], ◌∷◌, ◌++◌, map, take, filter, get_or, length, refl, ap, sym, ◌∙◌, subst, arith}
 use Rattle.std.specs.Prelude.{if◌then◌else◌}
 use Rattle.std.specs.List.{list_any, list_all}
-use Rattle.std.proofs.lemmas.Bool.{and_parts, and_from, or_left}
+use Rattle.std.proofs.lemmas.Bool.{and_parts, and_from, or_left, or_right}
 use Rattle.std.proofs.lemmas.Grind.{fold-append}
 use Rattle.std.proofs.lemmas.List.{append_assoc, take_all, map-append, length-map}
 use Rattle.std.proofs.lemmas.List.Folds.{list_any-append}
@@ -23,6 +23,7 @@ use Rattle.series_cell.specs.Cells.{CellView}
 use Rattle.delta_book.specs.inner.Batches.{is_point_of}
 use Rattle.delta_book.specs.Tables.{AreCells, AreBooked, id_of}
 use Rattle.delta_book.proofs.CountedSeries.{listed-admitted}
+use Rattle.delta_book.proofs.Tables.{take_next}
 
 -- as many as the series in order
 
@@ -45,18 +46,16 @@ count_within (a ∷ qs) xs h = both (list_any (is_of a.point.series) qs) refl (c
         let w : list_all (λ b. is_among b.point.series (filter (λ y. not (same_series a.point.series y)) xs)) qs ≡ true = left_in a.point.series xs qs e p.1 in
         rw e (omega (arith, r (filter (λ y. not (same_series a.point.series y)) xs) w, length_without (same_series a.point.series) (λ y. not (same_series a.point.series y)) (λ y m. ap not m) xs p.0))
 
-each_in : (all : List Accepted) (xs : List Identity) → ((x : Identity) → list_any (is_of x) all ≡ true → is_among x xs ≡ true) → (qs : List Accepted) → ((x : Identity) → list_any (is_of x) qs ≡ true → list_any (is_of x) all ≡ true) → list_all (λ a. is_among a.point.series xs) qs ≡ true
-each_in all xs k [] w = refl
-each_in all xs k (a ∷ qs) w =
+-- where each series of the points is among these, each point's is
+pub each_in : (xs : List Identity) (qs : List Accepted) → ((x : Identity) → list_any (is_of x) qs ≡ true → is_among x xs ≡ true) → list_all (λ a. is_among a.point.series xs) qs ≡ true
+each_in xs [] k = refl
+each_in xs (a ∷ qs) k =
     and_from (is_among a.point.series xs) (list_all (λ a. is_among a.point.series xs) qs)
-    (k a.point.series (w a.point.series (or_left (is_of a.point.series a) (list_any (is_of a.point.series) qs) (same_of a.point.series a.point.series refl))))
-    (each_in all xs k qs (λ x m. w x (or_later x m)))
-  where
-    or_later : (x : Identity) → list_any (is_of x) qs ≡ true → (is_of x a || list_any (is_of x) qs) ≡ true
-    or_later x m = elim (is_of x a) as (λ v. (v || list_any (is_of x) qs) ≡ true) [ true ↦ refl | false ↦ m ]
+    (k a.point.series (or_left (is_of a.point.series a) (list_any (is_of a.point.series) qs) (same_of a.point.series a.point.series refl)))
+    (each_in xs qs (λ x m. k x (or_right (is_of x a) (list_any (is_of x) qs) m)))
 
 pub count_is : (qs : List Accepted) → length (series_in_order qs) ≡ series_count qs
-count_is qs = omega (arith, in_order_few qs, count_within qs (series_in_order qs) (each_in qs (series_in_order qs) (λ x m. among_in_order x qs ∙ m) qs (λ x m. m)))
+count_is qs = omega (arith, in_order_few qs, count_within qs (series_in_order qs) (each_in (series_in_order qs) qs (λ x m. among_in_order x qs ∙ m)))
 
 -- one more, where it is not among them
 
@@ -77,20 +76,12 @@ length_placed x (y ∷ ys) h = both (same_series x y) (series_before x y) refl r
 in_order_more : (qs : List Accepted) (a : Accepted) → series_in_order (qs ++ a ∷ []) ≡ placed a.point.series (series_in_order qs)
 in_order_more qs a = fold-append with_series [] qs (a ∷ [])
 
-take_next : {X : Type 0} (xs : List X) (j : ℕ) (x : X) → j < length xs → x ≡ get_or xs j x → take (suc j) xs ≡ take j xs ++ x ∷ []
-take_next [] j x l e = absurd (omega (arith, l))
-take_next (y ∷ xs) zero x l e = ap (λ z. z ∷ []) (sym e)
-take_next (y ∷ xs) (suc j) x l e = ap (λ ys. y ∷ ys) (take_next xs j x (omega arith) e)
-
-pub take_more : {X : Type 0} (xs : List X) (j : ℕ) (x : X) → j < length xs → x ≡ get_or xs j x → take (j + 1) xs ≡ take j xs ++ x ∷ []
-take_more xs j x l e = ap (λ n. take n xs) (add-one j) ∙ take_next xs j x l e
-
 -- the count goes on by one where a series is not known
 pub counted_on : (cs : List CellView) (ps : List DataPoint) (j n : ℕ) (p : DataPoint) (x : Identity) (known : Bool) (one : ℕ) (b : ℕ) (s : List ℕ) (qs : List Accepted) (before : List DataPoint) → AreCells cs qs → j < length ps → p ≡ get_or ps j p → x ≡ p.series → before ≡ take j ps → known ≡ (is_among x (map id_of cs) || list_any (is_point_of x) before) → one ≡ (if known then 0 else 1) → n ≡ length (series_in_order (qs ++ map (admitted b s) (take j ps))) → n + one ≡ length (series_in_order (qs ++ map (admitted b s) (take (j + 1) ps)))
 counted_on cs ps j n p x known one b s qs before h l e sx sb k o r =
     let rs : List Accepted = qs ++ map (admitted b s) (take j ps) in
     let more : qs ++ map (admitted b s) (take (j + 1) ps) ≡ rs ++ admitted b s p ∷ [] =
-    ap (λ ys. qs ++ map (admitted b s) ys) (take_more ps j p l e) ∙ (ap (λ ys. qs ++ ys) (map-append (admitted b s) (take j ps) (p ∷ [])) ∙ sym (append_assoc qs (map (admitted b s) (take j ps)) (admitted b s p ∷ []))) in
+    ap (λ ys. qs ++ map (admitted b s) ys) (take_next ps j p l e) ∙ (ap (λ ys. qs ++ ys) (map-append (admitted b s) (take j ps) (p ∷ [])) ∙ sym (append_assoc qs (map (admitted b s) (take j ps)) (admitted b s p ∷ []))) in
     let there : is_among p.series (series_in_order rs) ≡ known =
     among_in_order p.series rs ∙ (list_any-append (is_of p.series) qs (map (admitted b s) (take j ps))
     ∙ (ap (λ v. list_any (is_of p.series) qs || v) (listed-admitted p.series b s (take j ps))

@@ -1,8 +1,9 @@
 -- What an open batch brought, series by series: in each it is at home whole, or not at all.
-use Rattle.std.proofs.Common.{◌≡◌, ℕ, ◌<◌, ◌==◌, Bool, true, false, not, cond, ◌&&◌, ◌||◌, List, [], ◌∷◌, ◌++◌, map, filter, length, get_or, refl, ap, sym, ◌∙◌, subst, inl, inr, arith, zero, suc}
+use Rattle.std.proofs.Common.{◌≡◌, ℕ, ◌<◌, ◌==◌, Bool, true, false, not, cond, ◌&&◌, ◌||◌, List, [], ◌∷◌, ◌++◌, map, filter, length, get_or, refl, ap, sym, ◌∙◌, subst, inl, inr}
 use Rattle.std.specs.List.{list_all, list_any}
-use Rattle.std.proofs.lemmas.Bool.{and_parts, and_from, or_left, or_right, eqb-true, eq-eqb}
-use Rattle.std.proofs.lemmas.List.Folds.{list_any-append}
+use Rattle.std.proofs.lemmas.Bool.{and_parts, and_from, or_left, or_right, eqb-true, eq-eqb, false_from_ne_true}
+use Rattle.std.proofs.Math.Bool.{or-false}
+use Rattle.std.proofs.lemmas.List.Folds.{list_any-append, list_any_at}
 use Rattle.std.proofs.lemmas.List.Elements.{filter-append}
 use Rattle.series_id.specs.Identity.{Identity}
 use Rattle.series_id.specs.Order.{same_series}
@@ -16,8 +17,8 @@ use Rattle.metric_events.specs.declared.place.Place.{Place}
 use Rattle.metric_events.specs.declared.place.Place.TheVariants.{Home, InFlight, Acknowledged, Dropped}
 use Rattle.metric_events.specs.declared.accepted.Accepted.{Accepted}
 use Rattle.metric_events.specs.declared.batch.Batch.{Batch}
-use Rattle.metric_events.specs.declared.event.Event.TheVariants.{Admit, Undo, Confirm, Take, Settle, Drop, GiveBack, Quarantine, Lift}
-use Rattle.metric_events.proofs.Lists.{all_first, all_last, all_filter, all_always, all_weaker, any_none, filter_none, filter_keeps, both_at}
+use Rattle.metric_events.specs.declared.event.Event.TheVariants.{Admit, Undo, Take, Settle, Drop, GiveBack}
+use Rattle.metric_events.proofs.Lists.{all_first, all_last, all_filter, all_always, all_weaker, any_none, filter_none, filter_keeps, both_at, any_from_filter, any_all_not}
 use Rattle.metric_events.proofs.Invariants.{new_points, all_admitted}
 use Rattle.metric_events.proofs.Opened.{opened_of_no_batch}
 use Rattle.metric_events.proofs.Identities.{same_of}
@@ -26,10 +27,11 @@ use Rattle.series_cell.proofs.Points.{MovesOnly, moves_landed}
 use Rattle.delta_book.specs.inner.Batches.{is_point_of}
 use Rattle.delta_book.specs.Tables.{AreCells, id_of}
 use Rattle.delta_book.specs.inner.Tables.{IdAt, IsEntered, HasPending}
-use Rattle.delta_book.proofs.Tables.{stands_at, at_id}
+use Rattle.delta_book.proofs.Tables.{agree, stands_at, at_id}
 use Rattle.delta_book.proofs.Asked.{none_of}
 use Rattle.delta_book.proofs.CountedSeries.{listed-admitted}
 use Rattle.delta_book.proofs.Batch.{Whole, moves_taken}
+use Rattle.delta_book.proofs.Entries.{by_second}
 
 -- the points of one batch and series are in one place
 
@@ -98,13 +100,11 @@ all_at (E ▸ Admit c body) l b x u = both (c == b) refl (all_at E l.0 b x u)
     both true e h = (Home, at_append Home b x (points E) (map (admitted c body.sender) body.points) (at_none Home b x (points E) (subst (λ n. list_all (is_of_other_batch n) (points E) ≡ true) (eqb-true c b e) (new_points c E l.1.fresh))) (at_new b c x body.sender body.points))
     both false e h = (h.0, at_append h.0 b x (points E) (map (admitted c body.sender) body.points) h.1 (at_none h.0 b x (map (admitted c body.sender) body.points) (all_admitted b c body.sender body.points (λ k. absurd (let z : true ≡ false = sym (eq-eqb c b k) ∙ e in cc)))))
 all_at (E ▸ Undo c) l b x u = let h = all_at E l.0 b x u in (h.0, at_filter h.0 b x (is_of_other_batch c) (points E) h.1)
-all_at (E ▸ Confirm c) l b x u = all_at E l.0 b x u
 all_at (E ▸ Take f series) l b x u = let h = all_at E l.0 b x u in (taken_to f series x h.0, at_moved (taken f series) (moves_taken f series) h.0 (taken_to f series x h.0) b x (at_taken f series h.0 x) (points E) h.1)
 all_at (E ▸ Settle f) l b x u = all_at_landed f Acknowledged b x (points E) (all_at E l.0 b x u)
 all_at (E ▸ Drop f) l b x u = all_at_landed f Dropped b x (points E) (all_at E l.0 b x u)
 all_at (E ▸ GiveBack f) l b x u = all_at_landed f Home b x (points E) (all_at E l.0 b x u)
-all_at (E ▸ Quarantine s) l b x u = all_at E l.0 b x u
-all_at (E ▸ Lift s) l b x u = all_at E l.0 b x u
+all_at (E ▸ e) l b x u = all_at E l.0 b x u
 
 of_place : (t : Place → Bool) (q : Place) (b : ℕ) (x : Identity) → t q ≡ true → (qs : List Accepted) → AllAt q b x qs → list_all (λ a. not (a.batch == b) || t a.place) (of_series x qs) ≡ true
 of_place t q b x e [] h = refl
@@ -159,12 +159,9 @@ each_fine b (a ∷ qs) k = and_from (is_fine b a) (list_all (is_fine b) qs) (fir
             let all : list_all (is_fine b) (of_series x qs) ≡ true = rw e at (k x some) in all
 
 pub home_by_series : (qs : List Accepted) (b : ℕ) (ps : List DataPoint) → IsEntered qs b ps → list_all (is_home_at qs b) ps ≡ is_batch_home b qs
-home_by_series qs b ps h = by (is_batch_home b qs) (list_all (is_home_at qs b) ps) refl refl
-  where
-    by : (v w : Bool) → is_batch_home b qs ≡ v → list_all (is_home_at qs b) ps ≡ w → list_all (is_home_at qs b) ps ≡ is_batch_home b qs
-    by true w e f = all_always (is_home_at qs b) (λ p. all_filter (is_fine b) (is_of p.series) qs e) ps ∙ sym e
-    by false true e f = f ∙ sym (each_fine b qs (λ x m. both_at (is_point_of x) (is_home_at qs b) (list_all (is_fine b) (of_series x qs) ≡ true) (λ p i j. subst (λ y. list_all (is_fine b) (of_series y qs) ≡ true) (same_series-exact p.series x i) j) ps (sym (h.its x) ∙ m) f))
-    by false false e f = f ∙ sym e
+home_by_series qs b ps h = agree
+    (λ f. each_fine b qs (λ x m. both_at (is_point_of x) (is_home_at qs b) (list_all (is_fine b) (of_series x qs) ≡ true) (λ p i j. subst (λ y. list_all (is_fine b) (of_series y qs) ≡ true) (same_series-exact p.series x i) j) ps (sym (h.its x) ∙ m) f))
+    (λ e. all_always (is_home_at qs b) (λ p. all_filter (is_fine b) (is_of p.series) qs e) ps)
 
 pub home_here : (cs : List CellView) (qs : List Accepted) (b i : ℕ) (c : CellView) (x : Identity) (v : Bool) → AreCells cs qs → i < length cs → c ≡ get_or cs i c → IdAt cs i x → ((rs : List Accepted) → Stands c rs → list_any (is_of_batch b) rs ≡ true → AreTogether b rs → v ≡ is_batch_home b rs) → list_any (is_of_batch b) (of_series x qs) ≡ true → AreTogether b (of_series x qs) → v ≡ is_batch_home b (of_series x qs)
 home_here cs qs b i c x v h l e a k m t = k (of_series x qs) (subst (λ y. Stands c (of_series y qs)) (at_id cs i c x a e) (stands_at cs qs i c l e h.stand)) m t
@@ -175,19 +172,7 @@ home_none cs qs b x h n = ap (is_batch_home b) (sym (filter_none (is_of x) qs (a
 -- an open batch is entered
 
 any_other : (b : ℕ) (x : Identity) (qs : List Accepted) → list_all (is_of_other_batch b) qs ≡ true → list_any (is_of_batch b) (of_series x qs) ≡ false
-any_other b x [] h = refl
-any_other b x (a ∷ qs) h = both (is_of x a) refl (any_other b x qs p.1)
-  where
-    p : (not (a.batch == b) ≡ true) × (list_all (is_of_other_batch b) qs ≡ true)
-    p = and_parts (not (a.batch == b)) (list_all (is_of_other_batch b) qs) h
-
-    back : (v : Bool) → not v ≡ true → v ≡ false
-    back true k = cc
-    back false k = refl
-
-    both : (v : Bool) → is_of x a ≡ v → list_any (is_of_batch b) (of_series x qs) ≡ false → list_any (is_of_batch b) (of_series x (a ∷ qs)) ≡ false
-    both true e r = rw (e, back (a.batch == b) p.0) r
-    both false e r = rw e r
+any_other b x qs h = any_from_filter (is_of_batch b) (is_of x) qs (false_from_ne_true _ (λ m. any_all_not (is_of_batch b) qs m h))
 
 any_own : (b : ℕ) (x : Identity) (qs : List Accepted) → list_all (is_of_batch b) qs ≡ true → list_any (is_of_batch b) (of_series x qs) ≡ list_any (is_of x) (map (at Home) qs)
 any_own b x [] h = refl
@@ -209,14 +194,10 @@ entered E b body l u w = record {
       ∙ (ap (λ v. v || list_any (is_of_batch b) (of_series x w.its ++ of_series x w.after)) (any_other b x w.before w.none_before)
       ∙ (list_any-append (is_of_batch b) (of_series x w.its) (of_series x w.after)
       ∙ (ap (λ v. list_any (is_of_batch b) (of_series x w.its) || v) (any_other b x w.after w.none_after)
-      ∙ (or_none (list_any (is_of_batch b) (of_series x w.its))
+      ∙ (or-false (list_any (is_of_batch b) (of_series x w.its))
       ∙ (any_own b x w.its w.of_it ∙ (ap (list_any (is_of x)) w.are ∙ listed-admitted x b body.sender body.points))))))));
   together = λ x. let h = all_at E l b x u in together_at h.0 b x (points E) h.1;
 }
-  where
-    or_none : (v : Bool) → (v || false) ≡ v
-    or_none true = refl
-    or_none false = refl
 
 -- what is at home stands as it was admitted
 
@@ -225,17 +206,11 @@ home_same b [] h k = refl
 home_same b (a ∷ qs) h k =
     let p = and_parts (a.batch == b) (list_all (is_of_batch b) qs) h in
     let q = and_parts (is_fine b a) (is_batch_home b qs) k in
-    ap (λ rs. at Home a ∷ rs) (home_same b qs p.1 q.1) ∙ ap (λ r. record { point = a.point; batch = a.batch; sender = a.sender; place = r } ∷ qs) (by a.place (second (a.batch == b) (is_home a.place) p.0 q.0))
+    ap (λ rs. at Home a ∷ rs) (home_same b qs p.1 q.1) ∙ ap (λ r. record { point = a.point; batch = a.batch; sender = a.sender; place = r } ∷ qs) (by a.place (by_second (a.batch == b) (is_home a.place) p.0 q.0))
   where
-    second : (v w : Bool) → v ≡ true → (not v || w) ≡ true → w ≡ true
-    second true w e f = f
-    second false w e f = cc
-
     by : (r : Place) → is_home r ≡ true → Home ≡ r
     by Home e = refl
-    by (InFlight f) e = absurd (let z : false ≡ true = e in cc)
-    by Acknowledged e = absurd (let z : false ≡ true = e in cc)
-    by Dropped e = absurd (let z : false ≡ true = e in cc)
+    by r e = absurd (let z : false ≡ true = e in cc)
 
 pub parts_at_home : (qs : List Accepted) (b : ℕ) (body : Batch) → (w : Whole qs b body) → is_batch_home b qs ≡ true → qs ≡ w.before ++ (map (admitted b body.sender) body.points ++ w.after)
 parts_at_home qs b body w h =
@@ -262,9 +237,7 @@ removes_all cs qs b body h w k = (body.sender, (w.before, (w.after, subst (AreCe
 -- the series of a point of the batch has a point of it
 
 pub point_there : (ps : List DataPoint) (i : ℕ) (p : DataPoint) → i < length ps → p ≡ get_or ps i p → list_any (is_point_of p.series) ps ≡ true
-point_there [] i p l e = absurd (omega (arith, l))
-point_there (q ∷ ps) zero p l e = or_left (is_point_of p.series q) (list_any (is_point_of p.series) ps) (same_of q.series p.series (ap (λ (r : DataPoint). r.series) (sym e)))
-point_there (q ∷ ps) (suc i) p l e = or_right (is_point_of p.series q) (list_any (is_point_of p.series) ps) (point_there ps i p (omega arith) e)
+point_there ps i p l e = list_any_at (is_point_of p.series) ps i p l (same_of (get_or ps i p).series p.series (ap (λ (r : DataPoint). r.series) (sym e)))
 
 pub some_of_it : (qs : List Accepted) (b : ℕ) (ps : List DataPoint) (i : ℕ) (p : DataPoint) → i < length ps → p ≡ get_or ps i p → IsEntered qs b ps → list_any (is_of_batch b) (of_series p.series qs) ≡ true
 some_of_it qs b ps i p l e h = h.its p.series ∙ point_there ps i p l e

@@ -3,6 +3,7 @@ use Rattle.std.proofs.Common.{◌≡◌, ◌≢◌, ℕ, ◌<◌, ◌≤◌, ◌
 use Rattle.std.specs.Prelude.{fold}
 use Rattle.std.specs.List.{list_all, list_any}
 use Rattle.std.proofs.lemmas.Bool.{and_parts, and_from, or_left, or_right, or_cases, not-true, eqb-true, eq-eqb, ne_eqb}
+use Rattle.std.proofs.Math.Bool.{or-false}
 use Rattle.std.proofs.lemmas.Option.{none-some, same_Some}
 use Rattle.series_id.specs.Identity.{Identity}
 use Rattle.series_id.specs.Order.{same_series}
@@ -20,7 +21,7 @@ use Rattle.metric_events.specs.declared.accepted.Accepted.{Accepted}
 use Rattle.metric_events.specs.declared.flight.Flight.{Flight}
 use Rattle.metric_events.specs.declared.entry.Entry.{Entry}
 use Rattle.metric_events.specs.declared.event.Event.{Event}
-use Rattle.metric_events.specs.declared.event.Event.TheVariants.{Admit, Undo, Confirm, Take, Settle, Drop, GiveBack, Quarantine, Lift}
+use Rattle.metric_events.specs.declared.event.Event.TheVariants.{Admit, Undo, Take, Settle, Drop, GiveBack}
 use Rattle.metric_events.proofs.Lists.{all_append, all_filter, all_map, all_weaker, any_append_left}
 use Rattle.metric_events.proofs.Moves.{is_out_of}
 use Rattle.metric_events.proofs.Invariants.{new_flights}
@@ -38,27 +39,21 @@ TakeIn (E ▸ Take g some) f series = ((g ≡ f) × (some ≡ series)) ⊎ TakeI
 TakeIn (E ▸ e) f series = TakeIn E f series
 
 take_kept : (E : History) (e : Event) (f : ℕ) (series : List Identity) → TakeIn E f series → TakeIn (E ▸ e) f series
-take_kept E (Admit b body) f series h = h
-take_kept E (Undo b) f series h = h
-take_kept E (Confirm b) f series h = h
 take_kept E (Take g some) f series h = inr h
-take_kept E (Settle g) f series h = h
-take_kept E (Drop g) f series h = h
-take_kept E (GiveBack g) f series h = h
-take_kept E (Quarantine s) f series h = h
-take_kept E (Lift s) f series h = h
+take_kept E e f series h = h
 
-take_fold : (E : History) (xs : List Entry) (f : ℕ) (series : List Identity) → TakeIn E f series → TakeIn (fold and_then E xs) f series
-take_fold E [] f series h = h
-take_fold E (x ∷ xs) f series h = take_fold (E ▸ x.event) xs f series (take_kept E x.event f series h)
+-- what holds from an event on holds of a history with an entry of it
+stays : (P : History → Type 0) → ((E : History) (e : Event) → P E → P (E ▸ e)) → (E : History) (xs : List Entry) → P E → P (fold and_then E xs)
+stays P k E [] h = h
+stays P k E (x ∷ xs) h = stays P k (E ▸ x.event) xs (k E x.event h)
 
-take_at : (E : History) (xs : List Entry) (i : ℕ) (f : ℕ) (series : List Identity) → At xs i (Take f series) → TakeIn (fold and_then E xs) f series
-take_at E [] i f series h = absurd h
-take_at E (x ∷ xs) zero f series h = take_fold (E ▸ x.event) xs f series (subst (λ e. TakeIn (E ▸ e) f series) (sym h) (inl (refl, refl)))
-take_at E (x ∷ xs) (suc i) f series h = take_at (E ▸ x.event) xs i f series h
+pub from_entry : (P : History → Type 0) → ((E : History) (e : Event) → P E → P (E ▸ e)) → (e : Event) → ((E : History) → P (E ▸ e)) → (E : History) (xs : List Entry) (i : ℕ) → At xs i e → P (fold and_then E xs)
+from_entry P k e new E [] i h = absurd h
+from_entry P k e new E (x ∷ xs) zero h = stays P k (E ▸ x.event) xs (subst (λ f. P (E ▸ f)) (sym h) (new E))
+from_entry P k e new E (x ∷ xs) (suc i) h = from_entry P k e new (E ▸ x.event) xs i h
 
 pub take_in : (xs : Journal) (i : ℕ) (f : ℕ) (series : List Identity) → At xs.entries i (Take f series) → TakeIn (history xs) f series
-take_in xs i f series h = take_at (Opened xs.opening) xs.entries i f series h
+take_in xs i f series h = from_entry (λ E. TakeIn E f series) (λ E e k. take_kept E e f series k) (Take f series) (λ E. inl (refl, refl)) (Opened xs.opening) xs.entries i h
 
 pub named_at : (xs : List Entry) (i : ℕ) (f : ℕ) (series : List Identity) → At xs i (Take f series) → series_named xs i ≡ series
 named_at [] i f series h = absurd h
@@ -67,27 +62,13 @@ named_at (x ∷ xs) (suc i) f series h = named_at xs i f series h
 
 pub taken_distinct : (E : History) (f : ℕ) (series : List Identity) → IsLegal E → TakeIn E f series → are_distinct series ≡ true
 taken_distinct (Opened O) f series l h = absurd h
-taken_distinct (E ▸ Admit b body) f series l h = taken_distinct E f series l.0 h
-taken_distinct (E ▸ Undo b) f series l h = taken_distinct E f series l.0 h
-taken_distinct (E ▸ Confirm b) f series l h = taken_distinct E f series l.0 h
 taken_distinct (E ▸ Take g some) f series l h = elim h [ inl p ↦ subst (λ xs. are_distinct xs ≡ true) p.1 l.1.distinct | inr k ↦ taken_distinct E f series l.0 k ]
-taken_distinct (E ▸ Settle g) f series l h = taken_distinct E f series l.0 h
-taken_distinct (E ▸ Drop g) f series l h = taken_distinct E f series l.0 h
-taken_distinct (E ▸ GiveBack g) f series l h = taken_distinct E f series l.0 h
-taken_distinct (E ▸ Quarantine s) f series l h = taken_distinct E f series l.0 h
-taken_distinct (E ▸ Lift s) f series l h = taken_distinct E f series l.0 h
+taken_distinct (E ▸ e) f series l h = taken_distinct E f series l.0 h
 
 new_not_in : (E : History) (g f : ℕ) (series : List Identity) → IsNewFlush g E → TakeIn E f series → g ≢ f
 new_not_in (Opened O) g f series n h = absurd h
-new_not_in (E ▸ Admit b body) g f series n h = new_not_in E g f series n h
-new_not_in (E ▸ Undo b) g f series n h = new_not_in E g f series n h
-new_not_in (E ▸ Confirm b) g f series n h = new_not_in E g f series n h
 new_not_in (E ▸ Take k some) g f series n h = elim h [ inl p ↦ (λ e. n.0 (p.0 ∙ sym e)) | inr m ↦ new_not_in E g f series n.1 m ]
-new_not_in (E ▸ Settle k) g f series n h = new_not_in E g f series n h
-new_not_in (E ▸ Drop k) g f series n h = new_not_in E g f series n h
-new_not_in (E ▸ GiveBack k) g f series n h = new_not_in E g f series n h
-new_not_in (E ▸ Quarantine s) g f series n h = new_not_in E g f series n h
-new_not_in (E ▸ Lift s) g f series n h = new_not_in E g f series n h
+new_not_in (E ▸ e) g f series n h = new_not_in E g f series n h
 
 admitted_out : (f b : ℕ) (s : List ℕ) (series : List Identity) (ps : List DataPoint) → list_all (is_in_or_out f series) (map (admitted b s) ps) ≡ true
 admitted_out f b s series [] = refl
@@ -119,7 +100,6 @@ pub rides_in : (E : History) (f : ℕ) (series : List Identity) → IsLegal E �
 rides_in (Opened O) f series l h = absurd h
 rides_in (E ▸ Admit b body) f series l h = all_append (is_in_or_out f series) (points E) (map (admitted b body.sender) body.points) (rides_in E f series l.0 h) (admitted_out f b body.sender series body.points)
 rides_in (E ▸ Undo b) f series l h = all_filter (is_in_or_out f series) (is_of_other_batch b) (points E) (rides_in E f series l.0 h)
-rides_in (E ▸ Confirm b) f series l h = rides_in E f series l.0 h
 rides_in (E ▸ Take g some) f series l h =
     elim h [
       | inl p ↦ subst (λ xs. list_all (is_in_or_out f xs) (map (taken g some) (points E)) ≡ true) p.1
@@ -129,8 +109,7 @@ rides_in (E ▸ Take g some) f series l h =
 rides_in (E ▸ Settle g) f series l h = all_map (is_in_or_out f series) (is_in_or_out f series) (landed g Acknowledged) (landed_out f g Acknowledged series refl) (points E) (rides_in E f series l.0 h)
 rides_in (E ▸ Drop g) f series l h = all_map (is_in_or_out f series) (is_in_or_out f series) (landed g Dropped) (landed_out f g Dropped series refl) (points E) (rides_in E f series l.0 h)
 rides_in (E ▸ GiveBack g) f series l h = all_map (is_in_or_out f series) (is_in_or_out f series) (landed g Home) (landed_out f g Home series refl) (points E) (rides_in E f series l.0 h)
-rides_in (E ▸ Quarantine s) f series l h = rides_in E f series l.0 h
-rides_in (E ▸ Lift s) f series l h = rides_in E f series l.0 h
+rides_in (E ▸ e) f series l h = rides_in E f series l.0 h
 
 -- each series of a live flush has a point in flight with it, after each event
 
@@ -149,7 +128,12 @@ any_kept t q (x ∷ xs) h k = both (q x) refl (any_kept t q xs p.1)
     both true e r = rw e (elim (or_cases (t x) (list_any t xs) k) [ inl m ↦ or_left (t x) (list_any t (filter q xs)) m | inr m ↦ or_right (t x) (list_any t (filter q xs)) (r m) ])
     both false e r = rw e (elim (or_cases (t x) (list_any t xs) k) [ inl m ↦ absurd (let n : (not true || false) ≡ true = rw (m, e) at p.0 in let z : false ≡ true = n in cc) | inr m ↦ r m ])
 
-all_filtered : {X : Type 0} (t q u : X → Bool) → ((x : X) → t x ≡ true → q x ≡ true → u x ≡ true) → (xs : List X) → list_all t xs ≡ true → list_all u (filter q xs) ≡ true
+-- of two one holds, and it is not the first
+pub by_second : (v w : Bool) → v ≡ true → (not v || w) ≡ true → w ≡ true
+by_second true w e f = f
+by_second false w e f = cc
+
+pub all_filtered : {X : Type 0} (t q u : X → Bool) → ((x : X) → t x ≡ true → q x ≡ true → u x ≡ true) → (xs : List X) → list_all t xs ≡ true → list_all u (filter q xs) ≡ true
 all_filtered t q u k [] h = refl
 all_filtered t q u k (x ∷ xs) h = both (q x) refl (all_filtered t q u k xs (and_parts (t x) (list_all t xs) h).1)
   where
@@ -161,19 +145,15 @@ full_by : (qs rs : List Accepted) (l : Flight) → ((x : Identity) → list_any 
 full_by qs rs l k h = all_weaker (λ x. list_any (is_cargo l.number x) qs) (λ x. list_any (is_cargo l.number x) rs) k l.series h
 
 cargo_landed : (n g : ℕ) (q : Place) (x : Identity) → (n == g) ≡ false → (p : DataPoint) (b : ℕ) (s : List ℕ) (place : Place) → is_cargo n x (record { point = p; batch = b; sender = s; place = place }) ≡ true → is_cargo n x (landed g q (record { point = p; batch = b; sender = s; place = place })) ≡ true
-cargo_landed n g q x ne p b s Home h = absurd (let k : false ≡ true = h in cc)
 cargo_landed n g q x ne p b s (InFlight m) h =
     let same : m ≡ n = eqb-true m n (and_parts (m == n) (same_series p.series x) h).0 in
     let e : (m == g) ≡ false = subst (λ k. (k == g) ≡ false) (sym same) ne in
     rw e h
-cargo_landed n g q x ne p b s Acknowledged h = absurd (let k : false ≡ true = h in cc)
-cargo_landed n g q x ne p b s Dropped h = absurd (let k : false ≡ true = h in cc)
+cargo_landed n g q x ne p b s place h = absurd (let k : false ≡ true = h in cc)
 
 cargo_taken : (n g : ℕ) (some : List Identity) (x : Identity) (p : DataPoint) (b : ℕ) (s : List ℕ) (place : Place) → is_cargo n x (record { point = p; batch = b; sender = s; place = place }) ≡ true → is_cargo n x (taken g some (record { point = p; batch = b; sender = s; place = place })) ≡ true
-cargo_taken n g some x p b s Home h = absurd (let k : false ≡ true = h in cc)
 cargo_taken n g some x p b s (InFlight m) h = h
-cargo_taken n g some x p b s Acknowledged h = absurd (let k : false ≡ true = h in cc)
-cargo_taken n g some x p b s Dropped h = absurd (let k : false ≡ true = h in cc)
+cargo_taken n g some x p b s place h = absurd (let k : false ≡ true = h in cc)
 
 pub full_admit : (qs rs : List Accepted) (live : List Flight) → are_full qs live ≡ true → are_full (qs ++ rs) live ≡ true
 full_admit qs rs live h = all_weaker (is_full qs) (is_full (qs ++ rs)) (λ l k. full_by qs (qs ++ rs) l (λ x m. any_append_left (is_cargo l.number x) qs rs m) k) live h
@@ -183,13 +163,8 @@ cargo_stays b n x a h = by a.place refl h
   where
     by : (place : Place) → a.place ≡ place → (not (a.batch == b) || is_home a.place) ≡ true → (not (is_in_flight n a.place && is_of x a) || not (a.batch == b)) ≡ true
     by Home e k = rw e refl
-    by (InFlight g) e k = or_right (not (is_in_flight n a.place && is_of x a)) (not (a.batch == b)) (let m : (not (a.batch == b) || false) ≡ true = rw e at k in or_none (not (a.batch == b)) m)
-      where
-        or_none : (v : Bool) → (v || false) ≡ true → v ≡ true
-        or_none true z = refl
-        or_none false z = z
-    by Acknowledged e k = rw e refl
-    by Dropped e k = rw e refl
+    by (InFlight g) e k = or_right (not (is_in_flight n a.place && is_of x a)) (not (a.batch == b)) (let m : (not (a.batch == b) || false) ≡ true = rw e at k in sym (or-false (not (a.batch == b))) ∙ m)
+    by place e k = rw e refl
 
 pub full_undo : (b : ℕ) (qs : List Accepted) (live : List Flight) → is_batch_home b qs ≡ true → are_full qs live ≡ true → are_full (filter (is_of_other_batch b) qs) live ≡ true
 full_undo b qs live e h = all_weaker (is_full qs) (is_full (filter (is_of_other_batch b) qs)) (λ l k. full_by qs (filter (is_of_other_batch b) qs) l (λ x m. any_kept (is_cargo l.number x) (is_of_other_batch b) qs (all_weaker (λ a. not (a.batch == b) || is_home a.place) (λ a. not (is_cargo l.number x a) || is_of_other_batch b a) (cargo_stays b l.number x) qs e) m) k) live h
@@ -280,15 +255,13 @@ at_last (y ∷ xs) x = at_last xs x
 
 pub flights_more : (es fs : List Entry) (os : List JournalRef) (ls : List Flight) → AreFlights es os ls → AreFlights (es ++ fs) os ls
 flights_more es fs [] [] h = tt
-flights_more es fs [] (l ∷ ls) h = absurd h
-flights_more es fs (o ∷ os) [] h = absurd h
 flights_more es fs (o ∷ os) (l ∷ ls) h = (h.0, at_more es fs o.entry (Take l.number l.series) h.1, flights_more es fs os ls h.2)
+flights_more es fs os ls h = absurd h
 
 pub flights_push : (es : List Entry) (os : List JournalRef) (ls : List Flight) (o : JournalRef) (l : Flight) → AreFlights es os ls → o.number ≡ l.number → At es o.entry (Take l.number l.series) → AreFlights es (os ++ o ∷ []) (ls ++ l ∷ [])
 flights_push es [] [] o l h n a = (n, a, tt)
-flights_push es [] (m ∷ ls) o l h n a = absurd h
-flights_push es (p ∷ os) [] o l h n a = absurd h
 flights_push es (p ∷ os) (m ∷ ls) o l h n a = (h.0, h.1, flights_push es os ls o l h.2 n a)
+flights_push es os ls o l h n a = absurd h
 
 pub flights_closed : (es : List Entry) (os : List JournalRef) (ls : List Flight) (f : ℕ) → AreFlights es os ls → AreFlights es (filter (is_other_open f) os) (filter (is_other_flight f) ls)
 flights_closed es [] [] f h = tt
@@ -302,9 +275,8 @@ flights_closed es (o ∷ os) (l ∷ ls) f h = both (o.number == f) refl (flights
 
 pub flights_length : (es : List Entry) (os : List JournalRef) (ls : List Flight) → AreFlights es os ls → length os ≡ length ls
 flights_length es [] [] h = refl
-flights_length es [] (l ∷ ls) h = absurd h
-flights_length es (o ∷ os) [] h = absurd h
 flights_length es (o ∷ os) (l ∷ ls) h = omega (arith, flights_length es os ls h.2)
+flights_length es os ls h = absurd h
 
 pub named_here : (xs : List Entry) (i : ℕ) (x : Entry) → i < length xs → x ≡ get_or xs i x → series_named xs i ≡ series_of_event x.event
 named_here [] i x l e = absurd (omega (arith, l))

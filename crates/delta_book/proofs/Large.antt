@@ -1,6 +1,6 @@
 -- A sum with one more point, and the sums of a whole batch.
 use Rattle.std.proofs.Common.{◌≡◌, ℕ, ◌+◌, ◌<◌, Bool, true, false, not, List, [], ◌∷◌, ◌++◌, map, take, drop, get_or, length, zero, suc, refl, ap, sym, ◌∙◌, subst, arith, append_assoc}
-use Rattle.std.proofs.lemmas.Bool.{or_parts, or_from}
+use Rattle.std.proofs.lemmas.Bool.{or_parts, or_from, not-false, true_from_ne_false}
 use Rattle.std.proofs.lemmas.List.{map-append, take-append-drop}
 use Rattle.std.proofs.lemmas.List.Elements.{filter-append}
 use Rattle.series_id.specs.Identity.{Identity, row_length}
@@ -16,7 +16,7 @@ use Rattle.metric_events.proofs.Identities.{same_of}
 use Rattle.metric_events.proofs.Sums.{RowLe, row_sum_first_le}
 use Rattle.series_cell.proofs.Points.{row_sum_push}
 use Rattle.delta_book.specs.inner.Puts.{fits_with}
-use Rattle.delta_book.proofs.Counting.{take_more}
+use Rattle.delta_book.proofs.Tables.{take_next}
 use Rattle.delta_book.proofs.PutIn.{of_more, of_own}
 
 -- the sum with a point
@@ -42,12 +42,12 @@ others_within b s qs p (x ∷ xs) f h =
     or_from (is_over (qs ++ admitted b s p ∷ []) x) (is_too_large (qs ++ admitted b s p ∷ []) (xs ++ p ∷ [])) (other_within b s qs p x f o.0) (others_within b s qs p xs f o.1)
 
 pub first_points : (b : ℕ) (s : List ℕ) (qs : List Accepted) (ps : List DataPoint) (i : ℕ) (p : DataPoint) → i < length ps → p ≡ get_or ps i p → qs ++ map (admitted b s) (take (i + 1) ps) ≡ (qs ++ map (admitted b s) (take i ps)) ++ admitted b s p ∷ []
-first_points b s qs ps i p l e = ap (λ ys. qs ++ map (admitted b s) ys) (take_more ps i p l e) ∙ (ap (λ ys. qs ++ ys) (map-append (admitted b s) (take i ps) (p ∷ [])) ∙ sym (append_assoc qs (map (admitted b s) (take i ps)) (admitted b s p ∷ [])))
+first_points b s qs ps i p l e = ap (λ ys. qs ++ map (admitted b s) ys) (take_next ps i p l e) ∙ (ap (λ ys. qs ++ ys) (map-append (admitted b s) (take i ps) (p ∷ [])) ∙ sym (append_assoc qs (map (admitted b s) (take i ps)) (admitted b s p ∷ [])))
 
 pub within_more : (b : ℕ) (s : List ℕ) (qs : List Accepted) (ps : List DataPoint) (i : ℕ) (p : DataPoint) → i < length ps → p ≡ get_or ps i p → fits_with (qs ++ map (admitted b s) (take i ps)) p ≡ true → is_too_large (qs ++ map (admitted b s) (take i ps)) (take i ps) ≡ false → is_too_large (qs ++ map (admitted b s) (take (i + 1) ps)) (take (i + 1) ps) ≡ false
 within_more b s qs ps i p l e f h =
     ap (λ rs. is_too_large rs (take (i + 1) ps)) (first_points b s qs ps i p l e)
-    ∙ (ap (is_too_large ((qs ++ map (admitted b s) (take i ps)) ++ admitted b s p ∷ [])) (take_more ps i p l e)
+    ∙ (ap (is_too_large ((qs ++ map (admitted b s) (take i ps)) ++ admitted b s p ∷ [])) (take_next ps i p l e)
     ∙ others_within b s (qs ++ map (admitted b s) (take i ps)) p (take i ps) f h)
 
 -- a point that doesn't fit makes its batch too large
@@ -61,7 +61,7 @@ within_at rs (q ∷ ps) zero p l e h = ap (is_over rs) e ∙ (or_parts (is_over 
 within_at rs (q ∷ ps) (suc i) p l e h = within_at rs ps i p (omega (arith, l)) e (or_parts (is_over rs q) (is_too_large rs ps) h).1
 
 pub over_large : (b : ℕ) (s : List ℕ) (qs : List Accepted) (ps : List DataPoint) (i : ℕ) (p : DataPoint) → i < length ps → p ≡ get_or ps i p → fits_with (qs ++ map (admitted b s) (take i ps)) p ≡ false → is_too_large (qs ++ map (admitted b s) ps) ps ≡ true
-over_large b s qs ps i p l e f = both (is_too_large (qs ++ map (admitted b s) ps) ps) refl
+over_large b s qs ps i p l e f = true_from_ne_false (is_too_large all ps) none_over
   where
     all : List Accepted
     all = qs ++ map (admitted b s) ps
@@ -79,12 +79,7 @@ over_large b s qs ps i p l e f = both (is_too_large (qs ++ map (admitted b s) ps
     less : RowLe (add_rows (sum_of p.series before) p.row) (sum_of p.series all)
     less = subst (λ rs. RowLe (add_rows (sum_of p.series before) p.row) (sum_of p.series rs)) (sym split) (subst (λ r. RowLe r (sum_of p.series ((before ++ admitted b s p ∷ []) ++ map (admitted b s) (drop (i + 1) ps)))) (sum_put p.series before (admitted b s p) (same_of p.series p.series refl)) (sum_first p.series (before ++ admitted b s p ∷ []) (map (admitted b s) (drop (i + 1) ps))))
 
-    back : (v : Bool) → not v ≡ false → v ≡ true
-    back true g = refl
-    back false g = cc
-
-    both : (v : Bool) → is_too_large all ps ≡ v → is_too_large all ps ≡ true
-    both true m = m
-    both false m =
-        let fine = fits_le p.series.kind (add_rows (sum_of p.series before) p.row) (sum_of p.series all) less (back (fits p.series.kind (sum_of p.series all)) (within_at all ps i p l e m)) in
-        absurd (let q : true ≡ false = sym fine ∙ f in cc)
+    none_over : is_too_large all ps ≡ false → ⊥
+    none_over m =
+        let fine = fits_le p.series.kind (add_rows (sum_of p.series before) p.row) (sum_of p.series all) less (not-false (fits p.series.kind (sum_of p.series all)) (within_at all ps i p l e m)) in
+        let q : true ≡ false = sym fine ∙ f in cc

@@ -1,6 +1,5 @@
 -- What an open batch brought leaves the cells.
 use Rattle.std.proofs.Common.{◌≡◌, ℕ, Bool, true, List, [], ◌∷◌, ◌++◌, map, filter, ap, sym, ◌∙◌, subst, refl, inl, inr, zero, suc, Some}
-use Rattle.std.specs.Prelude.{fold}
 use Rattle.metric_events.specs.DataPoint.{DataPoint}
 use Rattle.metric_events.specs.History.{History, Opened, ◌▸◌}
 use Rattle.metric_events.specs.Points.{points, admitted, is_of_other_batch}
@@ -10,9 +9,9 @@ use Rattle.metric_events.specs.declared.accepted.Accepted.{Accepted}
 use Rattle.metric_events.specs.declared.batch.Batch.{Batch}
 use Rattle.metric_events.specs.declared.entry.Entry.{Entry}
 use Rattle.metric_events.specs.declared.event.Event.{Event}
-use Rattle.metric_events.specs.declared.event.Event.TheVariants.{Admit, Undo, Confirm, Take, Settle, Drop, GiveBack, Quarantine, Lift}
+use Rattle.metric_events.specs.declared.event.Event.TheVariants.{Admit}
 use Rattle.series_cell.specs.Cells.{CellView}
-use Rattle.delta_book.specs.Journal.{history, and_then}
+use Rattle.delta_book.specs.Journal.{history}
 use Rattle.delta_book.specs.declared.book.Book.TheInside.{Inside}
 use Rattle.delta_book.specs.inner.Stored.{IsStored, journal_in, history_in}
 use Rattle.delta_book.specs.Tables.{AreCells}
@@ -20,28 +19,13 @@ use Rattle.delta_book.specs.inner.Tables.{At, HasPending, IsEntered, entry_of, p
 use Rattle.delta_book.specs.inner.Tables.{points_of_event}
 use Rattle.delta_book.specs.declared.open.JournalRef.{JournalRef}
 use Rattle.delta_book.proofs.Batch.{AdmitIn, Whole, whole, admitted_above}
+use Rattle.delta_book.proofs.Entries.{from_entry}
 use Rattle.delta_book.proofs.Opened.{open_at}
 use Rattle.delta_book.proofs.Entered.{entered, parts_at_home, rest_is, removes_all}
 
 admit_kept : (E : History) (e : Event) (b : ℕ) (body : Batch) → AdmitIn E b body → AdmitIn (E ▸ e) b body
 admit_kept E (Admit c some) b body h = inr h
-admit_kept E (Undo c) b body h = h
-admit_kept E (Confirm c) b body h = h
-admit_kept E (Take f some) b body h = h
-admit_kept E (Settle f) b body h = h
-admit_kept E (Drop f) b body h = h
-admit_kept E (GiveBack f) b body h = h
-admit_kept E (Quarantine s) b body h = h
-admit_kept E (Lift s) b body h = h
-
-admit_fold : (E : History) (xs : List Entry) (b : ℕ) (body : Batch) → AdmitIn E b body → AdmitIn (fold and_then E xs) b body
-admit_fold E [] b body h = h
-admit_fold E (x ∷ xs) b body h = admit_fold (E ▸ x.event) xs b body (admit_kept E x.event b body h)
-
-admit_at : (E : History) (xs : List Entry) (i b : ℕ) (body : Batch) → At xs i (Admit b body) → AdmitIn (fold and_then E xs) b body
-admit_at E [] i b body h = absurd h
-admit_at E (x ∷ xs) zero b body h = admit_fold (E ▸ x.event) xs b body (subst (λ e. AdmitIn (E ▸ e) b body) (sym h) (inl (refl, refl)))
-admit_at E (x ∷ xs) (suc i) b body h = admit_at (E ▸ x.event) xs i b body h
+admit_kept E e b body h = h
 
 admits_at : (xs : List Entry) (i b : ℕ) (body : Batch) → At xs i (Admit b body) → points_named xs i ≡ body.points
 admits_at [] i b body h = absurd h
@@ -60,7 +44,7 @@ pub leaving : (kept : Inside) (es : List Entry) (b i : ℕ) (ds : List JournalRe
 leaving kept es b i ds ps h d s e p =
     let xs = journal_in kept in
     let o = open_at xs.entries kept.opened.items (open_batches (history xs)) b i h.opened (ap (entry_of b) (sym d) ∙ sym e) in
-    let there = admit_at (Opened xs.opening) xs.entries i b o.body o.here in
+    let there = from_entry (λ E. AdmitIn E b o.body) (λ E e k. admit_kept E e b o.body k) (Admit b o.body) (λ E. inl (refl, refl)) (Opened xs.opening) xs.entries i o.here in
     let w = whole (history xs) b o.body h.legal there o.open_now in
     let k : ps ≡ o.body.points = p ∙ (ap (λ ys. points_named ys i) s ∙ admits_at xs.entries i b o.body o.here) in
     record {

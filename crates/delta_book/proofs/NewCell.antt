@@ -2,6 +2,7 @@
 use Rattle.std.proofs.Common.{◌≡◌, ℕ, Bool, true, false, ◌||◌, List, [], ◌∷◌, map, refl, ap, sym, ◌∙◌, subst, zero, suc}
 use Rattle.std.specs.List.{list_all, insert}
 use Rattle.std.proofs.lemmas.Bool.{and_parts, and_from, or_from}
+use Rattle.std.proofs.Math.Bool.{or-false, or_assoc, or_comm}
 use Rattle.series_id.specs.Identity.{Identity}
 use Rattle.series_id.specs.Order.{same_series, series_before}
 use Rattle.series_id.proofs.Order.{before-apart, before-transitive}
@@ -60,25 +61,7 @@ stand_inserted (c ∷ cs) zero d qs g h = (g, h)
 stand_inserted (c ∷ cs) (suc i) d qs g h = (h.0, stand_inserted cs i d qs g h.1)
 
 pub among_inserted : (y : Identity) (cs : List CellView) (i : ℕ) (d : CellView) → is_among y (map id_of (insert cs i d)) ≡ (is_among y (map id_of cs) || same_series y d.id)
-among_inserted y [] zero d = or_none (same_series y d.id)
-  where
-    or_none : (v : Bool) → (v || false) ≡ v
-    or_none true = refl
-    or_none false = refl
-among_inserted y [] (suc i) d = or_none (same_series y d.id)
-  where
-    or_none : (v : Bool) → (v || false) ≡ v
-    or_none true = refl
-    or_none false = refl
-among_inserted y (c ∷ cs) zero d = turned (same_series y d.id) (same_series y c.id || is_among y (map id_of cs))
-  where
-    turned : (u v : Bool) → (u || v) ≡ (v || u)
-    turned true true = refl
-    turned true false = refl
-    turned false true = refl
-    turned false false = refl
-among_inserted y (c ∷ cs) (suc i) d = ap (λ v. same_series y c.id || v) (among_inserted y cs i d) ∙ regroup (same_series y c.id) (is_among y (map id_of cs)) (same_series y d.id)
-  where
-    regroup : (u v w : Bool) → (u || (v || w)) ≡ ((u || v) || w)
-    regroup true v w = refl
-    regroup false v w = refl
+among_inserted y [] zero d = or-false (same_series y d.id)
+among_inserted y [] (suc i) d = or-false (same_series y d.id)
+among_inserted y (c ∷ cs) zero d = or_comm (same_series y d.id) (same_series y c.id || is_among y (map id_of cs))
+among_inserted y (c ∷ cs) (suc i) d = ap (λ v. same_series y c.id || v) (among_inserted y cs i d) ∙ sym (or_assoc (same_series y c.id) (is_among y (map id_of cs)) (same_series y d.id))

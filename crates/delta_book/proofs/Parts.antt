@@ -12,7 +12,7 @@ use Rattle.delta_book.specs.inner.Batches.{is_point_of, frontier_in}
 use Rattle.delta_book.specs.inner.Parts.{part_of, parts_of}
 use Rattle.delta_book.specs.declared.cells.Fill.{Fill}
 use Rattle.delta_book.specs.declared.cells.Fill.TheVariants.{Point}
-use Rattle.delta_book.proofs.Counting.{take_more}
+use Rattle.delta_book.proofs.Tables.{take_next}
 use Rattle.delta_book.proofs.CountedSeries.{count_accepted, count_new}
 
 pub whole_parts : (ps : List DataPoint) → parts_of Point ps ≡ ps
@@ -21,7 +21,7 @@ whole_parts (p ∷ ps) = ap (λ qs. p ∷ qs) (whole_parts ps)
 
 -- one more
 pub parts_more : (fill : Fill) (i : ℕ) (ps : List DataPoint) (p : DataPoint) → i < length ps → p ≡ get_or ps i p → parts_of fill (take (i + 1) ps) ≡ parts_of fill (take i ps) ++ part_of fill p ∷ []
-parts_more fill i ps p l e = ap (parts_of fill) (take_more ps i p l e) ∙ map-append (part_of fill) (take i ps) (p ∷ [])
+parts_more fill i ps p l e = ap (parts_of fill) (take_next ps i p l e) ∙ map-append (part_of fill) (take i ps) (p ∷ [])
 
 -- the last of those that are left
 pub last_point : (ps : List DataPoint) (k : ℕ) (p : DataPoint) → k < length ps → p ≡ get_or ps (length ps - 1 - k) p → take (length ps - k) ps ≡ take (length ps - (k + 1)) ps ++ p ∷ []
@@ -29,7 +29,7 @@ last_point ps k p l e =
     let j = length ps - 1 - k in
     let here : length ps - k ≡ j + 1 = omega (arith, l) in
     let next : length ps - (k + 1) ≡ j = omega (arith, l) in
-    ap (λ n. take n ps) here ∙ (take_more ps j p (omega (arith, l)) e ∙ ap (λ n. take n ps ++ p ∷ []) (sym next))
+    ap (λ n. take n ps) here ∙ (take_next ps j p (omega (arith, l)) e ∙ ap (λ n. take n ps ++ p ∷ []) (sym next))
 
 -- series and spans stay
 

@@ -11,12 +11,12 @@ use Rattle.series_cell.specs.Cells.{CellView}
 use Rattle.delta_book.specs.Tables.{id_of}
 use Rattle.delta_book.specs.Ready.{is_ready}
 use Rattle.delta_book.specs.inner.Ready.{ready_ids}
-use Rattle.delta_book.proofs.Counting.{take_more}
+use Rattle.delta_book.proofs.Tables.{take_next}
 use Rattle.delta_book.proofs.Sending.{present_push}
 
 ready_more : (held : List (List ℕ)) (cs : List CellView) (i : ℕ) (c : CellView) → i < length cs → c ≡ get_or cs i c → ready_ids held (take (i + 1) cs) ≡ ready_ids held (take i cs) ++ ready_ids held (c ∷ [])
 ready_more held cs i c l e =
-    ap (ready_ids held) (take_more cs i c l e)
+    ap (ready_ids held) (take_next cs i c l e)
     ∙ (ap (map id_of) (filter-append (is_ready held) (take i cs) (c ∷ []))
     ∙ map-append id_of (filter (is_ready held) (take i cs)) (filter (is_ready held) (c ∷ [])))
 

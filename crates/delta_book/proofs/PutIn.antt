@@ -4,7 +4,7 @@ use Rattle.std.specs.declared.result.Result.{Result}
 use Rattle.std.specs.declared.result.Result.TheVariants.{Ok, Err}
 use Rattle.std.specs.Prelude.{OnOk, OnErr, IfErr, nat_lt}
 use Rattle.std.specs.List.{list_all, list_any}
-use Rattle.std.proofs.lemmas.Bool.{and_parts, and_from, ltb-false, ltb-true, or_cases, or_left}
+use Rattle.std.proofs.lemmas.Bool.{and_parts, and_from, ltb-false, or_cases, or_left, not-false, cases_lt}
 use Rattle.std.proofs.lemmas.List.{append-nil, take_all, drop_all}
 use Rattle.std.proofs.lemmas.List.Elements.{filter-append}
 use Rattle.series_id.specs.Identity.{Identity, row_length}
@@ -33,7 +33,7 @@ use Rattle.delta_book.specs.declared.put.Rejection.TheVariants.{Fault, TooLarge}
 use Rattle.delta_book.specs.declared.cells.Fill.{Fill}
 use Rattle.delta_book.specs.declared.cells.Fill.TheVariants.{Point, SpanOnly}
 use Rattle.delta_book.proofs.Asked.{ReadyCell, ready_cell}
-use Rattle.delta_book.proofs.Refused.{none_then}
+use Rattle.series_id.proofs.Refusals.{passed}
 use Rattle.delta_book.proofs.Rooms.{each_at, each_set, some_of_each, for_of}
 use Rattle.delta_book.proofs.Sweeping.{swept}
 use Rattle.delta_book.proofs.Tables.{stands_at, at_id, among_at, set_ids, set_stand}
@@ -56,16 +56,12 @@ pub record Clear (c : CellView) (s : List ℕ) (p : DataPoint) : Type 0 where
 
 pub clear : (c d : CellView) (s : List ℕ) (n : ℕ) (p : DataPoint) → c ≡ d → None ≡ fault_at c s n p → Clear d s p
 clear c d s n p e h =
-    let k = none_then (not (same_sender d.owner s)) (OtherWriter n) _ (ap (λ (w : CellView). fault_at w s n p) (sym e) ∙ sym h) in
-    let m = none_then (nat_lt p.span.start (end_of d)) (OutOfOrder n (end_of d)) None k.1 in
+    let k = passed (not (same_sender d.owner s)) (OtherWriter n) _ (ap (λ (w : CellView). fault_at w s n p) (sym e) ∙ sym h) in
+    let m = passed (nat_lt p.span.start (end_of d)) (OutOfOrder n (end_of d)) None k.1 in
     record {
-      owner = same_sender-exact d.owner s (on (same_sender d.owner s) k.0);
+      owner = same_sender-exact d.owner s (not-false (same_sender d.owner s) k.0);
       order = ltb-false p.span.start (end_of d) m.0;
     }
-  where
-    on : (v : Bool) → not v ≡ false → v ≡ true
-    on true e = refl
-    on false e = cc
 
 -- the rows of a cell are as long as its series wants them
 pub row_long : (cs : List CellView) (i : ℕ) (c : CellView) (s : List ℕ) (p : DataPoint) → i < length cs → c ≡ get_or cs i c → IsSomeReadyFor cs s p → length c.accepted ≡ row_length c.id.kind
@@ -176,11 +172,7 @@ all_put cs qs b s fill ps n l h =
 
 -- of the spans all are
 pub all_spans : (n m : ℕ) (P : Type 0) → (n < m → (SpanOnly ≡ Point) × P) → m ≤ n
-all_spans n m P f = both (nat_lt n m) refl
-  where
-    both : (v : Bool) → nat_lt n m ≡ v → m ≤ n
-    both true e = absurd (let q : SpanOnly ≡ Point = (f (ltb-true n m e)).0 in cc)
-    both false e = ltb-false n m e
+all_spans n m P f = elim (cases_lt n m) [ inl l ↦ absurd (let q : SpanOnly ≡ Point = (f l).0 in cc) | inr le ↦ le ]
 
 -- clauses of an answer
 

@@ -1,7 +1,7 @@
 -- A point is taken out of a table.
 use Rattle.std.proofs.Common.{◌≡◌, ℕ, true, false, List, [], ◌∷◌, ◌++◌, map, take, set, get_or, length, ◌+◌, ◌-◌, ◌<◌, refl, ap, sym, ◌∙◌, subst, inl, inr, ◌⊎◌}
 use Rattle.std.specs.List.{list_all, list_any}
-use Rattle.std.proofs.lemmas.Bool.{and_parts, and_from, or_left, or_right, or_cases}
+use Rattle.std.proofs.lemmas.Bool.{and_parts, or_cases}
 use Rattle.std.proofs.lemmas.List.{append_assoc, map-append}
 use Rattle.std.proofs.lemmas.List.Elements.{filter-append}
 use Rattle.std.proofs.lemmas.List.Folds.{list_any-append}
@@ -24,6 +24,7 @@ use Rattle.delta_book.specs.inner.Rooms.{AreCellsFor, HasPart, IsListed}
 use Rattle.delta_book.specs.inner.Tables.{HasPoint, IsTable, IdAt}
 use Rattle.delta_book.proofs.CellTotals.{has_points}
 use Rattle.delta_book.proofs.CountedSeries.{listed-admitted}
+use Rattle.delta_book.proofs.Counting.{each_in}
 use Rattle.delta_book.proofs.Tables.{stands_at, at_id, set_ids, set_stand}
 use Rattle.delta_book.proofs.Parts.{whole_parts, last_point}
 
@@ -41,15 +42,8 @@ pub table_of : (cs : List CellView) (qs : List Accepted) → AreCells cs qs → 
 table_of cs qs h = record {
   ascending = ap is_ascending h.ids ∙ series_ascend qs;
   stand = h.stand;
-  covered = all_there qs (λ x m. ap (is_among x) h.ids ∙ (among_in_order x qs ∙ m)) qs (λ x m. m);
+  covered = each_in (map id_of cs) qs (λ x m. ap (is_among x) h.ids ∙ (among_in_order x qs ∙ m));
 }
-  where
-    all_there : (all : List Accepted) → ((x : Identity) → list_any (is_of x) all ≡ true → is_among x (map id_of cs) ≡ true) → (rs : List Accepted) → ((x : Identity) → list_any (is_of x) rs ≡ true → list_any (is_of x) all ≡ true) → list_all (λ a. is_among a.point.series (map id_of cs)) rs ≡ true
-    all_there all k [] w = refl
-    all_there all k (a ∷ rs) w =
-        and_from (is_among a.point.series (map id_of cs)) (list_all (λ a. is_among a.point.series (map id_of cs)) rs)
-        (k a.point.series (w a.point.series (or_left (is_of a.point.series a) (list_any (is_of a.point.series) rs) (same_of a.point.series a.point.series refl))))
-        (all_there all k rs (λ x m. w x (or_right (is_of x a) (list_any (is_of x) rs) m)))
 
 -- the cell of the point's series has it at home
 pub record Has (c : CellView) (b : ℕ) (s : List ℕ) (p : DataPoint) (before after : List Accepted) : Type 0 where

@@ -1,7 +1,7 @@
 -- Cells are made ready for a batch, a point at a time.
 use Rattle.std.proofs.Common.{◌≡◌, ℕ, ◌+◌, ◌<◌, ◌≤◌, Bool, true, false, cond, not, List, [], ◌∷◌, ◌++◌, map, drop, set, get_or, length, refl, ap, sym, ◌∙◌, subst, arith, zero, suc, inl, inr, ◌⊎◌}
 use Rattle.std.specs.List.{list_all, list_any, insert}
-use Rattle.std.proofs.lemmas.Bool.{and_parts, and_from, or_left, or_right, or_parts, or_cases, not-true}
+use Rattle.std.proofs.lemmas.Bool.{and_parts, and_from, or_left, or_right, or_parts, or_cases, not-true, false_from_ne_true}
 use Rattle.series_id.specs.Identity.{Identity}
 use Rattle.series_id.specs.Order.{same_series}
 use Rattle.series_id.proofs.Order.{same_series-exact}
@@ -18,13 +18,13 @@ use Rattle.delta_book.specs.Tables.{AreCells, id_of}
 use Rattle.delta_book.specs.inner.Batches.{is_point_of}
 use Rattle.delta_book.specs.inner.Puts.{IsGap}
 use Rattle.delta_book.specs.inner.Rooms.{points_of, IsListed, IsReady, Each, AreReady, IsAsked, AreAsked, AreCellsFor, Asks, KeepsFor}
-use Rattle.delta_book.specs.inner.Tables.{HasPoint, IsTable, IdAt}
+use Rattle.delta_book.specs.inner.Tables.{HasPoint, IdAt}
 use Rattle.delta_book.proofs.CellTotals.{has_points}
 use Rattle.delta_book.proofs.CountedSeries.{rest_at}
 use Rattle.delta_book.proofs.NewCell.{gap_absent, ascends_inserted, stand_inserted, among_inserted}
 use Rattle.delta_book.proofs.Removing.{table_of}
 use Rattle.delta_book.proofs.Sweeping.{covered_by}
-use Rattle.delta_book.proofs.Tables.{at_id, among_at, set_ids, same_table}
+use Rattle.delta_book.proofs.Tables.{not_first, at_id, among_at, set_ids, same_table}
 
 -- how many points of a series there are with one more
 
@@ -72,11 +72,7 @@ each_set P Q (c ∷ cs) zero d x u a f g h =
     (g, each_other P Q x cs (subst (λ y. is_among y (map id_of cs) ≡ false) a (not-true (is_among c.id (map id_of cs)) p.0)) f h.1)
 each_set P Q (c ∷ cs) (suc i) d x u a f g h =
     let p = and_parts (not (is_among c.id (map id_of cs))) (are_distinct (map id_of cs)) u in
-    (f c (other (same_series x c.id) refl (not-true (is_among c.id (map id_of cs)) p.0)) h.0, each_set P Q cs i d x p.1 a f g h.1)
-  where
-    other : (v : Bool) → same_series x c.id ≡ v → is_among c.id (map id_of cs) ≡ false → same_series x c.id ≡ false
-    other true m n = absurd (let k : is_among c.id (map id_of cs) ≡ true = subst (λ y. is_among y (map id_of cs) ≡ true) (same_series-exact x c.id m) (among_at cs i x a) in let q : true ≡ false = sym k ∙ n in cc)
-    other false m n = m
+    (f c (not_first c.id x (map id_of cs) p.0 (among_at cs i x a)) h.0, each_set P Q cs i d x p.1 a f g h.1)
 
 each_inserted : (P : CellView → Type 0) (cs : List CellView) (i : ℕ) (d : CellView) → P d → Each P cs → Each P (insert cs i d)
 each_inserted P [] zero d g h = (g, tt)
@@ -170,7 +166,7 @@ ask_new cs i d s p n gap e o st more fits qs ps h =
       ready = record {
         table = record {
           ascending = ascends_inserted cs i d x t.ascending g e;
-          stand = stand_inserted cs i d qs (subst (Stands d) (sym (ap (λ y. of_series y qs) e ∙ filter_none (is_of x) qs (any_none (is_of x) qs (absent (list_any (is_of x) qs) refl none t)))) st) t.stand;
+          stand = stand_inserted cs i d qs (subst (Stands d) (sym (ap (λ y. of_series y qs) e ∙ filter_none (is_of x) qs (any_none (is_of x) qs (false_from_ne_true (list_any (is_of x) qs) (λ m. let q : true ≡ false = sym (covered_by x (map id_of cs) qs t.covered m) ∙ none in cc))))) st) t.stand;
           covered = wider (λ (a : Accepted). a.point.series) qs t.covered;
         };
         each = each_inserted (IsReady qs s (ps ++ p ∷ [])) cs i d
@@ -185,10 +181,6 @@ ask_new cs i d s p n gap e o st more fits qs ps h =
   where
     wider : {X : Type 0} (key : X → Identity) (xs : List X) → list_all (λ r. is_among (key r) (map id_of cs)) xs ≡ true → list_all (λ r. is_among (key r) (map id_of (insert cs i d))) xs ≡ true
     wider key xs k = all_weaker (λ r. is_among (key r) (map id_of cs)) (λ r. is_among (key r) (map id_of (insert cs i d))) (λ r m. among_inserted (key r) cs i d ∙ or_left (is_among (key r) (map id_of cs)) (same_series (key r) d.id) m) xs k
-
-    absent : (v : Bool) → list_any (is_of p.series) qs ≡ v → is_among p.series (map id_of cs) ≡ false → IsTable cs qs → list_any (is_of p.series) qs ≡ false
-    absent true m k t = absurd (let q : true ≡ false = sym (covered_by p.series (map id_of cs) qs t.covered m) ∙ k in cc)
-    absent false m k t = m
 
 -- nothing was asked for
 pub keep_set : (cs : List CellView) (i : ℕ) (c d : CellView) (x : Identity) → i < length cs → c ≡ get_or cs i c → IdAt cs i x → IsOfSame c d → ((rs : List Accepted) → Stands c rs → Stands d rs) → KeepsFor cs (set cs i d)

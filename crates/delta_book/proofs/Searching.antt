@@ -6,7 +6,8 @@ use Rattle.series_id.specs.Identity.{Identity, row_length}
 use Rattle.std.specs.Ordering.{is_eq, is_lt}
 use Rattle.std.specs.declared.cmp.Ordering.TheVariants.{Less, Equal, Greater}
 use Rattle.series_id.specs.Order.{series_before, series_cmp, same_series}
-use Rattle.series_id.proofs.Order.{before-transitive, before-apart, before-irreflexive, before-or-after, same_series-refl, same_series-exact}
+use Rattle.series_id.proofs.Order.{before-transitive, before-apart, before-or-after, same_series-refl, same_series-exact}
+use Rattle.metric_events.proofs.Identities.{same_series-turned}
 use Rattle.metric_events.specs.declared.accepted.Accepted.{Accepted}
 use Rattle.series_cell.specs.Cells.{CellView}
 use Rattle.metric_events.specs.Rows.{zeros}
@@ -79,12 +80,7 @@ same_at (w ∷ cs) (suc i) c d l e f = same_at cs i c d (omega arith) e f
 -- what is past of a series, in an opening in series order
 
 before-not_same : (x y : Identity) → series_before x y ≡ true → same_series y x ≡ false
-before-not_same x y h = decide (same_series y x) refl
-  where
-    decide : (v : Bool) → same_series y x ≡ v → same_series y x ≡ false
-    decide false e = e
-    decide true e =
-        let q : true ≡ false = sym h ∙ (ap (series_before x) (same_series-exact y x e) ∙ before-irreflexive x) in cc
+before-not_same x y h = same_series-turned y x ∙ before-apart x y h
 
 pub past_found : (f : OpenedSeries → List ℕ) (x : Identity) (ss : List OpenedSeries) (i : ℕ) (s : OpenedSeries) → is_ascending (series_of ss) ≡ true → i < length ss → s ≡ get_or ss i s → s.series ≡ x → past f x ss ≡ f s
 past_found f x [] i s u l e k = absurd (omega (arith, l))

@@ -13,7 +13,6 @@ use Rattle.metric_events.specs.declared.place.Place.{Place}
 use Rattle.metric_events.specs.declared.place.Place.TheVariants.{Home, InFlight, Acknowledged, Dropped}
 use Rattle.metric_events.specs.declared.event.Event.{Event}
 use Rattle.metric_events.specs.declared.event.Event.TheVariants.{Settle, Drop, GiveBack}
-use Rattle.delta_book.specs.inner.Flushes.{EndsFlush}
 use Rattle.metric_events.specs.declared.limits.TheConstants.{MAX_ENTRIES, MAX_OPEN, MAX_LIVE}
 use Rattle.metric_events.specs.declared.accepted.Accepted.{Accepted}
 use Rattle.metric_events.specs.declared.flight.Flight.{Flight}
@@ -34,7 +33,7 @@ use Rattle.metric_events.proofs.Numbers.{admits-le, takes-le}
 use Rattle.metric_events.proofs.Closing.{opening_is}
 use Rattle.delta_book.specs.Tables.{AreCells, AreBooked}
 use Rattle.delta_book.specs.inner.Tables.{AreOpen, AreFlights, are_full, is_full, series_named}
-use Rattle.delta_book.specs.inner.Tables.{entry_of, on_series, is_other_open}
+use Rattle.delta_book.specs.inner.Tables.{EndsFlush, entry_of, on_series, is_other_open}
 use Rattle.delta_book.specs.declared.open.JournalRef.{JournalRef}
 use Rattle.delta_book.proofs.Journaled.{after_push, legal_push, entries-history, opening-history}
 use Rattle.delta_book.proofs.Opened.{open_length, open_more, open_closed}
@@ -148,16 +147,12 @@ opened_after xs ys x os os' bs b h e o =
 
 -- a flush that is live may end so
 pub may_end : (E : History) (f : ℕ) (q : Place) (e : Event) → EndsFlush f q e → is_live f (live_flushes E) ≡ true → Allowed E e
-may_end E f Acknowledged e k l = subst (Allowed E) (sym k) l
-may_end E f Dropped e k l = subst (Allowed E) (sym k) l
-may_end E f Home e k l = subst (Allowed E) (sym k) l
 may_end E f (InFlight g) e k l = absurd k
+may_end E f q e k l = subst (Allowed E) (sym k) l
 
 pub not_flying : (f : ℕ) (q : Place) (e : Event) → EndsFlush f q e → is_flying q ≡ false
-not_flying f Acknowledged e k = refl
-not_flying f Dropped e k = refl
-not_flying f Home e k = refl
 not_flying f (InFlight g) e k = absurd k
+not_flying f q e k = refl
 
 -- a flush has ended
 pub stored_end : (b b' : Inside) (f : ℕ) (q : Place) (x : Entry) → EndsFlush f q x.event → IsStored b → is_live f (live_flushes (history_in b)) ≡ true → AreCells b'.cells.items (map (landed f q) (points (history_in b))) → AreOpen b'.entries.items b'.opened.items (open_batches (history_in b)) → AreFlights b'.entries.items b'.live.items (filter (is_other_flight f) (live_flushes (history_in b))) → are_full (map (landed f q) (points (history_in b))) (filter (is_other_flight f) (live_flushes (history_in b))) ≡ true → b'.held.items ≡ b.held.items → journal_in b' ≡ appended (journal_in b) x → MAX_OPEN ≤ vec_capacity b'.opened → MAX_LIVE ≤ vec_capacity b'.live → MAX_ENTRIES ≤ vec_capacity b'.entries → b'.batches ≡ b.batches → b'.flushes ≡ b.flushes → IsStored b'

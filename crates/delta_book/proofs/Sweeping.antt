@@ -1,7 +1,7 @@
 -- Cells that represent no point are removed.
 use Rattle.std.proofs.Common.{◌≡◌, ◌==◌, ℕ, zero, suc, ◌<◌, Bool, true, false, not, ◌||◌, List, [], ◌∷◌, ◌++◌, map, remove, set, get_or, length, refl, ap, sym, ◌∙◌, subst, arith, inl, inr, ◌⊎◌}
 use Rattle.std.specs.List.{list_all, list_any}
-use Rattle.std.proofs.lemmas.Bool.{and_parts, and_from, or_cases, or_left, or_right, or_from, not-true, eqb-true}
+use Rattle.std.proofs.lemmas.Bool.{and_parts, and_from, or_cases, or_left, or_right, or_from, not-true, not-false, eqb-true, ne_eqb}
 use Rattle.series_id.specs.Identity.{Identity}
 use Rattle.series_id.specs.Order.{same_series, series_before}
 use Rattle.series_id.proofs.Order.{same_series-exact}
@@ -11,7 +11,7 @@ use Rattle.metric_events.specs.Legal.{are_distinct}
 use Rattle.metric_events.specs.Series.{is_of, of_series, series_in_order, is_ascending}
 use Rattle.metric_events.specs.declared.accepted.Accepted.{Accepted}
 use Rattle.metric_events.proofs.InOrder.{series_ascend, ascending_distinct}
-use Rattle.metric_events.proofs.Lists.{all_both, any_none, any_split}
+use Rattle.metric_events.proofs.Lists.{all_both, any_none, any_split, both_at}
 use Rattle.metric_events.proofs.SeriesOnce.{among_in_order}
 use Rattle.series_cell.specs.Cells.{CellView, Stands, IsOwn, greatest_end, end_of}
 use Rattle.metric_events.proofs.Intervals.{ends_after}
@@ -21,7 +21,7 @@ use Rattle.delta_book.specs.inner.Batches.{is_point_of}
 use Rattle.delta_book.specs.inner.Rooms.{AreCellsFor, IsListed, KeepsFor}
 use Rattle.delta_book.specs.inner.Tables.{HasPoint, IsTable, IdAt}
 use Rattle.delta_book.proofs.Choosing.{same_ascending}
-use Rattle.delta_book.proofs.Tables.{stands_at, at_id, among_at}
+use Rattle.delta_book.proofs.Tables.{agree, not_first, stands_at, at_id, among_at}
 
 -- the cell has a frontier
 abbrev pub is_some_cell : CellView → Bool
@@ -31,13 +31,9 @@ is_some_cell c = not (end_of c == 0)
 pub empty_cell : (c : CellView) (qs : List Accepted) → Stands c qs → is_some_cell c ≡ false → qs ≡ []
 empty_cell c [] h e = refl
 empty_cell c (a ∷ qs) h e =
-    let z : end_of c ≡ 0 = eqb-true (end_of c) 0 (back (end_of c == 0) e) in
+    let z : end_of c ≡ 0 = eqb-true (end_of c) 0 (not-false (end_of c == 0) e) in
     let own : IsOwn c.owner c.id a = h.own.0 in
     absurd (omega (arith, z, end_is c (a ∷ qs) h, ends_after a.point.span own.span))
-  where
-    back : (v : Bool) → not v ≡ false → v ≡ true
-    back true k = refl
-    back false k = cc
 
 full_cell : (c : CellView) (qs : List Accepted) → Stands c qs → is_some_cell c ≡ true → qs ≡ [] → ⊥
 full_cell c qs h e n =
@@ -62,13 +58,7 @@ some_of x (a ∷ qs) k = both (is_of x a) refl (some_of x qs)
     both false e r = rw e (r (λ m. k (rw e m)))
 
 pub covered_by : (z : Identity) (xs : List Identity) (qs : List Accepted) → list_all (λ a. is_among a.point.series xs) qs ≡ true → list_any (is_of z) qs ≡ true → is_among z xs ≡ true
-covered_by z xs [] h m = absurd (let q : false ≡ true = m in cc)
-covered_by z xs (a ∷ qs) h m =
-    let p = and_parts (is_among a.point.series xs) (list_all (λ a. is_among a.point.series xs) qs) h in
-    elim (or_cases (is_of z a) (list_any (is_of z) qs) m) [
-      | inl e ↦ subst (λ y. is_among y xs ≡ true) (same_series-exact a.point.series z e) p.0
-      | inr e ↦ covered_by z xs qs p.1 e
-    ]
+covered_by z xs qs h m = both_at (is_of z) (λ a. is_among a.point.series xs) (is_among z xs ≡ true) (λ a e k. subst (λ y. is_among y xs ≡ true) (same_series-exact a.point.series z e) k) qs m h
 
 -- a cell is removed
 
@@ -122,11 +112,7 @@ gone x [] i u a = absurd a
 gone x (c ∷ cs) zero u a = subst (λ y. is_among y (map id_of cs) ≡ false) a (not-true (is_among c.id (map id_of cs)) (and_parts (not (is_among c.id (map id_of cs))) (are_distinct (map id_of cs)) u).0)
 gone x (c ∷ cs) (suc i) u a =
     let p = and_parts (not (is_among c.id (map id_of cs))) (are_distinct (map id_of cs)) u in
-    or_from (same_series x c.id) (is_among x (map id_of (remove cs i))) (other (same_series x c.id) refl (not-true (is_among c.id (map id_of cs)) p.0)) (gone x cs i p.1 a)
-  where
-    other : (v : Bool) → same_series x c.id ≡ v → is_among c.id (map id_of cs) ≡ false → same_series x c.id ≡ false
-    other true m n = absurd (let k : is_among c.id (map id_of cs) ≡ true = subst (λ y. is_among y (map id_of cs) ≡ true) (same_series-exact x c.id m) (among_at cs i x a) in let q : true ≡ false = sym k ∙ n in cc)
-    other false m n = m
+    or_from (same_series x c.id) (is_among x (map id_of (remove cs i))) (not_first c.id x (map id_of cs) p.0 (among_at cs i x a)) (gone x cs i p.1 a)
 
 -- without the cell of a series that has no point
 table_left : (cs : List CellView) (i : ℕ) (x : Identity) (qs : List Accepted) → IdAt cs i x → list_any (is_of x) qs ≡ false → IsTable cs qs → IsTable (remove cs i) qs
@@ -164,14 +150,9 @@ goes_for cs i c qs ps p l e a m h =
 -- a table whose series all have a point
 pub cells_of_table : (cs : List CellView) (qs : List Accepted) → IsTable cs qs → ((x : Identity) → is_among x (map id_of cs) ≡ true → list_any (is_of x) qs ≡ true) → AreCells cs qs
 cells_of_table cs qs h k = record {
-  ids = same_ascending (map id_of cs) (series_in_order qs) h.ascending (series_ascend qs) (record { same = λ z. both z (is_among z (map id_of cs)) (list_any (is_of z) qs) refl refl ∙ sym (among_in_order z qs) });
+  ids = same_ascending (map id_of cs) (series_in_order qs) h.ascending (series_ascend qs) (record { same = λ z. agree (k z) (covered_by z (map id_of cs) qs h.covered) ∙ sym (among_in_order z qs) });
   stand = h.stand;
 }
-  where
-    both : (z : Identity) (v w : Bool) → is_among z (map id_of cs) ≡ v → list_any (is_of z) qs ≡ w → is_among z (map id_of cs) ≡ list_any (is_of z) qs
-    both z true w e f = e ∙ sym (k z e)
-    both z false true e f = covered_by z (map id_of cs) qs h.covered f ∙ sym f
-    both z false false e f = e ∙ sym f
 
 -- cells for no other point
 pub swept : (cs : List CellView) (qs : List Accepted) → AreCellsFor cs qs [] → AreCells cs qs
@@ -191,11 +172,7 @@ missed ds cs x y e f h u = subst (λ ks. is_among y (map id_of ks) ≡ false) e 
 -- what the frontier of a cell says
 
 pub has_end : (c : CellView) (n : ℕ) → n ≡ end_of c → (n ≡ 0 → ⊥) → is_some_cell c ≡ true
-has_end c n e k = both (end_of c == 0) refl
-  where
-    both : (v : Bool) → (end_of c == 0) ≡ v → not v ≡ true
-    both true m = absurd (k (e ∙ eqb-true (end_of c) 0 m))
-    both false m = refl
+has_end c n e k = ap not (ne_eqb (end_of c) 0 (λ m. k (e ∙ m)))
 
 pub lacks_end : (c : CellView) (n : ℕ) → n ≡ end_of c → n ≡ 0 → is_some_cell c ≡ false
 lacks_end c n e z = subst (λ j. not (j == 0) ≡ false) (sym z ∙ e) refl

@@ -30,7 +30,7 @@ use Rattle.delta_book.specs.inner.Ready.{first_ready}
 use Rattle.delta_book.specs.declared.open.JournalRef.{JournalRef}
 use Rattle.series_cell.proofs.ByPlace.{written_back}
 use Rattle.delta_book.proofs.Tables.{taken-on}
-use Rattle.delta_book.proofs.Entries.{is_home_of, flights_push, flights_more}
+use Rattle.delta_book.proofs.Entries.{is_home_of, at_last, flights_push, flights_more}
 use Rattle.delta_book.proofs.Choosing.{AreTied, first_is, any_ready}
 use Rattle.delta_book.proofs.Picking.{picked_all_of, nothing_picked, something_picked, may_take_now}
 use Rattle.delta_book.proofs.Stored.{tied_in}
@@ -96,8 +96,4 @@ pub flights_taken : (xs ys : List Entry) (x : Entry) (os os' : List JournalRef) 
 flights_taken xs ys x os os' ls f i series h e v m o =
     subst (λ zs. AreFlights zs os' (ls ++ record { number = f; series = series } ∷ [])) (sym e)
     (subst (λ ps. AreFlights (xs ++ x ∷ []) ps (ls ++ record { number = f; series = series } ∷ [])) (sym (o ∙ ap (λ j. os ++ record { number = f; entry = j } ∷ []) m))
-    (flights_push (xs ++ x ∷ []) os ls (record { number = f; entry = length xs }) (record { number = f; series = series }) (flights_more xs (x ∷ []) os ls h) refl (at_taken xs x v)))
-  where
-    at_taken : (zs : List Entry) (z : Entry) → z.event ≡ Take f series → At (zs ++ z ∷ []) (length zs) (Take f series)
-    at_taken [] z v = v
-    at_taken (y ∷ zs) z v = at_taken zs z v
+    (flights_push (xs ++ x ∷ []) os ls (record { number = f; entry = length xs }) (record { number = f; series = series }) (flights_more xs (x ∷ []) os ls h) refl (subst (At (xs ++ x ∷ []) (length xs)) v (at_last xs x))))

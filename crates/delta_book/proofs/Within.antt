@@ -1,5 +1,5 @@
 -- Two rows are within the limits of their kind together.
-use Rattle.std.proofs.Common.{◌≡◌, ℕ, suc, ◌+◌, ◌-◌, ◌≤◌, Bool, true, false, ◌&&◌, ◌↔◌, List, [], ◌∷◌, take, drop, length, sum, refl, sym, ◌∙◌, arith, ℤ}
+use Rattle.std.proofs.Common.{◌≡◌, ℕ, suc, ◌+◌, ◌-◌, ◌≤◌, Bool, true, false, ◌&&◌, ◌↔◌, List, [], ◌∷◌, take, drop, length, sum, refl, sym, arith, ℤ}
 use Rattle.std.specs.Prelude.{nat_le, IsTrue}
 use Rattle.std.proofs.lemmas.Bool.{and_from, leb-true, le-leb}
 use Rattle.std.proofs.lemmas.List.{take_all, length-drop}
@@ -10,16 +10,16 @@ use Rattle.metric_events.specs.Rows.{add_rows, are_within, fits, word_limit}
 use Rattle.metric_events.specs.declared.limits.TheConstants.{MAX_POINTS, MAX_SUM, MAX_BUCKET, MAX_COUNT}
 use Rattle.metric_events.proofs.Fits.{word_within}
 use Rattle.metric_events.proofs.Sums.{added_at}
+use Rattle.delta_book.proofs.Tables.{agree}
 
 -- under one limit
 
 flat : (most : ℕ) (xs ys : List ℕ) → length xs ≡ length ys → Fits most xs ys → are_within (λ k. most) (add_rows xs ys) ≡ true
 flat most [] [] e h = refl
-flat most [] (y ∷ ys) e h = absurd (omega (arith, e))
-flat most (x ∷ xs) [] e h = absurd (omega (arith, e))
 flat most (x ∷ xs) (y ∷ ys) e h =
     and_from (nat_le (x + y) most) (are_within (λ k. most) (add_rows xs ys)) (le-leb (x + y) most (h 0 (omega arith)))
     (flat most xs ys (omega (arith, e)) (λ k l. h (suc k) (omega (arith, l))))
+flat most xs ys e h = absurd (omega (arith, e))
 
 flat_fits : (most : ℕ) (xs ys : List ℕ) → are_within (λ k. most) (add_rows xs ys) ≡ true → Fits most xs ys
 flat_fits most xs ys h = λ k l. omega (arith, word_within (λ k. most) (add_rows xs ys) k h, added_at xs ys k)
@@ -56,13 +56,7 @@ histogram_split bounds (a ∷ b ∷ c ∷ xs) (x ∷ y ∷ []) l m = absurd (ome
 
 -- two bounds that hold together
 pub same_le : (a b c d : ℕ) → (a ≤ b → c ≤ d) → (c ≤ d → a ≤ b) → nat_le a b ≡ nat_le c d
-same_le a b c d f g = both (nat_le a b) (nat_le c d) refl refl
-  where
-    both : (v w : Bool) → nat_le a b ≡ v → nat_le c d ≡ w → nat_le a b ≡ nat_le c d
-    both true true e k = e ∙ sym k
-    both true false e k = absurd (let q : false ≡ true = sym k ∙ le-leb c d (f (leb-true a b e)) in cc)
-    both false true e k = absurd (let q : false ≡ true = sym e ∙ le-leb a b (g (leb-true c d k)) in cc)
-    both false false e k = e ∙ sym k
+same_le a b c d f g = agree (λ e. le-leb c d (f (leb-true a b e))) (λ e. le-leb a b (g (leb-true c d e)))
 
 -- counts added up
 pub sum_added : (xs ys : List ℕ) → sum (add_rows xs ys) ≡ sum xs + sum ys

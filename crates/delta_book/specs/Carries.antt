@@ -15,9 +15,8 @@ AllCarry (c ∷ cs) = Carries c × AllCarry cs
 -- each cell hands on one of these series
 abbrev pub AllHandOn : List CellView → List OpenedSeries → Type 0
 AllHandOn [] [] = Unit {0}
-AllHandOn [] (s ∷ ss) = ⊥
-AllHandOn (c ∷ cs) [] = ⊥
 AllHandOn (c ∷ cs) (s ∷ ss) = HandsOn c s × AllHandOn cs ss
+AllHandOn cs ss = ⊥
 
 -- the cell represents what the next round begins with of a series
 pub record BeginsWith (c : CellView) (s : OpenedSeries) : Type 0 where
@@ -27,6 +26,5 @@ pub record BeginsWith (c : CellView) (s : OpenedSeries) : Type 0 where
 -- each cell, of one of these series
 abbrev pub AllOpened : List CellView → List OpenedSeries → Type 0
 AllOpened [] [] = Unit {0}
-AllOpened [] (s ∷ ss) = ⊥
-AllOpened (c ∷ cs) [] = ⊥
 AllOpened (c ∷ cs) (s ∷ ss) = BeginsWith c s × AllOpened cs ss
+AllOpened cs ss = ⊥

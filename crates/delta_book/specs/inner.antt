@@ -4,7 +4,6 @@ pub mod Parts
 pub mod Rooms
 pub mod Puts
 pub mod Ready
-pub mod Flushes
 pub mod Pasts
 pub mod Batches
 pub mod AtHome

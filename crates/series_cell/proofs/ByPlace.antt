@@ -9,11 +9,10 @@ use Rattle.metric_events.proofs.Sums.{added_at, zeros_at, length-add_rows, lengt
 -- two rows of one length are one where they agree at each place
 pub same_row : (xs ys : List ℕ) → length xs ≡ length ys → ((k : ℕ) → k < length xs → slice_index xs k ≡ slice_index ys k) → xs ≡ ys
 same_row [] [] e h = refl
-same_row [] (y ∷ ys) e h = absurd (omega arith)
-same_row (x ∷ xs) [] e h = absurd (omega arith)
 same_row (x ∷ xs) (y ∷ ys) e h =
     ap (λ n. n ∷ xs) (h 0 (omega arith))
     ∙ ap (λ zs. y ∷ zs) (same_row xs ys (omega arith) (λ k l. h (suc k) (omega arith)))
+same_row xs ys e h = absurd (omega arith)
 
 -- a sum by place
 pub sum_row_is : (xs ys zs : List ℕ) → length zs ≡ length xs → length ys ≡ length xs → ((k : ℕ) → k < length xs → slice_index zs k ≡ slice_index xs k + slice_index ys k) → zs ≡ add_rows xs ys

@@ -18,7 +18,7 @@ use Rattle.metric_events.proofs.Closing.{no_hull}
 use Rattle.metric_events.proofs.Sums.{add_rows-comm, add_rows-zeros, length-zeros}
 use Rattle.series_cell.specs.Cells.{CellView, Stands, AllOwn, InOrder, greatest_end, end_of}
 use Rattle.series_cell.specs.Cells.{home_hull, HandsOn, opened_with}
-use Rattle.series_cell.specs.inner.Cells.{IsCell}
+use Rattle.series_cell.specs.inner.CellParts.{IsCell}
 use Rattle.series_cell.specs.Spans.{span_of, hull_of, joined_spans}
 use Rattle.series_cell.specs.declared.batch_span.BatchSpan.{BatchSpan}
 use Rattle.series_cell.proofs.Sizes.{sized}

@@ -7,10 +7,9 @@ use Rattle.series_cell.specs.Spans.{end_of_spans, hull_of, joined_spans, ends_by
 use Rattle.series_cell.specs.declared.batch_span.BatchSpan.{BatchSpan}
 
 last_at : (before n : ℕ) (ms : List BatchSpan) (m : BatchSpan) → length ms ≡ suc n → m ≡ get_or ms n m → end_of_spans before ms ≡ m.span.end
-last_at before n [] m l e = absurd (omega (arith, l))
 last_at before zero (a ∷ []) m l e = ap (λ (w : BatchSpan). w.span.end) (sym e)
-last_at before zero (a ∷ b ∷ ms) m l e = absurd (omega (arith, l))
 last_at before (suc n) (a ∷ ms) m l e = last_at a.span.end n ms m (omega (arith, l)) e
+last_at before n ms m l e = absurd (omega (arith, l))
 
 pub last_span : (before n : ℕ) (ms : List BatchSpan) (m : BatchSpan) → length ms ≡ n + 1 → m ≡ get_or ms n m → end_of_spans before ms ≡ m.span.end
 last_span before n ms m l e = last_at before n ms m (omega (arith, l)) e
@@ -25,14 +24,13 @@ same_interval p q s e = ap (λ n. record { start = n; end = p.end }) s ∙ ap (�
 -- in order of time the hull is that of the first and the last
 hull_from : (n : ℕ) (m : BatchSpan) (ms : List BatchSpan) (d : BatchSpan) → length ms ≡ n → AreInOrder (m ∷ ms) → hull_of (m ∷ ms) ≡ Some (joined m.span (get_or (m ∷ ms) n d).span)
 hull_from zero m [] d l o = ap Some (same_interval m.span (joined m.span m.span) (omega arith) (omega arith))
-hull_from (suc n) m [] d l o = absurd (omega (arith, l))
-hull_from zero m (k ∷ ms) d l o = absurd (omega (arith, l))
 hull_from (suc n) m (k ∷ ms) d l o =
     let last = (get_or (k ∷ ms) n d).span in
     let first : m.span.start ≤ k.span.start = o.starts 0 1 d (omega arith) (omega arith) in
     let late : k.span.end ≤ last.end = o.ends 1 (suc n) d (omega arith) (omega arith) in
     ap (λ h. Some (joined_to m.span h)) (hull_from n k ms d (omega arith) (record { starts = λ i j e b c. o.starts (suc i) (suc j) e (omega arith) (omega arith); ends = λ i j e b c. o.ends (suc i) (suc j) e (omega arith) (omega arith) }))
     ∙ ap Some (same_interval (joined m.span (joined k.span last)) (joined m.span last) (omega (arith, first)) (omega (arith, late)))
+hull_from n m ms d l o = absurd (omega (arith, l))
 
 pub hull_is : (n : ℕ) (ms : List BatchSpan) (c d : BatchSpan) → length ms ≡ n + 1 → AreInOrder ms → hull_of ms ≡ Some (joined (get_or ms 0 c).span (get_or ms n d).span)
 hull_is n [] c d l o = absurd (omega (arith, l))

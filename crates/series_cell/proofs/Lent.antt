@@ -1,8 +1,7 @@
 -- What a cell keeps, while it is lent from its box.
 use Rattle.std.proofs.Common.{◌≡◌, ◌∙◌, ap, sym, subst}
 use Rattle.series_cell.specs.Cells.{CellView}
-use Rattle.series_cell.specs.inner.Cells.{IsCell}
-use Rattle.series_cell.specs.inner.CellParts.{view_of, AreWords, IsKept}
+use Rattle.series_cell.specs.inner.CellParts.{view_of, AreWords, IsCell, IsKept}
 use Rattle.series_cell.specs.declared.cell_parts.CellParts.{CellParts}
 
 pub lent_cell : {k boxed : CellParts} → k ≡ boxed → IsKept boxed → IsCell (view_of k)
@@ -13,3 +12,6 @@ lent_words e h = subst (λ (w : CellParts). AreWords w.accepted.items) (sym e) h
 
 pub lent_view : {k boxed : CellParts} {c : CellView} → k ≡ boxed → view_of boxed ≡ c → view_of k ≡ c
 lent_view e h = ap view_of e ∙ h
+
+pub lent : {k boxed : CellParts} {c : CellView} (P : CellView → Type 0) → k ≡ boxed → view_of boxed ≡ c → P c → P (view_of k)
+lent P e is h = subst P (sym (lent_view e is)) h

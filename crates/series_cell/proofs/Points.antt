@@ -11,8 +11,9 @@ use Rattle.metric_events.specs.Points.{at, is_home, is_in_flight, landed}
 use Rattle.metric_events.specs.Series.{row_sum}
 use Rattle.metric_events.specs.Standing.{stands}
 use Rattle.metric_events.specs.declared.place.Place.{Place}
-use Rattle.metric_events.specs.declared.place.Place.TheVariants.{Home, InFlight, Acknowledged, Dropped}
+use Rattle.metric_events.specs.declared.place.Place.TheVariants.{Home, InFlight}
 use Rattle.metric_events.specs.declared.accepted.Accepted.{Accepted}
+use Rattle.metric_events.proofs.Lists.{all_append, all_first, all_last, all_parts}
 use Rattle.metric_events.proofs.Sums.{row_sum-append, row_sum_long, add_rows-comm, add_rows-zeros, add_rows_longer, add_rows_swap, length-zeros, length-add_rows}
 use Rattle.metric_events.proofs.Intervals.{ends_after}
 use Rattle.series_cell.specs.Cells.{AllOwn, InOrder, starts_from, greatest_end, is_landed, lifted}
@@ -106,19 +107,6 @@ abbrev pub last_end : ℕ → List Accepted → ℕ
 last_end before [] = before
 last_end before (a ∷ qs) = last_end a.point.span.end qs
 
-starts_parts : (end : ℕ) (qs rs : List Accepted) → list_all (starts_from end) (qs ++ rs) ≡ true → (list_all (starts_from end) qs ≡ true) × (list_all (starts_from end) rs ≡ true)
-starts_parts end [] rs h = (refl, h)
-starts_parts end (a ∷ qs) rs h =
-    let p = and_parts (starts_from end a) (list_all (starts_from end) (qs ++ rs)) h in
-    let r = starts_parts end qs rs p.1 in
-    (and_from (starts_from end a) (list_all (starts_from end) qs) p.0 r.0, r.1)
-
-starts_append : (end : ℕ) (qs rs : List Accepted) → list_all (starts_from end) qs ≡ true → list_all (starts_from end) rs ≡ true → list_all (starts_from end) (qs ++ rs) ≡ true
-starts_append end [] rs h k = k
-starts_append end (a ∷ qs) rs h k =
-    let p = and_parts (starts_from end a) (list_all (starts_from end) qs) h in
-    and_from (starts_from end a) (list_all (starts_from end) (qs ++ rs)) p.0 (starts_append end qs rs p.1 k)
-
 pub end_le_last : (s : List ℕ) (x : Identity) (d : ℕ) (qs : List Accepted) → AllOwn s x qs → list_all (starts_from d) qs ≡ true → InOrder qs → d ≤ last_end d qs
 end_le_last s x d [] h k o = omega arith
 end_le_last s x d (a ∷ qs) h k o =
@@ -128,7 +116,7 @@ end_le_last s x d (a ∷ qs) h k o =
 pub in_order_push : (s : List ℕ) (x : Identity) (d : ℕ) (qs : List Accepted) (a : Accepted) → AllOwn s x qs → InOrder qs → last_end d qs ≤ a.point.span.start → InOrder (qs ++ a ∷ [])
 in_order_push s x d [] a h o l = (refl, tt)
 in_order_push s x d (b ∷ qs) a h o l = (
-  starts_append b.point.span.end qs (a ∷ []) o.0 (and_from (starts_from b.point.span.end a) true (le-leb b.point.span.end a.point.span.start (omega (arith, l, end_le_last s x b.point.span.end qs h.1 o.0 o.1))) refl),
+  all_append (starts_from b.point.span.end) qs (a ∷ []) o.0 (and_from (starts_from b.point.span.end a) true (le-leb b.point.span.end a.point.span.start (omega (arith, l, end_le_last s x b.point.span.end qs h.1 o.0 o.1))) refl),
   in_order_push s x b.point.span.end qs a h.1 o.1 l,
 )
 
@@ -147,14 +135,12 @@ in_order-map f m (a ∷ qs) h =
 pub in_order_without : (before after : List Accepted) (a : Accepted) → InOrder (before ++ a ∷ after) → InOrder (before ++ after)
 in_order_without [] after a h = h.1
 in_order_without (b ∷ before) after a h =
-    let p = starts_parts b.point.span.end before (a ∷ after) h.0 in (
-      starts_append b.point.span.end before after p.0 (and_parts (starts_from b.point.span.end a) (list_all (starts_from b.point.span.end) after) p.1).1,
-      in_order_without before after a h.1,
-    )
+    let t = starts_from b.point.span.end in
+    (all_append t before after (all_first t before (a ∷ after) h.0) (all_parts t a after (all_last t before (a ∷ after) h.0)).1, in_order_without before after a h.1)
 
 pub in_order_first : (qs rs : List Accepted) → InOrder (qs ++ rs) → InOrder qs
 in_order_first [] rs h = tt
-in_order_first (a ∷ qs) rs h = ((starts_parts a.point.span.end qs rs h.0).0, in_order_first qs rs h.1)
+in_order_first (a ∷ qs) rs h = (all_first (starts_from a.point.span.end) qs rs h.0, in_order_first qs rs h.1)
 
 pub in_order_last : (qs rs : List Accepted) → InOrder (qs ++ rs) → InOrder rs
 in_order_last [] rs h = h
@@ -164,8 +150,8 @@ in_order_last (a ∷ qs) rs h = in_order_last qs rs h.1
 pub all_end_by : (before after : List Accepted) (a : Accepted) → InOrder (before ++ a ∷ after) → list_all (λ b. nat_le b.point.span.end a.point.span.start) before ≡ true
 all_end_by [] after a o = refl
 all_end_by (b ∷ before) after a o =
-    let p = starts_parts b.point.span.end before (a ∷ after) o.0 in
-    and_from (nat_le b.point.span.end a.point.span.start) _ (and_parts (starts_from b.point.span.end a) (list_all (starts_from b.point.span.end) after) p.1).0 (all_end_by before after a o.1)
+    let t = starts_from b.point.span.end in
+    and_from (t a) _ (all_parts t a after (all_last t before (a ∷ after) o.0)).0 (all_end_by before after a o.1)
 
 -- the spans of points in order of time
 
@@ -253,10 +239,8 @@ landed-gone f q (a ∷ qs) h =
     rw (off a.place p.0) (ap (λ rs. a ∷ rs) (landed-gone f q qs p.1))
   where
     off : (place : Place) → is_landed place ≡ true → is_in_flight f place ≡ false
-    off Home e = refl
     off (InFlight g) e = absurd (let k : false ≡ true = e in cc)
-    off Acknowledged e = refl
-    off Dropped e = refl
+    off place e = refl
 
 pub landed-home : (f : ℕ) (q : Place) (qs : List Accepted) → list_all (stands is_home) qs ≡ true → map (landed f q) qs ≡ qs
 landed-home f q [] h = refl
@@ -265,10 +249,8 @@ landed-home f q (a ∷ qs) h =
     rw (off a.place p.0) (ap (λ rs. a ∷ rs) (landed-home f q qs p.1))
   where
     off : (place : Place) → is_home place ≡ true → is_in_flight f place ≡ false
-    off Home e = refl
     off (InFlight g) e = absurd (let k : false ≡ true = e in cc)
-    off Acknowledged e = refl
-    off Dropped e = refl
+    off place e = refl
 
 pub landed-away : (f : ℕ) (q : Place) (qs : List Accepted) → list_all (stands (is_in_flight f)) qs ≡ true → map (landed f q) qs ≡ map (at q) qs
 landed-away f q [] h = refl
@@ -276,17 +258,15 @@ landed-away f q (a ∷ qs) h =
     let p = and_parts (is_in_flight f a.place) (list_all (stands (is_in_flight f)) qs) h in
     rw p.0 (ap (λ rs. at q a ∷ rs) (landed-away f q qs p.1))
 
+pub landed_off : (q : Place) → is_landed q ≡ true → is_home q ≡ false
+landed_off Home e = absurd (let k : false ≡ true = e in cc)
+landed_off q e = refl
+
 pub lifted-gone : (f : ℕ) (qs : List Accepted) → list_all (stands is_landed) qs ≡ true → map (lifted f) qs ≡ qs
 lifted-gone f [] h = refl
 lifted-gone f (a ∷ qs) h =
     let p = and_parts (is_landed a.place) (list_all (stands is_landed) qs) h in
-    rw (off a.place p.0) (ap (λ rs. a ∷ rs) (lifted-gone f qs p.1))
-  where
-    off : (place : Place) → is_landed place ≡ true → is_home place ≡ false
-    off Home e = absurd (let k : false ≡ true = e in cc)
-    off (InFlight g) e = refl
-    off Acknowledged e = refl
-    off Dropped e = refl
+    rw (landed_off a.place p.0) (ap (λ rs. a ∷ rs) (lifted-gone f qs p.1))
 
 pub lifted-home : (f : ℕ) (qs : List Accepted) → list_all (stands is_home) qs ≡ true → map (lifted f) qs ≡ map (at (InFlight f)) qs
 lifted-home f [] h = refl

@@ -1,8 +1,8 @@
 -- What a cell's readers say of the points that it stands for.
-use Rattle.std.proofs.Common.{◌≡◌, ℕ, ◌+◌, ◌<◌, Bool, true, false, List, [], ◌∷◌, ◌++◌, filter, length, max, refl, ap, sym, ◌∙◌, arith}
+use Rattle.std.proofs.Common.{◌≡◌, ℕ, ◌+◌, ◌<◌, ◌≤◌, Bool, true, false, List, [], ◌∷◌, ◌++◌, filter, length, max, refl, ap, sym, ◌∙◌, arith}
 use Rattle.std.specs.Prelude.{nat_lt}
 use Rattle.std.specs.List.{list_all, list_any}
-use Rattle.std.proofs.lemmas.Bool.{and_parts, or_parts, ltb-true, ltb-false, lt-ltb}
+use Rattle.std.proofs.lemmas.Bool.{and_parts, or_parts, le-ltb, lt-ltb}
 use Rattle.std.proofs.lemmas.List.{append-nil, length-map, length-append}
 use Rattle.std.proofs.lemmas.List.Elements.{filter-append}
 use Rattle.series_id.specs.Identity.{Identity, row_length}
@@ -11,15 +11,16 @@ use Rattle.metric_events.specs.Points.{is_home, is_flying, is_in_flight, is_ackn
 use Rattle.metric_events.specs.Series.{hull, row_sum, is_of, frontier}
 use Rattle.metric_events.specs.Standing.{stands}
 use Rattle.metric_events.specs.declared.place.Place.{Place}
-use Rattle.metric_events.specs.declared.place.Place.TheVariants.{Home, InFlight, Acknowledged, Dropped}
+use Rattle.metric_events.specs.declared.place.Place.TheVariants.{InFlight, Acknowledged, Dropped}
 use Rattle.metric_events.specs.declared.accepted.Accepted.{Accepted}
 use Rattle.metric_events.proofs.Lists.{filter_keeps}
 use Rattle.series_cell.specs.Cells.{CellView, Stands, AllOwn, greatest_end, is_landed, end_of}
 use Rattle.series_cell.specs.Reading.{IsTotalOf}
 use Rattle.series_cell.specs.Spans.{span_of, hull_of}
+use Rattle.series_cell.proofs.Points.{landed_off}
 use Rattle.series_cell.proofs.Carrying.{spans_hull, hull_at_home}
 use Rattle.series_id.proofs.Order.{same_series-refl}
-use Rattle.series_cell.proofs.Standing.{end_is, away_spans, landed_off, flying_off}
+use Rattle.series_cell.proofs.Standing.{end_is, away_spans, flying_off}
 
 -- points that all stand elsewhere
 pub none_stand : (t u : Place → Bool) → ((q : Place) → u q ≡ true → t q ≡ false) → (qs : List Accepted) → list_all (stands u) qs ≡ true → filter (stands t) qs ≡ []
@@ -36,49 +37,32 @@ all_stand t u k (a ∷ qs) h =
     rw (k a.place p.0) (ap (λ rs. a ∷ rs) (all_stand t u k qs p.1))
 
 landed_flying : (q : Place) → is_landed q ≡ true → is_flying q ≡ false
-landed_flying Home e = refl
 landed_flying (InFlight g) e = absurd (let k : false ≡ true = e in cc)
-landed_flying Acknowledged e = refl
-landed_flying Dropped e = refl
+landed_flying q e = refl
 
 flight_flying : (f : ℕ) (q : Place) → is_in_flight f q ≡ true → is_flying q ≡ true
-flight_flying f Home e = absurd (let k : false ≡ true = e in cc)
 flight_flying f (InFlight g) e = refl
-flight_flying f Acknowledged e = absurd (let k : false ≡ true = e in cc)
-flight_flying f Dropped e = absurd (let k : false ≡ true = e in cc)
+flight_flying f q e = absurd (let k : false ≡ true = e in cc)
 
 flight_ack : (f : ℕ) (q : Place) → is_in_flight f q ≡ true → is_acknowledged q ≡ false
-flight_ack f Home e = refl
-flight_ack f (InFlight g) e = refl
 flight_ack f Acknowledged e = absurd (let k : false ≡ true = e in cc)
-flight_ack f Dropped e = refl
+flight_ack f q e = refl
 
 flight_drop : (f : ℕ) (q : Place) → is_in_flight f q ≡ true → is_dropped q ≡ false
-flight_drop f Home e = refl
-flight_drop f (InFlight g) e = refl
-flight_drop f Acknowledged e = refl
 flight_drop f Dropped e = absurd (let k : false ≡ true = e in cc)
+flight_drop f q e = refl
 
 home_flying : (q : Place) → is_home q ≡ true → is_flying q ≡ false
-home_flying Home e = refl
-home_flying (InFlight g) e = refl' e
-  where
-    refl' : false ≡ true → true ≡ false
-    refl' e = cc
-home_flying Acknowledged e = refl
-home_flying Dropped e = refl
+home_flying (InFlight g) e = absurd (let k : false ≡ true = e in cc)
+home_flying q e = refl
 
 home_ack : (q : Place) → is_home q ≡ true → is_acknowledged q ≡ false
-home_ack Home e = refl
-home_ack (InFlight g) e = refl
 home_ack Acknowledged e = absurd (let k : false ≡ true = e in cc)
-home_ack Dropped e = refl
+home_ack q e = refl
 
 home_drop : (q : Place) → is_home q ≡ true → is_dropped q ≡ false
-home_drop Home e = refl
-home_drop (InFlight g) e = refl
-home_drop Acknowledged e = refl
 home_drop Dropped e = absurd (let k : false ≡ true = e in cc)
+home_drop q e = refl
 
 three : (t : Accepted → Bool) (c : CellView) (qs : List Accepted) (h : Stands c qs) → filter t qs ≡ filter t h.gone ++ (filter t h.away ++ filter t h.home)
 three t c qs h = ap (filter t) h.parts ∙ (filter-append t h.gone (h.away ++ h.home) ∙ ap (λ rs. filter t h.gone ++ rs) (filter-append t h.away h.home))
@@ -122,26 +106,17 @@ any_none t (a ∷ rs) e =
     let p = or_parts (t a) (list_any t rs) e in
     rw p.0 (any_none t rs p.1)
 
-tested : (n : ℕ) (v : Bool) → (v ≡ true → 0 < n) → (v ≡ false → n ≡ 0) → nat_lt 0 n ≡ v
-tested n true h k = lt-ltb 0 n (h refl)
-tested n false h k = rw (k refl) refl
+tested : (k n : ℕ) (v : Bool) → (v ≡ true → k < n) → (v ≡ false → n ≤ k) → nat_lt k n ≡ v
+tested k n true h l = lt-ltb k n (h refl)
+tested k n false h l = le-ltb k n (l refl)
 
 pub flying_is : (c : CellView) (qs : List Accepted) → Stands c qs → nat_lt 0 c.cut ≡ list_any (stands is_flying) qs
-flying_is c qs h = tested c.cut (list_any (stands is_flying) qs) (λ e. omega (arith, h.cut, ap length (away_points c qs h), any_some (stands is_flying) qs e)) (λ e. omega (arith, h.cut, ap length (away_points c qs h), any_none (stands is_flying) qs e))
+flying_is c qs h = tested 0 c.cut (list_any (stands is_flying) qs) (λ e. omega (arith, h.cut, ap length (away_points c qs h), any_some (stands is_flying) qs e)) (λ e. omega (arith, h.cut, ap length (away_points c qs h), any_none (stands is_flying) qs e))
 
 pub stored_is : (c : CellView) (qs : List Accepted) → Stands c qs → nat_lt c.cut (length c.spans) ≡ list_any (stands is_home) qs
 stored_is c qs h =
     let n : length c.spans ≡ c.cut + length h.home = omega (arith, ap length h.spans, length-map (h.away ++ h.home) span_of, length-append h.away h.home, h.cut) in
-    shifted c.cut (length h.home) (length c.spans) n ∙ tested (length h.home) (list_any (stands is_home) qs) (λ e. omega (arith, ap length (home_points c qs h), any_some (stands is_home) qs e)) (λ e. omega (arith, ap length (home_points c qs h), any_none (stands is_home) qs e))
-  where
-    shifted : (k m n : ℕ) → n ≡ k + m → nat_lt k n ≡ nat_lt 0 m
-    shifted k m n e = cases (nat_lt k n) (nat_lt 0 m) refl refl
-      where
-        cases : (v w : Bool) → nat_lt k n ≡ v → nat_lt 0 m ≡ w → nat_lt k n ≡ nat_lt 0 m
-        cases true true a b = a ∙ sym b
-        cases false false a b = a ∙ sym b
-        cases true false a b = absurd (omega (arith, ltb-true k n a, ltb-false 0 m b, e))
-        cases false true a b = absurd (omega (arith, ltb-false k n a, ltb-true 0 m b, e))
+    tested c.cut (length c.spans) (list_any (stands is_home) qs) (λ e. omega (arith, n, ap length (home_points c qs h), any_some (stands is_home) qs e)) (λ e. omega (arith, n, ap length (home_points c qs h), any_none (stands is_home) qs e))
 
 -- what a cell says of its points
 pub tells : (c : CellView) (qs : List Accepted) → Stands c qs → IsTotalOf c qs

@@ -1,7 +1,7 @@
 -- How long a cell's rows are, and that no two of them add up to more than was accepted.
-use Rattle.std.proofs.Common.{◌≡◌, ℕ, ◌+◌, ◌-◌, ◌≤◌, List, [], ◌∷◌, ◌++◌, filter, length, take, drop, refl, ap, sym, ◌∙◌, subst, arith, zero, suc}
+use Rattle.std.proofs.Common.{◌≡◌, ℕ, ◌+◌, ◌-◌, ◌≤◌, List, ◌++◌, filter, length, take, drop, ap, ◌∙◌, subst, arith}
 use Rattle.std.specs.Prelude.{slice_index}
-use Rattle.std.proofs.lemmas.List.{length-drop}
+use Rattle.std.proofs.lemmas.List.{length-drop, take_at}
 use Rattle.series_id.specs.Identity.{row_length}
 use Rattle.metric_events.specs.Points.{is_acknowledged, is_dropped}
 use Rattle.metric_events.specs.Rows.{add_rows}
@@ -56,13 +56,6 @@ within c qs k h =
       dropped = omega (arith, all, ef, ed, d);
     }
 
-take_seam : (xs ys : List BatchSpan) (n : ℕ) → n ≡ length xs → take n (xs ++ ys) ≡ xs
-take_seam [] [] zero e = refl
-take_seam [] (y ∷ ys) zero e = refl
-take_seam [] ys (suc n) e = absurd (omega (arith, e))
-take_seam (x ∷ xs) ys zero e = absurd (omega (arith, e))
-take_seam (x ∷ xs) ys (suc n) e = ap (λ zs. x ∷ zs) (take_seam xs ys n (omega arith))
-
 -- the first spans taken out
 pub cut_off : (ms rs ts : List BatchSpan) (k n : ℕ) → rs ≡ drop k ms ++ take k ms → ts ≡ take n rs → n ≡ length ms - k → ts ≡ drop k ms
-cut_off ms rs ts k n er et en = et ∙ (ap (take n) er ∙ take_seam (drop k ms) (take k ms) n (en ∙ sym (length-drop k ms)))
+cut_off ms rs ts k n er et en = et ∙ (ap (take n) er ∙ take_at (drop k ms) (take k ms) n (omega (arith, en, length-drop k ms)))

@@ -1,13 +1,15 @@
 -- What each call does to the points that a cell stands for.
 use Rattle.std.proofs.Common.{◌≡◌, ℕ, ◌+◌, ◌<◌, ◌≤◌, ◌==◌, Bool, true, false, not, ◌&&◌, ◌||◌, List, [], ◌∷◌, ◌++◌, map, filter, length, remove, take, drop, max, refl, ap, sym, ◌∙◌, subst, arith, inl, inr}
 use Rattle.std.specs.List.{list_all, list_any}
-use Rattle.std.proofs.lemmas.Bool.{and_parts}
+use Rattle.std.specs.List.Sorted.{IsNonDecreasingBy}
+use Rattle.std.proofs.lemmas.Bool.{and_parts, eq-eqb}
 use Rattle.std.proofs.lemmas.List.Folds.{list_any-append}
-use Rattle.std.proofs.lemmas.List.{append_assoc, append-nil, map-append, length-map, length-append}
+use Rattle.std.proofs.lemmas.List.{append_assoc, append-nil, map-append, length-map, length-append, nil_from_length, take_at}
 use Rattle.std.proofs.lemmas.List.Elements.{filter-append}
+use Rattle.std.proofs.Math.Bool.{and-true, and-false, and_assoc}
 use Rattle.std.proofs.Math.Seq.{drop-append_seam}
 use Rattle.series_id.specs.Identity.{Identity, row_length}
-use Rattle.metric_events.specs.DataPoint.{DataPoint, IsPoint}
+use Rattle.metric_events.specs.DataPoint.{DataPoint}
 use Rattle.metric_events.specs.Interval.{IsInterval}
 use Rattle.metric_events.specs.Rows.{add_rows, zeros}
 use Rattle.metric_events.specs.Points.{at, admitted, is_home, is_in_flight, is_acknowledged, is_dropped, landed}
@@ -22,12 +24,12 @@ use Rattle.metric_events.specs.Legal.{is_batch_home}
 use Rattle.series_cell.specs.Cells.{CellView, Stands, AllOwn, InOrder, greatest_end, is_landed, lifted, end_of, AreTogether, bare, is_of_batch, is_home_of, is_other_or_off}
 use Rattle.series_cell.specs.Spans.{span_of, end_of_spans, place_of, is_span_of, AreInOrder}
 use Rattle.series_cell.specs.declared.batch_span.BatchSpan.{BatchSpan}
-use Rattle.series_cell.proofs.Points.{all_own-append, all_own_first, all_own_last, all_own-map, sum_length, moves_at, moves_landed, moves_lifted, sum-moved, sum_out, row_sum_push, last_end, in_order_push, in_order-map, in_order_without, in_order_first, in_order_last, all_end_by, spans_in_order, last_greatest, greatest_end-append, greatest_end-map, spans_end, spans_moved, all_at, filter_at, filter_off, landed-gone, landed-home, landed-away, lifted-gone, lifted-home, past, place_at, remove_at}
+use Rattle.series_cell.proofs.Points.{all_own-append, all_own_first, all_own_last, all_own-map, sum_length, moves_at, moves_landed, moves_lifted, sum-moved, sum_out, row_sum_push, last_end, in_order_push, in_order-map, in_order_without, in_order_first, in_order_last, all_end_by, spans_in_order, last_greatest, greatest_end-append, greatest_end-map, spans_end, spans_moved, all_at, filter_at, filter_off, landed-gone, landed-home, landed-away, landed_off, lifted-gone, lifted-home, past, place_at, remove_at}
 
 three : (xs ys zs ws : List Accepted) → (xs ++ (ys ++ zs)) ++ ws ≡ xs ++ (ys ++ (zs ++ ws))
 three xs ys zs ws = append_assoc xs (ys ++ zs) ws ∙ ap (λ rs. xs ++ rs) (append_assoc ys zs ws)
 
-map_three : (f : Accepted → Accepted) (xs ys zs : List Accepted) → map f (xs ++ (ys ++ zs)) ≡ map f xs ++ (map f ys ++ map f zs)
+pub map_three : (f : Accepted → Accepted) (xs ys zs : List Accepted) → map f (xs ++ (ys ++ zs)) ≡ map f xs ++ (map f ys ++ map f zs)
 map_three f xs ys zs = map-append f xs (ys ++ zs) ∙ ap (λ rs. map f xs ++ rs) (map-append f ys zs)
 
 -- what has not landed, and what is at home, is the cell's own
@@ -73,9 +75,9 @@ stands_asked c n qs h = record {
 }
 
 -- a point put at home
-pub stands_put : (c : CellView) (p : DataPoint) (b : ℕ) (qs : List Accepted) (accepted stored : List ℕ) (spans : List BatchSpan) (spare asked : ℕ) → Stands c qs → IsInterval p.span → length p.row ≡ row_length p.series.kind → p.series ≡ c.id → end_of c ≤ p.span.start → accepted ≡ add_rows c.accepted p.row → stored ≡ add_rows c.stored p.row → spans ≡ c.spans ++ span_of (admitted b c.owner p) ∷ [] → Stands (record c { accepted = accepted; stored = stored; spans = spans; spare = spare; asked = asked }) (qs ++ admitted b c.owner p ∷ [])
-stands_put c p b qs accepted stored spans spare asked h interval long same late ea es em =
-    let a = admitted b c.owner p in
+pub stands_put : (c : CellView) (s : List ℕ) (p : DataPoint) (b : ℕ) (qs : List Accepted) (accepted stored : List ℕ) (spans : List BatchSpan) (spare asked : ℕ) → s ≡ c.owner → Stands c qs → IsInterval p.span → length p.row ≡ row_length p.series.kind → p.series ≡ c.id → end_of c ≤ p.span.start → accepted ≡ add_rows c.accepted p.row → stored ≡ add_rows c.stored p.row → spans ≡ c.spans ++ span_of (admitted b s p) ∷ [] → Stands (record c { accepted = accepted; stored = stored; spans = spans; spare = spare; asked = asked }) (qs ++ admitted b s p ∷ [])
+stands_put c s p b qs accepted stored spans spare asked e h interval long same late ea es em =
+    let a = admitted b s p in
     record {
       gone = h.gone;
       away = h.away;
@@ -84,7 +86,7 @@ stands_put c p b qs accepted stored spans spare asked h interval long same late 
       are_gone = h.are_gone;
       are_away = h.are_away;
       are_home = all_append (stands is_home) h.home (a ∷ []) h.are_home refl;
-      own = all_own-append c.owner c.id qs (a ∷ []) h.own (record { series = same; sender = refl; span = interval; long = long ∙ ap (λ (x : Identity). row_length x.kind) same }, tt);
+      own = all_own-append c.owner c.id qs (a ∷ []) h.own (record { series = same; sender = e; span = interval; long = long ∙ ap (λ (x : Identity). row_length x.kind) same }, tt);
       ordered = subst InOrder (append_assoc h.away h.home (a ∷ [])) (in_order_push c.owner c.id 0 (h.away ++ h.home) a (rest_own c qs h) h.ordered (omega (arith, late, rest_end c qs h)));
       accepted = ea ∙ (ap (λ r. add_rows r p.row) h.accepted ∙ sym (row_sum_push (row_length c.id.kind) qs a));
       stored = es ∙ (ap (λ r. add_rows r p.row) h.stored ∙ sym (row_sum_push (row_length c.id.kind) h.home a));
@@ -104,9 +106,7 @@ pub record Parted (c : CellView) (front after : List Accepted) (a : Accepted) (h
 
 home_off : (f : ℕ) (place : Place) → is_home place ≡ true → (is_landed place ≡ false) × (is_in_flight f place ≡ false)
 home_off f Home e = (refl, refl)
-home_off f (InFlight g) e = absurd (let k : false ≡ true = e in cc)
-home_off f Acknowledged e = absurd (let k : false ≡ true = e in cc)
-home_off f Dropped e = absurd (let k : false ≡ true = e in cc)
+home_off f place e = absurd (let k : false ≡ true = e in cc)
 
 pub parted : (c : CellView) (before after : List Accepted) (a : Accepted) (h : Stands c (before ++ a ∷ after)) → is_home a.place ≡ true → Parted c before after a h
 parted c before after a h e =
@@ -115,16 +115,20 @@ parted c before after a h e =
     let q = past (stands (is_in_flight c.flush)) h.away h.home p.between after a h.are_away o.1 (sym p.rest) in
     record { between = q.between; home = q.rest; before = p.first ∙ ap (λ rs. h.gone ++ rs) q.first }
 
+-- the spans of what is at home
+pub home_spans : (c : CellView) (qs : List Accepted) (h : Stands c qs) → drop c.cut c.spans ≡ map span_of h.home
+home_spans c qs h =
+    ap (λ n. drop n c.spans) h.cut
+    ∙ (ap (drop (length h.away)) (h.spans ∙ map-append span_of h.away h.home)
+    ∙ (ap (λ n. drop n (map span_of h.away ++ map span_of h.home)) (sym (length-map h.away span_of)) ∙ drop-append_seam (map span_of h.away) (map span_of h.home)))
+
 -- where its span stands among the spans
 pub span_at : (c : CellView) (before after : List Accepted) (a : Accepted) (h : Stands c (before ++ a ∷ after)) (p : Parted c before after a h) → c.cut + place_of a.point.span.start (drop c.cut c.spans) ≡ length (h.away ++ p.between)
 span_at c before after a h p =
-    let home_spans : drop c.cut c.spans ≡ map span_of (p.between ++ a ∷ after) =
-    ap (λ n. drop n c.spans) h.cut ∙ (ap (drop (length h.away)) (h.spans ∙ map-append span_of h.away h.home)
-    ∙ (ap (λ n. drop n (map span_of h.away ++ map span_of h.home)) (sym (length-map h.away span_of))
-    ∙ (drop-append_seam (map span_of h.away) (map span_of h.home) ∙ ap (map span_of) p.home))) in
+    let spans = home_spans c (before ++ a ∷ after) h ∙ ap (map span_of) p.home in
     let own = subst (AllOwn c.owner c.id) p.home (home_own c (before ++ a ∷ after) h) in
     let ordered = subst InOrder p.home (in_order_last h.away h.home h.ordered) in
-    omega (arith, h.cut, ap (place_of a.point.span.start) home_spans, place_at p.between after a (all_own_last c.owner c.id p.between (a ∷ after) own).0.span (all_end_by p.between after a ordered), length-append h.away p.between)
+    omega (arith, h.cut, ap (place_of a.point.span.start) spans, place_at p.between after a (all_own_last c.owner c.id p.between (a ∷ after) own).0.span (all_end_by p.between after a ordered), length-append h.away p.between)
 
 pub span_inside : (c : CellView) (before after : List Accepted) (a : Accepted) (h : Stands c (before ++ a ∷ after)) (p : Parted c before after a h) → c.cut + place_of a.point.span.start (drop c.cut c.spans) < length c.spans
 span_inside c before after a h p =
@@ -172,18 +176,14 @@ stands_remove c b p before after accepted stored spans spare h ea es em =
 
 -- nothing in flight
 pub none_away : (c : CellView) (qs : List Accepted) (h : Stands c qs) → c.cut ≡ 0 → h.away ≡ []
-none_away c qs h e = empty h.away (sym h.cut ∙ e)
-  where
-    empty : (xs : List Accepted) → length xs ≡ 0 → xs ≡ []
-    empty [] k = refl
-    empty (x ∷ xs) k = absurd (omega (arith, k))
+none_away c qs h e = nil_from_length h.away (sym h.cut ∙ e)
 
 zero_first : (n : ℕ) (qs : List Accepted) → add_rows (zeros n) (row_sum n qs) ≡ row_sum n qs
 zero_first n qs = add_rows-zeros n (row_sum n qs) (row_sum_long n qs)
 
 -- what is at home goes with a flush
-pub stands_lift : (c : CellView) (f : ℕ) (qs : List Accepted) (in_flight stored : List ℕ) → Stands c qs → c.cut ≡ 0 → in_flight ≡ add_rows c.in_flight c.stored → stored ≡ zeros (row_length c.id.kind) → Stands (record c { in_flight = in_flight; stored = stored; cut = length c.spans; flush = f }) (map (lifted f) qs)
-stands_lift c f qs in_flight stored h none ef es =
+pub stands_lift : (c : CellView) (f : ℕ) (qs : List Accepted) (in_flight stored : List ℕ) (cut : ℕ) → Stands c qs → c.cut ≡ 0 → in_flight ≡ add_rows c.in_flight c.stored → stored ≡ zeros (row_length c.id.kind) → cut ≡ length c.spans → Stands (record c { in_flight = in_flight; stored = stored; cut = cut; flush = f }) (map (lifted f) qs)
+stands_lift c f qs in_flight stored cut h none ef es e =
     let n = row_length c.id.kind in
     let empty = none_away c qs h none in
     record {
@@ -197,7 +197,7 @@ stands_lift c f qs in_flight stored h none ef es =
           ∙ (ap (λ rs. h.gone ++ (map (lifted f) rs ++ map (lifted f) h.home)) empty
           ∙ (ap (λ rs. h.gone ++ rs) (lifted-home f h.home h.are_home) ∙ ap (λ rs. h.gone ++ rs) (sym (append-nil (map (at (InFlight f)) h.home)))))));
       are_gone = h.are_gone;
-      are_away = all_at (is_in_flight f) (InFlight f) h.home (same f);
+      are_away = all_at (is_in_flight f) (InFlight f) h.home (eq-eqb f f refl);
       are_home = refl;
       own = all_own-map c.owner c.id (lifted f) (moves_lifted f) qs h.own;
       ordered = subst InOrder (sym (append-nil (map (at (InFlight f)) h.home))) (in_order-map (at (InFlight f)) (moves_at (InFlight f)) h.home (in_order_last h.away h.home h.ordered));
@@ -214,13 +214,10 @@ stands_lift c f qs in_flight stored h none ef es =
           ∙ (ap (λ rs. map span_of (rs ++ h.home)) empty
           ∙ (sym (spans_moved (at (InFlight f)) (moves_at (InFlight f)) h.home) ∙ ap (map span_of) (sym (append-nil (map (at (InFlight f)) h.home)))));
       cut =
-          ap length h.spans
-          ∙ (length-map (h.away ++ h.home) span_of ∙ (ap (λ rs. length (rs ++ h.home)) empty ∙ sym (length-map h.home (at (InFlight f)))));
+          e ∙ (ap length h.spans
+          ∙ (length-map (h.away ++ h.home) span_of ∙ (ap (λ rs. length (rs ++ h.home)) empty ∙ sym (length-map h.home (at (InFlight f))))));
       landed = h.landed;
     }
-  where
-    same : (f : ℕ) → (f == f) ≡ true
-    same f = grind arith
 
 landed-three : (f : ℕ) (q : Place) (gone away home : List Accepted) → list_all (stands is_landed) gone ≡ true → list_all (stands (is_in_flight f)) away ≡ true → list_all (stands is_home) home ≡ true → map (landed f q) (gone ++ (away ++ home)) ≡ gone ++ (map (at q) away ++ home)
 landed-three f q gone away home g a h =
@@ -229,22 +226,27 @@ landed-three f q gone away home g a h =
     ∙ (ap (λ rs. gone ++ (rs ++ map (landed f q) home)) (landed-away f q away a)
     ∙ ap (λ rs. gone ++ (map (at q) away ++ rs)) (landed-home f q home h)))
 
+-- what is in flight, by the number of its flush
+away_with : (c : CellView) (f : ℕ) (qs : List Accepted) (h : Stands c qs) → f ≡ c.flush → list_all (stands (is_in_flight f)) h.away ≡ true
+away_with c f qs h e = subst (λ g. list_all (stands (is_in_flight g)) h.away ≡ true) (sym e) h.are_away
+
 -- what was in flight is at home again
-pub stands_down : (c : CellView) (qs : List Accepted) (in_flight stored : List ℕ) → Stands c qs → stored ≡ add_rows c.stored c.in_flight → in_flight ≡ zeros (row_length c.id.kind) → Stands (record c { in_flight = in_flight; stored = stored; cut = 0 }) (map (landed c.flush Home) qs)
-stands_down c qs in_flight stored h es ef =
+pub stands_down : (c : CellView) (f : ℕ) (qs : List Accepted) (in_flight stored : List ℕ) → f ≡ c.flush → Stands c qs → stored ≡ add_rows c.stored c.in_flight → in_flight ≡ zeros (row_length c.id.kind) → Stands (record c { in_flight = in_flight; stored = stored; cut = 0 }) (map (landed f Home) qs)
+stands_down c f qs in_flight stored e h es ef =
     let n = row_length c.id.kind in
     let moved = map (at Home) h.away in
+    let away = away_with c f qs h e in
     record {
       gone = h.gone;
       away = [];
       home = moved ++ h.home;
-      parts = ap (map (landed c.flush Home)) h.parts ∙ landed-three c.flush Home h.gone h.away h.home h.are_gone h.are_away h.are_home;
+      parts = ap (map (landed f Home)) h.parts ∙ landed-three f Home h.gone h.away h.home h.are_gone away h.are_home;
       are_gone = h.are_gone;
       are_away = refl;
       are_home = all_append (stands is_home) moved h.home (all_at is_home Home h.away refl) h.are_home;
-      own = all_own-map c.owner c.id (landed c.flush Home) (moves_landed c.flush Home) qs h.own;
-      ordered = subst InOrder (landed-three c.flush Home [] h.away h.home refl h.are_away h.are_home) (in_order-map (landed c.flush Home) (moves_landed c.flush Home) (h.away ++ h.home) h.ordered);
-      accepted = h.accepted ∙ sym (sum-moved n (landed c.flush Home) (moves_landed c.flush Home) qs);
+      own = all_own-map c.owner c.id (landed f Home) (moves_landed f Home) qs h.own;
+      ordered = subst InOrder (landed-three f Home [] h.away h.home refl away h.are_home) (in_order-map (landed f Home) (moves_landed f Home) (h.away ++ h.home) h.ordered);
+      accepted = h.accepted ∙ sym (sum-moved n (landed f Home) (moves_landed f Home) qs);
       stored =
           es
           ∙ (ap (λ r. add_rows r c.in_flight) h.stored
@@ -262,26 +264,11 @@ stands_down c qs in_flight stored h es ef =
       landed = h.landed;
     }
 
--- the spans of what is at home, and the end of what has landed, after a landing
-pub home_spans : (c : CellView) (qs : List Accepted) (h : Stands c qs) → drop c.cut c.spans ≡ map span_of h.home
-home_spans c qs h =
-    ap (λ n. drop n c.spans) h.cut
-    ∙ (ap (drop (length h.away)) (h.spans ∙ map-append span_of h.away h.home)
-    ∙ (ap (λ n. drop n (map span_of h.away ++ map span_of h.home)) (sym (length-map h.away span_of)) ∙ drop-append_seam (map span_of h.away) (map span_of h.home)))
-
+-- the spans of what is in flight
 pub away_spans : (c : CellView) (qs : List Accepted) (h : Stands c qs) → take c.cut c.spans ≡ map span_of h.away
 away_spans c qs h =
-    ap (λ n. take n c.spans) h.cut
-    ∙ (ap (take (length h.away)) (h.spans ∙ map-append span_of h.away h.home)
-    ∙ (ap (λ n. take n (map span_of h.away ++ map span_of h.home)) (sym (length-map h.away span_of)) ∙ take_seam (map span_of h.away) (map span_of h.home)))
-  where
-    take_seam : (xs ys : List BatchSpan) → take (length xs) (xs ++ ys) ≡ xs
-    take_seam [] ys = none ys
-      where
-        none : (ys : List BatchSpan) → take 0 ys ≡ []
-        none [] = refl
-        none (y ∷ ys) = refl
-    take_seam (x ∷ xs) ys = ap (λ zs. x ∷ zs) (take_seam xs ys)
+    ap (take c.cut) (h.spans ∙ map-append span_of h.away h.home)
+    ∙ take_at (map span_of h.away) (map span_of h.home) c.cut (length-map h.away span_of ∙ sym h.cut)
 
 -- what is at home is in order of time, and what is in flight
 pub home_in_order : (c : CellView) (qs : List Accepted) → Stands c qs → (ms : List BatchSpan) → ms ≡ drop c.cut c.spans → AreInOrder ms
@@ -289,6 +276,10 @@ home_in_order c qs h ms e = subst AreInOrder (sym (e ∙ home_spans c qs h)) (sp
 
 pub away_in_order : (c : CellView) (qs : List Accepted) → Stands c qs → (ms : List BatchSpan) → ms ≡ take c.cut c.spans → AreInOrder ms
 away_in_order c qs h ms e = subst AreInOrder (sym (e ∙ away_spans c qs h)) (spans_in_order c.owner c.id h.away (away_own c qs h) (in_order_first h.away h.home h.ordered))
+
+-- where a span that starts at a moment is found among those at home
+pub found : (c : CellView) (qs : List Accepted) (home : List BatchSpan) (start from n : ℕ) → Stands c qs → home ≡ drop c.cut c.spans → from ≡ start → (IsNonDecreasingBy (λ m. m.span.end) home → n ≡ place_of from home) → n ≡ place_of start (drop c.cut c.spans)
+found c qs home start from n h e f k = k (home_in_order c qs h home e).ends ∙ (ap (λ t. place_of t home) f ∙ ap (place_of start) e)
 
 added : (n : ℕ) (gone away : List Accepted) (t : Place → Bool) (q : Place) → t q ≡ true → (row flight : List ℕ) → row ≡ row_sum n (filter (stands t) gone) → flight ≡ row_sum n away → add_rows row flight ≡ row_sum n (filter (stands t) (gone ++ map (at q) away))
 added n gone away t q e row flight r f =
@@ -304,70 +295,51 @@ landed_end c qs h q =
     omega (arith, h.landed, ap (end_of_spans 0) (away_spans c qs h), spans_end 0 h.away, last_greatest c.owner c.id h.away (away_own c qs h) (in_order_first h.away h.home h.ordered), greatest_end-append h.gone (map (at q) h.away), greatest_end-map q h.away)
 
 -- what was in flight has landed: acknowledged, or dropped
-pub stands_acknowledged : (c : CellView) (qs : List Accepted) (in_flight acknowledged : List ℕ) (spans : List BatchSpan) (last spare : ℕ) → Stands c qs → acknowledged ≡ add_rows c.acknowledged c.in_flight → in_flight ≡ zeros (row_length c.id.kind) → spans ≡ drop c.cut c.spans → last ≡ max c.landed (end_of_spans 0 (take c.cut c.spans)) → Stands (record c { in_flight = in_flight; acknowledged = acknowledged; spans = spans; cut = 0; landed = last; spare = spare }) (map (landed c.flush Acknowledged) qs)
-stands_acknowledged c qs in_flight acknowledged spans end spare h ea ef em el =
-    let n = row_length c.id.kind in
-    let moved = map (at Acknowledged) h.away in
+stands_landed : (c : CellView) (f : ℕ) (q : Place) (qs : List Accepted) (in_flight acknowledged dropped : List ℕ) (spans : List BatchSpan) (last spare : ℕ) → f ≡ c.flush → is_landed q ≡ true → (h : Stands c qs) → acknowledged ≡ row_sum (row_length c.id.kind) (filter (stands is_acknowledged) (h.gone ++ map (at q) h.away)) → dropped ≡ row_sum (row_length c.id.kind) (filter (stands is_dropped) (h.gone ++ map (at q) h.away)) → in_flight ≡ zeros (row_length c.id.kind) → spans ≡ drop c.cut c.spans → last ≡ max c.landed (end_of_spans 0 (take c.cut c.spans)) → Stands (record c { in_flight = in_flight; acknowledged = acknowledged; dropped = dropped; spans = spans; cut = 0; landed = last; spare = spare }) (map (landed f q) qs)
+stands_landed c f q qs in_flight acknowledged dropped spans last spare e lands h ea ed ef em el =
+    let moved = map (at q) h.away in
     record {
       gone = h.gone ++ moved;
       away = [];
       home = h.home;
-      parts = ap (map (landed c.flush Acknowledged)) h.parts ∙ (landed-three c.flush Acknowledged h.gone h.away h.home h.are_gone h.are_away h.are_home ∙ sym (append_assoc h.gone moved h.home));
-      are_gone = all_append (stands is_landed) h.gone moved h.are_gone (all_at is_landed Acknowledged h.away refl);
+      parts = ap (map (landed f q)) h.parts ∙ (landed-three f q h.gone h.away h.home h.are_gone (away_with c f qs h e) h.are_home ∙ sym (append_assoc h.gone moved h.home));
+      are_gone = all_append (stands is_landed) h.gone moved h.are_gone (all_at is_landed q h.away lands);
       are_away = refl;
       are_home = h.are_home;
-      own = all_own-map c.owner c.id (landed c.flush Acknowledged) (moves_landed c.flush Acknowledged) qs h.own;
+      own = all_own-map c.owner c.id (landed f q) (moves_landed f q) qs h.own;
       ordered = in_order_last h.away h.home h.ordered;
-      accepted = h.accepted ∙ sym (sum-moved n (landed c.flush Acknowledged) (moves_landed c.flush Acknowledged) qs);
+      accepted = h.accepted ∙ sym (sum-moved (row_length c.id.kind) (landed f q) (moves_landed f q) qs);
       stored = h.stored;
       in_flight = ef;
-      acknowledged = ea ∙ added n h.gone h.away is_acknowledged Acknowledged refl c.acknowledged c.in_flight h.acknowledged h.in_flight;
-      dropped = h.dropped ∙ ap (row_sum n) (unmoved h.gone h.away is_dropped Acknowledged refl);
+      acknowledged = ea;
+      dropped = ed;
       spans = em ∙ home_spans c qs h;
       cut = refl;
-      landed = el ∙ landed_end c qs h Acknowledged;
+      landed = el ∙ landed_end c qs h q;
     }
 
-pub stands_dropped : (c : CellView) (qs : List Accepted) (in_flight dropped : List ℕ) (spans : List BatchSpan) (last spare : ℕ) → Stands c qs → dropped ≡ add_rows c.dropped c.in_flight → in_flight ≡ zeros (row_length c.id.kind) → spans ≡ drop c.cut c.spans → last ≡ max c.landed (end_of_spans 0 (take c.cut c.spans)) → Stands (record c { in_flight = in_flight; dropped = dropped; spans = spans; cut = 0; landed = last; spare = spare }) (map (landed c.flush Dropped) qs)
-stands_dropped c qs in_flight dropped spans end spare h ea ef em el =
+pub stands_acknowledged : (c : CellView) (f : ℕ) (qs : List Accepted) (in_flight acknowledged : List ℕ) (spans : List BatchSpan) (last spare : ℕ) → f ≡ c.flush → Stands c qs → acknowledged ≡ add_rows c.acknowledged c.in_flight → in_flight ≡ zeros (row_length c.id.kind) → spans ≡ drop c.cut c.spans → last ≡ max c.landed (end_of_spans 0 (take c.cut c.spans)) → Stands (record c { in_flight = in_flight; acknowledged = acknowledged; spans = spans; cut = 0; landed = last; spare = spare }) (map (landed f Acknowledged) qs)
+stands_acknowledged c f qs in_flight acknowledged spans last spare e h ea =
     let n = row_length c.id.kind in
-    let moved = map (at Dropped) h.away in
-    record {
-      gone = h.gone ++ moved;
-      away = [];
-      home = h.home;
-      parts = ap (map (landed c.flush Dropped)) h.parts ∙ (landed-three c.flush Dropped h.gone h.away h.home h.are_gone h.are_away h.are_home ∙ sym (append_assoc h.gone moved h.home));
-      are_gone = all_append (stands is_landed) h.gone moved h.are_gone (all_at is_landed Dropped h.away refl);
-      are_away = refl;
-      are_home = h.are_home;
-      own = all_own-map c.owner c.id (landed c.flush Dropped) (moves_landed c.flush Dropped) qs h.own;
-      ordered = in_order_last h.away h.home h.ordered;
-      accepted = h.accepted ∙ sym (sum-moved n (landed c.flush Dropped) (moves_landed c.flush Dropped) qs);
-      stored = h.stored;
-      in_flight = ef;
-      acknowledged = h.acknowledged ∙ ap (row_sum n) (unmoved h.gone h.away is_acknowledged Dropped refl);
-      dropped = ea ∙ added n h.gone h.away is_dropped Dropped refl c.dropped c.in_flight h.dropped h.in_flight;
-      spans = em ∙ home_spans c qs h;
-      cut = refl;
-      landed = el ∙ landed_end c qs h Dropped;
-    }
+    stands_landed c f Acknowledged qs in_flight acknowledged c.dropped spans last spare e refl h
+    (ea ∙ added n h.gone h.away is_acknowledged Acknowledged refl c.acknowledged c.in_flight h.acknowledged h.in_flight)
+    (h.dropped ∙ ap (row_sum n) (unmoved h.gone h.away is_dropped Acknowledged refl))
+
+pub stands_dropped : (c : CellView) (f : ℕ) (qs : List Accepted) (in_flight dropped : List ℕ) (spans : List BatchSpan) (last spare : ℕ) → f ≡ c.flush → Stands c qs → dropped ≡ add_rows c.dropped c.in_flight → in_flight ≡ zeros (row_length c.id.kind) → spans ≡ drop c.cut c.spans → last ≡ max c.landed (end_of_spans 0 (take c.cut c.spans)) → Stands (record c { in_flight = in_flight; dropped = dropped; spans = spans; cut = 0; landed = last; spare = spare }) (map (landed f Dropped) qs)
+stands_dropped c f qs in_flight dropped spans last spare e h ed =
+    let n = row_length c.id.kind in
+    stands_landed c f Dropped qs in_flight c.acknowledged dropped spans last spare e refl h
+    (h.acknowledged ∙ ap (row_sum n) (unmoved h.gone h.away is_acknowledged Dropped refl))
+    (ed ∙ added n h.gone h.away is_dropped Dropped refl c.dropped c.in_flight h.dropped h.in_flight)
 
 -- whether a batch can be taken out
 marked : (b : ℕ) (qs : List Accepted) → list_any (is_span_of b) (map span_of qs) ≡ list_any (is_of_batch b) qs
 marked b [] = refl
 marked b (a ∷ qs) = ap (λ v. (a.batch == b) || v) (marked b qs)
 
-pub landed_off : (q : Place) → is_landed q ≡ true → is_home q ≡ false
-landed_off Home e = absurd (let k : false ≡ true = e in cc)
-landed_off (InFlight g) e = refl
-landed_off Acknowledged e = refl
-landed_off Dropped e = refl
-
 pub flying_off : (f : ℕ) (q : Place) → is_in_flight f q ≡ true → is_home q ≡ false
 flying_off f Home e = absurd (let k : false ≡ true = e in cc)
-flying_off f (InFlight g) e = refl
-flying_off f Acknowledged e = refl
-flying_off f Dropped e = refl
+flying_off f q e = refl
 
 -- a point of the batch that is off keeps the batch from being at home
 not_home : (b : ℕ) (t : Place → Bool) → ((q : Place) → t q ≡ true → is_home q ≡ false) → (qs : List Accepted) → list_all (stands t) qs ≡ true → list_any (is_of_batch b) qs ≡ true → is_batch_home b qs ≡ false
@@ -383,10 +355,6 @@ not_home b t k (a ∷ qs) h m =
 home_split : (b : ℕ) (qs rs : List Accepted) → is_batch_home b (qs ++ rs) ≡ (is_batch_home b qs && is_batch_home b rs)
 home_split b [] rs = refl
 home_split b (a ∷ qs) rs = ap (λ v. (not (a.batch == b) || is_home a.place) && v) (home_split b qs rs) ∙ sym (and_assoc (not (a.batch == b) || is_home a.place) (is_batch_home b qs) (is_batch_home b rs))
-  where
-    and_assoc : (u v w : Bool) → ((u && v) && w) ≡ (u && (v && w))
-    and_assoc true v w = refl
-    and_assoc false v w = refl
 
 -- a home point of the batch among points none of which is both
 clash : (b : ℕ) (qs : List Accepted) → list_all (stands is_home) qs ≡ true → list_any (is_of_batch b) qs ≡ true → list_all (is_other_or_off b) qs ≡ true → ⊥
@@ -404,21 +372,13 @@ none_home_of : (b : ℕ) (t : Place → Bool) → ((q : Place) → t q ≡ true 
 none_home_of b t k [] h = refl
 none_home_of b t k (a ∷ qs) h =
     let p = and_parts (t a.place) (list_all (stands t) qs) h in
-    rw (k a.place p.0, none_home_of b t k qs p.1) (never (a.batch == b))
-  where
-    never : (v : Bool) → ((v && false) || false) ≡ false
-    never true = refl
-    never false = refl
+    rw (k a.place p.0, none_home_of b t k qs p.1, and-false (a.batch == b)) refl
 
 all_home_of : (b : ℕ) (qs : List Accepted) → list_all (stands is_home) qs ≡ true → list_any (is_home_of b) qs ≡ list_any (is_of_batch b) qs
 all_home_of b [] h = refl
 all_home_of b (a ∷ qs) h =
     let p = and_parts (is_home a.place) (list_all (stands is_home) qs) h in
-    rw (p.0, all_home_of b qs p.1) (both (a.batch == b))
-  where
-    both : (v : Bool) → ((v && true) || list_any (is_of_batch b) qs) ≡ (v || list_any (is_of_batch b) qs)
-    both true = refl
-    both false = refl
+    rw (p.0, all_home_of b qs p.1, and-true (a.batch == b)) refl
 
 -- a point of the batch is at home where the spans that are at home have one of its
 pub home_of_is : (c : CellView) (qs : List Accepted) (b : ℕ) (r : Bool) → Stands c qs → r ≡ list_any (is_span_of b) (drop c.cut c.spans) → r ≡ list_any (is_home_of b) qs
@@ -456,11 +416,7 @@ can_remove_is c qs b r h some one e = cases (list_any (is_of_batch b) h.home) re
         gone false g = away (list_any (is_of_batch b) h.away) refl
           where
             away : (v : Bool) → list_any (is_of_batch b) h.away ≡ v → is_batch_home b qs ≡ false
-            away true a = split ∙ (ap (λ v. is_batch_home b h.gone && (v && is_batch_home b h.home)) (not_home b (is_in_flight c.flush) (flying_off c.flush) h.away h.are_away a) ∙ and_false (is_batch_home b h.gone))
-              where
-                and_false : (v : Bool) → (v && false) ≡ false
-                and_false true = refl
-                and_false false = refl
+            away true a = split ∙ (ap (λ v. is_batch_home b h.gone && (v && is_batch_home b h.home)) (not_home b (is_in_flight c.flush) (flying_off c.flush) h.away h.are_away a) ∙ and-false (is_batch_home b h.gone))
             away false a = absurd (some_of g a o)
 
     cases : (v : Bool) → list_any (is_of_batch b) h.home ≡ v → r ≡ is_batch_home b qs
@@ -470,39 +426,17 @@ can_remove_is c qs b r h some one e = cases (list_any (is_of_batch b) h.home) re
         off_last off = all_last (is_other_or_off b) h.away h.home (all_last (is_other_or_off b) h.gone (h.away ++ h.home) (subst (λ rs. list_all (is_other_or_off b) rs ≡ true) h.parts off))
     cases false o = is ∙ (o ∙ sym (none_home o))
 
-pub stands_acknowledged_as : (c : CellView) (f : ℕ) (qs : List Accepted) (in_flight acknowledged : List ℕ) (spans : List BatchSpan) (last spare : ℕ) → f ≡ c.flush → Stands c qs → acknowledged ≡ add_rows c.acknowledged c.in_flight → in_flight ≡ zeros (row_length c.id.kind) → spans ≡ drop c.cut c.spans → last ≡ max c.landed (end_of_spans 0 (take c.cut c.spans)) → Stands (record c { in_flight = in_flight; acknowledged = acknowledged; spans = spans; cut = 0; landed = last; spare = spare }) (map (landed f Acknowledged) qs)
-stands_acknowledged_as c f qs in_flight acknowledged spans last spare e h ea ef em el =
-    subst (λ g. Stands (record c { in_flight = in_flight; acknowledged = acknowledged; spans = spans; cut = 0; landed = last; spare = spare }) (map (landed g Acknowledged) qs)) (sym e) (stands_acknowledged c qs in_flight acknowledged spans last spare h ea ef em el)
-
-pub stands_dropped_as : (c : CellView) (f : ℕ) (qs : List Accepted) (in_flight dropped : List ℕ) (spans : List BatchSpan) (last spare : ℕ) → f ≡ c.flush → Stands c qs → dropped ≡ add_rows c.dropped c.in_flight → in_flight ≡ zeros (row_length c.id.kind) → spans ≡ drop c.cut c.spans → last ≡ max c.landed (end_of_spans 0 (take c.cut c.spans)) → Stands (record c { in_flight = in_flight; dropped = dropped; spans = spans; cut = 0; landed = last; spare = spare }) (map (landed f Dropped) qs)
-stands_dropped_as c f qs in_flight dropped spans last spare e h ea ef em el =
-    subst (λ g. Stands (record c { in_flight = in_flight; dropped = dropped; spans = spans; cut = 0; landed = last; spare = spare }) (map (landed g Dropped) qs)) (sym e) (stands_dropped c qs in_flight dropped spans last spare h ea ef em el)
-
-pub stands_down_as : (c : CellView) (f : ℕ) (qs : List Accepted) (in_flight stored : List ℕ) → f ≡ c.flush → Stands c qs → stored ≡ add_rows c.stored c.in_flight → in_flight ≡ zeros (row_length c.id.kind) → Stands (record c { in_flight = in_flight; stored = stored; cut = 0 }) (map (landed f Home) qs)
-stands_down_as c f qs in_flight stored e h es ef =
-    subst (λ g. Stands (record c { in_flight = in_flight; stored = stored; cut = 0 }) (map (landed g Home) qs)) (sym e) (stands_down c qs in_flight stored h es ef)
-
-pub stands_lift_as : (c : CellView) (f : ℕ) (qs : List Accepted) (in_flight stored : List ℕ) (cut : ℕ) → Stands c qs → c.cut ≡ 0 → in_flight ≡ add_rows c.in_flight c.stored → stored ≡ zeros (row_length c.id.kind) → cut ≡ length c.spans → Stands (record c { in_flight = in_flight; stored = stored; cut = cut; flush = f }) (map (lifted f) qs)
-stands_lift_as c f qs in_flight stored cut h none ef es e =
-    subst (λ n. Stands (record c { in_flight = in_flight; stored = stored; cut = n; flush = f }) (map (lifted f) qs)) (sym e) (stands_lift c f qs in_flight stored h none ef es)
-
-pub stands_put_as : (c : CellView) (s : List ℕ) (p : DataPoint) (b : ℕ) (qs : List Accepted) (accepted stored : List ℕ) (spans : List BatchSpan) (spare asked : ℕ) → s ≡ c.owner → Stands c qs → IsPoint p → p.series ≡ c.id → end_of c ≤ p.span.start → accepted ≡ add_rows c.accepted p.row → stored ≡ add_rows c.stored p.row → spans ≡ c.spans ++ span_of (admitted b c.owner p) ∷ [] → Stands (record c { accepted = accepted; stored = stored; spans = spans; spare = spare; asked = asked }) (qs ++ admitted b s p ∷ [])
-stands_put_as c s p b qs accepted stored spans spare asked e h is same late ea es em =
-    subst (λ t. Stands (record c { accepted = accepted; stored = stored; spans = spans; spare = spare; asked = asked }) (qs ++ admitted b t p ∷ [])) (sym e) (stands_put c p b qs accepted stored spans spare asked h is.merged.span is.merged.long same late ea es em)
-
 -- a span put at home alone: the rows stay
-pub stands_put_span : (c : CellView) (s : List ℕ) (p : DataPoint) (b : ℕ) (qs : List Accepted) (spans : List BatchSpan) (spare asked : ℕ) → s ≡ c.owner → Stands c qs → IsInterval p.span → p.series ≡ c.id → end_of c ≤ p.span.start → spans ≡ c.spans ++ span_of (admitted b c.owner p) ∷ [] → Stands (record c { spans = spans; spare = spare; asked = asked }) (qs ++ admitted b s (bare p) ∷ [])
+pub stands_put_span : (c : CellView) (s : List ℕ) (p : DataPoint) (b : ℕ) (qs : List Accepted) (spans : List BatchSpan) (spare asked : ℕ) → s ≡ c.owner → Stands c qs → IsInterval p.span → p.series ≡ c.id → end_of c ≤ p.span.start → spans ≡ c.spans ++ span_of (admitted b s p) ∷ [] → Stands (record c { spans = spans; spare = spare; asked = asked }) (qs ++ admitted b s (bare p) ∷ [])
 stands_put_span c s p b qs spans spare asked e h interval same late em =
-    let w = sized_rows c qs h in
-    let n : row_length p.series.kind ≡ row_length c.id.kind = ap (λ (x : Identity). row_length x.kind) same in
-    subst (λ t. Stands (record c { spans = spans; spare = spare; asked = asked }) (qs ++ admitted b t (bare p) ∷ [])) (sym e)
-    (stands_put c (bare p) b qs c.accepted c.stored spans spare asked h interval (length-zeros (row_length p.series.kind)) same late (unchanged c.accepted (row_length p.series.kind) (w.0 ∙ sym n)) (unchanged c.stored (row_length p.series.kind) (w.1 ∙ sym n)) em)
+    let m = row_length p.series.kind in
+    let n : m ≡ row_length c.id.kind = ap (λ (x : Identity). row_length x.kind) same in
+    stands_put c s (bare p) b qs c.accepted c.stored spans spare asked e h interval (length-zeros m) same late
+    (unchanged c.accepted m (ap length h.accepted ∙ (sum_length c.owner c.id qs h.own ∙ sym n)))
+    (unchanged c.stored m (ap length h.stored ∙ (sum_length c.owner c.id h.home (home_own c qs h) ∙ sym n))) em
   where
     unchanged : (row : List ℕ) (n : ℕ) → length row ≡ n → row ≡ add_rows row (zeros n)
     unchanged row n l = sym (add_rows-comm row (zeros n) ∙ add_rows-zeros n row (omega (arith, l)))
-
-    sized_rows : (c : CellView) (qs : List Accepted) → Stands c qs → (length c.accepted ≡ row_length c.id.kind) × (length c.stored ≡ row_length c.id.kind)
-    sized_rows c qs h = (ap length h.accepted ∙ sum_length c.owner c.id qs h.own, ap length h.stored ∙ sum_length c.owner c.id h.home (home_own c qs h))
 
 -- the rows that a point at home is taken from
 pub record Taken (c : CellView) (p : DataPoint) (all home : List Accepted) : Type 0 where

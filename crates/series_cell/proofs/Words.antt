@@ -1,5 +1,5 @@
 -- The words of what was accepted have 64 bits.
-use Rattle.std.proofs.Common.{◌≡◌, ℕ, ◌-◌, ◌^◌, List, length, refl, ap, arith}
+use Rattle.std.proofs.Common.{◌≡◌, ℕ, ◌+◌, ◌-◌, ◌≤◌, ◌^◌, List, length, refl, ap, arith}
 use Rattle.std.specs.Prelude.{slice_index}
 use Rattle.bucket_lanes.specs.ByPlace.{Fits}
 use Rattle.metric_events.specs.Rows.{add_rows, zeros}
@@ -25,3 +25,7 @@ pub words_stored : (c : CellView) (qs : List Accepted) (zs : List ℕ) → Stand
 words_stored c qs zs h w e = λ k b.
     let s = sized c qs h in
     omega (arith, w k (omega (arith, b, ap length e, s.stored, s.accepted)), (within c qs k h).stored, ap (λ rs. slice_index rs k) e)
+
+-- rows of different points fit into one
+pub rows_fit : {xs ys ds ss : List ℕ} (zs : List ℕ) → ds ≡ xs → ss ≡ ys → ((k : ℕ) → slice_index xs k + slice_index ys k ≤ slice_index zs k) → length xs ≡ length zs → AreWords zs → Fits (2 ^ 64 - 1) ds ss
+rows_fit zs ed es le l h = λ k b. omega (arith, h k (omega (arith, b, ap length ed, l)), le k, ap (λ rs. slice_index rs k) ed, ap (λ rs. slice_index rs k) es)

@@ -1,5 +1,5 @@
 -- Points that some history accepted, and the pending points of a series.
-use Rattle.std.specs.Prelude.{◌≡◌, Bool, ◌&&◌, List, filter}
+use Rattle.std.specs.Prelude.{◌≡◌, ◌&&◌, List, filter}
 use Rattle.std.specs.declared.option.Option.{Option}
 use Rattle.series_id.specs.Identity.{Identity}
 use Rattle.metric_events.specs.DataPoint.{DataPoint}
@@ -13,13 +13,9 @@ use Rattle.metric_events.specs.declared.accepted.Accepted.{Accepted}
 abbrev pub AreAccepted : List Accepted → Type 0
 AreAccepted qs = (E : History) × (IsLegal E × (qs ≡ points E))
 
--- a pending point of the series
-abbrev pub is_home_point : Identity → Accepted → Bool
-is_home_point x a = is_of x a && is_home a.place
-
 -- the pending points of series x
 abbrev pub home_points : Identity → List Accepted → List Accepted
-home_points x qs = filter (is_home_point x) qs
+home_points x qs = filter (λ a. is_of x a && is_home a.place) qs
 
 -- these points as one
 abbrev pub home_point : List Accepted → Identity → Option DataPoint

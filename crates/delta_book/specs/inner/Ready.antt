@@ -1,12 +1,11 @@
 -- A cell of a book, and the cells that a flush takes first.
 use Rattle.std.specs.Prelude.{ℕ, List, map, filter, take}
 use Rattle.series_id.specs.Identity.{Identity}
-use Rattle.series_cell.specs.Cells.{CellView}
+use Rattle.series_cell.specs.Cells.{CellView, Stands}
 use Rattle.metric_events.specs.History.{History}
 use Rattle.metric_events.specs.Points.{points}
 use Rattle.metric_events.specs.Series.{of_series}
 use Rattle.metric_events.specs.Legal.{IsLegal}
-use Rattle.series_cell.specs.Cells.{Stands}
 use Rattle.delta_book.specs.Ready.{is_ready}
 use Rattle.delta_book.specs.Tables.{id_of}
 

@@ -13,7 +13,10 @@ use Rattle.metric_events.specs.declared.batch.Batch.{Batch}
 use Rattle.metric_events.specs.declared.flight.Flight.{Flight}
 use Rattle.metric_events.specs.declared.entry.Entry.{Entry}
 use Rattle.metric_events.specs.declared.event.Event.{Event}
-use Rattle.metric_events.specs.declared.event.Event.TheVariants.{Admit, Take}
+use Rattle.metric_events.specs.declared.event.Event.TheVariants.{Admit, Take, Settle, Drop}
+use Rattle.metric_events.specs.declared.event.Event.TheVariants.{GiveBack}
+use Rattle.metric_events.specs.declared.place.Place.{Place}
+use Rattle.metric_events.specs.declared.place.Place.TheVariants.{Home, Acknowledged, Dropped}
 use Rattle.series_cell.specs.Cells.{CellView, AreTogether, is_of_batch}
 use Rattle.delta_book.specs.inner.AtHome.{AreAccepted}
 use Rattle.delta_book.specs.inner.Batches.{is_point_of}
@@ -57,18 +60,23 @@ At (x ∷ xs) (suc i) e = At xs i e
 -- what is live is kept by its number and the position of its entry
 abbrev pub AreFlights : List Entry → List JournalRef → List Flight → Type 0
 AreFlights es [] [] = Unit {0}
-AreFlights es [] (l ∷ ls) = ⊥
-AreFlights es (o ∷ os) [] = ⊥
 AreFlights es (o ∷ os) (l ∷ ls) =
     (o.number ≡ l.number) × (At es o.entry (Take l.number l.series)) × AreFlights es os ls
+AreFlights es os ls = ⊥
 
 -- what is open, likewise
 abbrev pub AreOpen : List Entry → List JournalRef → List ℕ → Type 0
 AreOpen es [] [] = Unit {0}
-AreOpen es [] (b ∷ bs) = ⊥
-AreOpen es (o ∷ os) [] = ⊥
 AreOpen es (o ∷ os) (b ∷ bs) =
     (o.number ≡ b) × ((body : Batch) × At es o.entry (Admit b body)) × AreOpen es os bs
+AreOpen es os bs = ⊥
+
+-- this event ends the flush, and its points get this state
+abbrev pub EndsFlush : ℕ → Place → Event → Type 0
+EndsFlush f Acknowledged e = e ≡ Settle f
+EndsFlush f Dropped e = e ≡ Drop f
+EndsFlush f Home e = e ≡ GiveBack f
+EndsFlush f q e = ⊥
 
 -- the position of the entry of what has this number
 abbrev pub entry_of : ℕ → List JournalRef → Option ℕ

@@ -4,7 +4,7 @@ ghost use Rattle.std.specs.Prelude.{◌≡◌, ◌<◌, ℕ, true, IfErr, OnOk, 
 ghost use Rattle.series_id.specs.Identity.{Identity};
 ghost use Rattle.metric_events.specs.Settled.{SendsBefore, is_settled_in, is_taken_before};
 ghost use Rattle.metric_events.specs.Strike.{CanBeStruck, is_reversal};
-ghost use Rattle.delta_book.specs.inner.Flushes.{EndsFlush};
+ghost use Rattle.delta_book.specs.inner.Tables.{EndsFlush};
 ghost use Rattle.delta_book.specs.Journal.{history, Appends};
 ghost use Rattle.delta_book.specs.Refusals.{flush_refusal, undo_refusal, confirm_refusal};
 

@@ -1,7 +1,7 @@
 -- The contents of a cell, as contracts see it.
 use Rattle.std.specs.Prelude.{ℕ, ◌-◌, ◌<◌, ◌^◌, List, length, slice_index, vec_capacity, vec_len}
-use Rattle.series_cell.specs.Cells.{CellView}
-use Rattle.series_cell.specs.inner.Cells.{IsCell}
+use Rattle.metric_events.specs.declared.accepted.Accepted.{Accepted}
+use Rattle.series_cell.specs.Cells.{CellView, Stands}
 use Rattle.series_cell.specs.declared.cell_parts.CellParts.{CellParts}
 
 -- rows and spans as lists; spare is the room that is left for spans
@@ -21,6 +21,10 @@ view_of k = record {
   spare = vec_capacity k.spans - vec_len k.spans;
   asked = k.asked;
 }
+
+-- a cell represents some points
+abbrev pub IsCell : CellView → Type 0
+IsCell c = (qs : List Accepted) × Stands c qs
 
 -- each word of a row has 64 bits
 abbrev pub AreWords : List ℕ → Type 0

@@ -1,7 +1,7 @@
 use Rattle.std.proofs.Common.{subst, sym, take}
 use Rattle.std.proofs.lemmas.List.{take_all}
 use Rattle.delta_book.specs.inner.Rooms.{AreAsked, AreCellsFor}
-use Rattle.delta_book.proofs.Counting.{take_more}
+use Rattle.delta_book.proofs.Tables.{take_next}
 use Rattle.delta_book.proofs.Rooms.{asked_none, for_of}
 use Rattle.delta_book.proofs.put.make_room.Goals as goal
 
@@ -17,7 +17,7 @@ returns-in-Err-clause-kept c = λ qs h.
 
 pub loop-i-preserved : goal.loop-i-preserved
 loop-i-preserved c = λ qs h.
-    subst (AreAsked c.ask_for.new.cells.items qs c.args.sender.now) (sym (take_more c.args.batch.now c.loop-i.i c.index-batch-i.result c.loop-i-test.true c.index-batch-i.is))
+    subst (AreAsked c.ask_for.new.cells.items qs c.args.sender.now) (sym (take_next c.args.batch.now c.loop-i.i c.index-batch-i.result c.loop-i-test.true c.index-batch-i.is))
     (c.in_default.ensures.asked qs (take c.loop-i.i c.args.batch.now) (c.loop-i.invariant qs h))
 
 pub returns-clause-ready : goal.returns-clause-ready

@@ -1,5 +1,4 @@
-use Rattle.std.proofs.Common.{◌≡◌, ℕ, sym, ap, ◌∙◌, subst, arith, take, map, max, length, refl, List}
-use Rattle.std.specs.Prelude.{slice_index}
+use Rattle.std.proofs.Common.{sym, ap, ◌∙◌, subst, take, map, max, length, refl}
 use Rattle.metric_events.specs.Points.{landed}
 use Rattle.metric_events.specs.Rows.{zeros}
 use Rattle.metric_events.specs.declared.place.Place.TheVariants.{Acknowledged}
@@ -9,26 +8,18 @@ use Rattle.series_cell.specs.Spans.{end_of_spans}
 use Rattle.series_cell.proofs.ByPlace.{moved}
 use Rattle.series_cell.proofs.Lent.{lent_cell, lent_words, lent_view}
 use Rattle.series_cell.proofs.Sizes.{sized, within}
-use Rattle.series_cell.proofs.Standing.{stands_acknowledged_as}
+use Rattle.series_cell.proofs.Standing.{stands_acknowledged}
+use Rattle.series_cell.proofs.Words.{rows_fit}
 use Rattle.series_cell.proofs.cell.Cell.acknowledge.Goals as goal
 
-pub move_into-requires-clause-same : goal.move_into-requires-clause-same
-move_into-requires-clause-same c =
+pub move_into-requires : goal.move_into-requires
+move_into-requires c =
     let own = lent_cell c.as_mut-kept.ensures.value c.self.invariant in
     let s = sized _ own.0 own.1 in
-    ap length c.deref_mut.ensures.value ∙ (s.acknowledged ∙ sym (ap length c.deref_mut-2.ensures.value ∙ s.in_flight))
-
-pub move_into-requires-clause-fits : goal.move_into-requires-clause-fits
-move_into-requires-clause-fits c = λ k l.
-    let i = c.as_mut-kept.result.now in
-    let own = lent_cell c.as_mut-kept.ensures.value c.self.invariant in
-    let v : CellView = view_of i in
-    let w = within v own.0 k own.1 in
-    let s = sized v own.0 own.1 in
-    let top = lent_words c.as_mut-kept.ensures.value c.self.invariant k (omega (arith, l, ap length c.deref_mut.ensures.value, s.acknowledged, s.accepted)) in
-    let ed : slice_index c.deref_mut.result.now k ≡ slice_index i.acknowledged.items k = ap (λ (r : List ℕ). slice_index r k) c.deref_mut.ensures.value in
-    let es : slice_index c.deref_mut-2.result.now k ≡ slice_index i.in_flight.items k = ap (λ (r : List ℕ). slice_index r k) c.deref_mut-2.ensures.value in
-    omega (arith, top, ed, es, w.acknowledged)
+    record {
+      same = ap length c.deref_mut.ensures.value ∙ (s.acknowledged ∙ sym (ap length c.deref_mut-2.ensures.value ∙ s.in_flight));
+      fits = rows_fit _ c.deref_mut.ensures.value c.deref_mut-2.ensures.value (λ k. (within _ own.0 k own.1).acknowledged) (s.acknowledged ∙ sym s.accepted) (lent_words c.as_mut-kept.ensures.value c.self.invariant);
+    }
 
 pub invariant_of-self : goal.invariant_of-self
 invariant_of-self c =
@@ -40,7 +31,7 @@ invariant_of-self c =
     record {
       cell = (
         map (landed i.flush Acknowledged) own.0,
-        stands_acknowledged_as _ i.flush own.0 _ _ _ _ _ refl h m.0 (m.1 ∙ ap zeros s.in_flight)
+        stands_acknowledged _ i.flush own.0 _ _ _ _ _ refl h m.0 (m.1 ∙ ap zeros s.in_flight)
             c.drop_first.ensures.items
             (c.max-kept.ensures ∙ ap (λ n. max i.landed n) (c.end_or.ensures ∙ ap (end_of_spans 0) (c.spans_to.ensures ∙ ap (take i.cut) c.deref.ensures.value))),
       );
@@ -55,6 +46,6 @@ returns-clause-stands c = λ qs g.
     let h : Stands v qs = subst (λ (w : CellView). Stands w qs) (sym is) g in
     let s = sized v qs h in
     let m = moved i.acknowledged.items i.in_flight.items _ _ _ _ i.acknowledged.len i.in_flight.len c.deref_mut.ensures.value c.deref_mut-2.ensures.value (s.acknowledged ∙ sym s.in_flight) c.move_into.auto.dst c.move_into.auto.src c.move_into.ensures.sums c.move_into.ensures.none i.acknowledged.ok.0 i.in_flight.ok.0 in
-    stands_acknowledged_as v c.args.self.now.flush qs _ _ _ _ _ (sym (ap (λ (w : CellView). w.flush) is)) h m.0 (m.1 ∙ ap zeros s.in_flight)
+    stands_acknowledged v c.args.self.now.flush qs _ _ _ _ _ (sym (ap (λ (w : CellView). w.flush) is)) h m.0 (m.1 ∙ ap zeros s.in_flight)
     c.drop_first.ensures.items
     (c.max-kept.ensures ∙ ap (λ n. max i.landed n) (c.end_or.ensures ∙ ap (end_of_spans 0) (c.spans_to.ensures ∙ ap (take i.cut) c.deref.ensures.value)))

@@ -1,5 +1,4 @@
-use Rattle.std.proofs.Common.{◌≡◌, ℕ, sym, ap, ◌∙◌, subst, arith, map, length, refl, List}
-use Rattle.std.specs.Prelude.{slice_index}
+use Rattle.std.proofs.Common.{sym, ap, ◌∙◌, subst, map, length, refl}
 use Rattle.metric_events.specs.Points.{landed}
 use Rattle.metric_events.specs.Rows.{zeros}
 use Rattle.metric_events.specs.declared.place.Place.TheVariants.{Home}
@@ -8,26 +7,18 @@ use Rattle.series_cell.specs.inner.CellParts.{view_of}
 use Rattle.series_cell.proofs.ByPlace.{moved}
 use Rattle.series_cell.proofs.Lent.{lent_cell, lent_words, lent_view}
 use Rattle.series_cell.proofs.Sizes.{sized, within}
-use Rattle.series_cell.proofs.Standing.{stands_down_as}
+use Rattle.series_cell.proofs.Standing.{stands_down}
+use Rattle.series_cell.proofs.Words.{rows_fit}
 use Rattle.series_cell.proofs.cell.Cell.set_down.Goals as goal
 
-pub move_into-requires-clause-same : goal.move_into-requires-clause-same
-move_into-requires-clause-same c =
+pub move_into-requires : goal.move_into-requires
+move_into-requires c =
     let own = lent_cell c.as_mut-kept.ensures.value c.self.invariant in
     let s = sized _ own.0 own.1 in
-    ap length c.deref_mut.ensures.value ∙ (s.stored ∙ sym (ap length c.deref_mut-2.ensures.value ∙ s.in_flight))
-
-pub move_into-requires-clause-fits : goal.move_into-requires-clause-fits
-move_into-requires-clause-fits c = λ k l.
-    let i = c.as_mut-kept.result.now in
-    let own = lent_cell c.as_mut-kept.ensures.value c.self.invariant in
-    let v : CellView = view_of i in
-    let w = within v own.0 k own.1 in
-    let s = sized v own.0 own.1 in
-    let top = lent_words c.as_mut-kept.ensures.value c.self.invariant k (omega (arith, l, ap length c.deref_mut.ensures.value, s.stored, s.accepted)) in
-    let ed : slice_index c.deref_mut.result.now k ≡ slice_index i.stored.items k = ap (λ (r : List ℕ). slice_index r k) c.deref_mut.ensures.value in
-    let es : slice_index c.deref_mut-2.result.now k ≡ slice_index i.in_flight.items k = ap (λ (r : List ℕ). slice_index r k) c.deref_mut-2.ensures.value in
-    omega (arith, top, ed, es, w.stored)
+    record {
+      same = ap length c.deref_mut.ensures.value ∙ (s.stored ∙ sym (ap length c.deref_mut-2.ensures.value ∙ s.in_flight));
+      fits = rows_fit _ c.deref_mut.ensures.value c.deref_mut-2.ensures.value (λ k. (within _ own.0 k own.1).stored) (s.stored ∙ sym s.accepted) (lent_words c.as_mut-kept.ensures.value c.self.invariant);
+    }
 
 pub invariant_of-self : goal.invariant_of-self
 invariant_of-self c =
@@ -37,7 +28,7 @@ invariant_of-self c =
     let s = sized _ own.0 h in
     let m = moved i.stored.items i.in_flight.items _ _ _ _ i.stored.len i.in_flight.len c.deref_mut.ensures.value c.deref_mut-2.ensures.value (s.stored ∙ sym s.in_flight) c.move_into.auto.dst c.move_into.auto.src c.move_into.ensures.sums c.move_into.ensures.none i.stored.ok.0 i.in_flight.ok.0 in
     record {
-      cell = (map (landed i.flush Home) own.0, stands_down_as _ i.flush own.0 _ _ refl h m.0 (m.1 ∙ ap zeros s.in_flight));
+      cell = (map (landed i.flush Home) own.0, stands_down _ i.flush own.0 _ _ refl h m.0 (m.1 ∙ ap zeros s.in_flight));
       words = lent_words c.as_mut-kept.ensures.value c.self.invariant;
     }
 
@@ -49,4 +40,4 @@ returns-clause-stands c = λ qs g.
     let h : Stands v qs = subst (λ (w : CellView). Stands w qs) (sym is) g in
     let s = sized v qs h in
     let m = moved i.stored.items i.in_flight.items _ _ _ _ i.stored.len i.in_flight.len c.deref_mut.ensures.value c.deref_mut-2.ensures.value (s.stored ∙ sym s.in_flight) c.move_into.auto.dst c.move_into.auto.src c.move_into.ensures.sums c.move_into.ensures.none i.stored.ok.0 i.in_flight.ok.0 in
-    stands_down_as v c.args.self.now.flush qs _ _ (sym (ap (λ (w : CellView). w.flush) is)) h m.0 (m.1 ∙ ap zeros s.in_flight)
+    stands_down v c.args.self.now.flush qs _ _ (sym (ap (λ (w : CellView). w.flush) is)) h m.0 (m.1 ∙ ap zeros s.in_flight)
