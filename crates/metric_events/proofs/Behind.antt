@@ -72,13 +72,11 @@ behind H (G ▸ Undo b) u =
     ap (filter (is_of_other_batch b)) (behind H G u.1)
     ∙ (filter-append (is_of_other_batch b) (moved G (points H)) (news G)
     ∙ ap (λ us. us ++ filter (is_of_other_batch b) (news G)) (filter_keeps (is_of_other_batch b) (moved G (points H)) (other_moved b G (points H) (new_points b H u.0))))
-behind H (G ▸ Confirm b) u = behind H G u
 behind H (G ▸ Take f series) u = ap (map (taken f series)) (behind H G u) ∙ map-append (taken f series) (moved G (points H)) (news G)
 behind H (G ▸ Settle f) u = ap (map (landed f Acknowledged)) (behind H G u) ∙ map-append (landed f Acknowledged) (moved G (points H)) (news G)
 behind H (G ▸ Drop f) u = ap (map (landed f Dropped)) (behind H G u) ∙ map-append (landed f Dropped) (moved G (points H)) (news G)
 behind H (G ▸ GiveBack f) u = ap (map (landed f Home)) (behind H G u) ∙ map-append (landed f Home) (moved G (points H)) (news G)
-behind H (G ▸ Quarantine t) u = behind H G u
-behind H (G ▸ Lift t) u = behind H G u
+behind H (G ▸ e) u = behind H G u
 
 -- where no flush is taken or ended, nothing moves, and what is new is pending
 

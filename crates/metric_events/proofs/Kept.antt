@@ -13,7 +13,7 @@ use Rattle.metric_events.specs.Priming.{AdmitsNothing}
 use Rattle.metric_events.specs.declared.accepted.Accepted.{Accepted}
 use Rattle.metric_events.specs.declared.place.Place.{Place}
 use Rattle.metric_events.specs.declared.place.Place.TheVariants.{Home, InFlight, Acknowledged, Dropped}
-use Rattle.metric_events.specs.declared.event.Event.TheVariants.{Admit, Undo, Confirm, Take, Settle, Drop, GiveBack, Quarantine, Lift}
+use Rattle.metric_events.specs.declared.event.Event.TheVariants.{Admit, Undo, Take, Settle, Drop, GiveBack}
 use Rattle.metric_events.proofs.Lists.{any_map, map_same}
 use Rattle.metric_events.proofs.Moves.{made, rides, taken_blind, landed_blind}
 use Rattle.metric_events.proofs.Invariants.{all_ride}
@@ -72,42 +72,36 @@ pub only_moved : (E G : History) → AdmitsNothing G → points (E then G) ≡ m
 only_moved E (Opened O) n = refl
 only_moved E (G ▸ Admit b body) n = absurd n
 only_moved E (G ▸ Undo b) n = absurd n
-only_moved E (G ▸ Confirm b) n = only_moved E G n
 only_moved E (G ▸ Take f series) n = ap (map (taken f series)) (only_moved E G n)
 only_moved E (G ▸ Settle f) n = ap (map (landed f Acknowledged)) (only_moved E G n)
 only_moved E (G ▸ Drop f) n = ap (map (landed f Dropped)) (only_moved E G n)
 only_moved E (G ▸ GiveBack f) n = ap (map (landed f Home)) (only_moved E G n)
-only_moved E (G ▸ Quarantine s) n = only_moved E G n
-only_moved E (G ▸ Lift s) n = only_moved E G n
+only_moved E (G ▸ e) n = only_moved E G n
 
 -- what is neither pending nor in flight stays as it is
 
 abbrev pub is_settled_at : Place → Bool
-is_settled_at Home = false
-is_settled_at (InFlight f) = false
 is_settled_at Acknowledged = true
 is_settled_at Dropped = true
+is_settled_at place = false
 
 abbrev pub is_settled : Accepted → Bool
 is_settled a = is_settled_at a.place
 
 pub settled_taken : (f : ℕ) (series : List Identity) (p : DataPoint) (b : ℕ) (s : List ℕ) (place : Place) → is_settled_at place ≡ true → taken f series (made p b s place) ≡ made p b s place
-settled_taken f series p b s Home h = absurd (let q : false ≡ true = h in cc)
-settled_taken f series p b s (InFlight g) h = absurd (let q : false ≡ true = h in cc)
 settled_taken f series p b s Acknowledged h = refl
 settled_taken f series p b s Dropped h = refl
+settled_taken f series p b s place h = absurd (let q : false ≡ true = h in cc)
 
 pub settled_landed : (f : ℕ) (q : Place) (p : DataPoint) (b : ℕ) (s : List ℕ) (place : Place) → is_settled_at place ≡ true → landed f q (made p b s place) ≡ made p b s place
-settled_landed f q p b s Home h = absurd (let q : false ≡ true = h in cc)
-settled_landed f q p b s (InFlight g) h = absurd (let q : false ≡ true = h in cc)
 settled_landed f q p b s Acknowledged h = refl
 settled_landed f q p b s Dropped h = refl
+settled_landed f q p b s place h = absurd (let q : false ≡ true = h in cc)
 
 pub settled_or_home : (p : DataPoint) (b : ℕ) (s : List ℕ) (place : Place) → rides [] (made p b s place) ≡ true → is_home place ≡ false → is_settled_at place ≡ true
 settled_or_home p b s Home r h = absurd (let q : true ≡ false = h in cc)
 settled_or_home p b s (InFlight f) r h = absurd (let q : false ≡ true = r in cc)
-settled_or_home p b s Acknowledged r h = refl
-settled_or_home p b s Dropped r h = refl
+settled_or_home p b s place r h = refl
 
 pub no_ride : (H : History) → live_flushes H ≡ [] → list_all (rides []) (points H) ≡ true
 no_ride H e = subst (λ (ls : List Flight). list_all (rides ls) (points H) ≡ true) e (all_ride H)

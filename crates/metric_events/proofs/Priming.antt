@@ -22,7 +22,7 @@ use Rattle.metric_events.specs.Recovery.{bare, not_pending, is_not_home, Remembe
 use Rattle.metric_events.specs.Priming.{Known, IsKnown, zero_row, zero_point, primer, primer_point, primer_points, all_known, owner_among, frontier_among, KnowsExactly, AdmitsNothing, Primes}
 use Rattle.metric_events.specs.declared.accepted.Accepted.{Accepted}
 use Rattle.metric_events.specs.declared.place.Place.TheVariants.{Home, Acknowledged, Dropped}
-use Rattle.metric_events.specs.declared.event.Event.TheVariants.{Admit, Undo, Confirm, Take, Settle, Drop, GiveBack, Quarantine, Lift}
+use Rattle.metric_events.specs.declared.event.Event.TheVariants.{Admit, Undo, Take, Settle, Drop, GiveBack}
 use Rattle.metric_events.proofs.Identities.{same_of, same_series-turned}
 use Rattle.metric_events.proofs.Lists.{all_append, all_filter, all_weaker, any_map, filter_none}
 use Rattle.metric_events.proofs.Invariants.{all_taken, all_landed}
@@ -190,13 +190,11 @@ all_count : (E : History) → IsLegal E → (opening E).series ≡ [] → list_a
 all_count (Opened O) l e = ap (λ ss. list_all (λ a. nat_le 1 (slice_index a.point.row 0)) (map mark ss ++ carried ss)) e
 all_count (E ▸ Admit b body) l e = all_append (λ a. nat_le 1 (slice_index a.point.row 0)) (points E) (map (admitted b body.sender) body.points) (all_count E l.0 e) (counts_admitted b body.sender body.points l.1.made)
 all_count (E ▸ Undo b) l e = all_filter (λ a. nat_le 1 (slice_index a.point.row 0)) (is_of_other_batch b) (points E) (all_count E l.0 e)
-all_count (E ▸ Confirm b) l e = all_count E l.0 e
 all_count (E ▸ Take f series) l e = all_taken (λ p b s. nat_le 1 (slice_index p.row 0)) f series (points E) (all_count E l.0 e)
 all_count (E ▸ Settle f) l e = all_landed (λ p b s. nat_le 1 (slice_index p.row 0)) f Acknowledged (points E) (all_count E l.0 e)
 all_count (E ▸ Drop f) l e = all_landed (λ p b s. nat_le 1 (slice_index p.row 0)) f Dropped (points E) (all_count E l.0 e)
 all_count (E ▸ GiveBack f) l e = all_landed (λ p b s. nat_le 1 (slice_index p.row 0)) f Home (points E) (all_count E l.0 e)
-all_count (E ▸ Quarantine s) l e = all_count E l.0 e
-all_count (E ▸ Lift s) l e = all_count E l.0 e
+all_count (E ▸ v) l e = all_count E l.0 e
 
 sum_counts : (x : Identity) (qs : List Accepted) → list_all (λ a. nat_le 1 (slice_index a.point.row 0)) qs ≡ true → list_any (is_of x) qs ≡ true → 1 ≤ slice_index (sum_of x qs) 0
 sum_counts x [] h k = absurd (let q : false ≡ true = k in cc)

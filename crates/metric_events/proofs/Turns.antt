@@ -18,7 +18,7 @@ use Rattle.metric_events.specs.declared.flight.Flight.{Flight}
 use Rattle.metric_events.specs.declared.accepted.Accepted.{Accepted}
 use Rattle.metric_events.specs.declared.place.Place.{Place}
 use Rattle.metric_events.specs.declared.place.Place.TheVariants.{Home, InFlight, Acknowledged, Dropped}
-use Rattle.metric_events.specs.declared.event.Event.TheVariants.{Admit, Undo, Confirm, Take, Settle, Drop, GiveBack, Quarantine, Lift}
+use Rattle.metric_events.specs.declared.event.Event.TheVariants.{Admit, Undo, Take, Settle, Drop, GiveBack}
 use Rattle.metric_events.proofs.Identities.{same_series-turned}
 use Rattle.metric_events.proofs.Lists.{all_always, all_append, all_first, all_last, all_filter, all_map, all_both, all_weaker, filter_keeps, filter_none}
 use Rattle.metric_events.proofs.Moves.{made, rides, rides-in_live, apart_at}
@@ -100,13 +100,11 @@ news_in_turn E (R ▸ Admit b body) r l =
     (turn_numbered b body.sender body.points (points E ++ news R)
     (turn_order body.sender body.points (points E ++ news R) ∙ subst (λ (us : List Accepted). is_in_order us body.sender body.points ≡ true) (rest_behind E R r l.0) l.1.in_order))
 news_in_turn E (R ▸ Undo b) r l = turn_filter (is_of_other_batch b) (news R) (points E) (news_in_turn E R r l.0)
-news_in_turn E (R ▸ Confirm b) r l = news_in_turn E R r l.0
 news_in_turn E (R ▸ Take f series) r l = turn_map (taken f series) (keeps_taken f series) (news R) (points E) (news_in_turn E R r l.0)
 news_in_turn E (R ▸ Settle f) r l = turn_map (landed f Acknowledged) (keeps_landed f Acknowledged) (news R) (points E) (news_in_turn E R r l.0)
 news_in_turn E (R ▸ Drop f) r l = turn_map (landed f Dropped) (keeps_landed f Dropped) (news R) (points E) (news_in_turn E R r l.0)
 news_in_turn E (R ▸ GiveBack f) r l = turn_map (landed f Home) (keeps_landed f Home) (news R) (points E) (news_in_turn E R r l.0)
-news_in_turn E (R ▸ Quarantine s) r l = news_in_turn E R r l.0
-news_in_turn E (R ▸ Lift s) r l = news_in_turn E R r l.0
+news_in_turn E (R ▸ e) r l = news_in_turn E R r l.0
 
 -- in a series, the states of two points, one behind the other: nothing that has landed is behind what is pending or in flight, nothing in flight behind what is pending, and what is in flight is in one flight
 
@@ -139,10 +137,8 @@ follow_home p Acknowledged h = absurd (let q : false ≡ true = h in cc)
 follow_home p Dropped h = absurd (let q : false ≡ true = h in cc)
 
 follow_itself : (p : Place) → may_follow p p ≡ true
-follow_itself Home = refl
 follow_itself (InFlight f) = eq-eqb f f refl
-follow_itself Acknowledged = refl
-follow_itself Dropped = refl
+follow_itself place = refl
 
 all_homes : (a : Accepted) (us : List Accepted) → list_all (λ b. is_home b.place) us ≡ true → list_all (follows a) us ≡ true
 all_homes a us h = all_weaker (λ b. is_home b.place) (follows a) (λ b k. or_right (not (same_series a.point.series b.point.series)) (may_follow a.place b.place) (follow_home a.place b.place k)) us h
@@ -206,10 +202,8 @@ follow_taken f false (InFlight i) Acknowledged j k h = h
 follow_taken f false (InFlight i) Dropped j k h = h
 
 not_flying : (live : List Flight) (series : List Identity) → list_all (λ y. not (is_in_live live y)) series ≡ true → (p : DataPoint) (b : ℕ) (s : List ℕ) (place : Place) → rides live (made p b s place) ≡ true → is_among p.series series ≡ true → is_flying place ≡ false
-not_flying live series e p b s Home r h = refl
 not_flying live series e p b s (InFlight g) r h = absurd (let q : true ≡ false = sym h ∙ apart_at live series p.series e (rides-in_live live p.series g r) in cc)
-not_flying live series e p b s Acknowledged r h = refl
-not_flying live series e p b s Dropped r h = refl
+not_flying live series e p b s place r h = refl
 
 after_taken : (live : List Flight) (f : ℕ) (series : List Identity) → list_all (λ y. not (is_in_live live y)) series ≡ true → (qs : List Accepted) → list_all (rides live) qs ≡ true → are_after qs ≡ true → are_after (map (taken f series) qs) ≡ true
 after_taken live f series e qs r h = after_map (rides live) (taken f series) (λ a b m n. follow_changed a b (taken f series a) (taken f series b) (taken_point f series a) (taken_point f series b) (λ s k. step a b m n s k)) qs r h
@@ -249,13 +243,11 @@ news_after : (E R : History) → IsAtRest E → IsLegal (E then R) → are_after
 news_after E (Opened O) r l = refl
 news_after E (R ▸ Admit b body) r l = after_homes (news R) (map (admitted b body.sender) body.points) (news_after E R r l.0) (home_admitted b body.sender body.points)
 news_after E (R ▸ Undo b) r l = after_filter (is_of_other_batch b) (news R) (news_after E R r l.0)
-news_after E (R ▸ Confirm b) r l = news_after E R r l.0
 news_after E (R ▸ Take f series) r l = after_taken (live_flushes (E then R)) f series l.1.apart (news R) (news_ride E R r l.0) (news_after E R r l.0)
 news_after E (R ▸ Settle f) r l = after_landed f Acknowledged (news R) (news_after E R r l.0)
 news_after E (R ▸ Drop f) r l = after_landed f Dropped (news R) (news_after E R r l.0)
 news_after E (R ▸ GiveBack f) r l = after_landed f Home (news R) (news_after E R r l.0)
-news_after E (R ▸ Quarantine s) r l = news_after E R r l.0
-news_after E (R ▸ Lift s) r l = news_after E R r l.0
+news_after E (R ▸ e) r l = news_after E R r l.0
 
 -- what is pending may come after all the rest
 
