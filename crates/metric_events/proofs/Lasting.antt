@@ -21,31 +21,13 @@ use Rattle.metric_events.specs.declared.accepted.Accepted.{Accepted}
 use Rattle.metric_events.specs.declared.place.Place.{Place}
 use Rattle.metric_events.specs.declared.place.Place.TheVariants.{Home, InFlight, Acknowledged, Dropped}
 use Rattle.metric_events.specs.declared.event.Event.TheVariants.{Admit, Undo, Confirm, Take, Settle, Drop, GiveBack, Quarantine, Lift}
-use Rattle.metric_events.proofs.Lists.{all_always, all_append, all_filter, all_map, all_weaker, any_split, any_filter, any_append_right, filter-map}
+use Rattle.metric_events.proofs.Lists.{all_always, all_append, all_filter, all_map, all_weaker, any_split, any_filter, any_append_right, filter_all, filter-map, filter_where, map_where}
 use Rattle.metric_events.proofs.Moves.{made, rides}
 use Rattle.metric_events.proofs.Bare.{bare_owner, bare_frontier, bare_order, bare_merged, owner_append, frontier_append}
 use Rattle.metric_events.proofs.Behind.{moved, news, UndoesOwn, still_new, behind}
 use Rattle.metric_events.proofs.Striking.{legal_before, map_each}
 use Rattle.metric_events.proofs.Kept.{is_settled_at, is_settled, settled_taken, settled_landed, settled_or_home, no_ride, moved_owner, moved_frontier, moved_any}
 use Rattle.metric_events.proofs.Recovering.{alike_known, home_points}
-
--- lists, where a test holds of each element
-
-filter_where : (k t u : Accepted → Bool) (g : Accepted → Accepted) → ((a : Accepted) → k a ≡ true → t (g a) ≡ u a) → (qs : List Accepted) → list_all k qs ≡ true → filter t (map g qs) ≡ map g (filter u qs)
-filter_where k t u g e [] h = refl
-filter_where k t u g e (a ∷ qs) h =
-    let p = and_parts (k a) (list_all k qs) h in
-    ap (λ v. cond v (g a ∷ filter t (map g qs)) (filter t (map g qs))) (e a p.0)
-    ∙ (elim (u a) as (λ v. cond v (g a ∷ filter t (map g qs)) (filter t (map g qs)) ≡ map g (cond v (a ∷ filter u qs) (filter u qs))) [
-      | true ↦ ap (λ us. g a ∷ us) (filter_where k t u g e qs p.1)
-      | false ↦ filter_where k t u g e qs p.1
-    ])
-
-map_where : (k : Accepted → Bool) (f g h : Accepted → Accepted) → ((a : Accepted) → k a ≡ true → f (g a) ≡ g (h a)) → (qs : List Accepted) → list_all k qs ≡ true → map f (map g qs) ≡ map g (map h qs)
-map_where k f g h e [] l = refl
-map_where k f g h e (a ∷ qs) l =
-    let p = and_parts (k a) (list_all k qs) l in
-    ap (λ b. b ∷ map f (map g qs)) (e a p.0) ∙ ap (λ us. g (h a) ∷ us) (map_where k f g h e qs p.1)
 
 -- numbers
 
@@ -243,14 +225,6 @@ bare_fly : (qs : List Accepted) → list_all (flies_in []) (map bare qs) ≡ tru
 bare_fly [] = refl
 bare_fly (a ∷ qs) = bare_fly qs
 
-home_all : (qs : List Accepted) → list_all (λ a. is_home a.place) (filter (stands is_home) qs) ≡ true
-home_all [] = refl
-home_all (a ∷ qs) = both (is_home a.place) refl (home_all qs)
-  where
-    both : (v : Bool) → is_home a.place ≡ v → list_all (λ a. is_home a.place) (filter (stands is_home) qs) ≡ true → list_all (λ a. is_home a.place) (filter (stands is_home) (a ∷ qs)) ≡ true
-    both true e r = rw e (and_from (is_home a.place) (list_all (λ a. is_home a.place) (filter (stands is_home) qs)) e r)
-    both false e r = rw e r
-
 -- the numbers of moved do not count
 moved_as : (batch other flush : ℕ → ℕ) (G : History) (qs : List Accepted) → moved (renumbered batch flush G) qs ≡ moved (renumbered other flush G) qs
 moved_as batch other flush (Opened O) qs = refl
@@ -274,10 +248,10 @@ late_same batch flush H K G e j k =
     olds : map unnumbered (moved (renumbered batch flush G) (home_points K)) ≡ map (turned as_is flush) (map unnumbered (moved G (home_points H)))
     olds =
         sym (unnumbered_moved (renumbered batch flush G) (home_points K))
-        ∙ (ap (moved (renumbered batch flush G)) (unnumbered_home (home_points K) (home_all (points K)) ∙ (e ∙ sym (turned_bare flush (home_points H))))
+        ∙ (ap (moved (renumbered batch flush G)) (unnumbered_home (home_points K) (filter_all (stands is_home) (points K)) ∙ (e ∙ sym (turned_bare flush (home_points H))))
         ∙ (moved_as batch as_is flush G (map (turned as_is flush) (map bare (home_points H)))
         ∙ (turned_moved as_is flush G (map bare (home_points H)) k (bare_fly (home_points H))
-        ∙ ap (map (turned as_is flush)) (ap (moved G) (sym (unnumbered_home (home_points H) (home_all (points H)))) ∙ unnumbered_moved G (home_points H)))))
+        ∙ ap (map (turned as_is flush)) (ap (moved G) (sym (unnumbered_home (home_points H) (filter_all (stands is_home) (points H)))) ∙ unnumbered_moved G (home_points H)))))
 
     new : map unnumbered (news (renumbered batch flush G)) ≡ map (turned as_is flush) (map unnumbered (news G))
     new =
@@ -355,7 +329,7 @@ record Beside (batch flush : ℕ → ℕ) (H K G : History) : Type 0 where
 late_flies : (H G : History) → list_all (flies_in (numbers flush_number G)) (map unnumbered (late H G)) ≡ true
 late_flies H G =
     all_map (flies_in (numbers flush_number G)) (flies_in (numbers flush_number G)) unnumbered (λ a h. h) (late H G)
-    (all_append (flies_in (numbers flush_number G)) (moved G (home_points H)) (news G) (moved_flies G (home_points H) (all_weaker (λ a. is_home a.place) (flies_in []) (λ a h. home_flies a.point a.batch a.sender a.place h) (home_points H) (home_all (points H)))) (news_fly G))
+    (all_append (flies_in (numbers flush_number G)) (moved G (home_points H)) (news G) (moved_flies G (home_points H) (all_weaker (λ a. is_home a.place) (flies_in []) (λ a h. home_flies a.point a.batch a.sender a.place h) (home_points H) (filter_all (stands is_home) (points H)))) (news_fly G))
   where
     home_flies : (p : DataPoint) (b : ℕ) (s : List ℕ) (place : Place) → is_home place ≡ true → flies_in [] (made p b s place) ≡ true
     home_flies p b s Home h = refl
@@ -416,14 +390,7 @@ live_numbers H (G ▸ GiveBack f) e = live_ended f (numbers flush_number G) (liv
 live_numbers H (G ▸ v) e = live_numbers H G e
 
 other_flights : (flush : ℕ → ℕ) (f : ℕ) (ns : List ℕ) → KeepsApart flush (f ∷ ns) → (ls : List Flight) → list_all (numbered_in ns) ls ≡ true → filter (is_other_flight (flush f)) (map (renumbered_flight flush) ls) ≡ map (renumbered_flight flush) (filter (is_other_flight f) ls)
-other_flights flush f ns k [] h = refl
-other_flights flush f ns k (l ∷ ls) h =
-    let p = and_parts (numbered_in ns l) (list_all (numbered_in ns) ls) h in
-    ap (λ v. cond (not v) (renumbered_flight flush l ∷ filter (is_other_flight (flush f)) (map (renumbered_flight flush) ls)) (filter (is_other_flight (flush f)) (map (renumbered_flight flush) ls))) (same_number flush (f ∷ ns) l.number f k (any_append_right (λ n. n == l.number) (f ∷ []) ns p.0) (first_one f ns))
-    ∙ (elim (l.number == f) as (λ v. cond (not v) (renumbered_flight flush l ∷ filter (is_other_flight (flush f)) (map (renumbered_flight flush) ls)) (filter (is_other_flight (flush f)) (map (renumbered_flight flush) ls)) ≡ map (renumbered_flight flush) (cond (not v) (l ∷ filter (is_other_flight f) ls) (filter (is_other_flight f) ls))) [
-      | true ↦ other_flights flush f ns k ls p.1
-      | false ↦ ap (λ us. renumbered_flight flush l ∷ us) (other_flights flush f ns k ls p.1)
-    ])
+other_flights flush f ns k ls h = filter_where (numbered_in ns) (is_other_flight (flush f)) (is_other_flight f) (renumbered_flight flush) (λ l i. ap not (same_number flush (f ∷ ns) l.number f k (any_append_right (λ n. n == l.number) (f ∷ []) ns i) (first_one f ns))) ls h
 
 live_same : (batch flush : ℕ → ℕ) (H K G : History) → live_flushes H ≡ [] → live_flushes K ≡ [] → KeepsApart flush (numbers flush_number G) → live_flushes (K then renumbered batch flush G) ≡ map (renumbered_flight flush) (live_flushes (H then G))
 live_same batch flush H K (Opened O) d e k = e ∙ sym (ap (map (renumbered_flight flush)) d)
@@ -444,16 +411,12 @@ held_same batch flush H K (G ▸ v) e = held_same batch flush H K G e
 -- what is chosen
 
 home_turned : (flush : ℕ → ℕ) (place : Place) → is_home (turned_place flush place) ≡ is_home place
-home_turned flush Home = refl
 home_turned flush (InFlight f) = refl
-home_turned flush Acknowledged = refl
-home_turned flush Dropped = refl
+home_turned flush place = refl
 
 flying_turned : (flush : ℕ → ℕ) (place : Place) → is_flying (turned_place flush place) ≡ is_flying place
-flying_turned flush Home = refl
 flying_turned flush (InFlight f) = refl
-flying_turned flush Acknowledged = refl
-flying_turned flush Dropped = refl
+flying_turned flush place = refl
 
 not_home : (place : Place) → is_settled_at place ≡ true → is_home place ≡ false
 not_home Home h = absurd (let q : false ≡ true = h in cc)

@@ -113,12 +113,8 @@ may_follow Acknowledged q = true
 may_follow Dropped q = true
 may_follow (InFlight f) Home = true
 may_follow (InFlight f) (InFlight g) = f == g
-may_follow (InFlight f) Acknowledged = false
-may_follow (InFlight f) Dropped = false
 may_follow Home Home = true
-may_follow Home (InFlight g) = false
-may_follow Home Acknowledged = false
-may_follow Home Dropped = false
+may_follow p q = false
 
 abbrev follows : Accepted → Accepted → Bool
 follows a b = not (same_series a.point.series b.point.series) || may_follow a.place b.place
@@ -132,9 +128,7 @@ follow_home Home Home h = refl
 follow_home (InFlight f) Home h = refl
 follow_home Acknowledged q h = refl
 follow_home Dropped q h = refl
-follow_home p (InFlight f) h = absurd (let q : false ≡ true = h in cc)
-follow_home p Acknowledged h = absurd (let q : false ≡ true = h in cc)
-follow_home p Dropped h = absurd (let q : false ≡ true = h in cc)
+follow_home p q h = absurd (let q : false ≡ true = h in cc)
 
 follow_itself : (p : Place) → may_follow p p ≡ true
 follow_itself (InFlight f) = eq-eqb f f refl
@@ -192,14 +186,10 @@ follow_taken f v Acknowledged q j k h = refl
 follow_taken f v Dropped q j k h = refl
 follow_taken f true Home Home j k h = eq-eqb f f refl
 follow_taken f false Home Home j k h = refl
-follow_taken f v Home (InFlight g) j k h = absurd (let q : false ≡ true = h in cc)
-follow_taken f v Home Acknowledged j k h = absurd (let q : false ≡ true = h in cc)
-follow_taken f v Home Dropped j k h = absurd (let q : false ≡ true = h in cc)
+follow_taken f v Home q j k h = absurd (let q : false ≡ true = h in cc)
 follow_taken f true (InFlight i) q j k h = absurd (let q : true ≡ false = j refl in cc)
 follow_taken f false (InFlight i) Home j k h = refl
-follow_taken f false (InFlight i) (InFlight g) j k h = h
-follow_taken f false (InFlight i) Acknowledged j k h = h
-follow_taken f false (InFlight i) Dropped j k h = h
+follow_taken f false (InFlight i) q j k h = h
 
 not_flying : (live : List Flight) (series : List Identity) → list_all (λ y. not (is_in_live live y)) series ≡ true → (p : DataPoint) (b : ℕ) (s : List ℕ) (place : Place) → rides live (made p b s place) ≡ true → is_among p.series series ≡ true → is_flying place ≡ false
 not_flying live series e p b s (InFlight g) r h = absurd (let q : true ≡ false = sym h ∙ apart_at live series p.series e (rides-in_live live p.series g r) in cc)
@@ -219,13 +209,9 @@ follow_landed : (f : ℕ) (r p q : Place) → may_follow p q ≡ true → may_fo
 follow_landed f r Acknowledged q h = refl
 follow_landed f r Dropped q h = refl
 follow_landed f r Home Home h = refl
-follow_landed f r Home (InFlight g) h = absurd (let q : false ≡ true = h in cc)
-follow_landed f r Home Acknowledged h = absurd (let q : false ≡ true = h in cc)
-follow_landed f r Home Dropped h = absurd (let q : false ≡ true = h in cc)
 follow_landed f r (InFlight i) Home h = follow_home (cond (i == f) r (InFlight i)) Home refl
 follow_landed f r (InFlight i) (InFlight g) h = subst (λ n. may_follow (cond (i == f) r (InFlight i)) (cond (n == f) r (InFlight n)) ≡ true) (eqb-true i g h) (follow_itself (cond (i == f) r (InFlight i)))
-follow_landed f r (InFlight i) Acknowledged h = absurd (let q : false ≡ true = h in cc)
-follow_landed f r (InFlight i) Dropped h = absurd (let q : false ≡ true = h in cc)
+follow_landed f r p q h = absurd (let q : false ≡ true = h in cc)
 
 after_landed : (f : ℕ) (q : Place) (qs : List Accepted) → are_after qs ≡ true → are_after (map (landed f q) qs) ≡ true
 after_landed f q qs h = after_map (λ a. true) (landed f q) (λ a b m n. follow_changed a b (landed f q a) (landed f q b) (landed_point f q a) (landed_point f q b) (λ s k. step a b k)) qs (all_always (λ a. true) (λ a. refl) qs) h
@@ -271,12 +257,8 @@ none_behind a h (b ∷ qs) k = both (is_home b.place) refl (none_behind a h qs p
 
     away : (p q : Place) → is_home p ≡ true → is_home q ≡ false → may_follow p q ≡ false
     away Home Home h k = absurd (let q : true ≡ false = k in cc)
-    away Home (InFlight g) h k = refl
-    away Home Acknowledged h k = refl
-    away Home Dropped h k = refl
-    away (InFlight f) q h k = absurd (let q : false ≡ true = h in cc)
-    away Acknowledged q h k = absurd (let q : false ≡ true = h in cc)
-    away Dropped q h k = absurd (let q : false ≡ true = h in cc)
+    away Home q h k = refl
+    away p q h k = absurd (let q : false ≡ true = h in cc)
 
     clear : (v : Bool) → same_series a.point.series b.point.series ≡ v → is_home b.place ≡ false → is_clear a.sender a.point b.point b.sender ≡ true
     clear true e n = absurd (let m = away a.place b.place h n in let q : (not true || false) ≡ true = rw (e, m) at p.0 in cc)
