@@ -9,22 +9,18 @@ use Rattle.metric_events.specs.Rows.{add_rows}
 use Rattle.metric_events.specs.DataPoint.{DataPoint}
 use Rattle.metric_events.specs.Points.{admitted}
 use Rattle.metric_events.specs.Series.{is_of, of_series, owner, frontier, hull, row_sum, sum_of, merged, series_in_order, with_series}
-use Rattle.metric_events.specs.Recovery.{bare, IsAtMost}
+use Rattle.metric_events.specs.Recovery.{bare}
 use Rattle.metric_events.specs.declared.accepted.Accepted.{Accepted}
-use Rattle.metric_events.proofs.Lists.{filter-map}
-use Rattle.metric_events.proofs.Sums.{RowLe, row_sum-append}
+use Rattle.metric_events.proofs.Fits.{row_sum-map, sum_of-map}
+use Rattle.metric_events.proofs.Sums.{row_sum-append}
 use Rattle.std.proofs.lemmas.List.Elements.{filter-append}
-
-pub bare_row : (n : ℕ) (qs : List Accepted) → row_sum n (map bare qs) ≡ row_sum n qs
-bare_row n [] = refl
-bare_row n (a ∷ qs) = ap (add_rows a.point.row) (bare_row n qs)
 
 pub bare_hull : (qs : List Accepted) → hull (map bare qs) ≡ hull qs
 bare_hull [] = refl
 bare_hull (a ∷ qs) = ap (λ o. Some (joined_to a.point.span o)) (bare_hull qs)
 
 pub bare_sum : (x : Identity) (qs : List Accepted) → sum_of x (map bare qs) ≡ sum_of x qs
-bare_sum x qs = ap (row_sum (row_length x.kind)) (filter-map (is_of x) bare (λ a. refl) qs) ∙ bare_row (row_length x.kind) (of_series x qs)
+bare_sum x qs = sum_of-map x bare (λ a. refl) qs
 
 pub bare_owner : (x : Identity) (qs : List Accepted) → owner x (map bare qs) ≡ owner x qs
 bare_owner x [] = refl
@@ -45,7 +41,7 @@ pub bare_merged : (x : Identity) (qs : List Accepted) → merged x (map bare qs)
 bare_merged x [] = refl
 bare_merged x (a ∷ qs) =
     ap (λ o. point_of (joined_to a.point.span o) (add_rows a.point.row (row_sum (row_length x.kind) (map bare qs)))) (bare_hull qs)
-    ∙ ap (λ r. point_of (joined_to a.point.span (hull qs)) (add_rows a.point.row r)) (bare_row (row_length x.kind) qs)
+    ∙ ap (λ r. point_of (joined_to a.point.span (hull qs)) (add_rows a.point.row r)) (row_sum-map (row_length x.kind) bare (λ a. refl) qs)
   where
     point_of : Interval → List ℕ → Option DataPoint
     point_of span row = Some (record { series = x; span = span; row = row })
@@ -96,15 +92,3 @@ none_owner x (a ∷ qs) h = both (is_of x a) refl (none_owner x qs)
     both : (v : Bool) → is_of x a ≡ v → (list_any (is_of x) qs ≡ false → owner x qs ≡ []) → owner x (a ∷ qs) ≡ []
     both true e r = absurd (let q : true ≡ false = rw e at h in cc)
     both false e r = rw e (r (rw e at h))
-
--- rows
-
-pub at_most : (xs ys : List ℕ) → IsAtMost xs ys → RowLe xs ys
-at_most [] ys h = tt
-at_most (x ∷ xs) [] h = (h.0, at_most xs [] h.1)
-at_most (x ∷ xs) (y ∷ ys) h = (h.0, at_most xs ys h.1)
-
-pub row_at_most : (xs ys : List ℕ) → RowLe xs ys → IsAtMost xs ys
-row_at_most [] ys h = tt
-row_at_most (x ∷ xs) [] h = (h.0, row_at_most xs [] h.1)
-row_at_most (x ∷ xs) (y ∷ ys) h = (h.0, row_at_most xs ys h.1)

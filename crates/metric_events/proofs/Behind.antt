@@ -4,6 +4,7 @@ use Rattle.std.specs.List.{list_all, filter}
 use Rattle.std.proofs.lemmas.Bool.{eqb-true}
 use Rattle.std.proofs.lemmas.List.{append-nil, map-append}
 use Rattle.std.proofs.lemmas.List.Elements.{filter-append}
+use Rattle.series_id.specs.Identity.{Identity}
 use Rattle.metric_events.specs.DataPoint.{DataPoint}
 use Rattle.metric_events.specs.History.{History, Opened, ◌▸◌, ◌then◌, IsNewBatch}
 use Rattle.metric_events.specs.Points.{points, points_after, is_home, taken, landed, admitted, is_of_other_batch}
@@ -11,6 +12,7 @@ use Rattle.metric_events.specs.Running.{open_batches, live_flushes, is_another}
 use Rattle.metric_events.specs.Legal.{IsLegal, is_open}
 use Rattle.metric_events.specs.Recovery.{FlushesNothing}
 use Rattle.metric_events.specs.declared.accepted.Accepted.{Accepted}
+use Rattle.metric_events.specs.declared.place.Place.{Place}
 use Rattle.metric_events.specs.declared.place.Place.TheVariants.{Home, Acknowledged, Dropped}
 use Rattle.metric_events.specs.declared.event.Event.TheVariants.{Admit, Undo, Confirm, Take, Settle, Drop, GiveBack, Quarantine, Lift}
 use Rattle.metric_events.proofs.Lists.{all_append, all_filter, any_split, any_filter, filter_keeps}
@@ -25,6 +27,15 @@ moved (G ▸ Settle f) qs = map (landed f Acknowledged) (moved G qs)
 moved (G ▸ Drop f) qs = map (landed f Dropped) (moved G qs)
 moved (G ▸ GiveBack f) qs = map (landed f Home) (moved G qs)
 moved (G ▸ e) qs = moved G qs
+
+-- what taking and landing keep
+pub moved_keeps : (P : List Accepted → Type 0) → ((f : ℕ) (series : List Identity) (us : List Accepted) → P us → P (map (taken f series) us)) → ((f : ℕ) (q : Place) (us : List Accepted) → P us → P (map (landed f q) us)) → (G : History) (qs : List Accepted) → P qs → P (moved G qs)
+moved_keeps P t l (Opened O) qs h = h
+moved_keeps P t l (G ▸ Take f series) qs h = t f series (moved G qs) (moved_keeps P t l G qs h)
+moved_keeps P t l (G ▸ Settle f) qs h = l f Acknowledged (moved G qs) (moved_keeps P t l G qs h)
+moved_keeps P t l (G ▸ Drop f) qs h = l f Dropped (moved G qs) (moved_keeps P t l G qs h)
+moved_keeps P t l (G ▸ GiveBack f) qs h = l f Home (moved G qs) (moved_keeps P t l G qs h)
+moved_keeps P t l (G ▸ e) qs h = moved_keeps P t l G qs h
 
 abbrev pub news : History → List Accepted
 news (Opened O) = []
@@ -58,12 +69,7 @@ undoes_own H (G ▸ Undo b) e l = (open_own H G e l.0 b l.1.opened, undoes_own H
 undoes_own H (G ▸ f) e l = undoes_own H G e l.0
 
 pub other_moved : (b : ℕ) (G : History) (qs : List Accepted) → list_all (is_of_other_batch b) qs ≡ true → list_all (is_of_other_batch b) (moved G qs) ≡ true
-other_moved b (Opened O) qs h = h
-other_moved b (G ▸ Take f series) qs h = all_taken (λ p c s. not (c == b)) f series (moved G qs) (other_moved b G qs h)
-other_moved b (G ▸ Settle f) qs h = all_landed (λ p c s. not (c == b)) f Acknowledged (moved G qs) (other_moved b G qs h)
-other_moved b (G ▸ Drop f) qs h = all_landed (λ p c s. not (c == b)) f Dropped (moved G qs) (other_moved b G qs h)
-other_moved b (G ▸ GiveBack f) qs h = all_landed (λ p c s. not (c == b)) f Home (moved G qs) (other_moved b G qs h)
-other_moved b (G ▸ e) qs h = other_moved b G qs h
+other_moved b G qs h = moved_keeps (λ us. list_all (is_of_other_batch b) us ≡ true) (all_taken (λ p c s. not (c == b))) (all_landed (λ p c s. not (c == b))) G qs h
 
 pub behind : (H G : History) → UndoesOwn H G → points (H then G) ≡ moved G (points H) ++ news G
 behind H (Opened O) u = sym (append-nil (points H))
@@ -72,13 +78,11 @@ behind H (G ▸ Undo b) u =
     ap (filter (is_of_other_batch b)) (behind H G u.1)
     ∙ (filter-append (is_of_other_batch b) (moved G (points H)) (news G)
     ∙ ap (λ us. us ++ filter (is_of_other_batch b) (news G)) (filter_keeps (is_of_other_batch b) (moved G (points H)) (other_moved b G (points H) (new_points b H u.0))))
-behind H (G ▸ Confirm b) u = behind H G u
 behind H (G ▸ Take f series) u = ap (map (taken f series)) (behind H G u) ∙ map-append (taken f series) (moved G (points H)) (news G)
 behind H (G ▸ Settle f) u = ap (map (landed f Acknowledged)) (behind H G u) ∙ map-append (landed f Acknowledged) (moved G (points H)) (news G)
 behind H (G ▸ Drop f) u = ap (map (landed f Dropped)) (behind H G u) ∙ map-append (landed f Dropped) (moved G (points H)) (news G)
 behind H (G ▸ GiveBack f) u = ap (map (landed f Home)) (behind H G u) ∙ map-append (landed f Home) (moved G (points H)) (news G)
-behind H (G ▸ Quarantine t) u = behind H G u
-behind H (G ▸ Lift t) u = behind H G u
+behind H (G ▸ e) u = behind H G u
 
 -- where no flush is taken or ended, nothing moves, and what is new is pending
 

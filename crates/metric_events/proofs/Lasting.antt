@@ -21,31 +21,13 @@ use Rattle.metric_events.specs.declared.accepted.Accepted.{Accepted}
 use Rattle.metric_events.specs.declared.place.Place.{Place}
 use Rattle.metric_events.specs.declared.place.Place.TheVariants.{Home, InFlight, Acknowledged, Dropped}
 use Rattle.metric_events.specs.declared.event.Event.TheVariants.{Admit, Undo, Confirm, Take, Settle, Drop, GiveBack, Quarantine, Lift}
-use Rattle.metric_events.proofs.Lists.{all_always, all_append, all_filter, all_map, all_weaker, any_split, any_filter, any_append_right, filter-map}
+use Rattle.metric_events.proofs.Lists.{all_always, all_append, all_filter, all_map, all_weaker, any_split, any_filter, any_append_right, filter_all, filter-map, filter_where, map_where}
 use Rattle.metric_events.proofs.Moves.{made, rides}
 use Rattle.metric_events.proofs.Bare.{bare_owner, bare_frontier, bare_order, bare_merged, owner_append, frontier_append}
 use Rattle.metric_events.proofs.Behind.{moved, news, UndoesOwn, still_new, behind}
 use Rattle.metric_events.proofs.Striking.{legal_before, map_each}
 use Rattle.metric_events.proofs.Kept.{is_settled_at, is_settled, settled_taken, settled_landed, settled_or_home, no_ride, moved_owner, moved_frontier, moved_any}
 use Rattle.metric_events.proofs.Recovering.{alike_known, home_points}
-
--- lists, where a test holds of each element
-
-filter_where : (k t u : Accepted → Bool) (g : Accepted → Accepted) → ((a : Accepted) → k a ≡ true → t (g a) ≡ u a) → (qs : List Accepted) → list_all k qs ≡ true → filter t (map g qs) ≡ map g (filter u qs)
-filter_where k t u g e [] h = refl
-filter_where k t u g e (a ∷ qs) h =
-    let p = and_parts (k a) (list_all k qs) h in
-    ap (λ v. cond v (g a ∷ filter t (map g qs)) (filter t (map g qs))) (e a p.0)
-    ∙ (elim (u a) as (λ v. cond v (g a ∷ filter t (map g qs)) (filter t (map g qs)) ≡ map g (cond v (a ∷ filter u qs) (filter u qs))) [
-      | true ↦ ap (λ us. g a ∷ us) (filter_where k t u g e qs p.1)
-      | false ↦ filter_where k t u g e qs p.1
-    ])
-
-map_where : (k : Accepted → Bool) (f g h : Accepted → Accepted) → ((a : Accepted) → k a ≡ true → f (g a) ≡ g (h a)) → (qs : List Accepted) → list_all k qs ≡ true → map f (map g qs) ≡ map g (map h qs)
-map_where k f g h e [] l = refl
-map_where k f g h e (a ∷ qs) l =
-    let p = and_parts (k a) (list_all k qs) l in
-    ap (λ b. b ∷ map f (map g qs)) (e a p.0) ∙ ap (λ us. g (h a) ∷ us) (map_where k f g h e qs p.1)
 
 -- numbers
 
@@ -77,10 +59,8 @@ abbrev as_is : ℕ → ℕ
 as_is n = n
 
 abbrev flies_in_at : List ℕ → Place → Bool
-flies_in_at ns Home = true
 flies_in_at ns (InFlight f) = is_one_of f ns
-flies_in_at ns Acknowledged = true
-flies_in_at ns Dropped = true
+flies_in_at ns place = true
 
 abbrev flies_in : List ℕ → Accepted → Bool
 flies_in ns a = flies_in_at ns a.place
@@ -89,10 +69,8 @@ abbrev is_of_one : List ℕ → Accepted → Bool
 is_of_one ns a = is_one_of a.batch ns
 
 flies_later : (xs ns : List ℕ) (p : DataPoint) (b : ℕ) (s : List ℕ) (place : Place) → flies_in ns (made p b s place) ≡ true → flies_in (xs ++ ns) (made p b s place) ≡ true
-flies_later xs ns p b s Home h = refl
 flies_later xs ns p b s (InFlight f) h = any_append_right (λ c. c == f) xs ns h
-flies_later xs ns p b s Acknowledged h = refl
-flies_later xs ns p b s Dropped h = refl
+flies_later xs ns p b s place h = refl
 
 all_later : (xs ns : List ℕ) (qs : List Accepted) → list_all (flies_in ns) qs ≡ true → list_all (flies_in (xs ++ ns)) qs ≡ true
 all_later xs ns qs h = all_weaker (flies_in ns) (flies_in (xs ++ ns)) (λ a k. flies_later xs ns a.point a.batch a.sender a.place k) qs h
@@ -110,27 +88,21 @@ flies_admitted ns b s (p ∷ ps) = flies_admitted ns b s ps
 -- a point that passes through G is in flight with a flush of G at most
 moved_flies : (G : History) (qs : List Accepted) → list_all (flies_in []) qs ≡ true → list_all (flies_in (numbers flush_number G)) (moved G qs) ≡ true
 moved_flies (Opened O) qs h = h
-moved_flies (G ▸ Admit b body) qs h = moved_flies G qs h
-moved_flies (G ▸ Undo b) qs h = moved_flies G qs h
-moved_flies (G ▸ Confirm b) qs h = moved_flies G qs h
 moved_flies (G ▸ Take f series) qs h = all_map (flies_in (f ∷ numbers flush_number G)) (flies_in (f ∷ numbers flush_number G)) (taken f series) (flies_taken (f ∷ numbers flush_number G) f series (first_one f (numbers flush_number G))) (moved G qs) (all_later (f ∷ []) (numbers flush_number G) (moved G qs) (moved_flies G qs h))
 moved_flies (G ▸ Settle f) qs h = all_map (flies_in (f ∷ numbers flush_number G)) (flies_in (f ∷ numbers flush_number G)) (landed f Acknowledged) (flies_landed (f ∷ numbers flush_number G) f Acknowledged refl) (moved G qs) (all_later (f ∷ []) (numbers flush_number G) (moved G qs) (moved_flies G qs h))
 moved_flies (G ▸ Drop f) qs h = all_map (flies_in (f ∷ numbers flush_number G)) (flies_in (f ∷ numbers flush_number G)) (landed f Dropped) (flies_landed (f ∷ numbers flush_number G) f Dropped refl) (moved G qs) (all_later (f ∷ []) (numbers flush_number G) (moved G qs) (moved_flies G qs h))
 moved_flies (G ▸ GiveBack f) qs h = all_map (flies_in (f ∷ numbers flush_number G)) (flies_in (f ∷ numbers flush_number G)) (landed f Home) (flies_landed (f ∷ numbers flush_number G) f Home refl) (moved G qs) (all_later (f ∷ []) (numbers flush_number G) (moved G qs) (moved_flies G qs h))
-moved_flies (G ▸ Quarantine s) qs h = moved_flies G qs h
-moved_flies (G ▸ Lift s) qs h = moved_flies G qs h
+moved_flies (G ▸ e) qs h = moved_flies G qs h
 
 news_fly : (G : History) → list_all (flies_in (numbers flush_number G)) (news G) ≡ true
 news_fly (Opened O) = refl
 news_fly (G ▸ Admit b body) = all_append (flies_in (numbers flush_number G)) (news G) (map (admitted b body.sender) body.points) (news_fly G) (flies_admitted (numbers flush_number G) b body.sender body.points)
 news_fly (G ▸ Undo b) = all_filter (flies_in (numbers flush_number G)) (is_of_other_batch b) (news G) (news_fly G)
-news_fly (G ▸ Confirm b) = news_fly G
 news_fly (G ▸ Take f series) = all_map (flies_in (f ∷ numbers flush_number G)) (flies_in (f ∷ numbers flush_number G)) (taken f series) (flies_taken (f ∷ numbers flush_number G) f series (first_one f (numbers flush_number G))) (news G) (all_later (f ∷ []) (numbers flush_number G) (news G) (news_fly G))
 news_fly (G ▸ Settle f) = all_map (flies_in (f ∷ numbers flush_number G)) (flies_in (f ∷ numbers flush_number G)) (landed f Acknowledged) (flies_landed (f ∷ numbers flush_number G) f Acknowledged refl) (news G) (all_later (f ∷ []) (numbers flush_number G) (news G) (news_fly G))
 news_fly (G ▸ Drop f) = all_map (flies_in (f ∷ numbers flush_number G)) (flies_in (f ∷ numbers flush_number G)) (landed f Dropped) (flies_landed (f ∷ numbers flush_number G) f Dropped refl) (news G) (all_later (f ∷ []) (numbers flush_number G) (news G) (news_fly G))
 news_fly (G ▸ GiveBack f) = all_map (flies_in (f ∷ numbers flush_number G)) (flies_in (f ∷ numbers flush_number G)) (landed f Home) (flies_landed (f ∷ numbers flush_number G) f Home refl) (news G) (all_later (f ∷ []) (numbers flush_number G) (news G) (news_fly G))
-news_fly (G ▸ Quarantine s) = news_fly G
-news_fly (G ▸ Lift s) = news_fly G
+news_fly (G ▸ e) = news_fly G
 
 one_later : (xs ns : List ℕ) (qs : List Accepted) → list_all (is_of_one ns) qs ≡ true → list_all (is_of_one (xs ++ ns)) qs ≡ true
 one_later xs ns qs h = all_weaker (is_of_one ns) (is_of_one (xs ++ ns)) (λ a k. any_append_right (λ c. c == a.batch) xs ns k) qs h
@@ -155,42 +127,33 @@ news_one (G ▸ Take f series) = all_map (is_of_one (numbers batch_number G)) (i
 news_one (G ▸ Settle f) = all_map (is_of_one (numbers batch_number G)) (is_of_one (numbers batch_number G)) (landed f Acknowledged) (one_landed (numbers batch_number G) f Acknowledged) (news G) (news_one G)
 news_one (G ▸ Drop f) = all_map (is_of_one (numbers batch_number G)) (is_of_one (numbers batch_number G)) (landed f Dropped) (one_landed (numbers batch_number G) f Dropped) (news G) (news_one G)
 news_one (G ▸ GiveBack f) = all_map (is_of_one (numbers batch_number G)) (is_of_one (numbers batch_number G)) (landed f Home) (one_landed (numbers batch_number G) f Home) (news G) (news_one G)
-news_one (G ▸ Quarantine s) = news_one G
-news_one (G ▸ Lift s) = news_one G
+news_one (G ▸ e) = news_one G
 
 -- an event with other numbers does to such a point what the event does
 
 turned_taken_at : (batch flush : ℕ → ℕ) (f : ℕ) (series : List Identity) (p : DataPoint) (b : ℕ) (s : List ℕ) (place : Place) → taken (flush f) series (turned batch flush (made p b s place)) ≡ turned batch flush (taken f series (made p b s place))
 turned_taken_at batch flush f series p b s Home = elim (is_among p.series series) as (λ v. cond v (made p (batch b) s (InFlight (flush f))) (made p (batch b) s Home) ≡ turned batch flush (cond v (made p b s (InFlight f)) (made p b s Home))) [ true ↦ refl | false ↦ refl ]
-turned_taken_at batch flush f series p b s (InFlight g) = refl
-turned_taken_at batch flush f series p b s Acknowledged = refl
-turned_taken_at batch flush f series p b s Dropped = refl
+turned_taken_at batch flush f series p b s place = refl
 
 turned_taken : (batch flush : ℕ → ℕ) (f : ℕ) (series : List Identity) (qs : List Accepted) → map (taken (flush f) series) (map (turned batch flush) qs) ≡ map (turned batch flush) (map (taken f series) qs)
 turned_taken batch flush f series qs = map_where (λ a. true) (taken (flush f) series) (turned batch flush) (taken f series) (λ a k. turned_taken_at batch flush f series a.point a.batch a.sender a.place) qs (all_always (λ a. true) (λ a. refl) qs)
 
 turned_landed_at : (batch flush : ℕ → ℕ) (ns : List ℕ) (f : ℕ) (q : Place) → KeepsApart flush ns → is_one_of f ns ≡ true → turned_place flush q ≡ q → (p : DataPoint) (b : ℕ) (s : List ℕ) (place : Place) → flies_in ns (made p b s place) ≡ true → landed (flush f) q (turned batch flush (made p b s place)) ≡ turned batch flush (landed f q (made p b s place))
-turned_landed_at batch flush ns f q k o e p b s Home h = refl
 turned_landed_at batch flush ns f q k o e p b s (InFlight g) h =
     ap (λ v. cond v (made p (batch b) s q) (made p (batch b) s (InFlight (flush g)))) (same_number flush ns g f k h o)
     ∙ (elim (g == f) as (λ v. cond v (made p (batch b) s q) (made p (batch b) s (InFlight (flush g))) ≡ turned batch flush (cond v (made p b s q) (made p b s (InFlight g)))) [ true ↦ ap (made p (batch b) s) (sym e) | false ↦ refl ])
-turned_landed_at batch flush ns f q k o e p b s Acknowledged h = refl
-turned_landed_at batch flush ns f q k o e p b s Dropped h = refl
+turned_landed_at batch flush ns f q k o e p b s place h = refl
 
 turned_landed : (batch flush : ℕ → ℕ) (ns : List ℕ) (f : ℕ) (q : Place) → KeepsApart flush (f ∷ ns) → turned_place flush q ≡ q → (qs : List Accepted) → list_all (flies_in ns) qs ≡ true → map (landed (flush f) q) (map (turned batch flush) qs) ≡ map (turned batch flush) (map (landed f q) qs)
 turned_landed batch flush ns f q k e qs h = map_where (flies_in (f ∷ ns)) (landed (flush f) q) (turned batch flush) (landed f q) (λ a l. turned_landed_at batch flush (f ∷ ns) f q k (first_one f ns) e a.point a.batch a.sender a.place l) qs (all_later (f ∷ []) ns qs h)
 
 turned_moved : (batch flush : ℕ → ℕ) (G : History) (qs : List Accepted) → KeepsApart flush (numbers flush_number G) → list_all (flies_in []) qs ≡ true → moved (renumbered batch flush G) (map (turned batch flush) qs) ≡ map (turned batch flush) (moved G qs)
 turned_moved batch flush (Opened O) qs k h = refl
-turned_moved batch flush (G ▸ Admit b body) qs k h = turned_moved batch flush G qs k h
-turned_moved batch flush (G ▸ Undo b) qs k h = turned_moved batch flush G qs k h
-turned_moved batch flush (G ▸ Confirm b) qs k h = turned_moved batch flush G qs k h
 turned_moved batch flush (G ▸ Take f series) qs k h = ap (map (taken (flush f) series)) (turned_moved batch flush G qs (apart_last flush (f ∷ []) (numbers flush_number G) k) h) ∙ turned_taken batch flush f series (moved G qs)
 turned_moved batch flush (G ▸ Settle f) qs k h = ap (map (landed (flush f) Acknowledged)) (turned_moved batch flush G qs (apart_last flush (f ∷ []) (numbers flush_number G) k) h) ∙ turned_landed batch flush (numbers flush_number G) f Acknowledged k refl (moved G qs) (moved_flies G qs h)
 turned_moved batch flush (G ▸ Drop f) qs k h = ap (map (landed (flush f) Dropped)) (turned_moved batch flush G qs (apart_last flush (f ∷ []) (numbers flush_number G) k) h) ∙ turned_landed batch flush (numbers flush_number G) f Dropped k refl (moved G qs) (moved_flies G qs h)
 turned_moved batch flush (G ▸ GiveBack f) qs k h = ap (map (landed (flush f) Home)) (turned_moved batch flush G qs (apart_last flush (f ∷ []) (numbers flush_number G) k) h) ∙ turned_landed batch flush (numbers flush_number G) f Home k refl (moved G qs) (moved_flies G qs h)
-turned_moved batch flush (G ▸ Quarantine s) qs k h = turned_moved batch flush G qs k h
-turned_moved batch flush (G ▸ Lift s) qs k h = turned_moved batch flush G qs k h
+turned_moved batch flush (G ▸ e) qs k h = turned_moved batch flush G qs k h
 
 turned_admitted : (batch flush : ℕ → ℕ) (b : ℕ) (s : List ℕ) (ps : List DataPoint) → map (turned batch flush) (map (admitted b s) ps) ≡ map (admitted (batch b) s) ps
 turned_admitted batch flush b s [] = refl
@@ -212,8 +175,7 @@ turned_news batch flush (G ▸ Take f series) j k = ap (map (taken (flush f) ser
 turned_news batch flush (G ▸ Settle f) j k = ap (map (landed (flush f) Acknowledged)) (turned_news batch flush G j (apart_last flush (f ∷ []) (numbers flush_number G) k)) ∙ turned_landed batch flush (numbers flush_number G) f Acknowledged k refl (news G) (news_fly G)
 turned_news batch flush (G ▸ Drop f) j k = ap (map (landed (flush f) Dropped)) (turned_news batch flush G j (apart_last flush (f ∷ []) (numbers flush_number G) k)) ∙ turned_landed batch flush (numbers flush_number G) f Dropped k refl (news G) (news_fly G)
 turned_news batch flush (G ▸ GiveBack f) j k = ap (map (landed (flush f) Home)) (turned_news batch flush G j (apart_last flush (f ∷ []) (numbers flush_number G) k)) ∙ turned_landed batch flush (numbers flush_number G) f Home k refl (news G) (news_fly G)
-turned_news batch flush (G ▸ Quarantine s) j k = turned_news batch flush G j k
-turned_news batch flush (G ▸ Lift s) j k = turned_news batch flush G j k
+turned_news batch flush (G ▸ e) j k = turned_news batch flush G j k
 
 -- points but for their batches
 
@@ -239,9 +201,7 @@ unnumbered_moved (G ▸ e) qs = unnumbered_moved G qs
 
 unnumbered_home_at : (p : DataPoint) (b : ℕ) (s : List ℕ) (place : Place) → is_home place ≡ true → unnumbered (made p b s place) ≡ bare (made p b s place)
 unnumbered_home_at p b s Home h = refl
-unnumbered_home_at p b s (InFlight f) h = absurd (let q : false ≡ true = h in cc)
-unnumbered_home_at p b s Acknowledged h = absurd (let q : false ≡ true = h in cc)
-unnumbered_home_at p b s Dropped h = absurd (let q : false ≡ true = h in cc)
+unnumbered_home_at p b s place h = absurd (let q : false ≡ true = h in cc)
 
 unnumbered_home : (qs : List Accepted) → list_all (λ a. is_home a.place) qs ≡ true → map unnumbered qs ≡ map bare qs
 unnumbered_home [] h = refl
@@ -265,26 +225,14 @@ bare_fly : (qs : List Accepted) → list_all (flies_in []) (map bare qs) ≡ tru
 bare_fly [] = refl
 bare_fly (a ∷ qs) = bare_fly qs
 
-home_all : (qs : List Accepted) → list_all (λ a. is_home a.place) (filter (stands is_home) qs) ≡ true
-home_all [] = refl
-home_all (a ∷ qs) = both (is_home a.place) refl (home_all qs)
-  where
-    both : (v : Bool) → is_home a.place ≡ v → list_all (λ a. is_home a.place) (filter (stands is_home) qs) ≡ true → list_all (λ a. is_home a.place) (filter (stands is_home) (a ∷ qs)) ≡ true
-    both true e r = rw e (and_from (is_home a.place) (list_all (λ a. is_home a.place) (filter (stands is_home) qs)) e r)
-    both false e r = rw e r
-
 -- the numbers of moved do not count
 moved_as : (batch other flush : ℕ → ℕ) (G : History) (qs : List Accepted) → moved (renumbered batch flush G) qs ≡ moved (renumbered other flush G) qs
 moved_as batch other flush (Opened O) qs = refl
-moved_as batch other flush (G ▸ Admit b body) qs = moved_as batch other flush G qs
-moved_as batch other flush (G ▸ Undo b) qs = moved_as batch other flush G qs
-moved_as batch other flush (G ▸ Confirm b) qs = moved_as batch other flush G qs
 moved_as batch other flush (G ▸ Take f series) qs = ap (map (taken (flush f) series)) (moved_as batch other flush G qs)
 moved_as batch other flush (G ▸ Settle f) qs = ap (map (landed (flush f) Acknowledged)) (moved_as batch other flush G qs)
 moved_as batch other flush (G ▸ Drop f) qs = ap (map (landed (flush f) Dropped)) (moved_as batch other flush G qs)
 moved_as batch other flush (G ▸ GiveBack f) qs = ap (map (landed (flush f) Home)) (moved_as batch other flush G qs)
-moved_as batch other flush (G ▸ Quarantine s) qs = moved_as batch other flush G qs
-moved_as batch other flush (G ▸ Lift s) qs = moved_as batch other flush G qs
+moved_as batch other flush (G ▸ e) qs = moved_as batch other flush G qs
 
 -- what was pending before G, and what came with G
 abbrev late : History → History → List Accepted
@@ -300,10 +248,10 @@ late_same batch flush H K G e j k =
     olds : map unnumbered (moved (renumbered batch flush G) (home_points K)) ≡ map (turned as_is flush) (map unnumbered (moved G (home_points H)))
     olds =
         sym (unnumbered_moved (renumbered batch flush G) (home_points K))
-        ∙ (ap (moved (renumbered batch flush G)) (unnumbered_home (home_points K) (home_all (points K)) ∙ (e ∙ sym (turned_bare flush (home_points H))))
+        ∙ (ap (moved (renumbered batch flush G)) (unnumbered_home (home_points K) (filter_all (stands is_home) (points K)) ∙ (e ∙ sym (turned_bare flush (home_points H))))
         ∙ (moved_as batch as_is flush G (map (turned as_is flush) (map bare (home_points H)))
         ∙ (turned_moved as_is flush G (map bare (home_points H)) k (bare_fly (home_points H))
-        ∙ ap (map (turned as_is flush)) (ap (moved G) (sym (unnumbered_home (home_points H) (home_all (points H)))) ∙ unnumbered_moved G (home_points H)))))
+        ∙ ap (map (turned as_is flush)) (ap (moved G) (sym (unnumbered_home (home_points H) (filter_all (stands is_home) (points H)))) ∙ unnumbered_moved G (home_points H)))))
 
     new : map unnumbered (news (renumbered batch flush G)) ≡ map (turned as_is flush) (map unnumbered (news G))
     new =
@@ -381,7 +329,7 @@ record Beside (batch flush : ℕ → ℕ) (H K G : History) : Type 0 where
 late_flies : (H G : History) → list_all (flies_in (numbers flush_number G)) (map unnumbered (late H G)) ≡ true
 late_flies H G =
     all_map (flies_in (numbers flush_number G)) (flies_in (numbers flush_number G)) unnumbered (λ a h. h) (late H G)
-    (all_append (flies_in (numbers flush_number G)) (moved G (home_points H)) (news G) (moved_flies G (home_points H) (all_weaker (λ a. is_home a.place) (flies_in []) (λ a h. home_flies a.point a.batch a.sender a.place h) (home_points H) (home_all (points H)))) (news_fly G))
+    (all_append (flies_in (numbers flush_number G)) (moved G (home_points H)) (news G) (moved_flies G (home_points H) (all_weaker (λ a. is_home a.place) (flies_in []) (λ a h. home_flies a.point a.batch a.sender a.place h) (home_points H) (filter_all (stands is_home) (points H)))) (news_fly G))
   where
     home_flies : (p : DataPoint) (b : ℕ) (s : List ℕ) (place : Place) → is_home place ≡ true → flies_in [] (made p b s place) ≡ true
     home_flies p b s Home h = refl
@@ -410,12 +358,7 @@ open_own batch flush ns H K (G ▸ Admit d body) k c e l m b i h =
     ]
 open_own batch flush ns H K (G ▸ Undo d) k c e l m b i h = open_own batch flush ns H K G k (λ q g. c q (any_append_right (λ n. n == q) (d ∷ []) (numbers batch_number G) g)) e l.0 m.0 b i (any_filter (λ n. n == batch b) (is_another (batch d)) (open_batches (K then renumbered batch flush G)) h)
 open_own batch flush ns H K (G ▸ Confirm d) k c e l m b i h = open_own batch flush ns H K G k (λ q g. c q (any_append_right (λ n. n == q) (d ∷ []) (numbers batch_number G) g)) e l.0 m.0 b i (any_filter (λ n. n == batch b) (is_another (batch d)) (open_batches (K then renumbered batch flush G)) h)
-open_own batch flush ns H K (G ▸ Take f series) k c e l m b i h = open_own batch flush ns H K G k c e l.0 m.0 b i h
-open_own batch flush ns H K (G ▸ Settle f) k c e l m b i h = open_own batch flush ns H K G k c e l.0 m.0 b i h
-open_own batch flush ns H K (G ▸ Drop f) k c e l m b i h = open_own batch flush ns H K G k c e l.0 m.0 b i h
-open_own batch flush ns H K (G ▸ GiveBack f) k c e l m b i h = open_own batch flush ns H K G k c e l.0 m.0 b i h
-open_own batch flush ns H K (G ▸ Quarantine s) k c e l m b i h = open_own batch flush ns H K G k c e l.0 m.0 b i h
-open_own batch flush ns H K (G ▸ Lift s) k c e l m b i h = open_own batch flush ns H K G k c e l.0 m.0 b i h
+open_own batch flush ns H K (G ▸ v) k c e l m b i h = open_own batch flush ns H K G k c e l.0 m.0 b i h
 
 undoes_own : (batch flush : ℕ → ℕ) (H K G : History) → KeepsApart batch (numbers batch_number G) → open_batches K ≡ [] → IsLegal (H then G) → IsLegal (K then renumbered batch flush G) → UndoesOwn H G × UndoesOwn K (renumbered batch flush G)
 undoes_own batch flush H K (Opened O) k e l m = (tt, tt)
@@ -425,12 +368,7 @@ undoes_own batch flush H K (G ▸ Undo b) k e l m =
     let r = undoes_own batch flush H K G (apart_last batch (b ∷ []) (numbers batch_number G) k) e l.0 m.0 in
     ((n.0, r.0), (n.1, r.1))
 undoes_own batch flush H K (G ▸ Confirm b) k e l m = undoes_own batch flush H K G (apart_last batch (b ∷ []) (numbers batch_number G) k) e l.0 m.0
-undoes_own batch flush H K (G ▸ Take f series) k e l m = undoes_own batch flush H K G k e l.0 m.0
-undoes_own batch flush H K (G ▸ Settle f) k e l m = undoes_own batch flush H K G k e l.0 m.0
-undoes_own batch flush H K (G ▸ Drop f) k e l m = undoes_own batch flush H K G k e l.0 m.0
-undoes_own batch flush H K (G ▸ GiveBack f) k e l m = undoes_own batch flush H K G k e l.0 m.0
-undoes_own batch flush H K (G ▸ Quarantine s) k e l m = undoes_own batch flush H K G k e l.0 m.0
-undoes_own batch flush H K (G ▸ Lift s) k e l m = undoes_own batch flush H K G k e l.0 m.0
+undoes_own batch flush H K (G ▸ v) k e l m = undoes_own batch flush H K G k e l.0 m.0
 
 -- flushes and senders
 
@@ -445,89 +383,56 @@ live_ended f ns ls h = all_filter (numbered_in (f ∷ ns)) (is_other_flight f) l
 
 live_numbers : (H G : History) → live_flushes H ≡ [] → list_all (numbered_in (numbers flush_number G)) (live_flushes (H then G)) ≡ true
 live_numbers H (Opened O) e = ap (list_all (numbered_in [])) e
-live_numbers H (G ▸ Admit b body) e = live_numbers H G e
-live_numbers H (G ▸ Undo b) e = live_numbers H G e
-live_numbers H (G ▸ Confirm b) e = live_numbers H G e
 live_numbers H (G ▸ Take f series) e = all_append (numbered_in (f ∷ numbers flush_number G)) (live_flushes (H then G)) (record { number = f; series = series } ∷ []) (live_later f (numbers flush_number G) (live_flushes (H then G)) (live_numbers H G e)) (and_from (is_one_of f (f ∷ numbers flush_number G)) true (first_one f (numbers flush_number G)) refl)
 live_numbers H (G ▸ Settle f) e = live_ended f (numbers flush_number G) (live_flushes (H then G)) (live_numbers H G e)
 live_numbers H (G ▸ Drop f) e = live_ended f (numbers flush_number G) (live_flushes (H then G)) (live_numbers H G e)
 live_numbers H (G ▸ GiveBack f) e = live_ended f (numbers flush_number G) (live_flushes (H then G)) (live_numbers H G e)
-live_numbers H (G ▸ Quarantine s) e = live_numbers H G e
-live_numbers H (G ▸ Lift s) e = live_numbers H G e
+live_numbers H (G ▸ v) e = live_numbers H G e
 
 other_flights : (flush : ℕ → ℕ) (f : ℕ) (ns : List ℕ) → KeepsApart flush (f ∷ ns) → (ls : List Flight) → list_all (numbered_in ns) ls ≡ true → filter (is_other_flight (flush f)) (map (renumbered_flight flush) ls) ≡ map (renumbered_flight flush) (filter (is_other_flight f) ls)
-other_flights flush f ns k [] h = refl
-other_flights flush f ns k (l ∷ ls) h =
-    let p = and_parts (numbered_in ns l) (list_all (numbered_in ns) ls) h in
-    ap (λ v. cond (not v) (renumbered_flight flush l ∷ filter (is_other_flight (flush f)) (map (renumbered_flight flush) ls)) (filter (is_other_flight (flush f)) (map (renumbered_flight flush) ls))) (same_number flush (f ∷ ns) l.number f k (any_append_right (λ n. n == l.number) (f ∷ []) ns p.0) (first_one f ns))
-    ∙ (elim (l.number == f) as (λ v. cond (not v) (renumbered_flight flush l ∷ filter (is_other_flight (flush f)) (map (renumbered_flight flush) ls)) (filter (is_other_flight (flush f)) (map (renumbered_flight flush) ls)) ≡ map (renumbered_flight flush) (cond (not v) (l ∷ filter (is_other_flight f) ls) (filter (is_other_flight f) ls))) [
-      | true ↦ other_flights flush f ns k ls p.1
-      | false ↦ ap (λ us. renumbered_flight flush l ∷ us) (other_flights flush f ns k ls p.1)
-    ])
+other_flights flush f ns k ls h = filter_where (numbered_in ns) (is_other_flight (flush f)) (is_other_flight f) (renumbered_flight flush) (λ l i. ap not (same_number flush (f ∷ ns) l.number f k (any_append_right (λ n. n == l.number) (f ∷ []) ns i) (first_one f ns))) ls h
 
 live_same : (batch flush : ℕ → ℕ) (H K G : History) → live_flushes H ≡ [] → live_flushes K ≡ [] → KeepsApart flush (numbers flush_number G) → live_flushes (K then renumbered batch flush G) ≡ map (renumbered_flight flush) (live_flushes (H then G))
 live_same batch flush H K (Opened O) d e k = e ∙ sym (ap (map (renumbered_flight flush)) d)
-live_same batch flush H K (G ▸ Admit b body) d e k = live_same batch flush H K G d e k
-live_same batch flush H K (G ▸ Undo b) d e k = live_same batch flush H K G d e k
-live_same batch flush H K (G ▸ Confirm b) d e k = live_same batch flush H K G d e k
 live_same batch flush H K (G ▸ Take f series) d e k =
     ap (λ ls. ls ++ record { number = flush f; series = series } ∷ []) (live_same batch flush H K G d e (apart_last flush (f ∷ []) (numbers flush_number G) k))
     ∙ sym (map-append (renumbered_flight flush) (live_flushes (H then G)) (record { number = f; series = series } ∷ []))
 live_same batch flush H K (G ▸ Settle f) d e k = ap (filter (is_other_flight (flush f))) (live_same batch flush H K G d e (apart_last flush (f ∷ []) (numbers flush_number G) k)) ∙ other_flights flush f (numbers flush_number G) k (live_flushes (H then G)) (live_numbers H G d)
 live_same batch flush H K (G ▸ Drop f) d e k = ap (filter (is_other_flight (flush f))) (live_same batch flush H K G d e (apart_last flush (f ∷ []) (numbers flush_number G) k)) ∙ other_flights flush f (numbers flush_number G) k (live_flushes (H then G)) (live_numbers H G d)
 live_same batch flush H K (G ▸ GiveBack f) d e k = ap (filter (is_other_flight (flush f))) (live_same batch flush H K G d e (apart_last flush (f ∷ []) (numbers flush_number G) k)) ∙ other_flights flush f (numbers flush_number G) k (live_flushes (H then G)) (live_numbers H G d)
-live_same batch flush H K (G ▸ Quarantine s) d e k = live_same batch flush H K G d e k
-live_same batch flush H K (G ▸ Lift s) d e k = live_same batch flush H K G d e k
+live_same batch flush H K (G ▸ v) d e k = live_same batch flush H K G d e k
 
 held_same : (batch flush : ℕ → ℕ) (H K G : History) → held_senders K ≡ held_senders H → held_senders (K then renumbered batch flush G) ≡ held_senders (H then G)
 held_same batch flush H K (Opened O) e = e
-held_same batch flush H K (G ▸ Admit b body) e = held_same batch flush H K G e
-held_same batch flush H K (G ▸ Undo b) e = held_same batch flush H K G e
-held_same batch flush H K (G ▸ Confirm b) e = held_same batch flush H K G e
-held_same batch flush H K (G ▸ Take f series) e = held_same batch flush H K G e
-held_same batch flush H K (G ▸ Settle f) e = held_same batch flush H K G e
-held_same batch flush H K (G ▸ Drop f) e = held_same batch flush H K G e
-held_same batch flush H K (G ▸ GiveBack f) e = held_same batch flush H K G e
 held_same batch flush H K (G ▸ Quarantine s) e = ap (held_after (Quarantine s)) (held_same batch flush H K G e)
 held_same batch flush H K (G ▸ Lift s) e = ap (held_after (Lift s)) (held_same batch flush H K G e)
+held_same batch flush H K (G ▸ v) e = held_same batch flush H K G e
 
 -- what is chosen
 
 home_turned : (flush : ℕ → ℕ) (place : Place) → is_home (turned_place flush place) ≡ is_home place
-home_turned flush Home = refl
 home_turned flush (InFlight f) = refl
-home_turned flush Acknowledged = refl
-home_turned flush Dropped = refl
+home_turned flush place = refl
 
 flying_turned : (flush : ℕ → ℕ) (place : Place) → is_flying (turned_place flush place) ≡ is_flying place
-flying_turned flush Home = refl
 flying_turned flush (InFlight f) = refl
-flying_turned flush Acknowledged = refl
-flying_turned flush Dropped = refl
+flying_turned flush place = refl
 
 not_home : (place : Place) → is_settled_at place ≡ true → is_home place ≡ false
 not_home Home h = absurd (let q : false ≡ true = h in cc)
-not_home (InFlight f) h = refl
-not_home Acknowledged h = refl
-not_home Dropped h = refl
+not_home place h = refl
 
 not_flying : (place : Place) → is_settled_at place ≡ true → is_flying place ≡ false
-not_flying Home h = refl
 not_flying (InFlight f) h = absurd (let q : false ≡ true = h in cc)
-not_flying Acknowledged h = refl
-not_flying Dropped h = refl
+not_flying place h = refl
 
 not_in_flight : (f : ℕ) (place : Place) → is_settled_at place ≡ true → is_in_flight f place ≡ false
-not_in_flight f Home h = refl
 not_in_flight f (InFlight g) h = absurd (let q : false ≡ true = h in cc)
-not_in_flight f Acknowledged h = refl
-not_in_flight f Dropped h = refl
+not_in_flight f place h = refl
 
 flight_turned : (flush : ℕ → ℕ) (ns : List ℕ) (f : ℕ) → KeepsApart flush ns → is_one_of f ns ≡ true → (place : Place) → flies_in_at ns place ≡ true → is_in_flight (flush f) (turned_place flush place) ≡ is_in_flight f place
-flight_turned flush ns f k o Home h = refl
 flight_turned flush ns f k o (InFlight g) h = same_number flush ns g f k h o
-flight_turned flush ns f k o Acknowledged h = refl
-flight_turned flush ns f k o Dropped h = refl
+flight_turned flush ns f k o place h = refl
 
 in_live_same : (flush : ℕ → ℕ) (x : Identity) (ls : List Flight) → is_in_live (map (renumbered_flight flush) ls) x ≡ is_in_live ls x
 in_live_same flush x [] = refl
@@ -568,15 +473,11 @@ cargo_same batch flush H K G b f o x =
 
 taken_number : (G : History) (f : ℕ) → is_taken_in G f ≡ true → is_one_of f (numbers flush_number G) ≡ true
 taken_number (Opened O) f t = t
-taken_number (G ▸ Admit b body) f t = taken_number G f t
-taken_number (G ▸ Undo b) f t = taken_number G f t
-taken_number (G ▸ Confirm b) f t = taken_number G f t
 taken_number (G ▸ Take g series) f t = elim (or_cases (g == f) (is_taken_in G f) t) [ inl e ↦ or_left (g == f) (is_one_of f (numbers flush_number G)) e | inr e ↦ any_append_right (λ n. n == f) (g ∷ []) (numbers flush_number G) (taken_number G f e) ]
 taken_number (G ▸ Settle g) f t = any_append_right (λ n. n == f) (g ∷ []) (numbers flush_number G) (taken_number G f t)
 taken_number (G ▸ Drop g) f t = any_append_right (λ n. n == f) (g ∷ []) (numbers flush_number G) (taken_number G f t)
 taken_number (G ▸ GiveBack g) f t = any_append_right (λ n. n == f) (g ∷ []) (numbers flush_number G) (taken_number G f t)
-taken_number (G ▸ Quarantine s) f t = taken_number G f t
-taken_number (G ▸ Lift s) f t = taken_number G f t
+taken_number (G ▸ e) f t = taken_number G f t
 
 flush_at : (M : History) (f g : ℕ) (series : List Identity) → (g == f) ≡ true → flush_points (M ▸ Take g series) f ≡ present (map (λ x. merged x (filter (is_cargo f x) (points (M ▸ Take g series)))) series)
 flush_at M f g series e = ap (λ v. present (map (λ x. merged x (cond v (filter (is_cargo f x) (points (M ▸ Take g series))) (cargo M f x))) (cond v series (series_taken M f)))) e
@@ -614,8 +515,7 @@ sent_same batch flush H K p d e o (G ▸ Take g series) i k l m f t = both (g ==
 sent_same batch flush H K p d e o (G ▸ Settle g) i k l m f t = sent_same batch flush H K p d e o G i (apart_last flush (g ∷ []) (numbers flush_number G) k) l.0 m.0 f t
 sent_same batch flush H K p d e o (G ▸ Drop g) i k l m f t = sent_same batch flush H K p d e o G i (apart_last flush (g ∷ []) (numbers flush_number G) k) l.0 m.0 f t
 sent_same batch flush H K p d e o (G ▸ GiveBack g) i k l m f t = sent_same batch flush H K p d e o G i (apart_last flush (g ∷ []) (numbers flush_number G) k) l.0 m.0 f t
-sent_same batch flush H K p d e o (G ▸ Quarantine s) i k l m f t = sent_same batch flush H K p d e o G i k l.0 m.0 f t
-sent_same batch flush H K p d e o (G ▸ Lift s) i k l m f t = sent_same batch flush H K p d e o G i k l.0 m.0 f t
+sent_same batch flush H K p d e o (G ▸ v) i k l m f t = sent_same batch flush H K p d e o G i k l.0 m.0 f t
 
 -- owners and frontiers
 

@@ -1,5 +1,5 @@
 -- Past rows add up: what is past after a close is what was past before, and what came to it in the round.
-use Rattle.std.proofs.Common.{◌≡◌, ℕ, Bool, true, false, List, [], ◌∷◌, ◌++◌, map, refl, ap, sym, ◌∙◌, arith}
+use Rattle.std.proofs.Common.{◌≡◌, ℕ, Bool, true, false, List, [], ◌∷◌, ◌++◌, map, refl, ap, sym, ◌∙◌}
 use Rattle.std.specs.List.{list_any, filter}
 use Rattle.std.proofs.lemmas.Bool.{or_parts}
 use Rattle.series_id.specs.Identity.{Identity, row_length}
@@ -20,13 +20,13 @@ use Rattle.metric_events.proofs.Identities.{same_series-turned}
 use Rattle.metric_events.proofs.Lists.{any_none, filter_none}
 use Rattle.metric_events.proofs.Marks.{marked}
 use Rattle.metric_events.proofs.SeriesOnce.{among_in_order}
-use Rattle.metric_events.proofs.Sums.{add_rows-zeros, length-zeros}
+use Rattle.metric_events.proofs.Sums.{twice_zeros}
 
 -- a row of the past that is handed on: that of the round is added to that of before
 abbrev Adds : (OpenedSeries → List ℕ) → (Place → Bool) → List OpenedSeries → List Accepted → List (List ℕ) → Type 0
 Adds row test before qs held = (x : Identity) → row (handed_on before (series_standing qs held x)) ≡ add_rows (sum_where test x qs) (past row x before)
 
-abbrev handed : List OpenedSeries → List Accepted → List (List ℕ) → List Identity → List OpenedSeries
+abbrev pub handed : List OpenedSeries → List Accepted → List (List ℕ) → List Identity → List OpenedSeries
 handed before qs held xs = map (handed_on before) (map (series_standing qs held) xs)
 
 -- a series that is handed on
@@ -69,7 +69,7 @@ adds E l row test k x = both (list_any (is_of x) (points E)) refl
     both false e =
         let before : past row x (opening E).series ≡ zeros (row_length x.kind) = past_none row x (opening E).series (unmarked E) (sym (ap (list_any (is_of x)) (marked E l)) ∙ e) in
         past_gone row (opening E).series (points E) (held_senders E) x (series_in_order (points E)) (among_in_order x (points E) ∙ e)
-        ∙ sym (rw (none_there test x (points E) e, before) (add_rows-zeros (row_length x.kind) (zeros (row_length x.kind)) (omega (arith, length-zeros (row_length x.kind)))))
+        ∙ sym (rw (none_there test x (points E) e, before) (twice_zeros (row_length x.kind)))
 
 pub past_adds_up : (E : History) (x : Identity) → IsLegal E → PastAddsUp E x
 past_adds_up E x l = record {

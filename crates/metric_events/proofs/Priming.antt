@@ -3,6 +3,7 @@ use Rattle.std.proofs.Common.{◌≡◌, ℕ, pos, ◌+◌, ◌-◌, ◌≤◌, 
 use Rattle.std.specs.Prelude.{nat_le, slice_index}
 use Rattle.std.specs.List.{list_any, list_all, All}
 use Rattle.std.proofs.lemmas.Bool.{and_parts, and_from, or_from, or_left, or_right, or_parts, not-true, le-leb, leb-true}
+use Rattle.std.proofs.lemmas.List.{length-map}
 use Rattle.std.proofs.lemmas.List.Elements.{filter-append}
 use Rattle.series_id.specs.Identity.{Identity, row_length}
 use Rattle.series_id.specs.declared.kinds.Kind.{Kind}
@@ -16,21 +17,22 @@ use Rattle.metric_events.specs.DataPoint.{DataPoint, IsPoint, IsRowOfOne}
 use Rattle.metric_events.specs.History.{History, Opened, opening, ◌▸◌, ◌then◌}
 use Rattle.metric_events.specs.Points.{points, is_among, mark, carried, admitted, taken, landed, is_of_other_batch}
 use Rattle.metric_events.specs.Running.{held_senders}
-use Rattle.metric_events.specs.Series.{is_of, of_series, owner, frontier, row_sum, sum_of, series_count}
+use Rattle.metric_events.specs.Series.{is_of, of_series, owner, frontier, row_sum, sum_of}
 use Rattle.metric_events.specs.Legal.{IsLegal, MayAdmit, are_distinct, is_clear, is_held, is_over}
 use Rattle.metric_events.specs.Recovery.{bare, not_pending, is_not_home, Remembers, HasSpace, IsAtMost}
 use Rattle.metric_events.specs.Priming.{Known, IsKnown, zero_row, zero_point, primer, primer_point, primer_points, all_known, owner_among, frontier_among, KnowsExactly, AdmitsNothing, Primes}
 use Rattle.metric_events.specs.declared.accepted.Accepted.{Accepted}
 use Rattle.metric_events.specs.declared.place.Place.TheVariants.{Home, Acknowledged, Dropped}
-use Rattle.metric_events.specs.declared.event.Event.TheVariants.{Admit, Undo, Confirm, Take, Settle, Drop, GiveBack, Quarantine, Lift}
+use Rattle.metric_events.specs.declared.event.Event.TheVariants.{Admit, Undo, Take, Settle, Drop, GiveBack}
 use Rattle.metric_events.proofs.Identities.{same_of, same_series-turned}
 use Rattle.metric_events.proofs.Lists.{all_append, all_filter, all_weaker, any_map, filter_none}
 use Rattle.metric_events.proofs.Invariants.{all_taken, all_landed}
+use Rattle.metric_events.proofs.Counts.{count_length}
 use Rattle.metric_events.proofs.Intervals.{interval_is}
-use Rattle.metric_events.proofs.Fits.{within_le, taken_point, landed_point, sum_of-map}
-use Rattle.metric_events.proofs.Sums.{RowLe, row_le_zeros, add_rows-zeros, add_rows-comm, added_at, length-zeros}
-use Rattle.metric_events.proofs.Bare.{bare_owner, bare_frontier, bare_sum, all_bare, row_at_most}
-use Rattle.metric_events.proofs.Behind.{moved, news, only_behind}
+use Rattle.metric_events.proofs.Fits.{taken_point, landed_point, sum_of-map, zeros_within}
+use Rattle.metric_events.proofs.Sums.{row_le_zeros, add_rows-zeros, add_rows-comm, added_at, length-zeros}
+use Rattle.metric_events.proofs.Bare.{bare_owner, bare_frontier, bare_sum, all_bare}
+use Rattle.metric_events.proofs.Behind.{moved, moved_keeps, news, only_behind}
 use Rattle.metric_events.proofs.Kept.{moved_owner, moved_frontier, moved_any, only_moved}
 use Rattle.metric_events.proofs.Recovering.{pending_behind, known}
 
@@ -77,16 +79,13 @@ primed_law F S G ks w g = record {
 
 -- such a point may be admitted
 
-zeros_in : (limit : ℕ → ℕ) (n : ℕ) → are_within limit (zeros n) ≡ true
-zeros_in limit n = within_le limit (zeros n) [] (row_le_zeros n []) refl
-
 zeros_total : (n : ℕ) → sum (zeros n) ≡ 0
 zeros_total zero = refl
 zeros_total (suc n) = omega (arith, zeros_total n)
 
 zero_fits : (kind : Kind) → fits kind (zero_row kind) ≡ true
 zero_fits (Sum monotonic) = refl
-zero_fits (Histogram bounds) = and_from (are_within (word_limit (Histogram bounds)) (zero_row (Histogram bounds))) (nat_le (sum (zeros (length bounds + 1))) MAX_COUNT) (zeros_in (λ k. word_limit (Histogram bounds) (suc (suc (suc k)))) (length bounds + 1)) (le-leb (sum (zeros (length bounds + 1))) MAX_COUNT (omega (arith, zeros_total (length bounds + 1))))
+zero_fits (Histogram bounds) = and_from (are_within (word_limit (Histogram bounds)) (zero_row (Histogram bounds))) (nat_le (sum (zeros (length bounds + 1))) MAX_COUNT) (zeros_within (λ k. word_limit (Histogram bounds) (suc (suc (suc k)))) (length bounds + 1)) (le-leb (sum (zeros (length bounds + 1))) MAX_COUNT (omega (arith, zeros_total (length bounds + 1))))
 
 zero_long : (kind : Kind) → length (zero_row kind) ≡ row_length kind
 zero_long (Sum monotonic) = refl
@@ -119,17 +118,6 @@ others x (k ∷ ks) h =
     let p = or_parts (same_series x k.series) (is_among x (all_known ks)) h in
     and_from (not (same_series k.series x)) (list_all (λ a. not (is_of x a)) (primer_points ks)) (ap not (same_series-turned k.series x ∙ p.0)) (others x ks p.1)
 
-count_length : (qs : List Accepted) → series_count qs ≤ length qs
-count_length [] = omega arith
-count_length (a ∷ qs) = elim (list_any (is_of a.point.series) qs) as (λ v. cond v (series_count qs) (1 + series_count qs) ≤ length (a ∷ qs)) [
-  | true ↦ omega (arith, count_length qs)
-  | false ↦ omega (arith, count_length qs)
-]
-
-length_map : {X Y : Type 0} (f : X → Y) (xs : List X) → length (map f xs) ≡ length xs
-length_map f [] = refl
-length_map f (x ∷ xs) = omega (arith, length_map f xs)
-
 pub primable_law : (F S : History) (b : ℕ) (k : Known) (ks : List Known) → Primes F S ks → IsKnown k → is_among k.series (all_known ks) ≡ false → length ks < MAX_SERIES → is_held k.owner (held_senders (F then S)) ≡ false → HasSpace (F then S) b → MayAdmit (F then S) b (primer k)
 primable_law F S b k ks w g d c u h = record {
   fresh = h.fresh;
@@ -160,7 +148,7 @@ primable_law F S b k ks w g d c u h = record {
         ∙ subst (λ (qs : List Accepted). list_all (λ a. not (is_of k.series a)) qs ≡ true) (sym same) (others k.series ks d))
 
     long : length (points (F then S)) ≡ length ks
-    long = ap length mine ∙ (sym (length_map bare (news S)) ∙ (ap length same ∙ length_map primer_point ks))
+    long = ap length mine ∙ (sym (length-map (news S) bare) ∙ (ap length same ∙ length-map ks primer_point))
 
     own : of_series k.series (admitted b k.owner (zero_point k) ∷ []) ≡ admitted b k.owner (zero_point k) ∷ []
     own = ap (λ v. cond v (admitted b k.owner (zero_point k) ∷ []) []) (same_series-refl k.series)
@@ -190,13 +178,11 @@ all_count : (E : History) → IsLegal E → (opening E).series ≡ [] → list_a
 all_count (Opened O) l e = ap (λ ss. list_all (λ a. nat_le 1 (slice_index a.point.row 0)) (map mark ss ++ carried ss)) e
 all_count (E ▸ Admit b body) l e = all_append (λ a. nat_le 1 (slice_index a.point.row 0)) (points E) (map (admitted b body.sender) body.points) (all_count E l.0 e) (counts_admitted b body.sender body.points l.1.made)
 all_count (E ▸ Undo b) l e = all_filter (λ a. nat_le 1 (slice_index a.point.row 0)) (is_of_other_batch b) (points E) (all_count E l.0 e)
-all_count (E ▸ Confirm b) l e = all_count E l.0 e
 all_count (E ▸ Take f series) l e = all_taken (λ p b s. nat_le 1 (slice_index p.row 0)) f series (points E) (all_count E l.0 e)
 all_count (E ▸ Settle f) l e = all_landed (λ p b s. nat_le 1 (slice_index p.row 0)) f Acknowledged (points E) (all_count E l.0 e)
 all_count (E ▸ Drop f) l e = all_landed (λ p b s. nat_le 1 (slice_index p.row 0)) f Dropped (points E) (all_count E l.0 e)
 all_count (E ▸ GiveBack f) l e = all_landed (λ p b s. nat_le 1 (slice_index p.row 0)) f Home (points E) (all_count E l.0 e)
-all_count (E ▸ Quarantine s) l e = all_count E l.0 e
-all_count (E ▸ Lift s) l e = all_count E l.0 e
+all_count (E ▸ v) l e = all_count E l.0 e
 
 sum_counts : (x : Identity) (qs : List Accepted) → list_all (λ a. nat_le 1 (slice_index a.point.row 0)) qs ≡ true → list_any (is_of x) qs ≡ true → 1 ≤ slice_index (sum_of x qs) 0
 sum_counts x [] h k = absurd (let q : false ≡ true = k in cc)
@@ -209,45 +195,39 @@ sum_counts x (a ∷ qs) h k = both (is_of x a) refl (sum_counts x qs p.1)
     both true e r = rw e (omega (arith, leb-true 1 (slice_index a.point.row 0) p.0, added_at a.point.row (sum_of x qs) 0))
     both false e r = let k2 : list_any (is_of x) qs ≡ true = rw e at k in rw e (r k2)
 
-one_le : (n : ℕ) (ys : List ℕ) → 1 ≤ slice_index ys 0 → RowLe (1 ∷ zeros n) ys
+one_le : (n : ℕ) (ys : List ℕ) → 1 ≤ slice_index ys 0 → IsAtMost (1 ∷ zeros n) ys
 one_le n [] h = absurd (omega (arith, h))
 one_le n (y ∷ ys) h = (omega (arith, h), row_le_zeros n ys)
 
-zero_row_le : (kind : Kind) (ys : List ℕ) → 1 ≤ slice_index ys 0 → RowLe (zero_row kind) ys
+zero_row_le : (kind : Kind) (ys : List ℕ) → 1 ≤ slice_index ys 0 → IsAtMost (zero_row kind) ys
 zero_row_le (Sum monotonic) ys h = one_le 2 ys h
 zero_row_le (Histogram bounds) ys h = one_le (suc (suc (length bounds + 1))) ys h
 
 primer_row : (kind : Kind) → add_rows (zero_row kind) (zeros (row_length kind)) ≡ zero_row kind
 primer_row kind = add_rows-comm (zero_row kind) (zeros (row_length kind)) ∙ add_rows-zeros (row_length kind) (zero_row kind) (omega (arith, zero_long kind))
 
-primer_sum : (x : Identity) (ks : List Known) (ys : List ℕ) → are_distinct (all_known ks) ≡ true → (list_any (is_of x) (primer_points ks) ≡ true → 1 ≤ slice_index ys 0) → RowLe (sum_of x (primer_points ks)) ys
+primer_sum : (x : Identity) (ks : List Known) (ys : List ℕ) → are_distinct (all_known ks) ≡ true → (list_any (is_of x) (primer_points ks) ≡ true → 1 ≤ slice_index ys 0) → IsAtMost (sum_of x (primer_points ks)) ys
 primer_sum x [] ys d h = row_le_zeros (row_length x.kind) ys
 primer_sum x (k ∷ ks) ys d h = both (same_series k.series x) refl (primer_sum x ks ys p.1)
   where
     p : (not (is_among k.series (all_known ks)) ≡ true) × (are_distinct (all_known ks) ≡ true)
     p = and_parts (not (is_among k.series (all_known ks))) (are_distinct (all_known ks)) d
 
-    both : (v : Bool) → same_series k.series x ≡ v → ((list_any (is_of x) (primer_points ks) ≡ true → 1 ≤ slice_index ys 0) → RowLe (sum_of x (primer_points ks)) ys) → RowLe (sum_of x (primer_points (k ∷ ks))) ys
+    both : (v : Bool) → same_series k.series x ≡ v → ((list_any (is_of x) (primer_points ks) ≡ true → 1 ≤ slice_index ys 0) → IsAtMost (sum_of x (primer_points ks)) ys) → IsAtMost (sum_of x (primer_points (k ∷ ks))) ys
     both true e r =
         let z = same_series-exact k.series x e in
         let away : list_all (λ a. not (is_of x a)) (primer_points ks) ≡ true = subst (λ y. list_all (λ a. not (is_of y a)) (primer_points ks) ≡ true) z (others k.series ks (not-true (is_among k.series (all_known ks)) p.0)) in
         let none = filter_none (is_of x) (primer_points ks) away in
         let one : 1 ≤ slice_index ys 0 = h (or_left (same_series k.series x) (list_any (is_of x) (primer_points ks)) e) in
-        rw (e, none) (subst (λ y. RowLe (add_rows (zero_row y.kind) (zeros (row_length x.kind))) ys) (sym z) (subst (λ ws. RowLe ws ys) (sym (primer_row x.kind)) (zero_row_le x.kind ys one)))
+        rw (e, none) (subst (λ y. IsAtMost (add_rows (zero_row y.kind) (zeros (row_length x.kind))) ys) (sym z) (subst (λ ws. IsAtMost ws ys) (sym (primer_row x.kind)) (zero_row_le x.kind ys one)))
     both false e r = rw e (r (λ n. h (or_right (same_series k.series x) (list_any (is_of x) (primer_points ks)) n)))
 
 moved_sum : (x : Identity) (G : History) (qs : List Accepted) → sum_of x (moved G qs) ≡ sum_of x qs
-moved_sum x (Opened O) qs = refl
-moved_sum x (G ▸ Take f series) qs = sum_of-map x (taken f series) (taken_point f series) (moved G qs) ∙ moved_sum x G qs
-moved_sum x (G ▸ Settle f) qs = sum_of-map x (landed f Acknowledged) (landed_point f Acknowledged) (moved G qs) ∙ moved_sum x G qs
-moved_sum x (G ▸ Drop f) qs = sum_of-map x (landed f Dropped) (landed_point f Dropped) (moved G qs) ∙ moved_sum x G qs
-moved_sum x (G ▸ GiveBack f) qs = sum_of-map x (landed f Home) (landed_point f Home) (moved G qs) ∙ moved_sum x G qs
-moved_sum x (G ▸ e) qs = moved_sum x G qs
+moved_sum x G qs = moved_keeps (λ us. sum_of x us ≡ sum_of x qs) (λ f series us e. sum_of-map x (taken f series) (taken_point f series) us ∙ e) (λ f q us e. sum_of-map x (landed f q) (landed_point f q) us ∙ e) G qs refl
 
 pub spared_law : (F S G E : History) (ks : List Known) (x : Identity) → Primes F S ks → AdmitsNothing G → IsLegal ((F then S) then G) → IsLegal E → (opening E).series ≡ [] → Remembers ((F then S) then G) E → IsAtMost (sum_of x (points ((F then S) then G))) (sum_of x (not_pending E))
 spared_law F S G E ks x w g l m b h =
-    row_at_most (sum_of x (points ((F then S) then G))) (sum_of x (not_pending E))
-    (subst (λ ws. RowLe ws (sum_of x (not_pending E))) (sym sums) (primer_sum x ks (sum_of x (not_pending E)) w.distinct (λ k. sum_counts x (not_pending E) (all_filter (λ a. nat_le 1 (slice_index a.point.row 0)) is_not_home (points E) (all_count E m b)) (sym (known E ((F then S) then G) m l h x) ∙ (there ∙ k)))))
+    subst (λ ws. IsAtMost ws (sum_of x (not_pending E))) (sym sums) (primer_sum x ks (sum_of x (not_pending E)) w.distinct (λ k. sum_counts x (not_pending E) (all_filter (λ a. nat_le 1 (slice_index a.point.row 0)) is_not_home (points E) (all_count E m b)) (sym (known E ((F then S) then G) m l h x) ∙ (there ∙ k))))
   where
     sums : sum_of x (points ((F then S) then G)) ≡ sum_of x (primer_points ks)
     sums = ap (sum_of x) (only_moved (F then S) G g) ∙ (moved_sum x G (points (F then S)) ∙ (ap (sum_of x) (primed_points F S ks w) ∙ (sym (bare_sum x (news S)) ∙ ap (sum_of x) (primed_bare F S ks w))))

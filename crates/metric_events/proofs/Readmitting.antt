@@ -24,8 +24,8 @@ use Rattle.metric_events.proofs.Senders.{same_sender-sym}
 use Rattle.metric_events.proofs.Held.{held_once}
 use Rattle.metric_events.proofs.WithinLimits.{few_held}
 use Rattle.metric_events.proofs.Fits.{fits_le, sums_fit}
-use Rattle.metric_events.proofs.Sums.{RowLe, row_le_trans, row_le_add, row_le_add_both, add_rows-comm, add_rows-assoc, add_rows_swap, add_rows-zeros, length-zeros}
-use Rattle.metric_events.proofs.Bare.{bare_sum, bare_admitted, sum_append, at_most}
+use Rattle.metric_events.proofs.Sums.{row_le_trans, row_le_add, row_le_add_both, add_rows-comm, add_rows-assoc, add_rows_swap, add_rows-zeros, length-zeros}
+use Rattle.metric_events.proofs.Bare.{bare_sum, bare_admitted, sum_append}
 use Rattle.metric_events.proofs.Behind.{news, only_behind, live_then}
 use Rattle.metric_events.proofs.Recovering.{home_points, pending_behind, alike_law, admitted_law}
 
@@ -42,20 +42,20 @@ sum_parts x h (a ∷ qs) = both (is_of x a) (h a) refl refl (sum_parts x h qs)
     both false false d g r = rw (g, d) r
 
 -- of four rows
-no_more : (f e a b c : List ℕ) → RowLe f e → RowLe (add_rows (add_rows f a) b) (add_rows e (add_rows a (add_rows b c)))
+no_more : (f e a b c : List ℕ) → IsAtMost f e → IsAtMost (add_rows (add_rows f a) b) (add_rows e (add_rows a (add_rows b c)))
 no_more f e a b c h =
-    subst (λ ws. RowLe ws (add_rows e (add_rows a (add_rows b c)))) (add_rows-comm (add_rows a b) f ∙ sym (add_rows-assoc f a b))
+    subst (λ ws. IsAtMost ws (add_rows e (add_rows a (add_rows b c)))) (add_rows-comm (add_rows a b) f ∙ sym (add_rows-assoc f a b))
     (row_le_trans (add_rows (add_rows a b) f) (add_rows (add_rows a b) e) (add_rows e (add_rows a (add_rows b c)))
     (row_le_add_both (add_rows a b) f e h)
-    (subst (λ ws. RowLe ws (add_rows e (add_rows a (add_rows b c)))) (add_rows-comm e (add_rows a b))
+    (subst (λ ws. IsAtMost ws (add_rows e (add_rows a (add_rows b c)))) (add_rows-comm e (add_rows a b))
     (row_le_add_both e (add_rows a b) (add_rows a (add_rows b c))
-    (subst (λ ws. RowLe (add_rows a b) ws) (add_rows-comm c (add_rows a b) ∙ add_rows-assoc a b c) (row_le_add c (add_rows a b))))))
+    (subst (λ ws. IsAtMost (add_rows a b) ws) (add_rows-comm c (add_rows a b) ∙ add_rows-assoc a b c) (row_le_add c (add_rows a b))))))
 
-sum_le : (E F S : History) (b : ℕ) (body : Batch) (rest : List Accepted) (x : Identity) → Remembers F E → FlushesNothing S → IsLegal (F then S) → pending (F then S) ++ (bare_points body ++ rest) ≡ pending E → IsAtMost (sum_of x (points F)) (sum_of x (not_pending E)) → RowLe (sum_of x (points ((F then S) ▸ Admit b body))) (sum_of x (points E))
+sum_le : (E F S : History) (b : ℕ) (body : Batch) (rest : List Accepted) (x : Identity) → Remembers F E → FlushesNothing S → IsLegal (F then S) → pending (F then S) ++ (bare_points body ++ rest) ≡ pending E → IsAtMost (sum_of x (points F)) (sum_of x (not_pending E)) → IsAtMost (sum_of x (points ((F then S) ▸ Admit b body))) (sum_of x (points E))
 sum_le E F S b body rest x r n m e h =
-    subst (λ ws. RowLe ws (sum_of x (points E))) (sym left)
-    (subst (λ ws. RowLe (add_rows (add_rows (sum_of x (points F)) (sum_of x (pending (F then S)))) (sum_of x (bare_points body))) ws) (sym right)
-    (no_more (sum_of x (points F)) (sum_of x (not_pending E)) (sum_of x (pending (F then S))) (sum_of x (bare_points body)) (sum_of x rest) (at_most (sum_of x (points F)) (sum_of x (not_pending E)) h)))
+    subst (λ ws. IsAtMost ws (sum_of x (points E))) (sym left)
+    (subst (λ ws. IsAtMost (add_rows (add_rows (sum_of x (points F)) (sum_of x (pending (F then S)))) (sum_of x (bare_points body))) ws) (sym right)
+    (no_more (sum_of x (points F)) (sum_of x (not_pending E)) (sum_of x (pending (F then S))) (sum_of x (bare_points body)) (sum_of x rest) h))
   where
     left : sum_of x (points ((F then S) ▸ Admit b body)) ≡ add_rows (add_rows (sum_of x (points F)) (sum_of x (pending (F then S)))) (sum_of x (bare_points body))
     left =

@@ -18,14 +18,12 @@ use Rattle.metric_events.specs.declared.opened_series.OpenedSeries.{OpenedSeries
 use Rattle.metric_events.specs.declared.accepted.Accepted.{Accepted}
 use Rattle.metric_events.proofs.Identities.{same_series-turned}
 use Rattle.metric_events.proofs.Lists.{all_filter, filter_none}
-use Rattle.metric_events.proofs.Sums.{RowLe, row_le_zeros}
+use Rattle.metric_events.proofs.Sums.{row_le_zeros}
 use Rattle.metric_events.proofs.SeriesOnce.{among_in_order}
-use Rattle.metric_events.proofs.Bare.{none_owner, none_frontier, row_at_most}
+use Rattle.metric_events.proofs.Bare.{none_owner, none_frontier}
 use Rattle.metric_events.proofs.Behind.{live_then}
+use Rattle.metric_events.proofs.Pasts.{handed}
 use Rattle.metric_events.proofs.Turns.{rested_law}
-
-abbrev handed : List OpenedSeries → List Accepted → List (List ℕ) → List Identity → List OpenedSeries
-handed before qs held xs = map (handed_on before) (map (series_standing qs held) xs)
 
 -- nothing is carried
 nothing_carried : (before : List OpenedSeries) (qs : List Accepted) (held : List (List ℕ)) → list_all (λ a. not (is_home a.place)) qs ≡ true → (xs : List Identity) → carried (handed before qs held xs) ≡ []
@@ -81,15 +79,15 @@ marks_landed (s ∷ ss) = marks_landed ss
 
 -- sums of marks are no greater than any
 
-zeros_more : (n : ℕ) (zs ys : List ℕ) → RowLe zs ys → RowLe (add_rows (zeros n) zs) ys
+zeros_more : (n : ℕ) (zs ys : List ℕ) → IsAtMost zs ys → IsAtMost (add_rows (zeros n) zs) ys
 zeros_more zero zs ys h = h
 zeros_more (suc n) [] ys h = row_le_zeros (suc n) ys
 zeros_more (suc n) (z ∷ zs) [] h = (omega (arith, h.0), zeros_more n zs [] h.1)
 zeros_more (suc n) (z ∷ zs) (y ∷ ys) h = (omega (arith, h.0), zeros_more n zs ys h.1)
 
-marks_sum : (x : Identity) (ss : List OpenedSeries) (ys : List ℕ) → RowLe (sum_of x (map mark ss)) ys
+marks_sum : (x : Identity) (ss : List OpenedSeries) (ys : List ℕ) → IsAtMost (sum_of x (map mark ss)) ys
 marks_sum x [] ys = row_le_zeros (row_length x.kind) ys
-marks_sum x (s ∷ ss) ys = elim (same_series s.series x) as (λ v. RowLe (row_sum (row_length x.kind) (cond v (mark s ∷ of_series x (map mark ss)) (of_series x (map mark ss)))) ys) [
+marks_sum x (s ∷ ss) ys = elim (same_series s.series x) as (λ v. IsAtMost (row_sum (row_length x.kind) (cond v (mark s ∷ of_series x (map mark ss)) (of_series x (map mark ss)))) ys) [
   | true ↦ zeros_more (row_length s.series.kind) (sum_of x (map mark ss)) ys (marks_sum x ss ys)
   | false ↦ marks_sum x ss ys
 ]
@@ -107,7 +105,7 @@ closed_law E R r n l = (
     owners = λ x. ap (owner x) (marks_of E r) ∙ (mark_owner x (opening E).series (points E) (held_senders E) (series_in_order (points E)) ∙ (ap (λ v. cond v (owner x (points E)) []) (among_in_order x (points E)) ∙ (known_owner x (points E) ∙ ap (owner x) (sym same))));
     frontiers = λ x. ap (frontier x) (marks_of E r) ∙ (mark_frontier x (opening E).series (points E) (held_senders E) (series_in_order (points E)) ∙ (ap (λ v. cond v (frontier x (points E)) 0) (among_in_order x (points E)) ∙ (known_frontier x (points E) ∙ ap (frontier x) (sym same))));
   },
-  λ x. row_at_most (sum_of x (points (Opened (close E)))) (sum_of x (not_pending (E then R))) (rw (marks_of E r) (marks_sum x (close E).series (sum_of x (not_pending (E then R))))),
+  λ x. rw (marks_of E r) (marks_sum x (close E).series (sum_of x (not_pending (E then R)))),
 )
   where
     same : not_pending (E then R) ≡ points E

@@ -18,7 +18,7 @@ use Rattle.metric_events.specs.declared.flight.Flight.{Flight}
 use Rattle.metric_events.specs.declared.accepted.Accepted.{Accepted}
 use Rattle.metric_events.specs.declared.place.Place.{Place}
 use Rattle.metric_events.specs.declared.place.Place.TheVariants.{Home, InFlight, Acknowledged, Dropped}
-use Rattle.metric_events.specs.declared.event.Event.TheVariants.{Admit, Undo, Confirm, Take, Settle, Drop, GiveBack, Quarantine, Lift}
+use Rattle.metric_events.specs.declared.event.Event.TheVariants.{Admit, Undo, Take, Settle, Drop, GiveBack}
 use Rattle.metric_events.proofs.Identities.{same_series-turned}
 use Rattle.metric_events.proofs.Lists.{all_always, all_append, all_first, all_last, all_filter, all_map, all_both, all_weaker, filter_keeps, filter_none}
 use Rattle.metric_events.proofs.Moves.{made, rides, rides-in_live, apart_at}
@@ -100,13 +100,11 @@ news_in_turn E (R ▸ Admit b body) r l =
     (turn_numbered b body.sender body.points (points E ++ news R)
     (turn_order body.sender body.points (points E ++ news R) ∙ subst (λ (us : List Accepted). is_in_order us body.sender body.points ≡ true) (rest_behind E R r l.0) l.1.in_order))
 news_in_turn E (R ▸ Undo b) r l = turn_filter (is_of_other_batch b) (news R) (points E) (news_in_turn E R r l.0)
-news_in_turn E (R ▸ Confirm b) r l = news_in_turn E R r l.0
 news_in_turn E (R ▸ Take f series) r l = turn_map (taken f series) (keeps_taken f series) (news R) (points E) (news_in_turn E R r l.0)
 news_in_turn E (R ▸ Settle f) r l = turn_map (landed f Acknowledged) (keeps_landed f Acknowledged) (news R) (points E) (news_in_turn E R r l.0)
 news_in_turn E (R ▸ Drop f) r l = turn_map (landed f Dropped) (keeps_landed f Dropped) (news R) (points E) (news_in_turn E R r l.0)
 news_in_turn E (R ▸ GiveBack f) r l = turn_map (landed f Home) (keeps_landed f Home) (news R) (points E) (news_in_turn E R r l.0)
-news_in_turn E (R ▸ Quarantine s) r l = news_in_turn E R r l.0
-news_in_turn E (R ▸ Lift s) r l = news_in_turn E R r l.0
+news_in_turn E (R ▸ e) r l = news_in_turn E R r l.0
 
 -- in a series, the states of two points, one behind the other: nothing that has landed is behind what is pending or in flight, nothing in flight behind what is pending, and what is in flight is in one flight
 
@@ -115,12 +113,8 @@ may_follow Acknowledged q = true
 may_follow Dropped q = true
 may_follow (InFlight f) Home = true
 may_follow (InFlight f) (InFlight g) = f == g
-may_follow (InFlight f) Acknowledged = false
-may_follow (InFlight f) Dropped = false
 may_follow Home Home = true
-may_follow Home (InFlight g) = false
-may_follow Home Acknowledged = false
-may_follow Home Dropped = false
+may_follow p q = false
 
 abbrev follows : Accepted → Accepted → Bool
 follows a b = not (same_series a.point.series b.point.series) || may_follow a.place b.place
@@ -134,15 +128,11 @@ follow_home Home Home h = refl
 follow_home (InFlight f) Home h = refl
 follow_home Acknowledged q h = refl
 follow_home Dropped q h = refl
-follow_home p (InFlight f) h = absurd (let q : false ≡ true = h in cc)
-follow_home p Acknowledged h = absurd (let q : false ≡ true = h in cc)
-follow_home p Dropped h = absurd (let q : false ≡ true = h in cc)
+follow_home p q h = absurd (let q : false ≡ true = h in cc)
 
 follow_itself : (p : Place) → may_follow p p ≡ true
-follow_itself Home = refl
 follow_itself (InFlight f) = eq-eqb f f refl
-follow_itself Acknowledged = refl
-follow_itself Dropped = refl
+follow_itself place = refl
 
 all_homes : (a : Accepted) (us : List Accepted) → list_all (λ b. is_home b.place) us ≡ true → list_all (follows a) us ≡ true
 all_homes a us h = all_weaker (λ b. is_home b.place) (follows a) (λ b k. or_right (not (same_series a.point.series b.point.series)) (may_follow a.place b.place) (follow_home a.place b.place k)) us h
@@ -196,20 +186,14 @@ follow_taken f v Acknowledged q j k h = refl
 follow_taken f v Dropped q j k h = refl
 follow_taken f true Home Home j k h = eq-eqb f f refl
 follow_taken f false Home Home j k h = refl
-follow_taken f v Home (InFlight g) j k h = absurd (let q : false ≡ true = h in cc)
-follow_taken f v Home Acknowledged j k h = absurd (let q : false ≡ true = h in cc)
-follow_taken f v Home Dropped j k h = absurd (let q : false ≡ true = h in cc)
+follow_taken f v Home q j k h = absurd (let q : false ≡ true = h in cc)
 follow_taken f true (InFlight i) q j k h = absurd (let q : true ≡ false = j refl in cc)
 follow_taken f false (InFlight i) Home j k h = refl
-follow_taken f false (InFlight i) (InFlight g) j k h = h
-follow_taken f false (InFlight i) Acknowledged j k h = h
-follow_taken f false (InFlight i) Dropped j k h = h
+follow_taken f false (InFlight i) q j k h = h
 
 not_flying : (live : List Flight) (series : List Identity) → list_all (λ y. not (is_in_live live y)) series ≡ true → (p : DataPoint) (b : ℕ) (s : List ℕ) (place : Place) → rides live (made p b s place) ≡ true → is_among p.series series ≡ true → is_flying place ≡ false
-not_flying live series e p b s Home r h = refl
 not_flying live series e p b s (InFlight g) r h = absurd (let q : true ≡ false = sym h ∙ apart_at live series p.series e (rides-in_live live p.series g r) in cc)
-not_flying live series e p b s Acknowledged r h = refl
-not_flying live series e p b s Dropped r h = refl
+not_flying live series e p b s place r h = refl
 
 after_taken : (live : List Flight) (f : ℕ) (series : List Identity) → list_all (λ y. not (is_in_live live y)) series ≡ true → (qs : List Accepted) → list_all (rides live) qs ≡ true → are_after qs ≡ true → are_after (map (taken f series) qs) ≡ true
 after_taken live f series e qs r h = after_map (rides live) (taken f series) (λ a b m n. follow_changed a b (taken f series a) (taken f series b) (taken_point f series a) (taken_point f series b) (λ s k. step a b m n s k)) qs r h
@@ -225,13 +209,9 @@ follow_landed : (f : ℕ) (r p q : Place) → may_follow p q ≡ true → may_fo
 follow_landed f r Acknowledged q h = refl
 follow_landed f r Dropped q h = refl
 follow_landed f r Home Home h = refl
-follow_landed f r Home (InFlight g) h = absurd (let q : false ≡ true = h in cc)
-follow_landed f r Home Acknowledged h = absurd (let q : false ≡ true = h in cc)
-follow_landed f r Home Dropped h = absurd (let q : false ≡ true = h in cc)
 follow_landed f r (InFlight i) Home h = follow_home (cond (i == f) r (InFlight i)) Home refl
 follow_landed f r (InFlight i) (InFlight g) h = subst (λ n. may_follow (cond (i == f) r (InFlight i)) (cond (n == f) r (InFlight n)) ≡ true) (eqb-true i g h) (follow_itself (cond (i == f) r (InFlight i)))
-follow_landed f r (InFlight i) Acknowledged h = absurd (let q : false ≡ true = h in cc)
-follow_landed f r (InFlight i) Dropped h = absurd (let q : false ≡ true = h in cc)
+follow_landed f r p q h = absurd (let q : false ≡ true = h in cc)
 
 after_landed : (f : ℕ) (q : Place) (qs : List Accepted) → are_after qs ≡ true → are_after (map (landed f q) qs) ≡ true
 after_landed f q qs h = after_map (λ a. true) (landed f q) (λ a b m n. follow_changed a b (landed f q a) (landed f q b) (landed_point f q a) (landed_point f q b) (λ s k. step a b k)) qs (all_always (λ a. true) (λ a. refl) qs) h
@@ -249,13 +229,11 @@ news_after : (E R : History) → IsAtRest E → IsLegal (E then R) → are_after
 news_after E (Opened O) r l = refl
 news_after E (R ▸ Admit b body) r l = after_homes (news R) (map (admitted b body.sender) body.points) (news_after E R r l.0) (home_admitted b body.sender body.points)
 news_after E (R ▸ Undo b) r l = after_filter (is_of_other_batch b) (news R) (news_after E R r l.0)
-news_after E (R ▸ Confirm b) r l = news_after E R r l.0
 news_after E (R ▸ Take f series) r l = after_taken (live_flushes (E then R)) f series l.1.apart (news R) (news_ride E R r l.0) (news_after E R r l.0)
 news_after E (R ▸ Settle f) r l = after_landed f Acknowledged (news R) (news_after E R r l.0)
 news_after E (R ▸ Drop f) r l = after_landed f Dropped (news R) (news_after E R r l.0)
 news_after E (R ▸ GiveBack f) r l = after_landed f Home (news R) (news_after E R r l.0)
-news_after E (R ▸ Quarantine s) r l = news_after E R r l.0
-news_after E (R ▸ Lift s) r l = news_after E R r l.0
+news_after E (R ▸ e) r l = news_after E R r l.0
 
 -- what is pending may come after all the rest
 
@@ -279,12 +257,8 @@ none_behind a h (b ∷ qs) k = both (is_home b.place) refl (none_behind a h qs p
 
     away : (p q : Place) → is_home p ≡ true → is_home q ≡ false → may_follow p q ≡ false
     away Home Home h k = absurd (let q : true ≡ false = k in cc)
-    away Home (InFlight g) h k = refl
-    away Home Acknowledged h k = refl
-    away Home Dropped h k = refl
-    away (InFlight f) q h k = absurd (let q : false ≡ true = h in cc)
-    away Acknowledged q h k = absurd (let q : false ≡ true = h in cc)
-    away Dropped q h k = absurd (let q : false ≡ true = h in cc)
+    away Home q h k = refl
+    away p q h k = absurd (let q : false ≡ true = h in cc)
 
     clear : (v : Bool) → same_series a.point.series b.point.series ≡ v → is_home b.place ≡ false → is_clear a.sender a.point b.point b.sender ≡ true
     clear true e n = absurd (let m = away a.place b.place h n in let q : (not true || false) ≡ true = rw (e, m) at p.0 in cc)

@@ -1,9 +1,6 @@
 -- A recovery worked out by the definitions.
-use Rattle.std.proofs.Common.{◌≡◌, ℕ, ◌+◌, List, [], ◌∷◌, refl, true, false}
-use Rattle.series_id.specs.Identity.{Identity}
+use Rattle.std.proofs.Common.{◌≡◌, ℕ, ◌+◌, [], ◌∷◌, refl, true, false}
 use Rattle.series_id.specs.Order.{same_series, series_before, series_cmp, scope_cmp, metric_cmp}
-use Rattle.series_id.specs.declared.kinds.Kind.TheVariants.{Sum}
-use Rattle.metric_events.specs.DataPoint.{DataPoint}
 use Rattle.metric_events.specs.History.{History, Start, Opened, ◌▸◌, ◌then◌}
 use Rattle.metric_events.specs.Points.{points}
 use Rattle.metric_events.specs.Running.{held_senders}
@@ -16,18 +13,7 @@ use Rattle.metric_events.specs.Priming.{primer}
 use Rattle.metric_events.specs.Lasting.{renumbered}
 use Rattle.metric_events.specs.declared.batch.Batch.{Batch}
 use Rattle.metric_events.specs.declared.event.Event.TheVariants.{Admit, Undo, Confirm, Take, Settle, Quarantine, Lift}
-
-abbrev of_name : ℕ → Identity
-of_name c = record { resource = []; scope_name = []; scope_version = []; scope_attrs = []; name = c ∷ []; unit = []; kind = Sum false; attrs = [] }
-
-abbrev req : Identity
-req = of_name 114
-
-abbrev point : Identity → ℕ → ℕ → ℕ → DataPoint
-point x start end value = record { series = x; span = record { start = start; end = end }; row = 1 ∷ value ∷ 0 ∷ [] }
-
-abbrev batch : ℕ → List DataPoint → Batch
-batch s ps = record { sender = s ∷ []; points = ps }
+use Rattle.metric_events.proofs.WorkedHistories.{of_name, req, point, batch}
 
 abbrev settled : History → Batch → History
 settled E body = E ▸ Admit 1 body ▸ Confirm 1 ▸ Take 1 (req ∷ []) ▸ Settle 1

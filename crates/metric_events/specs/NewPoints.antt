@@ -1,6 +1,5 @@
 -- The points that are made of a series, a span and what was measured.
-use Rattle.std.specs.Prelude.{ℕ, ℤ, List}
-use Rattle.std.specs.declared.option.Option.{Option}
+use Rattle.std.specs.Prelude.{ℕ, ℤ, List, Option}
 use Rattle.series_id.specs.Identity.{Identity}
 use Rattle.metric_events.specs.DataPoint.{DataPoint}
 use Rattle.metric_events.specs.Rows.{sum_row, histogram_row}

@@ -9,7 +9,7 @@ use Rattle.std.specs.BTreeMap.{IsOrdered}
 use Rattle.std.proofs.lemmas.Bool.{cases_Bool}
 use Rattle.std.proofs.lemmas.Map.Text.{is_eq-slice_cmp}
 use Rattle.std.proofs.lemmas.Slice.Eq.{bytes_eq-Decides}
-use Rattle.serde_json.specs.Data.{Data, null, boolean, number, string, array, object, Members}
+use Rattle.serde_json.specs.Data.{Data, object, Members}
 use Rattle.serde_json.specs.Find.{get_member, as_object}
 use Rattle.serde_json.specs.View.{view, members_view}
 use Rattle.serde_json.specs.declared.value.Value.{Value}
@@ -59,18 +59,10 @@ all_passed name m es slot ordered none so_far =
 -- a value that has members is their object
 pub object_is : (d : Data) (ms : Members) → as_object d ≡ Some ms → d ≡ object ms
 object_is (object ns) ms is = cc
-object_is null ms is = absurd cc
-object_is (boolean b) ms is = absurd cc
-object_is (number n) ms is = absurd cc
-object_is (string s) ms is = absurd cc
-object_is (array ds) ms is = absurd cc
+object_is d ms is = absurd cc
 
 -- what is no object has no field
 pub no_field : (name : List ℕ) (d : Data) → as_object d ≡ None → field name d ≡ None
 unfolding field
-no_field name null is = refl
-no_field name (boolean b) is = refl
-no_field name (number n) is = refl
-no_field name (string s) is = refl
-no_field name (array ds) is = refl
 no_field name (object ms) is = absurd cc
+no_field name d is = refl

@@ -16,9 +16,8 @@ use Rattle.serde_json.specs.Data.{Data}
 use Rattle.series_id.specs.declared.limits.TheConstants.{MAX_BOUND}
 use Rattle.otlp_read.specs.Integers.{signed_in}
 use Rattle.otlp_read.specs.Fields.{field}
-use Rattle.otlp_read.specs.Lists.{list_in}
 use Rattle.otlp_read.specs.Histograms.{kind_in}
-use Rattle.otlp_read.specs.Lists.{◌>>=◌}
+use Rattle.otlp_read.specs.Lists.{◌>>=◌, list_in}
 use Rattle.otlp_read.specs.Attributes.{attributes_in}
 use Rattle.otlp_read.specs.Streams.{Stream, identity_in, series_in, series_of}
 

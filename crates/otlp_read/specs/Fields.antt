@@ -1,20 +1,15 @@
 -- The fields of an object that are no containers: texts, booleans, flags, the temporality, times.
 use Rattle.std.specs.Prelude.{ℕ, ◌-◌, ◌^◌, ◌%◌, List, [], length, Bool, true, false, ◌==◌, nat_le}
 use Rattle.std.specs.Prelude.{if◌then◌else◌, Option, Some, None, option_and_then}
-use Rattle.serde_json.specs.Data.{Data, null, boolean, number, string, array, object}
+use Rattle.serde_json.specs.Data.{Data, null}
 use Rattle.serde_json.specs.Find.{get, as_str, as_bool, as_number, as_u64}
 use Rattle.series_id.specs.declared.limits.TheConstants.{MAX_TEXT}
 use Rattle.otlp_read.specs.Integers.{unsigned_in, unsigned_64}
 
 -- null counts as absent
 abbrev pub present : Option Data → Option Data
-present None = None
 present (Some null) = None
-present (Some (boolean b)) = Some (boolean b)
-present (Some (number n)) = Some (number n)
-present (Some (string s)) = Some (string s)
-present (Some (array ds)) = Some (array ds)
-present (Some (object ms)) = Some (object ms)
+present found = found
 
 -- the member of this name, if it is present; a value that is no object has none
 unfoldable pub field : List ℕ → Data → Option Data

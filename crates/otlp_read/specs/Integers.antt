@@ -2,7 +2,7 @@
 use Rattle.std.specs.Prelude.{ℕ, suc, ◌-◌, ◌^◌, ℤ, pos, negsuc, neg_ℤ, List, [], ◌∷◌, Option, Some}
 use Rattle.std.specs.Prelude.{None, option_map, nat_le, if◌then◌else◌, ◌==◌}
 use Rattle.decimals.specs.Numbers.{number_up_to}
-use Rattle.serde_json.specs.Data.{Data, null, boolean, number, string, array, object}
+use Rattle.serde_json.specs.Data.{Data, number, string}
 use Rattle.serde_json.specs.Find.{as_integer}
 
 -- one or more decimal digits, also with leading zeros, of a number below 2^64: no range is larger
@@ -18,18 +18,14 @@ text_whole (b ∷ bs) =
 
 -- the whole number of a value: a number without fraction and exponent, or a text of digits
 abbrev pub whole : Data → Option ℤ
-whole null = None
-whole (boolean b) = None
 whole (number n) = as_integer n
 whole (string s) = text_whole s
-whole (array ds) = None
-whole (object ms) = None
+whole d = None
 
 -- a number from 0 to most
 abbrev pub up_to : ℕ → Option ℤ → Option ℕ
-up_to most None = None
 up_to most (Some (pos n)) = if nat_le n most then Some n else None
-up_to most (Some (negsuc n)) = None
+up_to most found = None
 
 -- the number of a value, if it is a whole number from 0 to most
 unfoldable pub unsigned_in : ℕ → Data → Option ℕ

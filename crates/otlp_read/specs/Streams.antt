@@ -1,6 +1,5 @@
 -- The parts of an identity that points share: resource, scope and metric; and series.
-use Rattle.std.specs.Prelude.{ℕ, Bool, List, Option, Some, None, if◌then◌else◌}
-use Rattle.std.specs.Prelude.{codes}
+use Rattle.std.specs.Prelude.{ℕ, Bool, List, Option, Some, None, if◌then◌else◌, codes}
 use Rattle.std.specs.Result.{result_ok}
 use Rattle.serde_json.specs.Data.{Data}
 use Rattle.series_id.specs.declared.attributes.Attribute.{Attribute}
@@ -44,11 +43,9 @@ stream_in scope metric part = do
   above ← scope
   name ← text_in (field (codes "name") metric)
   unit ← text_in (field (codes "unit") metric)
-  if is_delta (field (codes "aggregationTemporality") part) then Some (record {
-    scope = above;
-    name = name;
-    unit = unit;
-  }) else None
+  if is_delta (field (codes "aggregationTemporality") part)
+      then Some (record { scope = above; name = name; unit = unit })
+      else None
 
 -- a stream of sums, and whether they are monotonic
 pub record SumStream : Type 0 where

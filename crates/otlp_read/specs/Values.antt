@@ -43,9 +43,7 @@ only_of None None None = Some Empty
 only_of (Some d) None None = option_map Text (as_str d)
 only_of None (Some d) None = option_map Truth (as_bool d)
 only_of None None (Some d) = option_map Int (signed_64 d)
-only_of (Some d) (Some e) int = None
-only_of (Some d) None (Some e) = None
-only_of None (Some d) (Some e) = None
+only_of text truth int = None
 
 -- a scalar, if there is neither a list nor one of the other values
 unfoldable pub scalar_of : ValueFields → Option Scalar

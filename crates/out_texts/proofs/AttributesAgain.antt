@@ -27,17 +27,13 @@ use Rattle.out_texts.proofs.Grouping.{elements_of_items, all_again}
 
 scalar_again : (x : Scalar) → IsScalar x → scalar_in (scalar_value x) ≡ Some x
 unfolding scalar_in scalar_of fields_of has_other field scalar_value
-scalar_again Empty h = refl
-scalar_again (Truth b) h = refl
 scalar_again (Int n) h = rw (signed_again n h) refl
-scalar_again (Text t) h = refl
+scalar_again x h = refl
 
 one_again : (x : Scalar) → IsScalar x → value_of (scalar_value x) ≡ Some (One x)
 unfolding value_of scalar_of fields_of has_other field scalar_value
-one_again Empty h = refl
-one_again (Truth b) h = refl
 one_again (Int n) h = rw (signed_again n h) refl
-one_again (Text t) h = refl
+one_again x h = refl
 
 list_again : (xs : List Scalar) → AllByRecursion IsScalar xs → list_in scalar_in (Some (array (items_of (map scalar_value xs)))) ≡ Some xs
 unfolding elements_in

@@ -1,7 +1,6 @@
 -- Texts of any bytes in reports and replies, escaped.
 use Rattle.std.specs.Prelude.{ℕ, ◌+◌, ◌/◌, ◌%◌, List, [], ◌∷◌, Bool, ◌||◌, ◌&&◌, ◌==◌, nat_lt}
-use Rattle.std.specs.Prelude.{nat_le, if◌then◌else◌}
-use Rattle.std.specs.List.{flat_map}
+use Rattle.std.specs.Prelude.{nat_le, if◌then◌else◌, flat_map}
 
 -- A-Z a-z 0-9 . _ - /
 abbrev pub is_plain : ℕ → Bool

@@ -1,6 +1,5 @@
 -- The totals of earlier rounds: a line for each series.
-use Rattle.std.specs.Prelude.{List, ◌++◌, ℕ, codes}
-use Rattle.std.specs.List.{flat_map}
+use Rattle.std.specs.Prelude.{List, ◌++◌, ℕ, codes, flat_map}
 use Rattle.delta_book.specs.PastRows.{PastRow}
 use Rattle.out_texts.specs.Rows.{labeled_row}
 use Rattle.out_texts.specs.SeriesNames.{series_name, kind_text}

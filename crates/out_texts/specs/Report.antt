@@ -1,6 +1,5 @@
 -- The report of a store: a line for each series.
-use Rattle.std.specs.Prelude.{List, ◌++◌, ℕ, codes, decimal}
-use Rattle.std.specs.List.{flat_map}
+use Rattle.std.specs.Prelude.{List, ◌++◌, ℕ, codes, decimal, flat_map}
 use Rattle.delta_book.specs.declared.totals.SeriesTotals.{SeriesTotals}
 use Rattle.out_texts.specs.Rows.{labeled_row}
 use Rattle.out_texts.specs.SeriesNames.{series_name, kind_text}

@@ -1,6 +1,5 @@
 -- Rows of words in reports and replies.
-use Rattle.std.specs.Prelude.{ℕ, List, [], ◌∷◌, ◌++◌, decimal}
-use Rattle.std.specs.List.{flat_map}
+use Rattle.std.specs.Prelude.{ℕ, List, [], ◌∷◌, ◌++◌, decimal, flat_map}
 
 -- the texts of a list, with this byte in between
 abbrev pub joined : {X : Type 0} → ℕ → (X → List ℕ) → List X → List ℕ

@@ -1,8 +1,7 @@
 //! Appends numbers, and lists of texts with a mark in between.
 
-ghost use Rattle.std.specs.Prelude.{◌≡◌, ◌++◌, ◌∷◌, ℕ, List, decimal, OnOk};
+ghost use Rattle.std.specs.Prelude.{◌≡◌, ◌++◌, ◌∷◌, ℕ, List, decimal, OnOk, flat_map};
 ghost use Rattle.std.specs.Fmt.{signed_decimal};
-ghost use Rattle.std.specs.List.{flat_map};
 ghost use Rattle.out_texts.specs.Rows.{joined, row_text};
 
 use itoa::{Buffer, Integer};

@@ -5,8 +5,8 @@ use Rattle.series_id.specs.Identity.{Identity}
 use Rattle.metric_events.specs.History.{History, ◌▸◌}
 use Rattle.metric_events.specs.Choice.{pick, flush_points}
 use Rattle.metric_events.specs.declared.event.Event.{Event}
-use Rattle.metric_events.specs.declared.event.Event.TheVariants.{Take, GiveBack}
-use Rattle.delta_book.specs.Journal.{Journal, Appends, history, takes}
+use Rattle.metric_events.specs.declared.event.Event.TheVariants.{Admit, Take, GiveBack}
+use Rattle.delta_book.specs.Journal.{Journal, Appends, history, admits, takes}
 use Rattle.delta_book.specs.Flushes.{IsTaken, take_refusal}
 use Rattle.delta_book.proofs.Journaled.{grows}
 use Rattle.delta_book.specs.declared.flush.Flush.{Flush}
@@ -14,10 +14,8 @@ use Rattle.delta_book.specs.declared.faults.TakeFault.{TakeFault}
 use Rattle.metric_events.specs.declared.point.PointFault.{PointFault}
 use Rattle.metric_events.specs.declared.point.PointFault.TheVariants as point
 use Rattle.delta_book.specs.Refusals.{admit_refusal, flush_refusal}
-use Rattle.delta_book.specs.Journal.{admits}
 use Rattle.delta_book.specs.declared.faults.AdmitFault.{AdmitFault}
 use Rattle.delta_book.specs.declared.faults.AdmitFault.TheVariants as admit
-use Rattle.metric_events.specs.declared.event.Event.TheVariants.{Admit}
 use Rattle.play_script.specs.PointLines.{PointWords, first_fault}
 use Rattle.metric_events.specs.DataPoint.{DataPoint}
 use Rattle.otlp_read.specs.Reading.{text_reading, Answers as Reads}

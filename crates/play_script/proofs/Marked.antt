@@ -12,7 +12,7 @@ use Rattle.play_script.specs.inner.Answered.{IsReply}
 use Rattle.play_script.specs.Played.{WritesAll, WritesPart, WritesBefore}
 use Rattle.play_script.specs.inner.Played.{LineIsAnswered, LinesArePlayed}
 use Rattle.play_script.specs.declared.fault.PlayFault.{PlayFault}
-use Rattle.play_script.specs.declared.fault.PlayFault.TheVariants.{CannotRead, TooLong, CannotWrite, NoMemory}
+use Rattle.play_script.specs.declared.fault.PlayFault.TheVariants.{CannotWrite, NoMemory}
 use Rattle.play_script.proofs.Ended.{appended}
 
 -- the marks of lines that found memory
@@ -27,28 +27,25 @@ unmarked_are (line ∷ lines) = unmarked_are lines
 
 pub marks_follow : (done later : List (List ℕ)) (marks more : List Mark) → are_marks done marks ≡ true → are_marks later more ≡ true → are_marks (done ++ later) (marks ++ more) ≡ true
 marks_follow [] later [] more h k = k
-marks_follow [] later (mark ∷ marks) more h k = cc
-marks_follow (line ∷ done) later [] more h k = cc
 marks_follow (line ∷ done) later (mark ∷ marks) more h k =
     let parts = and_parts _ _ h in and_from _ _ parts.0 (marks_follow done later marks more parts.1 k)
+marks_follow done later marks more h k = cc
 
 pub replies_follow : (E : History) (done later : List (List ℕ)) (marks more : List Mark) → are_marks done marks ≡ true
     → replies E (done ++ later) (marks ++ more) ≡ replies E done marks ++ replies (history_after E done marks) later more
 replies_follow E [] later [] more h = refl
-replies_follow E [] later (mark ∷ marks) more h = cc
-replies_follow E (line ∷ done) later [] more h = cc
 replies_follow E (line ∷ done) later (mark ∷ marks) more h =
     let parts = and_parts _ _ h in
     let a = line_answer E line mark in
     ap (λ t. a.text ++ t) (replies_follow a.after done later marks more parts.1) ∙ sym (append_assoc a.text (replies a.after done marks) (replies (history_after a.after done marks) later more))
+replies_follow E done later marks more h = cc
 
 pub history_follows : (E : History) (done later : List (List ℕ)) (marks more : List Mark) → are_marks done marks ≡ true
     → history_after E (done ++ later) (marks ++ more) ≡ history_after (history_after E done marks) later more
 history_follows E [] later [] more h = refl
-history_follows E [] later (mark ∷ marks) more h = cc
-history_follows E (line ∷ done) later [] more h = cc
 history_follows E (line ∷ done) later (mark ∷ marks) more h =
     let parts = and_parts _ _ h in history_follows (line_answer E line mark).after done later marks more parts.1
+history_follows E done later marks more h = cc
 
 -- these lines are answered, with these marks: what was written, and the history
 pub record AreDone (old new : Option (List ℕ)) (F : History) (all rest : List (List ℕ)) (done : List (List ℕ)) (marks : List Mark) : Type 0 where
@@ -129,7 +126,6 @@ broken old mid new E F all rest after line text (done, marks, h) first (mark, a)
 -- a line was not answered
 pub line_failed : (old mid new : Option (List ℕ)) (E F : History) (all rest after : List (List ℕ)) (line : List ℕ) (fault : PlayFault)
     → SoFar old mid E all rest → rest ≡ line ∷ after → LineIsAnswered E (command line) F mid new (Err fault) → LinesArePlayed old new all (Err fault)
-line_failed old mid new E F all rest after line CannotRead s first h = absurd h
-line_failed old mid new E F all rest after line TooLong s first h = absurd h
 line_failed old mid new E F all rest after line CannotWrite s first (text, a, wrote) = broken old mid new E F all rest after line text s first a wrote
 line_failed old mid new E F all rest after line NoMemory s first h = stopped old mid new E all rest after line s first h
+line_failed old mid new E F all rest after line fault s first h = absurd h

@@ -19,10 +19,8 @@ names_are_ascii (b ∷ bs) h zero = name_byte_small b (and_parts _ _ h).0
 names_are_ascii (b ∷ bs) h (suc i) = names_are_ascii bs (and_parts _ _ h).1 i
 
 good_bytes : (empty long good : Bool) → is_none (if empty then Some Empty else (if long then Some TooLong else (if not good then Some BadByte else None))) ≡ true → good ≡ true
-good_bytes true long good h = cc
-good_bytes false true good h = cc
 good_bytes false false true h = refl
-good_bytes false false false h = cc
+good_bytes empty long good h = cc
 
 pub name_is_text : (bs : List ℕ) → is_sender_name bs ≡ true → IsUtf8 bs
 name_is_text bs h = IsUtf8-from_ascii bs (names_are_ascii bs (good_bytes (length bs == 0) (nat_lt 64 (length bs)) (list_all is_name_byte bs) h))

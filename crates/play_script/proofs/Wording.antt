@@ -41,15 +41,13 @@ good_points all sender words points h named are some = rw h (rw are (good_words 
 -- words that are points are at least one
 some_points : (ws : List (List ℕ)) → 0 < length ws → is_some (point_words ws) ≡ true → (p : PointWords) × (ps : List PointWords) × (point_words ws ≡ Some (p ∷ ps))
 some_points [] h some = absurd (omega arith)
-some_points (a ∷ []) h some = cc
-some_points (a ∷ b ∷ []) h some = cc
-some_points (a ∷ b ∷ c ∷ []) h some = cc
 some_points (a ∷ b ∷ c ∷ d ∷ ws) h some = at_least_one (point_of_words a b c d) (point_words ws) some
   where
     at_least_one : (p : Option PointWords) (ps : Option (List PointWords)) → is_some (with_point p ps) ≡ true → (q : PointWords) × (qs : List PointWords) × (with_point p ps ≡ Some (q ∷ qs))
     at_least_one None ps h = cc
     at_least_one (Some p) None h = cc
     at_least_one (Some p) (Some ps) h = (p, ps, refl)
+some_points ws h some = cc
 
 -- a line of points may find no memory
 pub points_take_memory : (all : List (List ℕ)) (sender points : List ℕ) → all ≡ sender ∷ words points → is_sender_name sender ≡ true → is_some (point_words (words points)) ≡ true → takes_memory (spec.admit_words all) ≡ true

@@ -1,9 +1,7 @@
 -- What a line of a script asks for.
 use Rattle.std.specs.Prelude.{ℕ, List, [], ◌∷◌, ◌==◌, codes, if◌then◌else◌, nat_le, Some, None}
-use Rattle.std.specs.declared.option.Option.{Option}
+use Rattle.std.specs.Prelude.{Option, bytes_eq, option_map, option_and_then}
 use Rattle.std.specs.List.{join_with_byte}
-use Rattle.std.specs.Str.{bytes_eq}
-use Rattle.std.specs.Option.{option_map, option_and_then}
 use Rattle.back_answers.specs.Answers.{answer_of, act_of}
 use Rattle.back_answers.specs.Waits.{asked_wait}
 use Rattle.back_answers.specs.declared.answer.Act.{Act}
@@ -33,15 +31,13 @@ pub data Asked : Type 0 where
 
 -- a number that is the one word
 abbrev pub only_number : List (List ℕ) → Option ℕ
-only_number [] = None
 only_number (word ∷ []) = number word
-only_number (word ∷ next ∷ more) = None
+only_number rest = None
 
 -- a name that is the one word
 abbrev pub only_name : List (List ℕ) → Option (List ℕ)
-only_name [] = None
 only_name (word ∷ []) = name_of word
-only_name (word ∷ next ∷ more) = None
+only_name rest = None
 
 -- a line of what was read, where it can be
 abbrev pub line_with : {T : Type 0} → (T → Asked) → Option T → Asked
@@ -67,10 +63,9 @@ admit_words (sender ∷ points) = admit_line (name_of sender) (point_words point
 
 -- a sender, and the rest of the line as it is
 abbrev pub post_words : List (List ℕ) → Asked
-post_words [] = BadLine
-post_words (sender ∷ []) = BadLine
 post_words (sender ∷ word ∷ more) =
     line_with (λ name. PostLine name (join_with_byte SPACE (word ∷ more))) (name_of sender)
+post_words rest = BadLine
 
 -- an answer with this status, where it is one, and this value of `Retry-After`
 abbrev pub with_status : Option ℕ → Option (List ℕ) → Option Answer
@@ -78,12 +73,10 @@ with_status code retry_after = option_map (λ s. answer_of s retry_after) code
 
 -- the back end's answer: unknown, a status, or a status and the value of `Retry-After`
 abbrev pub answer_in : List (List ℕ) → Option Answer
-answer_in [] = None
 answer_in (word ∷ []) =
     if bytes_eq word (codes "none") then Some Unknown else with_status (status word) None
-answer_in (word ∷ [] ∷ []) = None
 answer_in (word ∷ (b ∷ bs) ∷ []) = with_status (status word) (Some (b ∷ bs))
-answer_in (word ∷ next ∷ more ∷ others) = None
+answer_in rest = None
 
 -- a flush ends as the back end's answer says
 abbrev pub answered : Option Answer → ℕ → Asked

@@ -1,6 +1,5 @@
 -- The numbers of a script.
-use Rattle.std.specs.Prelude.{ℕ, ℤ, pos, neg_ℤ, ◌==◌, List, [], ◌∷◌, if◌then◌else◌, None}
-use Rattle.std.specs.declared.option.Option.{Option}
+use Rattle.std.specs.Prelude.{ℕ, ℤ, pos, neg_ℤ, ◌==◌, List, [], ◌∷◌, if◌then◌else◌, None, Option}
 use Rattle.std.specs.Option.{option_map}
 use Rattle.decimals.specs.Numbers.{number_up_to}
 use Rattle.play_script.specs.declared.numbers.TheConstants.{MAX_NUMBER, MAX_STATUS, MAX_ABOVE}

@@ -1,6 +1,5 @@
 -- The points of an `admit` line: four words each.
-use Rattle.std.specs.Prelude.{ℕ, ℤ, List, [], ◌∷◌, if◌then◌else◌, Some, None, false}
-use Rattle.std.specs.declared.option.Option.{Option}
+use Rattle.std.specs.Prelude.{ℕ, ℤ, List, [], ◌∷◌, if◌then◌else◌, Some, None, false, Option}
 use Rattle.series_id.specs.Identity.{Identity}
 use Rattle.series_id.specs.declared.kinds.Kind.TheVariants.{Sum}
 use Rattle.metric_events.specs.Senders.{is_sender_name}
@@ -43,17 +42,16 @@ point_words words = None
 
 -- the series of a name: the plain sum with this metric name, all else empty
 abbrev pub series_named : List ℕ → Identity
-series_named name =
-    record {
-      resource = [];
-      scope_name = [];
-      scope_version = [];
-      scope_attrs = [];
-      name = name;
-      unit = [];
-      kind = Sum false;
-      attrs = [];
-    }
+series_named name = record {
+  resource = [];
+  scope_name = [];
+  scope_version = [];
+  scope_attrs = [];
+  name = name;
+  unit = [];
+  kind = Sum false;
+  attrs = [];
+}
 
 -- the point that the words make
 abbrev pub point_of : PointWords → DataPoint

@@ -15,10 +15,9 @@ use Rattle.metric_events.specs.declared.point.PointFault.TheVariants as point
 use Rattle.otlp_read.specs.declared.fault.ReadFault.{ReadFault}
 use Rattle.otlp_read.specs.declared.fault.ReadFault.TheVariants as read
 use Rattle.play_script.specs.declared.refusal.Refusal.{Refusal}
-use Rattle.play_script.specs.declared.refusal.Refusal.TheVariants.{Point, Read, Admit, Take, Undo}
-use Rattle.play_script.specs.declared.refusal.Refusal.TheVariants.{Quarantine, Round, NotOpen}
-use Rattle.play_script.specs.declared.refusal.Refusal.TheVariants.{NotLive, NotQuarantined}
-use Rattle.play_script.specs.declared.refusal.Refusal.TheVariants.{NoMemory}
+use Rattle.play_script.specs.declared.refusal.Refusal.TheVariants.{Point, Read, Admit, Undo, Round}
+use Rattle.play_script.specs.declared.refusal.Refusal.TheVariants.{Take, Quarantine, NotQuarantined}
+use Rattle.play_script.specs.declared.refusal.Refusal.TheVariants.{NotOpen, NotLive, NoMemory}
 
 abbrev pub point_text : PointFault → List ℕ
 point_text point.BadSpan = codes "bad-span"

@@ -1,8 +1,6 @@
 -- The run of a script: a reply for each line, by the rules over the history so far.
-use Rattle.std.specs.Prelude.{ℕ, ◌+◌, Bool, true, false, ◌&&◌, List, [], ◌∷◌, ◌++◌, map}
-use Rattle.std.specs.Prelude.{codes, decimal, Some, None, Ok, Err}
-use Rattle.std.specs.declared.option.Option.{Option}
-use Rattle.std.specs.declared.result.Result.{Result}
+use Rattle.std.specs.Prelude.{ℕ, ◌+◌, Bool, true, false, ◌&&◌, List, [], ◌∷◌, ◌++◌, map, codes}
+use Rattle.std.specs.Prelude.{decimal, Some, None, Ok, Err, Option, Result}
 use Rattle.back_answers.specs.declared.answer.Act.{Act}
 use Rattle.back_answers.specs.declared.answer.Act.TheVariants.{Settle, GiveBack, DropFlush}
 use Rattle.metric_events.specs.History.{History, Start, Opened, ◌▸◌}
@@ -175,16 +173,12 @@ takes_memory (ConfirmLine b) = false
 takes_memory BadLine = false
 takes_memory asked = true
 
--- the commands that send a text
-abbrev pub sends_text : Asked → Bool
-sends_text (WireLine max) = true
-sends_text asked = false
-
--- which marks a command may have
+-- which marks a command may have; one command sends a text
 abbrev pub may_stand : Mark → Asked → Bool
 may_stand Found asked = true
 may_stand Missed asked = takes_memory asked
-may_stand MissedText asked = sends_text asked
+may_stand MissedText (WireLine max) = true
+may_stand MissedText asked = false
 
 -- a line and its mark
 abbrev pub line_answer : History → List ℕ → Mark → Answer
@@ -193,16 +187,14 @@ line_answer E line mark = marked_answer E (command line) mark
 -- each line has a mark that its command may have
 abbrev pub are_marks : List (List ℕ) → List Mark → Bool
 are_marks [] [] = true
-are_marks [] (mark ∷ marks) = false
-are_marks (line ∷ lines) [] = false
 are_marks (line ∷ lines) (mark ∷ marks) = may_stand mark (command line) && are_marks lines marks
+are_marks lines marks = false
 
 -- the replies to lines with their marks, after a history
 abbrev pub replies : History → List (List ℕ) → List Mark → List ℕ
-replies E [] marks = []
-replies E (line ∷ lines) [] = []
 replies E (line ∷ lines) (mark ∷ marks) =
     (line_answer E line mark).text ++ replies (line_answer E line mark).after lines marks
+replies E lines marks = []
 
 -- the replies of a script
 abbrev pub run : List (List ℕ) → List Mark → List ℕ

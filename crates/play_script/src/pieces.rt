@@ -1,7 +1,6 @@
 //! Splits a script into lines, and a line into words.
 
-ghost use Rattle.std.specs.Prelude.{◌≡◌, ◌==◌, ◌∷◌, [], ◌<◌, List, MatchOption, length};
-ghost use Rattle.std.specs.List.{position};
+ghost use Rattle.std.specs.Prelude.{◌≡◌, ◌==◌, ◌∷◌, [], ◌<◌, List, MatchOption, length, position};
 ghost use Rattle.play_script.specs.Pieces.{pieces, lines, words};
 
 /// What ends a line.

@@ -1,8 +1,7 @@
 //! The points of an `admit` line: four words each.
 
-ghost use Rattle.std.specs.Prelude.{◌≡◌, ◌<◌, ◌⊎◌, Some, None, MatchOption, IfOk, IfErr, OnOk, OnErr};
-ghost use Rattle.std.specs.Prelude.{length, map, true};
-ghost use Rattle.std.specs.Option.{is_some};
+ghost use Rattle.std.specs.Prelude.{◌≡◌, ◌<◌, ◌⊎◌, Some, None, MatchOption, IfOk, IfErr, OnOk};
+ghost use Rattle.std.specs.Prelude.{OnErr, length, map, true, is_some};
 ghost use Rattle.metric_events.specs.Senders.{is_sender_name};
 ghost use Rattle.play_script.specs.Pieces.{words};
 ghost use Rattle.play_script.specs.PointLines as spec;

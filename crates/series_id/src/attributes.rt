@@ -1,7 +1,6 @@
 //! An attribute (a key and its value), and attribute sets.
 
-ghost use Rattle.std.specs.Prelude.{◌≡◌, ◌↔◌, ◌<◌, IfErr, IfOk, IsTrue, None, OnOk, []};
-ghost use Rattle.std.specs.Option.{unwrap_or};
+ghost use Rattle.std.specs.Prelude.{◌≡◌, ◌↔◌, ◌<◌, IfErr, IfOk, IsTrue, None, OnOk, [], unwrap_or};
 ghost use Rattle.series_id.specs.Attributes.{IsAttrSet, attribute_cmp, attrs_cmp};
 ghost use Rattle.series_id.specs.Pairs.{attr_refusal};
 ghost use Rattle.series_id.specs.Sorting.{sorted_by_key};

@@ -11,13 +11,12 @@ abbrev pub resource_data : BorrowedResource → List Attribute
 resource_data r = r.attributes.now
 
 abbrev pub scope_data : BorrowedScope → Scope
-scope_data s =
-    record {
-      resource = s.resource.now;
-      name = s.name.now;
-      version = s.version.now;
-      attributes = s.attributes.now;
-    }
+scope_data s = record {
+  resource = s.resource.now;
+  name = s.name.now;
+  version = s.version.now;
+  attributes = s.attributes.now;
+}
 
 abbrev pub stream_data : BorrowedStream → Stream
 stream_data s = record { scope = scope_data s.scope; name = s.name.now; unit = s.unit.now }

@@ -1,10 +1,7 @@
 -- The faults of reading a script.
-use Rattle.std.specs.Prelude.{ℕ, ◌<◌, List, length, Some, None}
-use Rattle.std.specs.Prelude.{⊤}
-use Rattle.std.specs.declared.option.Option.{Option}
+use Rattle.std.specs.Prelude.{ℕ, ◌<◌, List, length, Some, None, ⊤, Option}
 use Rattle.play_script.specs.declared.fault.PlayFault.{PlayFault}
-use Rattle.play_script.specs.declared.fault.PlayFault.TheVariants.{CannotRead, TooLong, CannotWrite}
-use Rattle.play_script.specs.declared.fault.PlayFault.TheVariants.{NoMemory}
+use Rattle.play_script.specs.declared.fault.PlayFault.TheVariants.{TooLong, CannotWrite}
 
 -- there are more bytes than that, where they are known
 abbrev pub HasMore : Option (List ℕ) → ℕ → Type 0
@@ -13,7 +10,6 @@ HasMore (Some xs) most = most < length xs
 
 -- the faults of reading: TooLong where there are more bytes than that, and none of the writer's
 abbrev pub IsReadFault : Option (List ℕ) → ℕ → PlayFault → Type 0
-IsReadFault old most CannotRead = ⊤
 IsReadFault old most TooLong = HasMore old most
 IsReadFault old most CannotWrite = ⊥
-IsReadFault old most NoMemory = ⊤
+IsReadFault old most fault = ⊤

@@ -1,5 +1,5 @@
 -- The history that a run has come to.
-use Rattle.std.specs.Prelude.{◌≡◌, ◌⊎◌, ℕ, List, [], ◌∷◌}
+use Rattle.std.specs.Prelude.{◌≡◌, ◌⊎◌, ℕ, List, ◌∷◌}
 use Rattle.back_answers.specs.declared.answer.Act.TheVariants.{GiveBack}
 use Rattle.metric_events.specs.History.{History, ◌▸◌}
 use Rattle.metric_events.specs.declared.event.Event.TheVariants as event
@@ -17,7 +17,6 @@ IsForwarded E F f points text =
 
 -- the history after them
 abbrev pub history_after : History → List (List ℕ) → List Mark → History
-history_after E [] marks = E
-history_after E (line ∷ lines) [] = E
 history_after E (line ∷ lines) (mark ∷ marks) =
     history_after (line_answer E line mark).after lines marks
+history_after E lines marks = E
