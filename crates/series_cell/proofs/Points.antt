@@ -13,7 +13,7 @@ use Rattle.metric_events.specs.Standing.{stands}
 use Rattle.metric_events.specs.declared.place.Place.{Place}
 use Rattle.metric_events.specs.declared.place.Place.TheVariants.{Home, InFlight}
 use Rattle.metric_events.specs.declared.accepted.Accepted.{Accepted}
-use Rattle.metric_events.proofs.Lists.{all_append, all_first, all_last, all_parts}
+use Rattle.metric_events.proofs.Lists.{all_append, all_first, all_last}
 use Rattle.metric_events.proofs.Sums.{row_sum-append, row_sum_long, add_rows-comm, add_rows-zeros, add_rows_longer, add_rows_swap, length-zeros, length-add_rows}
 use Rattle.metric_events.proofs.Intervals.{ends_after}
 use Rattle.series_cell.specs.Cells.{AllOwn, InOrder, starts_from, greatest_end, is_landed, lifted}
@@ -136,7 +136,7 @@ pub in_order_without : (before after : List Accepted) (a : Accepted) → InOrder
 in_order_without [] after a h = h.1
 in_order_without (b ∷ before) after a h =
     let t = starts_from b.point.span.end in
-    (all_append t before after (all_first t before (a ∷ after) h.0) (all_parts t a after (all_last t before (a ∷ after) h.0)).1, in_order_without before after a h.1)
+    (all_append t before after (all_first t before (a ∷ after) h.0) (and_parts (t a) (list_all t after) (all_last t before (a ∷ after) h.0)).1, in_order_without before after a h.1)
 
 pub in_order_first : (qs rs : List Accepted) → InOrder (qs ++ rs) → InOrder qs
 in_order_first [] rs h = tt
@@ -151,7 +151,7 @@ pub all_end_by : (before after : List Accepted) (a : Accepted) → InOrder (befo
 all_end_by [] after a o = refl
 all_end_by (b ∷ before) after a o =
     let t = starts_from b.point.span.end in
-    and_from (t a) _ (all_parts t a after (all_last t before (a ∷ after) o.0)).0 (all_end_by before after a o.1)
+    and_from (t a) _ (and_parts (t a) (list_all t after) (all_last t before (a ∷ after) o.0)).0 (all_end_by before after a o.1)
 
 -- the spans of points in order of time
 
