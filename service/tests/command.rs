@@ -208,9 +208,9 @@ fn few_open_files_are_few_connections() {
         taken.local_addr().unwrap()
     );
     for (more, connections) in [
-        ("", 292),
-        (" --listen-grpc 127.0.0.1:0", 146),
-        (" --slots 9", 164),
+        ("", 712),
+        (" --listen-grpc 127.0.0.1:0", 356),
+        (" --slots 4", 232),
     ] {
         let output = Command::new("sh").args(["-c", &format!("{line}{more}")]).output();
         let text = String::from_utf8_lossy(&output.unwrap().stderr).into_owned();

@@ -24,12 +24,9 @@ const BACKGROUND: usize = 2;
 const LONG_WORK: usize = 16;
 const LONG_WORK_OF_A_SLOT: usize = 4;
 
-/// Open files: of a sender's connection, with its post to the gateway; of the service's own, with the operators'
-/// connections; of a slot, its files and its gateway; of a thread, sockets to gateways that it keeps.
-const FILES_OF_A_CONNECTION: u64 = 2;
+/// Open files: of the service's own, with the operators' connections; of a slot, its files and its gateway.
 const OWN_FILES: u64 = 128;
-const FILES_OF_A_SLOT: u64 = 32;
-const FILES_OF_A_THREAD: u64 = 64;
+const FILES_OF_A_SLOT: u64 = 32 + gateway::MOST_LINES;
 
 /// With less than this most posts would be refused as too long for good, and lost.
 const LEAST_BYTES: u64 = 1 << 20;
@@ -230,10 +227,9 @@ impl Options {
     /// How many connections senders may have, where this process may have so many open files. One that nobody posts on
     /// would else take the file that a journal or a gateway needs.
     fn connections(&self, most_files: u64) -> usize {
-        let threads = u64::from(self.threads) + BACKGROUND as u64;
-        let own = OWN_FILES + FILES_OF_A_SLOT * u64::from(self.slots) + FILES_OF_A_THREAD * threads;
+        let own = OWN_FILES + FILES_OF_A_SLOT * u64::from(self.slots);
         let addresses = 1 + u64::from(self.listen_grpc.is_some());
-        let most = (most_files.saturating_sub(own) / FILES_OF_A_CONNECTION / addresses).max(1);
+        let most = (most_files.saturating_sub(own) / addresses).max(1);
         let wanted = u64::from(self.most_connections);
         if most < wanted {
             tracing::warn!(

@@ -2,8 +2,8 @@
 
 use super::back::BackSide;
 use super::client::{exchange, Request, PATIENCE, PATIENCE_OF_REFILL};
+use super::lines::{Lines, Peer};
 use super::names::Names;
-use super::socket::Peer;
 use super::{Answer, Doubt, Options, Starter};
 use bytes::Bytes;
 use std::process::Child;
@@ -22,7 +22,7 @@ const FLUSHERS: u16 = 4;
 /// A gateway that listens. It is killed when this is dropped.
 pub struct Gateway {
     process: Process,
-    peer: Peer,
+    lines: Lines,
     back: BackSide,
     connections: u64,
     flushers: u16,
@@ -64,13 +64,12 @@ impl Gateway {
         listens.map_err(|why| Doubt::Start(format!("{program}: {why}")))?;
         Ok(Gateway {
             process,
-            peer,
+            lines: Lines::to(peer),
             back,
             connections: options.connections,
             flushers: options.flushers.clamp(1, FLUSHERS),
             flushing: tokio::sync::Mutex::new(()),
-            // The one by which it was seen that it listens.
-            used: AtomicU64::new(1),
+            used: AtomicU64::new(0),
             doubted: AtomicBool::new(false),
         })
     }
@@ -128,7 +127,7 @@ impl Gateway {
 
     async fn exchange(&self, patience: Duration, request: &Request<'_>) -> Result<Answer, Doubt> {
         self.is_sound()?;
-        let answer = exchange(patience, &self.peer, request).await;
+        let answer = exchange(patience, &self.lines, request).await;
         answer.map_err(|fault| {
             self.doubt(Doubt::NoAnswer(format!(
                 "{} {}: {fault}",
@@ -292,7 +291,7 @@ impl Process {
             if let Some(status) = self.ended() {
                 return Err(format!("it ended at once, {status}"));
             }
-            // A connection that is refused is none of its count.
+            // One on which nothing is asked is none of its count.
             if peer.name.connect(peer.pid).is_ok() {
                 return Ok(());
             }

@@ -77,7 +77,8 @@ fn framed(end: httparse::Status<usize>, headers: &[httparse::Header]) -> Result<
     }
 }
 
-/// Reads to the end of the body, not to the end of the connection: that comes later. Where the body begins, too.
+/// Reads to the end of the body, not to the end of the connection: that comes later. Where the body begins, too. Nothing
+/// may follow: it would be taken for what is asked next.
 async fn read(
     stream: &mut (impl AsyncRead + Unpin),
     mut parse: impl FnMut(&[u8]) -> Result<Option<Head>>,
@@ -96,8 +97,13 @@ async fn read(
     while bytes.len() < head.end + head.length {
         more(stream, &mut bytes).await?;
     }
-    bytes.truncate(head.end + head.length);
-    Ok((bytes, head.end))
+    match bytes.len() > head.end + head.length {
+        true => Err(Error::new(
+            ErrorKind::InvalidData,
+            "there is more behind the body",
+        )),
+        false => Ok((bytes, head.end)),
+    }
 }
 
 async fn more(stream: &mut (impl AsyncRead + Unpin), bytes: &mut Vec<u8>) -> Result<()> {
@@ -123,7 +129,6 @@ mod tests {
                 503,
                 "",
             ),
-            ("HTTP/1.1 200 OK\r\nContent-Length: 2\r\n\r\n{}more", 200, "{}"),
             (std::str::from_utf8(TAKEN).unwrap(), 200, "{}"),
         ];
         for (text, status, body) in whole {
@@ -134,6 +139,7 @@ mod tests {
             "",
             "HTTP/1.1 200 OK\r\nContent-Length: 2\r\n",
             "HTTP/1.1 200 OK\r\nContent-Length: 2\r\n\r\n{",
+            "HTTP/1.1 200 OK\r\nContent-Length: 2\r\n\r\n{}more",
             "HTTP/1.1 200 OK\r\n\r\n{}",
             "HTTP/1.1 200 OK\r\nContent-Length: x\r\n\r\n{}",
             "HTTP/1.1 200 OK\r\nContent-Length: 99999999999\r\n\r\n{}",

@@ -1,7 +1,7 @@
 //! One gateway process: started, asked over Unix sockets, and what it forwards.
 //!
-//! `starter` runs the program, `client` asks it over a `socket`, `back` takes what it forwards, `names` says where both are, and
-//! `gateway` is the process as others see it. A gateway that was doubted once refuses all that is asked of it from then on: no checkpoint may use it.
+//! `starter` runs the program, `client` asks it over `lines`, each a `socket`, `back` takes what it forwards, `names` says
+//! where both are, and `gateway` is the process as others see it. A gateway that was doubted once refuses all that is asked of it from then on: no checkpoint may use it.
 
 pub mod allocator;
 mod back;
@@ -9,6 +9,7 @@ mod client;
 mod find;
 #[allow(clippy::module_inception)] // The room is named after what it has.
 mod gateway;
+mod lines;
 mod message;
 mod names;
 mod socket;
@@ -17,6 +18,7 @@ mod system;
 
 pub use find::{find_program, NotFound};
 pub use gateway::Gateway;
+pub use lines::MOST_LINES;
 pub use starter::Starter;
 
 use bytes::Bytes;

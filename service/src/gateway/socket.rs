@@ -1,63 +1,45 @@
-//! A connection to the gateway, which takes one request on each.
+//! A connection to the gateway.
 
-use super::names::Name;
 use std::io::{ErrorKind, IoSlice, Read, Result, Write};
 use std::os::fd::{AsRawFd, RawFd};
 use std::os::unix::net::UnixStream;
 use std::pin::Pin;
 use std::task::{ready, Context, Poll};
+use std::thread::{self, ThreadId};
 use tokio::io::unix::AsyncFd;
 use tokio::io::{AsyncRead, Interest, ReadBuf};
 
-/// Which gateway is asked: the name at which it listens, and its process.
-#[derive(Clone, Debug)]
-pub(super) struct Peer {
-    pub name: Name,
-    pub pid: u32,
-}
-
-/// A connection of one request and one answer.
+/// A connection that takes one request at a time, with its answer.
 pub(super) struct Line {
-    /// Where something had to be waited for: most answers are there when they are looked for. It ends before the stream.
+    /// Once something had to be waited for: most answers are there when they are looked for. It ends before the stream.
     waiting: Option<AsyncFd<RawFd>>,
     stream: UnixStream,
+    /// Whose runtime says when something comes.
+    pub thread: ThreadId,
 }
 
 impl Line {
-    /// Connects and sends what goes at once: as a rule all of it. Where the gateway's queue is full the fault is
-    /// `WouldBlock`.
-    pub async fn open(peer: &Peer, head: &[u8], body: &[u8]) -> Result<(Line, Result<()>)> {
-        let mut line = Line {
+    /// The stream does not block.
+    pub fn new(stream: UnixStream) -> Line {
+        Line {
             waiting: None,
-            stream: peer.name.connect(peer.pid)?,
-        };
-        let written = match write(&line.stream, head, body, 0) {
-            Err(fault) if fault.kind() == ErrorKind::WouldBlock => Ok(0),
-            other => other,
-        };
-        let sent = match written {
-            Ok(all) if all == head.len() + body.len() => Ok(()),
-            Ok(some) => {
-                line.wait(Interest::READABLE | Interest::WRITABLE)?;
-                line.send(head, body, some).await
-            }
-            Err(fault) => Err(fault),
-        };
-        Ok((line, sent))
+            stream,
+            thread: thread::current().id(),
+        }
     }
 
-    /// From here on the runtime says when something comes.
-    fn wait(&mut self, interest: Interest) -> Result<()> {
-        self.waiting = Some(AsyncFd::with_interest(self.stream.as_raw_fd(), interest)?);
-        Ok(())
+    /// Sends of a message what goes at once, as a rule all of it: how many bytes. Behind a fault none has gone.
+    pub fn begin(&self, head: &[u8], body: &[u8]) -> Result<usize> {
+        match write(&self.stream, head, body, 0) {
+            Err(fault) if fault.kind() == ErrorKind::WouldBlock => Ok(0),
+            begun => begun,
+        }
     }
 
     /// Sends what is left behind so many bytes.
-    async fn send(&self, head: &[u8], body: &[u8], mut from: usize) -> Result<()> {
-        let Some(waiting) = &self.waiting else {
-            return Ok(());
-        };
+    pub async fn send(&mut self, head: &[u8], body: &[u8], mut from: usize) -> Result<()> {
         while from < head.len() + body.len() {
+            let waiting = registered(&mut self.waiting, &self.stream)?;
             let mut writable = waiting.writable().await?;
             match writable.try_io(|_| write(&self.stream, head, body, from)) {
                 Ok(Ok(0)) => return Err(ErrorKind::WriteZero.into()),
@@ -73,13 +55,15 @@ impl Line {
 
 impl AsyncRead for Line {
     fn poll_read(
-        mut self: Pin<&mut Self>,
+        self: Pin<&mut Self>,
         context: &mut Context<'_>,
         into: &mut ReadBuf<'_>,
     ) -> Poll<Result<()>> {
+        let Line { waiting, stream, .. } = self.get_mut();
+        let mut stream = &*stream;
         loop {
-            let mut read = || (&self.stream).read(into.initialize_unfilled());
-            let read = match &self.waiting {
+            let mut read = || stream.read(into.initialize_unfilled());
+            let read = match waiting {
                 None => read(),
                 Some(waiting) => match ready!(waiting.poll_read_ready(context))?.try_io(|_| read()) {
                     Ok(read) => read,
@@ -92,11 +76,25 @@ impl AsyncRead for Line {
                     return Poll::Ready(Ok(()));
                 }
                 Err(fault) if fault.kind() == ErrorKind::Interrupted => {}
-                Err(fault) if fault.kind() == ErrorKind::WouldBlock => self.wait(Interest::READABLE)?,
+                Err(fault) if fault.kind() == ErrorKind::WouldBlock => {
+                    registered(waiting, stream).map(drop)?
+                }
                 Err(fault) => return Poll::Ready(Err(fault)),
             }
         }
     }
+}
+
+/// From here on the runtime says when something comes, or can go.
+fn registered<'a>(
+    waiting: &'a mut Option<AsyncFd<RawFd>>,
+    stream: &UnixStream,
+) -> Result<&'a AsyncFd<RawFd>> {
+    let both = Interest::READABLE | Interest::WRITABLE;
+    Ok(match waiting {
+        Some(waiting) => waiting,
+        none => none.insert(AsyncFd::with_interest(stream.as_raw_fd(), both)?),
+    })
 }
 
 /// Writes head and body behind `from` by one call.

@@ -1,23 +1,35 @@
 /* Preloaded into a gateway: where it asks for TCP it gets Unix sockets between it and the service that started it.
  *
  * So no other process can reach the gateway, or forward in its name; there is no port that somebody else may get first;
- * and a connection for each request costs less. The gateway is as it was built: these are the calls of the C library by
- * which it asks for sockets, and it is shown addresses of loopback.
+ * and a request costs less. The gateway is as it was built: these are the calls of the C library by which it uses
+ * sockets, and it is shown addresses of loopback.
+ *
+ * The gateway serves one request on each connection, and closes it. The service keeps its connections, and sends one
+ * request behind the other on each, behind 8 bytes that say how long it is. So a connection that the gateway accepts is
+ * one request on such a connection: its bytes end with the request, and its close is that of the request alone, where
+ * all of it was read and its answer was written. Otherwise the connection is closed with it.
  *
  * Names are abstract, so they end with their sockets, and no file is left. The environment has them. */
 #define _GNU_SOURCE
 #include <errno.h>
+#include <fcntl.h>
 #include <netinet/in.h>
+#include <stdbool.h>
 #include <stddef.h>
+#include <stdint.h>
 #include <stdlib.h>
 #include <string.h>
+#include <sys/epoll.h>
 #include <sys/socket.h>
 #include <sys/syscall.h>
+#include <sys/time.h>
 #include <sys/un.h>
 #include <unistd.h>
 
-/* So many connections wait to be accepted, where the kernel has no lower bound. */
+/* So many connections wait to be let in, where the kernel has no lower bound. */
 enum { MOST_WAITING = 4096 };
+/* More descriptors than the gateway has: the service has at most some hundred connections to it. */
+enum { MOST_DESCRIPTORS = 4096 };
 
 /* The process that started this one. It stays the same: this one is killed where that one ends. */
 static pid_t service;
@@ -26,14 +38,90 @@ __attribute__((constructor)) static void note_the_service(void) {
     service = getppid();
 }
 
-static int is_of_the_service(int connection) {
-    struct ucred peer;
-    socklen_t length = sizeof peer;
-    return !getsockopt(connection, SOL_SOCKET, SO_PEERCRED, &peer, &length) && peer.pid == service;
+/* The service's connections */
+
+/* One connection, and how far the request on it has come. From its accept to its close one thread has it. */
+struct connection {
+    bool is_kept;
+    bool has_begun;   /* The length was read. */
+    uint64_t left;    /* Bytes of the request that were not read. */
+    bool is_answered; /* All that was last written has gone. */
+    struct timeval waits[2]; /* For reads and writes, as the kernel knows them. */
+};
+
+static struct connection connections[MOST_DESCRIPTORS];
+
+/* What the gateway waits for: that a connection or a request comes. */
+static int coming = -1;
+/* A descriptor of the listener that the gateway does not close. */
+static int listener = -1;
+
+static struct connection *kept(int of) {
+    return of >= 0 && of < MOST_DESCRIPTORS && connections[of].is_kept ? &connections[of] : NULL;
 }
 
-static int is_tcp(int domain, int type) {
-    int is_stream = (type & ~(SOCK_CLOEXEC | SOCK_NONBLOCK)) == SOCK_STREAM;
+/* One thread is woken, and none until this is called again. */
+static int await(int operation, int of) {
+    struct epoll_event next = { .events = EPOLLIN | EPOLLONESHOT, .data.fd = of };
+    return epoll_ctl(coming, operation, of, &next);
+}
+
+static int drop(int of) {
+    if (kept(of)) connections[of] = (struct connection){ 0 };
+    return syscall(SYS_close, of);
+}
+
+static bool is_of_the_service(int of) {
+    struct ucred peer;
+    socklen_t length = sizeof peer;
+    return !getsockopt(of, SOL_SOCKET, SO_PEERCRED, &peer, &length) && peer.pid == service;
+}
+
+static bool is_let_in(int of) {
+    if (of >= MOST_DESCRIPTORS || !is_of_the_service(of)) return false;
+    connections[of].is_kept = true;
+    return !await(EPOLL_CTL_ADD, of);
+}
+
+/* Lets in all that wait. Who else connects is sent away, and is none of the connections that the gateway counts. */
+static int let_in(bool is_shut) {
+    int of;
+    while ((of = syscall(SYS_accept4, listener, NULL, NULL, SOCK_CLOEXEC)) >= 0)
+        if (!is_let_in(of)) drop(of);
+    int fault = is_shut ? EINVAL : errno;
+    await(EPOLL_CTL_MOD, listener);
+    errno = fault;
+    return fault == EAGAIN ? 0 : -1;
+}
+
+/* The first read of a request has its length too. */
+static ssize_t read_first(struct connection *it, int of, void *bytes, size_t most) {
+    struct iovec parts[] = { { &it->left, sizeof it->left }, { bytes, most } };
+    struct msghdr message = { .msg_iov = parts, .msg_iovlen = 2 };
+    ssize_t got = syscall(SYS_recvmsg, of, &message, 0);
+    it->has_begun = got >= (ssize_t)sizeof it->left;
+    return it->has_begun ? got - (ssize_t)sizeof it->left : got < 0 ? got : 0;
+}
+
+static ssize_t read_more(struct connection *it, int of, void *bytes, size_t most) {
+    return it->left ? syscall(SYS_recvfrom, of, bytes, most < it->left ? most : it->left, 0, NULL, NULL) : 0;
+}
+
+static ssize_t read_request(struct connection *it, int of, void *bytes, size_t most) {
+    ssize_t got = it->has_begun ? 0 : read_first(it, of, bytes, most);
+    if (!got && it->has_begun) got = read_more(it, of, bytes, most);
+    if (got > 0) it->left -= got;
+    return got;
+}
+
+static bool is_done(const struct connection *it) {
+    return it->has_begun && !it->left && it->is_answered;
+}
+
+/* Names and addresses */
+
+static bool is_tcp(int domain, int type) {
+    bool is_stream = (type & ~(SOCK_CLOEXEC | SOCK_NONBLOCK)) == SOCK_STREAM;
     return is_stream && (domain == AF_INET || domain == AF_INET6);
 }
 
@@ -58,6 +146,8 @@ static int show_loopback(struct sockaddr *address, socklen_t *length) {
     return 0;
 }
 
+/* The calls of the C library */
+
 int socket(int domain, int type, int protocol) {
     if (is_tcp(domain, type)) return syscall(SYS_socket, AF_UNIX, type, 0);
     return syscall(SYS_socket, domain, type, protocol);
@@ -70,7 +160,10 @@ int bind(int of, const struct sockaddr *address, socklen_t length) {
 
 int listen(int of, int most) {
     (void)most;
-    return syscall(SYS_listen, of, MOST_WAITING);
+    listener = fcntl(of, F_DUPFD_CLOEXEC, 0);
+    coming = epoll_create1(EPOLL_CLOEXEC);
+    if (listener < 0 || coming < 0 || fcntl(listener, F_SETFL, O_NONBLOCK)) return -1;
+    return syscall(SYS_listen, of, MOST_WAITING) ? -1 : await(EPOLL_CTL_ADD, listener);
 }
 
 int connect(int of, const struct sockaddr *address, socklen_t length) {
@@ -78,18 +171,59 @@ int connect(int of, const struct sockaddr *address, socklen_t length) {
     return to_the_name(SYS_connect, of, "TOTXEGUN_FORWARDS");
 }
 
-/* Who else connects is sent away, and is none of the connections that the gateway counts. */
-int accept4(int listener, struct sockaddr *address, socklen_t *length, int flags) {
+/* The next request. A connection that the service has closed has none. */
+int accept4(int of, struct sockaddr *address, socklen_t *length, int flags) {
+    (void)of, (void)flags;
     for (;;) {
-        int accepted = syscall(SYS_accept4, listener, NULL, NULL, flags);
-        if (accepted < 0) return accepted;
-        if (is_of_the_service(accepted)) return show_loopback(address, length), accepted;
-        close(accepted);
+        struct epoll_event next;
+        int found = epoll_wait(coming, &next, 1, -1);
+        if (found < 0 && errno != EINTR) return -1; /* A stopped process that goes on is interrupted. */
+        if (found <= 0) continue;
+        bool is_over = next.events & (EPOLLHUP | EPOLLERR);
+        if (next.data.fd == listener) {
+            if (let_in(is_over)) return -1;
+        } else if (is_over) {
+            drop(next.data.fd);
+        } else {
+            show_loopback(address, length);
+            return next.data.fd;
+        }
     }
 }
 
-int accept(int listener, struct sockaddr *address, socklen_t *length) {
-    return accept4(listener, address, length, 0);
+int accept(int of, struct sockaddr *address, socklen_t *length) {
+    return accept4(of, address, length, 0);
+}
+
+ssize_t recv(int of, void *bytes, size_t most, int flags) {
+    struct connection *it = kept(of);
+    return it ? read_request(it, of, bytes, most) : syscall(SYS_recvfrom, of, bytes, most, flags, NULL, NULL);
+}
+
+ssize_t send(int of, const void *bytes, size_t length, int flags) {
+    ssize_t sent = syscall(SYS_sendto, of, bytes, length, flags, NULL, 0);
+    struct connection *it = kept(of);
+    if (it) it->is_answered = sent == (ssize_t)length;
+    return sent;
+}
+
+int close(int of) {
+    struct connection *it = kept(of);
+    if (!it) return syscall(SYS_close, of);
+    if (!is_done(it)) return drop(of);
+    it->has_begun = it->is_answered = false;
+    return await(EPOLL_CTL_MOD, of) ? drop(of) : 0;
+}
+
+/* A limit of time that the connection has already takes no call. */
+int setsockopt(int of, int level, int name, const void *value, socklen_t length) {
+    struct connection *it = kept(of);
+    bool is_wait = level == SOL_SOCKET && (name == SO_RCVTIMEO || name == SO_SNDTIMEO);
+    struct timeval *wait = it && is_wait && length == sizeof *wait ? &it->waits[name == SO_SNDTIMEO] : NULL;
+    if (wait && !memcmp(wait, value, length)) return 0;
+    int fault = syscall(SYS_setsockopt, of, level, name, value, length);
+    if (wait && !fault) memcpy(wait, value, length);
+    return fault;
 }
 
 int getsockname(int of, struct sockaddr *address, socklen_t *length) {

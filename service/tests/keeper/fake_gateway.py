@@ -13,7 +13,7 @@ import time
 HERE = os.path.dirname(os.path.abspath(__file__))
 WORDS = dict(zip(sys.argv[2::2], sys.argv[3::2]))
 LOCK = threading.Lock()
-PHRASES = {200: "OK", 400: "Bad Request", 403: "Forbidden", 404: "Not Found", 503: "Service Unavailable"}
+PHRASES = {200: "OK", 400: "Bad Request", 403: "Forbidden", 404: "Not Found", 413: "Payload Too Large", 503: "Service Unavailable"}
 known, pending, quarantined = {}, {}, set()
 
 
@@ -132,6 +132,11 @@ def answer_to(path, sender, body):
     return (None, None) if told("post-lost") else (status, text)
 
 
+def message_of(status, text):
+    out = json.dumps(text, separators=(",", ":")).encode()
+    return b"HTTP/1.1 %d %s\r\nContent-Length: %d\r\n\r\n" % (status, PHRASES[status].encode(), len(out)) + out
+
+
 def serve(stream):
     with stream:
         data = b""
@@ -144,9 +149,12 @@ def serve(stream):
         lines = head.decode().split("\r\n")
         fields = dict(line.lower().split(": ", 1) for line in lines[1:])
         sender = next(line for line in lines if line.startswith("x-sender")).split(": ")[1]
+        path = lines[0].split(" ")[1]
+        if path == "/v1/metrics" and told("post-unread"):
+            stream.sendall(message_of(413, {"message": "unread"}))
+            return
         while len(body) < int(fields["content-length"]):
             body += stream.recv(1 << 16)
-        path = lines[0].split(" ")[1]
         with LOCK:
             slow = path == "/v1/metrics" and told("post-slow")
             status, text = answer_to(path, sender, body)
@@ -156,9 +164,10 @@ def serve(stream):
             log("answers", os.getpid(), sender)
         if status is None:
             return
-        out = json.dumps(text, separators=(",", ":")).encode()
-        out = b"HTTP/1.1 %d %s\r\nContent-Length: %d\r\n\r\n" % (status, PHRASES[status].encode(), len(out)) + out
+        out = message_of(status, text)
         stream.sendall(out[:-1] if cut else out)
+        if cut:
+            stream.shutdown(socket.SHUT_RDWR)
 
 
 def main():

@@ -3,6 +3,7 @@
 //! The real one is `$TOTXEGUN_GATEWAY`, `bin/gateway` or `crates/gateway/out/gateway`. Where there is none its tests
 //! say so and pass.
 
+mod connections;
 mod doubts;
 mod real;
 mod requests;

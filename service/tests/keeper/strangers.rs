@@ -7,13 +7,16 @@ use std::process::Command;
 const STRANGER: &str = r#"
 import os, socket, sys
 pid, variable, request = sys.argv[1:]
+request = request.encode()
+if variable == "TOTXEGUN_LISTENS":
+    request = len(request).to_bytes(8, sys.byteorder) + request
 with open(f"/proc/{pid}/environ", "rb") as file:
     environment = dict(pair.split(b"=", 1) for pair in file.read().split(b"\0") if pair)
 with socket.socket(socket.AF_UNIX) as stream:
     stream.settimeout(20)
     stream.connect(b"\0" + environment[variable.encode()])
     try:
-        stream.sendall(request.encode())
+        stream.sendall(request)
         print(stream.recv(4096))
     except OSError as fault:
         assert not isinstance(fault, TimeoutError)
