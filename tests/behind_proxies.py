@@ -208,8 +208,10 @@ def by_curl(checks, proxy):
     for how, wanted in ((["--http2", "-H", "Expect:"], "200 2"), (["--http1.1", *asking], "400 1.1")):
         checks.same(f"{proxy.kind}: curl {how[0]}", wanted, curl(proxy, "t0ken", *how, "--data-binary", f"@{proxy.at}/body"))
     # Who is refused before all of it is there has an answer too: as often as it takes to find one that has none.
-    found = {curl(proxy, "no", "--http2", "--data-binary", "x" * 1000) for _ in range(20)}
-    checks.same(f"{proxy.kind}: curl --http2 with a token of nobody", {"401 2"}, found)
+    for how, version in ("--http2", "2"), ("--http1.1", "1.1"):
+        for length, body in (1000, "x" * 1000), (2_000_000, f"@{proxy.at}/body"):
+            found = {curl(proxy, "no", how, "-H", "Expect:", "--data-binary", body) for _ in range(20)}
+            checks.same(f"{proxy.kind}: curl {how}, {length} bytes with a token of nobody", {f"401 {version}"}, found)
 
 
 def curl(proxy, token, *words):
