@@ -216,6 +216,32 @@ async fn what_is_told() {
     refuses("latin", "LATIN1");
 }
 
+/// So a server answers each request while it has no number left for a transaction: each would be put aside for good.
+#[tokio::test(flavor = "multi_thread")]
+async fn a_limit_of_the_server_is_waited_for() {
+    let Some(server) = Server::start() else { return };
+    let sink = open(&server.by_socket("postgres"));
+    taken(&*sink, 1, sum("a", 1, 2, 1)).await;
+    server.run_file(
+        "postgres",
+        "create function totxegun.limit() returns trigger language plpgsql as $$ begin
+            raise exception 'database is not accepting commands' using errcode = '54000'; end $$;
+        create trigger wraparound before insert on totxegun.request execute function totxegun.limit()",
+    );
+    match sink.deliver(&request(2, sum("a", 2, 3, 2))).await {
+        Fate::Failed { reason, .. } => {
+            assert!(
+                reason.contains("a limit of the server") && reason.contains("not accepting commands"),
+                "{reason}"
+            )
+        }
+        other => panic!("{other:?}"),
+    }
+    server.ask("drop trigger wraparound on totxegun.request");
+    taken(&*sink, 2, sum("a", 2, 3, 2)).await;
+    assert_eq!(server.ask("select points, total from totxegun.totals"), "2|3");
+}
+
 #[tokio::test(flavor = "multi_thread")]
 async fn what_is_lost_on_the_way() {
     let Some(mut server) = Server::start() else { return };
