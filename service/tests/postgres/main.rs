@@ -139,6 +139,25 @@ async fn of_a_request_the_spans_that_overlap_alone_are_left() {
     refused(&*sink, 3, left, "overlaps").await;
 }
 
+/// A folder was put back over itself: the key comes again with other points, some of which begin alike.
+#[tokio::test(flavor = "multi_thread")]
+async fn a_request_is_told_from_another_of_its_key_by_each_of_its_spans() {
+    let Some(server) = Server::start() else { return };
+    let sink = open(&server.by_socket("postgres"));
+    let (a, b, c) = (("a", 1, 2, 1), ("b", 1, 9, 1), ("c", 5, 6, 1));
+    taken(&*sink, 1, server::sums(&[a, b])).await;
+    taken(&*sink, 2, server::sums(&[c])).await;
+    let longer = ("a", 1, 3, 1);
+    for other in [&[longer, b][..], &[a, b, ("d", 5, 6, 1)], &[b, longer, c]] {
+        refused(&*sink, 1, server::sums(other), "key is that of another request").await;
+    }
+    taken(&*sink, 1, server::sums(&[a, b])).await;
+    assert_eq!(
+        server.ask("select name, points, total from totxegun.totals order by 1"),
+        "a|1|1\nb|1|1\nc|1|1"
+    );
+}
+
 /// The server's certificate is looked at, by the roots of the machine.
 #[tokio::test(flavor = "multi_thread")]
 async fn by_tls() {
