@@ -59,7 +59,7 @@ impl Dead {
             changing,
             count: AtomicU64::new(0),
         };
-        dead.count.store(dead.keys()?.len() as u64, Relaxed);
+        dead.keys()?;
         Ok(dead)
     }
 
@@ -67,6 +67,7 @@ impl Dead {
         is_key(key).then(|| self.folder.join(format!("{key}.json")))
     }
 
+    /// What is there now, and is counted so: an operator moves letters out of the folder, and back, by hand.
     fn keys(&self) -> Result<Vec<String>, Fault> {
         let mut keys = Vec::new();
         for entry in std::fs::read_dir(&self.folder).map_err(io_fault(&self.folder))? {
@@ -77,6 +78,7 @@ impl Dead {
                 .filter(|key| is_key(key));
             keys.extend(key.map(String::from));
         }
+        self.count.store(keys.len() as u64, Relaxed);
         Ok(keys)
     }
 
@@ -115,8 +117,7 @@ impl Dead {
         bytes.push(b'\n');
         bytes.extend_from_slice(body);
         self.disk.put_file(&path, &bytes)?;
-        self.count.fetch_add(1, Relaxed);
-        Ok(())
+        self.keys().map(drop)
     }
 
     /// The names of the letters that came under a key.
@@ -147,15 +148,32 @@ impl Dead {
 
     /// By age, the oldest first. The reason of one that can't be read says that.
     pub fn list(&self) -> Result<Vec<Letter>, Fault> {
+        let keys = {
+            let _one = lock(&self.changing);
+            self.keys()?
+        };
         let mut letters = Vec::new();
-        for key in self.keys()? {
+        for key in keys {
             letters.extend(match self.read(&key) {
-                Err(Fault::Damaged { path, .. }) => Some(unreadable(key, &path)),
-                read => read?.map(|(letter, _)| letter),
+                Ok(read) => read.map(|(letter, _)| letter),
+                Err(fault) => Some(self.unreadable(key, &fault)),
             });
         }
         letters.sort_by(|one, other| (one.since, &one.key).cmp(&(other.since, &other.key)));
         Ok(letters)
+    }
+
+    /// What is told of a letter by its file alone.
+    fn unreadable(&self, key: String, fault: &Fault) -> Letter {
+        let file = std::fs::metadata(self.folder.join(format!("{key}.json"))).ok();
+        let written = file.as_ref().and_then(|file| file.modified().ok());
+        let since = written.and_then(|time| time.duration_since(UNIX_EPOCH).ok());
+        Letter {
+            key,
+            since: since.map_or(0, |since| since.as_secs()),
+            reason: fault.to_string(),
+            bytes: file.map_or(0, |file| file.len()),
+        }
     }
 
     pub fn body(&self, key: &str) -> Result<Option<Vec<u8>>, Fault> {
@@ -209,25 +227,12 @@ impl Dead {
     /// By who holds `changing`.
     fn remove(&self, path: &Path) -> Result<(), Fault> {
         self.disk.remove(path)?;
-        self.count.fetch_sub(1, Relaxed);
-        self.disk.sync_folder(&self.folder)
+        self.disk.sync_folder(&self.folder)?;
+        self.keys().map(drop)
     }
 
     pub fn count(&self) -> u64 {
         self.count.load(Relaxed)
-    }
-}
-
-/// What is told of a letter by its file alone.
-fn unreadable(key: String, path: &Path) -> Letter {
-    let file = std::fs::metadata(path).ok();
-    let written = file.as_ref().and_then(|file| file.modified().ok());
-    let since = written.and_then(|time| time.duration_since(UNIX_EPOCH).ok());
-    Letter {
-        key,
-        since: since.map_or(0, |since| since.as_secs()),
-        reason: damaged(path.into()).to_string(),
-        bytes: file.map_or(0, |file| file.len()),
     }
 }
 

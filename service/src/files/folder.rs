@@ -13,7 +13,7 @@
 //! there `renew_epoch` is for the operator.
 
 use super::disk::{io_fault, Disk};
-use super::room::Room;
+use super::room::{Promise, Room};
 use super::{lock, segment, Dead, Durability, Fault, Journal, Outbox};
 use nix::errno::Errno;
 use nix::fcntl::{flock, FlockArg};
@@ -186,6 +186,19 @@ impl Folder {
     /// Whether a post may be taken: room for commits is kept behind it.
     pub fn has_room(&self) -> bool {
         self.room.is_left()
+    }
+
+    /// The same for a post of so many bytes that is under way from now on.
+    pub fn room_for(&self, bytes: usize) -> Option<Promise<'_>> {
+        self.room.promise(bytes)
+    }
+
+    /// A disk as a test wants it.
+    #[cfg(test)]
+    pub(crate) fn in_room(mut self, look: impl Fn() -> u64 + Send + Sync + 'static) -> Folder {
+        let room = Room::with(move || Ok((look(), 1 << 40, 1000)));
+        self.room = Arc::new(room.unwrap());
+        self
     }
 
     /// The files of a slot. What an earlier run wrote is synced before it is believed.

@@ -8,6 +8,7 @@ mod moved;
 mod open;
 mod rows;
 mod state;
+mod writer;
 
 use super::disk::Disk;
 use super::records::Which;
@@ -25,8 +26,9 @@ use std::path::{Path, PathBuf};
 use std::sync::{Arc, Mutex};
 use std::time::{Duration, Instant};
 use tokio::sync::Notify;
+use writer::Writer;
 
-/// A segment that is as long is followed by another.
+/// A segment that is as long, and twice its snapshot, is followed by another.
 const SEGMENT: u64 = 16 << 20;
 
 /// What is known of a series.
@@ -64,24 +66,6 @@ pub struct Outbox {
     writer: Mutex<Writer>,
     state: Mutex<State>,
     arrived: Notify,
-}
-
-struct Writer {
-    segment: Segment,
-    /// A write or sync failed: what is on disk is not known, and nothing is tried again until a new start.
-    failed: bool,
-}
-
-impl Writer {
-    /// From here on it has failed, until it is said that it has not.
-    fn begin(&mut self) -> Result<(), Fault> {
-        if !std::mem::replace(&mut self.failed, true) {
-            return Ok(());
-        }
-        let source = io::Error::other("an earlier write failed: start again, to see what is there");
-        let path = self.segment.path.clone();
-        Err(Fault::Io { path, source })
-    }
 }
 
 /// The ends of the points, as the gateway's own request tells them.
@@ -302,7 +286,7 @@ impl Outbox {
             writer.segment.sync()?;
         }
         lock(&self.state).apply(change(begin).in_segment(writer.segment.number));
-        if writer.segment.at >= self.longest {
+        if writer.is_full(self.longest) {
             self.begin_segment(writer)?;
         }
         writer.failed = false;
@@ -315,7 +299,7 @@ impl Outbox {
         writer.segment.sync()?;
         let number = writer.segment.number + 1;
         let snapshot = lock(&self.state).snapshot();
-        writer.segment = begin(&self.disk, &self.folder, number, &snapshot)?;
+        writer.go_on_in(begin(&self.disk, &self.folder, number, &snapshot)?);
         self.delete_taken(writer)
     }
 

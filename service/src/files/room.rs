@@ -23,8 +23,23 @@ pub struct Room {
     looked: AtomicU64,
     /// What posts may still use.
     left: AtomicI64,
+    /// What posts that are under way will use of it.
+    promised: AtomicI64,
     /// As it was found last, and told.
     is_full: AtomicBool,
+}
+
+/// Room of a post that is under way. It is held until the post is in the journal, or is not taken.
+#[must_use = "what is dropped may be used by others"]
+pub struct Promise<'a> {
+    room: &'a Room,
+    bytes: i64,
+}
+
+impl Drop for Promise<'_> {
+    fn drop(&mut self) {
+        self.room.promised.fetch_sub(self.bytes, Relaxed);
+    }
 }
 
 impl Room {
@@ -43,7 +58,7 @@ impl Room {
         .map_err(io_fault(path))
     }
 
-    fn with(
+    pub(super) fn with(
         look: impl Fn() -> std::io::Result<(u64, u64, u64)> + Send + Sync + 'static,
     ) -> std::io::Result<Room> {
         look()?;
@@ -52,14 +67,28 @@ impl Room {
             began: Instant::now(),
             looked: AtomicU64::new(0),
             left: AtomicI64::new(0),
+            promised: AtomicI64::new(0),
             is_full: AtomicBool::new(false),
         };
         room.look_again();
         Ok(room)
     }
 
-    /// As it was a moment ago, less what was written since.
+    /// As it was a moment ago, less what was written since, and what posts under way will write.
     pub fn is_left(&self) -> bool {
+        self.left() > self.promised.load(Relaxed)
+    }
+
+    /// Room for a post of so many bytes, where any is left: so of all that come at once no more are taken than the disk
+    /// has room for, and one.
+    pub fn promise(&self, bytes: usize) -> Option<Promise<'_>> {
+        let (left, bytes) = (self.left(), bytes as i64);
+        let more = |promised| (promised < left).then_some(promised + bytes);
+        self.promised.fetch_update(Relaxed, Relaxed, more).ok()?;
+        Some(Promise { room: self, bytes })
+    }
+
+    fn left(&self) -> i64 {
         let now = self.began.elapsed().as_millis() as u64;
         let looked = self.looked.load(Relaxed);
         if now >= looked + LOOK
@@ -70,7 +99,7 @@ impl Room {
         {
             self.look_again();
         }
-        self.left.load(Relaxed) > 0
+        self.left.load(Relaxed)
     }
 
     pub fn use_up(&self, bytes: u64) {
@@ -145,6 +174,27 @@ mod tests {
         free.store(2 * MOST, Relaxed);
         std::thread::sleep(Duration::from_millis(LOOK + 20));
         assert!(room.is_left());
+    }
+
+    #[test]
+    fn what_posts_under_way_will_write_is_not_there_for_others() {
+        let free = Arc::new(AtomicU64::new(MOST + 100));
+        let room = room(free.clone(), 1000);
+        // A look at the disk, whenever it comes, finds the same.
+        let write = |bytes| {
+            room.use_up(bytes);
+            free.fetch_sub(bytes, Relaxed);
+        };
+        let first = room.promise(60).unwrap();
+        let second = room.promise(60).unwrap();
+        assert!(room.promise(1).is_none() && !room.is_left());
+        drop(second);
+        assert!(room.is_left(), "it was not taken");
+        write(60);
+        drop(first);
+        assert!(room.promise(39).is_some());
+        write(40);
+        assert!(room.promise(1).is_none(), "it is in the journal");
     }
 
     #[test]

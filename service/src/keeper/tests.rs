@@ -8,7 +8,7 @@ use std::path::{Path, PathBuf};
 use std::sync::atomic::{AtomicBool, Ordering::SeqCst};
 use std::sync::Mutex;
 use tokio::sync::watch;
-use tokio::task::JoinHandle;
+use tokio::task::{JoinHandle, JoinSet};
 
 const CONNECTIONS: u64 = 100;
 
@@ -23,6 +23,10 @@ impl Run {
     /// A slot that takes posts, in a folder of its own.
     async fn begin(place: &Path, disk: Disk) -> Run {
         let folder = Folder::open_on(disk, &place.join("data"), Durability::Process).unwrap();
+        Run::begin_in(place, folder).await
+    }
+
+    async fn begin_in(place: &Path, folder: Folder) -> Run {
         let (journal, outbox) = folder.slot(0).unwrap();
         let metrics = Arc::new(Metrics::new().unwrap());
         let slot = Slot::new(0, Arc::new(folder), journal, Arc::new(outbox), metrics);
@@ -46,19 +50,22 @@ impl Run {
 
     /// A point of a series behind those before.
     async fn post(&self, number: u64) -> Outcome {
-        let body = format!(
-            "{{\"resourceMetrics\":[{{\"scopeMetrics\":[{{\"metrics\":[{{\"name\":\"a\",\"sum\":{{\
-             \"aggregationTemporality\":1,\"dataPoints\":[{{\"asInt\":\"1\",\
-             \"startTimeUnixNano\":\"{number}\",\"timeUnixNano\":\"{}\"}}]}}}}]}}]}}]}}",
-            number + 1
-        );
-        self.slot.post("A".into(), vec![body.into()]).await
+        self.slot.post("A".into(), vec![point("a", number).into()]).await
     }
 
     async fn end(self) {
         self.stop.send(true).unwrap();
         self.running.await.unwrap().unwrap();
     }
+}
+
+fn point(name: &str, number: u64) -> String {
+    format!(
+        "{{\"resourceMetrics\":[{{\"scopeMetrics\":[{{\"metrics\":[{{\"name\":\"{name}\",\"sum\":{{\
+         \"aggregationTemporality\":1,\"dataPoints\":[{{\"asInt\":\"1\",\
+         \"startTimeUnixNano\":\"{number}\",\"timeUnixNano\":\"{}\"}}]}}}}]}}]}}]}}",
+        number + 1
+    )
 }
 
 /// A keeper whose gateway is this program, and that orders nothing by itself.
@@ -146,5 +153,38 @@ async fn posts_are_in_no_group_until_it_is_committed() {
     assert_eq!(checkpoint.await.unwrap(), Some(Done::Flushed { requests: 1 }));
     assert_eq!(taken, CONNECTIONS / 2);
     assert_eq!(run.post(taken + 1).await, Outcome::taken(0));
+    run.end().await;
+}
+
+/// Else they use up what is kept back, and no start has room for its own files until somebody makes some.
+#[tokio::test]
+async fn posts_that_come_at_once_leave_the_room_that_is_kept_for_commits() {
+    const KEPT: u64 = 256 << 20;
+    const LENGTH: usize = 100_000;
+    const FIT: u64 = 10;
+    let place = tempfile::tempdir().unwrap();
+    let folder = Folder::open_on(Disk::default(), &place.path().join("data"), Durability::Process).unwrap();
+    let journal = place.path().join("data/slot-0/journal/000000000001.seg");
+    let path = journal.clone();
+    let written = move || std::fs::metadata(&path).map_or(0, |file| file.len());
+    let free = move || KEPT + FIT * LENGTH as u64 - written();
+    let run = Run::begin_in(place.path(), folder.in_room(free)).await;
+    let mut posts = JoinSet::new();
+    for number in 0..40 {
+        let slot = run.slot.clone();
+        let body = point(&format!("n{number}"), 1) + &" ".repeat(LENGTH);
+        posts.spawn(async move { slot.post(format!("S{number}"), vec![body.into()]).await });
+    }
+    let mut taken = 0;
+    while let Some(outcome) = posts.join_next().await {
+        match outcome.unwrap() {
+            Outcome::Taken { .. } => taken += 1,
+            Outcome::Refused { status, message } => {
+                assert_eq!((status, &*message), (503, crate::slot::NO_ROOM));
+            }
+        }
+    }
+    assert!((FIT - 1..=FIT).contains(&taken), "{taken}");
+    assert!(std::fs::metadata(&journal).unwrap().len() < (FIT + 1) * LENGTH as u64);
     run.end().await;
 }

@@ -5,8 +5,9 @@
 
 use super::{message, reply, Desk, JSON};
 use crate::files::dead::sent_as;
-use crate::files::Fault;
+use crate::files::{Dead, Fault};
 use crate::sinks::{of_part, Fate, Forwarded};
+use crate::work::blocking;
 use hyper::{Body, Response};
 use serde::{Deserialize, Serialize};
 
@@ -21,23 +22,39 @@ pub struct Resent {
 }
 
 impl Desk {
-    pub(super) fn letters(&self) -> Response<Body> {
-        match self.dead.list() {
+    /// Thousands of letters take seconds, and so long nothing else would go on that this thread has to do.
+    async fn of_dead<T: Send + 'static>(&self, call: impl FnOnce(&Dead) -> T + Send + 'static) -> T {
+        let dead = self.dead.clone();
+        blocking(move || call(&dead)).await
+    }
+
+    async fn body_of(&self, key: &str) -> Result<Option<Vec<u8>>, Fault> {
+        let key = key.to_string();
+        self.of_dead(move |dead| dead.body(&key)).await
+    }
+
+    async fn throw_away(&self, key: &str) -> Result<bool, Fault> {
+        let key = key.to_string();
+        self.of_dead(move |dead| dead.drop_letter(&key)).await
+    }
+
+    pub(super) async fn letters(&self) -> Response<Body> {
+        match self.of_dead(Dead::list).await {
             Ok(letters) => reply(200, JSON, serde_json::json!(letters).to_string()),
             Err(fault) => faulty(&fault),
         }
     }
 
-    pub(super) fn letter(&self, key: &str) -> Response<Body> {
-        match self.dead.body(key) {
+    pub(super) async fn letter(&self, key: &str) -> Response<Body> {
+        match self.body_of(key).await {
             Ok(Some(body)) => reply(200, JSON, body),
             Ok(None) => message(404, "no such request"),
             Err(fault) => faulty(&fault),
         }
     }
 
-    pub(super) fn drop_letter(&self, key: &str) -> Response<Body> {
-        match self.dead.drop_letter(key) {
+    pub(super) async fn drop_letter(&self, key: &str) -> Response<Body> {
+        match self.throw_away(key).await {
             Ok(true) => reply(200, JSON, "{}"),
             Ok(false) => message(404, "no such request"),
             Err(fault) => faulty(&fault),
@@ -46,13 +63,13 @@ impl Desk {
 
     pub(super) async fn resend(&self, key: &str) -> Response<Body> {
         let _one = self.resending.lock().await;
-        let body = match self.dead.body(key) {
+        let body = match self.body_of(key).await {
             Ok(Some(body)) => body,
             Ok(None) => return message(404, "no such request"),
             Err(fault) => return faulty(&fault),
         };
         let Some(request) = forwarded(key, body) else {
-            return self.of_part(key);
+            return self.of_part(key).await;
         };
         let reason = match self.sink.deliver(&request).await {
             Fate::Taken => None,
@@ -62,14 +79,14 @@ impl Desk {
                 left,
             } => {
                 let reason = of_part(rejected, &reason, left.is_some());
-                return self.keep_part(key, &request.body, &reason, left);
+                return self.keep_part(key, left.unwrap_or(request.body), reason).await;
             }
             Fate::Again { reason, .. } | Fate::Failed { reason, .. } | Fate::Refused { reason } => {
                 Some(reason)
             }
         };
         if reason.is_none() {
-            if let Err(fault) = self.dead.drop_letter(key) {
+            if let Err(fault) = self.throw_away(key).await {
                 return faulty(&fault);
             }
             tracing::info!("the sink has taken {key}, which was put aside");
@@ -83,8 +100,8 @@ impl Desk {
     }
 
     /// What stands under no key of a request is of one that the sink has taken, and says why.
-    fn of_part(&self, key: &str) -> Response<Body> {
-        let letters = match self.dead.list() {
+    async fn of_part(&self, key: &str) -> Response<Body> {
+        let letters = match self.of_dead(Dead::list).await {
             Ok(letters) => letters,
             Err(fault) => return faulty(&fault),
         };
@@ -97,16 +114,19 @@ impl Desk {
     }
 
     /// What the sink has a part of is kept under another key: it must not be sent again.
-    fn keep_part(&self, key: &str, body: &[u8], reason: &str, left: Option<Vec<u8>>) -> Response<Body> {
-        let left = left.as_deref().unwrap_or(body);
-        let kept = self.dead.keep(&format!("{key}-partial"), reason, left);
-        if let Err(fault) = kept.and_then(|()| self.dead.drop_letter(key)) {
+    async fn keep_part(&self, key: &str, left: Vec<u8>, reason: String) -> Response<Body> {
+        let (whole, why) = (key.to_string(), reason.clone());
+        let keep = move |dead: &Dead| {
+            dead.keep(&format!("{whole}-partial"), &why, &left)?;
+            dead.drop_letter(&whole)
+        };
+        if let Err(fault) = self.of_dead(keep).await {
             return faulty(&fault);
         }
         let resent = Resent {
             key: key.into(),
             taken: true,
-            reason: Some(reason.into()),
+            reason: Some(reason),
         };
         reply(200, JSON, serde_json::json!(resent).to_string())
     }

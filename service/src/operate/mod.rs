@@ -140,10 +140,10 @@ impl Desk {
                 Ok(status) => reply(200, JSON, status),
                 Err(error) => message(500, &error.to_string()),
             },
-            Route::Letters => self.letters(),
-            Route::Letter(key) => self.letter(&key),
+            Route::Letters => self.letters().await,
+            Route::Letter(key) => self.letter(&key).await,
             Route::Resend(key) => self.resend(&key).await,
-            Route::Drop(key) => self.drop_letter(&key),
+            Route::Drop(key) => self.drop_letter(&key).await,
         }
     }
 }

@@ -234,9 +234,7 @@ impl<S: Store> Run<S> {
         state.tries += 1;
         if state.trouble.is_none() {
             let (sink, key) = (self.sink.name(), request.key());
-            tracing::warn!(
-                "{sink} has not taken request {key}: {reason}; it is sent again until it is taken"
-            );
+            tracing::warn!("{sink} has not taken request {key}: {reason}; it is sent again");
         }
         state.trouble = Some(reason);
         state.tries

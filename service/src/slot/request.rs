@@ -17,7 +17,7 @@
 use super::claims::{Claimed, NotClaimed, Places};
 use super::points::points;
 use super::verdict::{Journalled, Refusal, Said, Verdict};
-use super::{is_sender, Counted, Phase, Slot};
+use super::{is_sender, Counted, Phase, Slot, NO_ROOM};
 use crate::files::Ticket;
 use crate::otlp::Outcome;
 use crate::work::pause;
@@ -120,6 +120,10 @@ impl Slot {
         let gate = self.gate.enter().await;
         let Some(gateway) = gate.as_ref().filter(|_| self.is_ready()) else {
             return Put::Not(self.at_the_door().unwrap_or(Refusal::unavailable("recovering")));
+        };
+        // Others may have come through the door at once.
+        let Some(_room) = self.folder.room_for(body.len()) else {
+            return Put::Not(Refusal::unavailable(NO_ROOM));
         };
         // Held as long: another slot's gateway takes none of these series meanwhile.
         let claimed = match self.claimed(series).await {

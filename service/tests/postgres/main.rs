@@ -139,6 +139,25 @@ async fn of_a_request_the_spans_that_overlap_alone_are_left() {
     refused(&*sink, 3, left, "overlaps").await;
 }
 
+/// A folder was put back over itself: the key comes again with other points, some of which begin alike.
+#[tokio::test(flavor = "multi_thread")]
+async fn a_request_is_told_from_another_of_its_key_by_each_of_its_spans() {
+    let Some(server) = Server::start() else { return };
+    let sink = open(&server.by_socket("postgres"));
+    let (a, b, c) = (("a", 1, 2, 1), ("b", 1, 9, 1), ("c", 5, 6, 1));
+    taken(&*sink, 1, server::sums(&[a, b])).await;
+    taken(&*sink, 2, server::sums(&[c])).await;
+    let longer = ("a", 1, 3, 1);
+    for other in [&[longer, b][..], &[a, b, ("d", 5, 6, 1)], &[b, longer, c]] {
+        refused(&*sink, 1, server::sums(other), "key is that of another request").await;
+    }
+    taken(&*sink, 1, server::sums(&[a, b])).await;
+    assert_eq!(
+        server.ask("select name, points, total from totxegun.totals order by 1"),
+        "a|1|1\nb|1|1\nc|1|1"
+    );
+}
+
 /// The server's certificate is looked at, by the roots of the machine.
 #[tokio::test(flavor = "multi_thread")]
 async fn by_tls() {
@@ -214,6 +233,32 @@ async fn what_is_told() {
     refuses("d2", "another program");
     server.ask("create database latin encoding latin1 template template0 lc_collate 'C' lc_ctype 'C'");
     refuses("latin", "LATIN1");
+}
+
+/// So a server answers each request while it has no number left for a transaction: each would be put aside for good.
+#[tokio::test(flavor = "multi_thread")]
+async fn a_limit_of_the_server_is_waited_for() {
+    let Some(server) = Server::start() else { return };
+    let sink = open(&server.by_socket("postgres"));
+    taken(&*sink, 1, sum("a", 1, 2, 1)).await;
+    server.run_file(
+        "postgres",
+        "create function totxegun.limit() returns trigger language plpgsql as $$ begin
+            raise exception 'database is not accepting commands' using errcode = '54000'; end $$;
+        create trigger wraparound before insert on totxegun.request execute function totxegun.limit()",
+    );
+    match sink.deliver(&request(2, sum("a", 2, 3, 2))).await {
+        Fate::Failed { reason, .. } => {
+            assert!(
+                reason.contains("a limit of the server") && reason.contains("not accepting commands"),
+                "{reason}"
+            )
+        }
+        other => panic!("{other:?}"),
+    }
+    server.ask("drop trigger wraparound on totxegun.request");
+    taken(&*sink, 2, sum("a", 2, 3, 2)).await;
+    assert_eq!(server.ask("select points, total from totxegun.totals"), "2|3");
 }
 
 #[tokio::test(flavor = "multi_thread")]

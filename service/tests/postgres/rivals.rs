@@ -1,7 +1,7 @@
 //! Several services write the same series of one database; and what others do to its tables.
 
 use crate::server::{sum, sums, Server};
-use crate::{again, open, request, taken};
+use crate::{again, open, refused, request, taken};
 use std::collections::BTreeSet;
 use std::time::Duration;
 use totxegun::sinks::Fate;
@@ -144,6 +144,9 @@ async fn no_table_is_read_whole() {
             .map(|name| (&name[..], turn + 1, turn + 2, 1))
             .collect();
         taken(&*sink, number, sums(&points)).await;
+        // It comes again, and once more under a key of its own.
+        taken(&*sink, number, sums(&points)).await;
+        refused(&*sink, 100 + number, sums(&points), "overlaps").await;
     }
     // A session tells what it has read when it ends.
     drop(sink);

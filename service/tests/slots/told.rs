@@ -3,6 +3,7 @@
 use crate::support::{points, until, Place, NO_SINK, PROGRAM};
 use nix::fcntl::{flock, FlockArg};
 use std::os::fd::AsRawFd;
+use std::os::unix::fs::OpenOptionsExt;
 use std::os::unix::net::UnixDatagram;
 use std::process::Command;
 use std::time::Duration;
@@ -33,6 +34,34 @@ fn a_wrong_key_is_that_of_no_request() {
         let said = service.said(&["dead", what, "0-a-1"]);
         assert!(said.contains("no such request"), "{what}: {said}");
     }
+}
+
+/// Else checkpoints and deliveries stand still meanwhile, and a supervisor takes the service for dead.
+#[test]
+fn letters_that_take_long_hold_up_nothing_else() {
+    let place = Place::new();
+    let service = place.serve(1);
+    // It is read once somebody writes to it.
+    let letter = place.data().join("dead/0-a-1.json");
+    let made = Command::new("mkfifo").arg(&letter).status();
+    assert!(made.unwrap().success());
+    std::thread::scope(|scope| {
+        let lists: Vec<_> = (0..4)
+            .map(|_| scope.spawn(|| service.asked_for("/dead")))
+            .collect();
+        std::thread::sleep(Duration::from_millis(300));
+        let (answered, answer) = std::sync::mpsc::channel();
+        let asked = &service;
+        scope.spawn(move || answered.send(asked.asked_for("/health")));
+        let health = answer.recv_timeout(Duration::from_secs(3));
+        let mut write = std::fs::OpenOptions::new();
+        write.write(true).custom_flags(nix::libc::O_NONBLOCK); // it fails where nobody reads
+        while !lists.iter().all(|list| list.is_finished()) {
+            drop(write.open(&letter));
+            std::thread::sleep(Duration::from_millis(5));
+        }
+        assert_eq!(health.ok().flatten().map(|(status, _)| status), Some(200));
+    });
 }
 
 /// A supervisor that hears of it only then ends a start that takes long, again and again.

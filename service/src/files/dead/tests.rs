@@ -145,3 +145,37 @@ fn a_letter_that_was_changed_is_left_and_hides_none() {
     dead.let_go("0-e-1", b"").unwrap();
     assert!(folder.path().join("0-e-1.json").exists());
 }
+
+/// Root's own copy of a letter, or a file that a disk does not read any more.
+#[test]
+fn a_letter_that_can_not_be_read_hides_no_other() {
+    let folder = tempfile::tempdir().unwrap();
+    let dead = open(folder.path());
+    dead.keep("k", "400", b"body").unwrap();
+    std::fs::create_dir(folder.path().join("l.json")).unwrap();
+    let listed = dead.list().unwrap();
+    let of = |key: &str| listed.iter().find(|letter| letter.key == key).unwrap();
+    assert_eq!((&*of("k").reason, dead.count()), ("400", 2));
+    assert!(
+        of("l").reason.contains("l.json: Is a directory"),
+        "{}",
+        of("l").reason
+    );
+}
+
+/// As each text of a damaged one says: it is moved out, and a copy is put in its place.
+#[test]
+fn letters_that_are_moved_by_hand_are_counted_as_they_are() {
+    let folder = tempfile::tempdir().unwrap();
+    let (inside, outside) = (folder.path().join("k.json"), folder.path().join("k.copy"));
+    let dead = open(folder.path());
+    dead.keep("k", "400", b"body").unwrap();
+    std::fs::copy(&inside, &outside).unwrap();
+    assert!(dead.drop_letter("k").unwrap());
+    std::fs::rename(&outside, &inside).unwrap();
+    assert!(dead.drop_letter("k").unwrap());
+    assert_eq!(dead.count(), 0);
+    dead.keep("k", "400", b"body").unwrap();
+    std::fs::rename(&inside, &outside).unwrap();
+    assert_eq!((dead.list().unwrap(), dead.count()), (vec![], 0));
+}

@@ -52,10 +52,7 @@ impl Outbox {
             room,
             read_ends,
             longest,
-            writer: Mutex::new(Writer {
-                segment,
-                failed: false,
-            }),
+            writer: Mutex::new(Writer::new(segment)),
             state: Mutex::new(state),
             arrived: Notify::new(),
         };

@@ -56,6 +56,7 @@ fn what_to_do(said: &DbError) -> Option<&'static str> {
         "42501" => "the role lacks a right, grant it",
         "25006" => "the server or the role is read-only, name one that writes",
         "53100" => "the server's disk is full, make room",
+        "54000" => "a limit of the server or of the request, look at the server's log",
         "53300" => "the server has no connection left, raise max_connections",
         "57P01" | "57P02" | "57P03" => "the server is starting or ending",
         "57014" | "55P03" => "the server took too long",
@@ -70,22 +71,23 @@ pub(super) enum NotTaken {
     /// It never will be.
     #[error("{0}")]
     Refused(String),
+    /// A limit was met, and nobody says whether it is one of the request or of the server, which may pass.
+    #[error("{0}")]
+    Failed(PostgresFault),
     #[error(transparent)]
     Fault(#[from] PostgresFault),
 }
 
 impl NotTaken {
-    /// Content that no PostgreSQL takes (a data exception, a program's limit) is refused for good; all else may mend
-    /// itself.
+    /// Content that no PostgreSQL takes (a data exception) is refused for good. A program's limit is met by content, but
+    /// also by each request where a server has no number left for a transaction. All else may mend itself.
     pub(super) fn of(server: &str, error: &tokio_postgres::Error) -> NotTaken {
-        let is_content = error.code().is_some_and(|code| {
-            let code = code.code();
-            code.starts_with("22") || code.starts_with("54")
-        });
-        if is_content {
-            return NotTaken::Refused(format!("no PostgreSQL takes it: {}", shown(error)));
+        let code = error.code().map_or("", |code| code.code());
+        match code.get(..2) {
+            Some("22") => NotTaken::Refused(format!("no PostgreSQL takes it: {}", shown(error))),
+            Some("54") => NotTaken::Failed(PostgresFault::of(server, error)),
+            _ => NotTaken::Fault(PostgresFault::of(server, error)),
         }
-        NotTaken::Fault(PostgresFault::of(server, error))
     }
 }
 

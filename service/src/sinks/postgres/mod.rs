@@ -81,7 +81,7 @@ impl PostgresSink {
             _ => Session::open(&self.server).await?,
         };
         let taken = store::take(&mut session, &self.name, request, all).await;
-        if !matches!(taken, Err(NotTaken::Fault(_))) {
+        if matches!(taken, Ok(_) | Err(NotTaken::Refused(_))) {
             *place = Some(session);
         }
         taken
@@ -105,6 +105,10 @@ impl PostgresSink {
             Ok(None) => Fate::Taken,
             Ok(Some(left)) => left.fate(&request.body),
             Err(NotTaken::Refused(reason)) => Fate::refused(reason),
+            Err(NotTaken::Failed(fault)) => Fate::Failed {
+                reason: fault.to_string(),
+                after: None,
+            },
             Err(NotTaken::Fault(fault)) => Fate::again(fault.to_string()),
         }
     }

@@ -9,6 +9,7 @@ use crate::otlp::series::{self, ForwardedPoint, SeriesKey};
 use crate::sinks::part::{Left, OTHER_REQUEST};
 use crate::sinks::Forwarded;
 use std::collections::HashSet;
+use tokio_postgres::Row;
 
 /// Points that overlap what is there, each by its series and start, which no other point of the request has.
 #[derive(Default)]
@@ -69,7 +70,8 @@ pub(super) fn without(
 }
 
 impl Writing<'_> {
-    /// Of a request that was taken: the points that have no span of it.
+    /// Of a request that was taken: the points that have no span of it. Each of these was left for a span of another
+    /// request, which is there for ever; else it is another request that came under the key.
     pub(super) async fn left_of(
         &self,
         row: i64,
@@ -83,10 +85,12 @@ impl Writing<'_> {
         };
         let digests: Vec<&[u8]> = each().map(|(digest, _)| digest).collect();
         let starts: Vec<Numeric> = each().map(|(_, point)| point.start.into()).collect();
+        let ends: Vec<Numeric> = each().map(|(_, point)| point.end.into()).collect();
         let rows = self
-            .rows(&self.statements.left, &[&row, &digests, &starts])
+            .rows(&self.statements.left, &[&row, &digests, &starts, &ends])
             .await?;
-        if rows.len() as i64 != points(all) - added {
+        let was_left = |row: &Row| row.get::<_, bool>(1);
+        if rows.len() as i64 != points(all) - added || !rows.iter().all(was_left) {
             return Err(NotTaken::Refused(OTHER_REQUEST.into()));
         }
         let points: Vec<&ForwardedPoint> = each().map(|(_, point)| point).collect();

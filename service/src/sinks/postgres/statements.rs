@@ -17,12 +17,18 @@ pub(super) const IS_TAKEN: &str = "select id, points from totxegun.request
 
 pub(super) const SET_POINTS: &str = "update totxegun.request set points = $2::int8 where id = $1::int8";
 
-/// The places of those points that have no span of this request.
-pub(super) const LEFT: &str = "select wanted.place from unnest($2::bytea[], $3::numeric[]) with ordinality
-        as wanted(digest, start_ns, place)
+/// The places of those points that have no span of this request, and whether a span of another request overlaps each:
+/// so it was where the point was left. As in `OVERLAP` one span alone can.
+pub(super) const LEFT: &str = "select wanted.place,
+        coalesce(old.end_ns > wanted.start_ns and old.request <> $1::int8, false)
+    from unnest($2::bytea[], $3::numeric[], $4::numeric[]) with ordinality as wanted(digest, start_ns, end_ns, place)
     left join totxegun.series on series.digest = wanted.digest
     left join totxegun.span on span.series = series.id and span.start_ns = wanted.start_ns
-        and span.request = $1::int8
+        and span.end_ns = wanted.end_ns and span.request = $1::int8
+    left join lateral (
+        select s.end_ns, s.request from totxegun.span as s
+        where s.series = series.id and s.start_ns < wanted.end_ns order by s.start_ns desc limit 1
+    ) as old on true
     where span.series is null order by wanted.place";
 
 /// Makes the rows of new series, in the order of the array, which is that of their digests. One that another

@@ -8,7 +8,8 @@ use crate::sinks::part::Left;
 use crate::sinks::Forwarded;
 use rusqlite::{params, Connection, OpenFlags, OptionalExtension, Transaction, TransactionBehavior};
 use std::collections::HashMap;
-use std::os::unix::fs::MetadataExt;
+use std::fs::OpenOptions;
+use std::os::unix::fs::{MetadataExt, OpenOptionsExt};
 use std::path::{Path, PathBuf};
 use std::time::Duration;
 
@@ -40,6 +41,7 @@ impl Store {
         let flags = OpenFlags::SQLITE_OPEN_READ_WRITE
             | OpenFlags::SQLITE_OPEN_CREATE
             | OpenFlags::SQLITE_OPEN_NO_MUTEX;
+        make_private(path);
         let mut connection = Connection::open_with_flags(path, flags).map_err(fault)?;
         connection.busy_timeout(PATIENCE).map_err(fault)?;
         // Before anything is changed: the file may be another program's.
@@ -105,6 +107,13 @@ impl Store {
         self.series.extend(new);
         Ok(left)
     }
+}
+
+/// Makes an empty file, of its owner alone, where there is none: SQLite's own would be as open as the umask leaves it.
+/// SQLite gives its log the rights of the file. What goes wrong here SQLite meets too, and says better.
+fn make_private(path: &Path) {
+    let mut options = OpenOptions::new();
+    let _ = options.write(true).create_new(true).mode(0o600).open(path);
 }
 
 /// Copies the log into the file, and syncs it. What an earlier run wrote and did not sync, or could not sync, may be

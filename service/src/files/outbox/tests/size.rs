@@ -54,6 +54,42 @@ fn it_is_at_most_a_fifth_of_what_is_forwarded() {
     assert!(written * 5 <= forwarded);
 }
 
+/// Else each acknowledgement writes all series anew: with 10,000 of long identities hundreds of megabytes.
+#[test]
+fn a_long_snapshot_is_not_written_with_each_change() {
+    const LONGEST: u64 = 2000;
+    let folder = tempfile::tempdir().unwrap();
+    let made = Arc::new(AtomicUsize::new(0));
+    let count = made.clone();
+    let disk = Disk::failing(move |call, _| {
+        count.fetch_add(usize::from(call == Call::Create), SeqCst);
+        Ok(())
+    });
+    let outbox = open_on(&disk, folder.path(), "e", LONGEST).unwrap();
+    let keys: Vec<String> = (1..1000u64)
+        .map(|n| format!("{:x}", n.wrapping_mul(0x9e37_79b9_7f4a_7c15)))
+        .collect();
+    let ends: Vec<(&str, u64)> = keys.iter().map(|key| (&**key, 1)).collect();
+    outbox.commit(&[body(&ends, "")], 2).unwrap();
+    let snapshot = std::fs::metadata(last_segment(folder.path())).unwrap().len();
+    assert!(snapshot > 2 * LONGEST, "{snapshot}");
+    let mut written = 0;
+    for journal in 3..103 {
+        let filling = "x".repeat(100);
+        written += 100;
+        outbox.commit(&[body(&[], &filling)], journal).unwrap();
+        outbox.acknowledge(journal - 2).unwrap();
+    }
+    let made = made.load(SeqCst);
+    assert!(
+        made < 10,
+        "{made} segments for {written} bytes behind a snapshot of {snapshot}"
+    );
+    drop(outbox);
+    let outbox = open_on(&Disk::default(), folder.path(), "e", LONGEST).unwrap();
+    assert_eq!((outbox.series_count(), outbox.waiting().0), (999, 1));
+}
+
 /// Prints how long a start takes with 1,000,000 waiting requests: `cargo test --release -- --ignored --nocapture backlog`.
 #[test]
 #[ignore]

@@ -44,29 +44,39 @@ pub(super) fn set_points(transaction: &Transaction, row: i64, points: usize) -> 
 }
 
 impl Writing<'_> {
-    /// The points of a taken request that have no span of it. Nothing is written.
+    /// The points of a taken request that have no span of it. Nothing is written. Each of these was left for a span of
+    /// another request, which is there for ever; else it is another request that came under the key.
     pub(super) fn left_of(
         mut self,
         taken: &Taken,
         points: &[ForwardedPoint],
     ) -> Result<Option<Left>, NotTaken> {
+        let other = || NotTaken::Refused(OTHER_REQUEST.into());
         let mut left = Left::default();
         for (place, point) in points.iter().enumerate() {
             let (series, _) = self.series(&point.series)?;
-            let is_there = self.of(|transaction| {
-                transaction
-                    .prepare_cached(
-                        "select 1 from span where request = ?1 and series = ?2 and start_ns = ?3",
-                    )?
-                    .exists(params![taken.row, series, Whole(point.start)])
-            })?;
-            if !is_there {
-                left.add(place, format!("the file had it already: {}", super::shown(point)));
+            if self.has_span(taken, series, point)? {
+                continue;
+            }
+            match self.overlap(taken.row, series, point) {
+                Ok(Some(reason)) => left.add(place, reason),
+                Ok(None) | Err(NotTaken::Refused(_)) => return Err(other()),
+                Err(fault) => return Err(fault),
             }
         }
         if taken.time != time_of(points) || taken.points + left.places.len() != points.len() {
-            return Err(NotTaken::Refused(OTHER_REQUEST.into()));
+            return Err(other());
         }
         Ok((!left.places.is_empty()).then_some(left))
+    }
+
+    fn has_span(&self, taken: &Taken, series: i64, point: &ForwardedPoint) -> Result<bool, NotTaken> {
+        self.of(|transaction| {
+            transaction
+                .prepare_cached(
+                    "select 1 from span where request = ?1 and series = ?2 and start_ns = ?3 and end_ns = ?4",
+                )?
+                .exists(params![taken.row, series, Whole(point.start), Whole(point.end)])
+        })
     }
 }

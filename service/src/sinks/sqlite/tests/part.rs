@@ -32,3 +32,25 @@ fn of_a_request_the_spans_that_overlap_alone_are_left() {
     assert_eq!(trial.ask("select points from request where number = 2"), "2");
     trial.refused(3, left, "overlaps");
 }
+
+/// A folder was put back over itself: the key comes again with other points, some of which begin alike.
+#[test]
+fn a_request_is_told_from_another_of_its_key_by_each_of_its_spans() {
+    let mut trial = Trial::new();
+    let sums = |all: &[(&str, u64, u64)]| {
+        let of = |(name, start, end): &(&str, u64, u64)| sum_of(name, &[sum_point(200, *start, *end, 1)]);
+        metrics(&all.iter().map(of).collect::<Vec<String>>().join(","))
+    };
+    let (a, b, c) = (("a", 1, 2), ("b", 1, 9), ("c", 5, 6));
+    trial.taken(1, sums(&[a, b]));
+    trial.taken(2, sums(&[c]));
+    let longer = ("a", 1, 3);
+    for other in [&[longer, b][..], &[a, b, ("d", 5, 6)], &[b, longer, c]] {
+        trial.refused(1, sums(other), "key is that of another request");
+    }
+    trial.taken(1, sums(&[a, b]));
+    assert_eq!(
+        trial.totals(),
+        ["a", "b", "c"].map(|name| (name.to_string(), 1, 1)).to_vec()
+    );
+}

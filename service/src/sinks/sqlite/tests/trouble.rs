@@ -190,3 +190,26 @@ fn a_long_reader_is_told_and_waited_for() {
     trial.taken(3, sum("a", 30, 40, 4));
     assert_eq!(trial.totals(), only("a", 7, 3));
 }
+
+/// It says what was counted of whom; its folder may be open to others, where it is not the service's own.
+#[test]
+fn a_file_that_is_made_is_its_owners_alone() {
+    let mut trial = Trial::new();
+    trial.taken(1, sum("a", 10, 20, 1));
+    let mode_of = |name: &str| {
+        let found = std::fs::metadata(trial.folder.path().join(name)).expect(name);
+        found.permissions().mode() & 0o777
+    };
+    for name in ["totals.db", "totals.db-wal", "totals.db-shm"] {
+        assert_eq!(mode_of(name), 0o600, "{name}");
+    }
+    // One that an operator opens to others stays so.
+    std::fs::set_permissions(trial.path(), std::fs::Permissions::from_mode(0o640)).expect("its rights");
+    trial.reopen();
+    trial.taken(2, sum("a", 20, 30, 2));
+    let mode = std::fs::metadata(trial.path())
+        .expect("it is there")
+        .permissions()
+        .mode();
+    assert_eq!(mode & 0o777, 0o640);
+}
