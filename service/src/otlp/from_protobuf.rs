@@ -9,7 +9,7 @@ mod time;
 
 use super::json::is_text;
 use super::output::{Output, Written};
-use super::schema::{Field, Kind, Message, Wire, EXEMPLAR, KEY_VALUE, KEY_VALUE_LIST, REQUEST};
+use super::schema::{Field, Kind, Message, Wire, EXEMPLAR, KEY_VALUE, REQUEST};
 use super::wire::{Fields, Malformed, Payload};
 use super::{Reading, Refused};
 use std::ops::Range;
@@ -177,7 +177,7 @@ impl<'a> Writer<'a, '_> {
             let index = before.map_or(first, |before| first + before + 1);
             match self.found[first..index].last_mut() {
                 Some(known) if known.place == place => {
-                    if let Kind::Message(_) | Kind::Part(_) | Kind::Map = field.kind {
+                    if let Kind::Message(_) | Kind::Part(_) | Kind::Foreign(_) = field.kind {
                         return Err(refused(of, format_args!("{} is there twice", field.name)));
                     }
                     known.times += times;
@@ -228,9 +228,9 @@ impl<'a> Writer<'a, '_> {
             Kind::Wholes => self.list(found, number, |out, bits| out.whole(bits)),
             Kind::Doubles => self.list(found, number, |out, bits| out.double(f64::from_bits(bits))),
             Kind::Bytes => self.out.push("\"\""),
-            Kind::Map => {
+            Kind::Foreign(inner) => {
                 let from = self.out.text.len();
-                self.message(&KEY_VALUE_LIST, found.bytes(), depth + 1)?;
+                self.message(inner, found.bytes(), depth + 1)?;
                 self.out.text.truncate(from);
                 self.out.push("{}");
             }

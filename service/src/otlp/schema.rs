@@ -57,8 +57,8 @@ pub enum Kind {
     /// A double that makes its point foreign, whatever it is.
     Fraction,
     Bytes,
-    /// A map, which makes foreign what it identifies.
-    Map,
+    /// A map or a list in a list, which makes foreign what it identifies: it is looked through, and written as empty.
+    Foreign(&'static Message),
     /// Is only looked through for what is malformed, in protobuf.
     Exemplars,
 }
@@ -324,27 +324,39 @@ pub static KEY_VALUE: Message = Message {
     refused: &[],
 };
 
-static ANY_VALUE: Message = Message {
-    name: "AnyValue",
-    fields: &[
+/// A value; `list` is the kind of its `arrayValue`.
+const fn any_value(list: Kind) -> [Field; 7] {
+    [
         field!("stringValue", "string_value", 1, Kind::Text),
         field!("boolValue", "bool_value", 2, Kind::Bool),
         field!("intValue", "int_value", 3, Kind::Whole(Wire::Int64)),
         field!("doubleValue", "double_value", 4, Kind::Fraction),
-        field!("arrayValue", "array_value", 5, Kind::Part(&ARRAY_VALUE)),
-        field!("kvlistValue", "kvlist_value", 6, Kind::Map),
+        field!("arrayValue", "array_value", 5, list),
+        field!("kvlistValue", "kvlist_value", 6, Kind::Foreign(&KEY_VALUE_LIST)),
         field!("bytesValue", "bytes_value", 7, Kind::Bytes),
-    ],
+    ]
+}
+
+static ANY_VALUE: Message = Message {
+    name: "AnyValue",
+    fields: &any_value(Kind::Part(&ARRAY_VALUE)),
     refused: &[],
 };
 
 static ARRAY_VALUE: Message = Message {
     name: "ArrayValue",
-    fields: &[field!("values", "values", 1, Kind::Parts(&ANY_VALUE))],
+    fields: &[field!("values", "values", 1, Kind::Parts(&SINGLE_VALUE))],
     refused: &[],
 };
 
-pub static KEY_VALUE_LIST: Message = Message {
+/// A value in a list. It may be no list itself, so what is written is no deeper than the gateway reads.
+static SINGLE_VALUE: Message = Message {
+    name: "AnyValue",
+    fields: &any_value(Kind::Foreign(&ARRAY_VALUE)),
+    refused: &[],
+};
+
+static KEY_VALUE_LIST: Message = Message {
     name: "KeyValueList",
     fields: &[field!("values", "values", 1, Kind::Parts(&KEY_VALUE))],
     refused: &[],

@@ -9,6 +9,7 @@ mod explain;
 mod long;
 mod mapping;
 mod points;
+mod protobuf;
 mod random;
 mod refused;
 mod speed;

@@ -1,0 +1,42 @@
+//! What protobuf allows beside the form that encoders write.
+
+use super::{bytes, prepared, within_request};
+use crate::otlp::series::{posted, Posted};
+use crate::otlp::Encoding;
+
+/// A sum of these points, in a request.
+fn sum(points: &[Vec<u8>]) -> Vec<u8> {
+    let points: Vec<u8> = points.iter().flat_map(|point| bytes(1, point)).collect();
+    within_request(&bytes(7, &[&points[..], &[0x10, 1]].concat()))
+}
+
+/// A point that is taken, with further fields.
+fn point(others: &[u8]) -> Vec<u8> {
+    let eight = |number: u8, bits: u64| [&[number << 3 | 1][..], &bits.to_le_bytes()].concat();
+    [&eight(2, 1)[..], &eight(3, 2), &eight(6, 5), others].concat()
+}
+
+fn attribute(value: &[u8]) -> Vec<u8> {
+    bytes(7, &[bytes(1, b"k"), bytes(2, value)].concat())
+}
+
+/// What the gateway has of a request.
+fn read(body: Vec<u8>) -> Posted {
+    let bodies = prepared(Encoding::Protobuf, body).unwrap();
+    posted(&bodies[0]).unwrap_or_else(|| panic!("{}", String::from_utf8_lossy(&bodies[0])))
+}
+
+/// Its point is foreign, however deep it is: what is written of it is no deeper than the gateway reads.
+#[test]
+fn a_list_in_a_list_makes_no_other_point_foreign() {
+    for depth in 1..=46 {
+        let list = (0..depth).fold(vec![0x10, 1], |inner, _| bytes(5, &bytes(1, &inner)));
+        let read = read(sum(&[point(&attribute(&list)), point(b"")]));
+        let foreign = u64::from(depth > 1);
+        assert_eq!(
+            (read.foreign, read.series.len() as u64),
+            (foreign, 2 - foreign),
+            "{depth}"
+        );
+    }
+}
