@@ -40,3 +40,13 @@ fn a_list_in_a_list_makes_no_other_point_foreign() {
         );
     }
 }
+
+#[test]
+fn groups_are_passed_over_as_any_field_that_is_not_known() {
+    let inner = [&[0x7b, 0x08, 1, 0x0b, 0x0c][..], &bytes(2, b"x"), &[0x7c]].concat();
+    let deep = [vec![0x7b; 100], vec![0x7c; 100]].concat();
+    for group in [vec![0xa3, 1, 0xa4, 1], inner, deep] {
+        let read = read([sum(&[point(&group), point(b"")]), group].concat());
+        assert_eq!((read.foreign, read.series.len()), (0, 1));
+    }
+}

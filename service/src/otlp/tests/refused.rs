@@ -74,7 +74,12 @@ fn protobuf_that_is_malformed_or_would_be_lost_is_refused() {
         (vec![0x0a, 5, 0], "cut"),
         (vec![0x80; 11], "64 bits"),
         (vec![0x00, 0], "without a number"),
-        (vec![0x0b], "wire type"),
+        (vec![0x0b], "cut"),
+        (vec![0x0b, 0x14], "wire type"),
+        (vec![0x0c], "wire type"),
+        (vec![0x0e], "wire type"),
+        (vec![0x0b, 0x0c], "resourceMetrics of another wire type"),
+        (vec![0x7b; 101], "groups nested too deep"),
         (vec![0x08, 1], "resourceMetrics of another wire type"),
         (bytes(1, &bytes(1000, b"")), "old version of OTLP"),
         (
