@@ -173,6 +173,9 @@ impl<'a> Writer<'a, '_> {
                     times += 1;
                 }
             }
+            if of.one_of.contains(&field.number) {
+                self.forget_others(of, first, place);
+            }
             let before = self.found[first..].iter().rposition(|found| found.place <= place);
             let index = before.map_or(first, |before| first + before + 1);
             match self.found[first..index].last_mut() {
@@ -193,6 +196,15 @@ impl<'a> Writer<'a, '_> {
                     },
                 ),
             }
+        }
+    }
+
+    /// Of the fields of which a message has one, the last that is there counts (a oneof of protobuf).
+    fn forget_others(&mut self, of: &'static Message, first: usize, place: usize) {
+        let is_other =
+            |found: &Found<'_>| found.place != place && of.one_of.contains(&of.fields[found.place].number);
+        while let Some(other) = self.found[first..].iter().position(is_other) {
+            self.found.remove(first + other);
         }
     }
 

@@ -50,3 +50,40 @@ fn groups_are_passed_over_as_any_field_that_is_not_known() {
         assert_eq!((read.foreign, read.series.len()), (0, 1));
     }
 }
+
+#[test]
+fn of_fields_of_which_a_message_has_one_the_last_counts() {
+    let double = [&[4 << 3 | 1][..], &0.5f64.to_le_bytes()].concat();
+    let last_is_whole = [double.clone(), point(b"")].concat();
+    let read_as = |point: Vec<u8>| {
+        let read = read(sum(&[point]));
+        (read.foreign, read.series.len())
+    };
+    assert_eq!(read_as(last_is_whole), (0, 1));
+    assert_eq!(read_as(point(&double)), (1, 0));
+    let (text, map, list) = (bytes(1, b"t"), bytes(6, b""), bytes(5, b""));
+    let written = |value: Vec<Vec<u8>>| {
+        let body = sum(&[point(&attribute(&value.concat()))]);
+        let bodies = prepared(Encoding::Protobuf, body).unwrap();
+        let text = String::from_utf8_lossy(&bodies[0]).into_owned();
+        let value = text.split_once(r#""value":"#).unwrap().1;
+        value.split_once("}]").unwrap().0.to_string()
+    };
+    let cases = [
+        (vec![&text, &map], r#"{"kvlistValue":{}}"#),
+        (vec![&map, &list, &text], r#"{"stringValue":"t"}"#),
+        (vec![&list, &text, &list], r#"{"arrayValue":{}}"#),
+    ];
+    for (fields, expected) in cases {
+        assert_eq!(written(fields.into_iter().cloned().collect()), expected);
+    }
+}
+
+/// Else points would be lost in silence.
+#[test]
+fn of_several_kinds_of_data_all_points_are_foreign() {
+    let of_sum = bytes(7, &[bytes(1, &point(b"")), vec![0x10, 1]].concat());
+    let gauge = bytes(5, &bytes(1, b""));
+    let read = read(within_request(&[of_sum, gauge].concat()));
+    assert_eq!((read.foreign, read.series.len()), (2, 0));
+}
