@@ -17,16 +17,11 @@ use time::Time;
 
 /// Messages may be nested as deep as protobuf's own readers allow.
 const MAX_DEPTH: usize = 100;
+/// How many times its length of a body may be copied: once for each message in another that a point taken may have.
+const COPIES: usize = 4;
 
 pub fn written(body: &[u8], reading: &Reading) -> Result<Written, Refused> {
-    let mut writer = Writer {
-        out: Output::new(body.len() * 3 + 64, reading),
-        found: Vec::new(),
-        start: Time::new(),
-        end: Time::new(),
-        last: Vec::new(),
-        bounds: Default::default(),
-    };
+    let mut writer = Writer::new(Output::new(body.len() * 3 + 64, reading), body.len() * COPIES);
     writer.message(&REQUEST, body, 0)?;
     Ok(writer.out.written())
 }
@@ -46,6 +41,8 @@ struct Writer<'a, 'r> {
     last: Vec<(&'a [u8], Range<usize>)>,
     /// of the last plain one of a histogram its bounds, in the same way.
     bounds: (&'a [u8], Range<usize>),
+    /// How many bytes may be copied for messages that are there in parts.
+    may_copy: usize,
 }
 
 /// What a message has of one field.
@@ -120,7 +117,19 @@ fn not_text(of: &'static Message, field: &Field) -> Refused {
     refused(of, format_args!("{} is not UTF-8", field.name))
 }
 
-impl<'a> Writer<'a, '_> {
+impl<'a, 'r> Writer<'a, 'r> {
+    fn new(out: Output<'r>, may_copy: usize) -> Writer<'a, 'r> {
+        Writer {
+            out,
+            found: Vec::new(),
+            start: Time::new(),
+            end: Time::new(),
+            last: Vec::new(),
+            bounds: Default::default(),
+            may_copy,
+        }
+    }
+
     fn message(&mut self, of: &'static Message, bytes: &'a [u8], depth: usize) -> Result<(), Refused> {
         if depth >= MAX_DEPTH {
             return Err(refused(of, "nested too deep"));
@@ -180,9 +189,6 @@ impl<'a> Writer<'a, '_> {
             let index = before.map_or(first, |before| first + before + 1);
             match self.found[first..index].last_mut() {
                 Some(known) if known.place == place => {
-                    if let Kind::Message(_) | Kind::Part(_) | Kind::Foreign(_) = field.kind {
-                        return Err(refused(of, format_args!("{} is there twice", field.name)));
-                    }
                     known.times += times;
                     known.last = payload;
                 }
@@ -217,7 +223,7 @@ impl<'a> Writer<'a, '_> {
     ) -> Result<(), Refused> {
         let number = field.number;
         match field.kind {
-            Kind::Message(inner) | Kind::Part(inner) => self.message(inner, found.bytes(), depth + 1)?,
+            Kind::Message(inner) | Kind::Part(inner) => self.single(inner, number, found, depth + 1)?,
             Kind::Messages(inner) | Kind::Parts(inner) => self.messages(inner, field, found, depth)?,
             Kind::Exemplars => self.messages(&EXEMPLAR, field, found, depth)?,
             Kind::ResourceAttributes => self.messages(&KEY_VALUE, field, found, depth)?,
@@ -242,12 +248,45 @@ impl<'a> Writer<'a, '_> {
             Kind::Bytes => self.out.push("\"\""),
             Kind::Foreign(inner) => {
                 let from = self.out.text.len();
-                self.message(inner, found.bytes(), depth + 1)?;
+                self.single(inner, number, found, depth + 1)?;
                 self.out.text.truncate(from);
                 self.out.push("{}");
             }
         }
         Ok(())
+    }
+
+    /// A message that is no element of a list.
+    fn single(
+        &mut self,
+        of: &'static Message,
+        number: u8,
+        found: Found<'a>,
+        depth: usize,
+    ) -> Result<(), Refused> {
+        match found.times {
+            1 => self.message(of, found.bytes(), depth),
+            _ => self.parts(of, found.all_bytes(number), depth),
+        }
+    }
+
+    /// A message that is there several times: to protobuf all are one. What is copied for that is bounded, since there may
+    /// be more in parts within it.
+    #[inline(never)]
+    fn parts(
+        &mut self,
+        of: &'static Message,
+        parts: impl Iterator<Item = &'a [u8]>,
+        depth: usize,
+    ) -> Result<(), Refused> {
+        let mut whole = Vec::new();
+        parts.for_each(|part| whole.extend_from_slice(part));
+        let may_copy = self.may_copy.checked_sub(whole.len());
+        let may_copy = may_copy.ok_or_else(|| refused(of, "too much is there in parts"))?;
+        let mut writer = Writer::new(self.out.take(), may_copy);
+        let written = writer.message(of, &whole, depth);
+        (self.out, self.may_copy) = (writer.out, writer.may_copy);
+        written
     }
 
     /// A list of 8 bytes each, packed or not.

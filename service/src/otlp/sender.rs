@@ -129,18 +129,16 @@ fn in_protobuf<'d>(body: &'d [u8], attribute: &'d str) -> impl Iterator<Item = F
         let pair = pairs.find(|pair| bytes_of(pair, 1).last() == Some(attribute.as_bytes()));
         match pair {
             None => Found::Nothing,
-            Some(pair) => bytes_of(pair, 2)
-                .last()
-                .and_then(text_of)
-                .map_or(Found::NoText, |text| name(Cow::Borrowed(text))),
+            Some(pair) => text_of(pair).map_or(Found::NoText, |text| name(Cow::Borrowed(text))),
         }
     })
 }
 
-/// The text that a value is: of all that it may be, the last that is there counts.
-fn text_of(value: &[u8]) -> Option<&str> {
+/// The text that an attribute's value is: of all that it may be, the last that is there counts.
+fn text_of(pair: &[u8]) -> Option<&str> {
     let is_value = |field: &(u32, Payload<'_>)| ONE_VALUE.iter().any(|number| u32::from(*number) == field.0);
-    match Fields::of(value).filter_map(Result::ok).filter(is_value).last()? {
+    let fields = bytes_of(pair, 2).flat_map(Fields::of).filter_map(Result::ok);
+    match fields.filter(is_value).last()? {
         (1, Payload::Bytes(text)) => std::str::from_utf8(text).ok(),
         _ => None,
     }

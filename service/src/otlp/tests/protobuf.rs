@@ -87,3 +87,43 @@ fn of_several_kinds_of_data_all_points_are_foreign() {
     let read = read(within_request(&[of_sum, gauge].concat()));
     assert_eq!((read.foreign, read.series.len()), (2, 0));
 }
+
+#[test]
+fn a_message_that_is_there_in_parts_is_one() {
+    let of_sum = |points: &[u8]| bytes(7, points);
+    let points = [
+        bytes(1, &point(b"")),
+        bytes(1, &point(&attribute(&bytes(1, b"t")))),
+    ];
+    let (first, second) = (of_sum(&points[0]), of_sum(&[&points[1][..], &[0x10, 1]].concat()));
+    let metric = [&first[..], &bytes(1, b"m"), &second, &of_sum(b"")].concat();
+    let scope = bytes(2, &bytes(2, &metric));
+    let resource = |key: &[u8]| bytes(1, &bytes(1, &[&bytes(1, key)[..], &bytes(2, &[24, 5])].concat()));
+    let body = bytes(1, &[&resource(b"a")[..], &scope, &resource(b"b")].concat());
+    let mut series: Vec<String> = read(body)
+        .series
+        .into_keys()
+        .map(|key| key.0.to_string())
+        .collect();
+    series.sort();
+    let above = r#"[[{"key":"a","value":{"intValue":"5"}},{"key":"b","value":{"intValue":"5"}}],"","",[],"m","","sum","#;
+    let expected = [r#"[]]"#, r#"[{"key":"k","value":{"stringValue":"t"}}]]"#];
+    let mut expected = expected.map(|attributes| format!("{above}{attributes}"));
+    expected.sort();
+    assert_eq!(series, expected);
+}
+
+/// Parts in parts, as far as they are copied.
+#[test]
+fn parts_may_be_in_parts() {
+    let value = [bytes(2, &bytes(1, b"a")), bytes(2, b""), bytes(2, &[24, 7])].concat();
+    let pair = bytes(7, &[bytes(1, b"k"), value].concat());
+    let whole = point(&pair);
+    let of_sum = [bytes(7, &bytes(1, &whole)), bytes(7, &[0x10, 1])].concat();
+    let read = read(within_request(&of_sum));
+    let series: Vec<String> = read.series.into_keys().map(|key| key.0.to_string()).collect();
+    assert_eq!(
+        series,
+        [r#"[[],"","",[],"","","sum",[{"key":"k","value":{"intValue":"7"}}]]"#]
+    );
+}
