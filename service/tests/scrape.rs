@@ -156,3 +156,16 @@ fn another_sink_has_no_page() {
         "{text}"
     );
 }
+
+/// As who watches an address asks.
+#[test]
+fn a_head_is_that_of_its_page() {
+    let Some(gateway) = gateway() else { return };
+    let folder = tempfile::tempdir().unwrap();
+    let service = serve(&gateway, &folder.path().join("data"), &[]);
+    for path in ["/ready", "/health", "/status", "/metrics", "/totals"] {
+        let head = asked(&service.operate, "HEAD", path, "");
+        assert_eq!(head, Some((200, String::new())), "{path}");
+    }
+    assert_eq!(asked(&service.operate, "HEAD", "/flush", "").unwrap().0, 405);
+}

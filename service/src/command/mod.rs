@@ -240,6 +240,8 @@ mod tests {
             ("serve --data d --listen-grpc :4317", "--listen-grpc"),
             ("serve --data d --operate 127.0.0.1", "--operate"),
             ("status --operate 127.0.0.1:", "--operate"),
+            ("serve --data d --drop-attribute=", "--drop-attribute"),
+            ("serve --data d --drop-attribute a,,b", "--drop-attribute"),
             ("serve --data d --whole s=h", "--whole"),
             ("serve --data d --whole s=0:us", "--whole"),
             ("serve --datum d", "--datum"),

@@ -2,6 +2,7 @@
 
 use crate::otlp::{Reading, Rule, Whole};
 use anyhow::anyhow;
+use clap::builder::NonEmptyStringValueParser;
 use clap::Args;
 
 #[derive(Args)]
@@ -12,14 +13,15 @@ pub(super) struct OfReading {
         long = "drop-attribute",
         env = "TOTXEGUN_DROP_ATTRIBUTE",
         value_name = "NAME",
-        value_delimiter = ','
+        value_delimiter = ',',
+        value_parser = NonEmptyStringValueParser::new()
     )]
     drop_attributes: Vec<String>,
     /// Takes what is measured in one unit as whole numbers of a finer one, rounded: s=us, By, FROM=FACTOR:TO; may be given again
     #[arg(long, env = "TOTXEGUN_WHOLE", value_name = "FROM=TO", value_delimiter = ',')]
     whole: Vec<Rule>,
     /// The resource attribute that names a sender without the header x-sender: service.instance.id
-    #[arg(long, env = "TOTXEGUN_SENDER_FROM", value_name = "ATTRIBUTE", value_parser = clap::builder::NonEmptyStringValueParser::new())]
+    #[arg(long, env = "TOTXEGUN_SENDER_FROM", value_name = "ATTRIBUTE", value_parser = NonEmptyStringValueParser::new())]
     sender_from: Option<String>,
 }
 

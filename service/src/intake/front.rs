@@ -165,9 +165,18 @@ impl Waiting {
     }
 
     async fn for_bytes(&mut self, wire: &mut Wire<TcpStream>) -> Came {
-        let was_empty = wire.input.is_empty();
+        let was_idle = is_blank(&wire.input);
+        let came = self.filled(wire).await;
+        if was_idle && !is_blank(&wire.input) {
+            self.looks = 0; // now the head's time begins
+        }
+        came
+    }
+
+    async fn filled(&mut self, wire: &mut Wire<TcpStream>) -> Came {
+        let is_idle = is_blank(&wire.input);
         let mut filling = pin!(wire.fill());
-        let came = poll_fn(|context| {
+        poll_fn(|context| {
             if let Poll::Ready(read) = filling.as_mut().poll(context) {
                 return Poll::Ready(match read {
                     Ok(1..) => Came::Bytes,
@@ -177,13 +186,13 @@ impl Waiting {
             if !self.ending && self.stop.as_mut().poll(context).is_ready() {
                 self.ending = true;
             }
-            if self.ending && was_empty {
+            if self.ending && is_idle {
                 return Poll::Ready(Came::Nothing);
             }
             while self.look.as_mut().poll(context).is_ready() {
                 self.look.as_mut().reset(Instant::now() + self.period);
                 self.looks += 1; // the first of them may have come at once
-                match was_empty {
+                match is_idle {
                     true if self.looks > self.most_idle() => return Poll::Ready(Came::Nothing),
                     false if self.looks > LOOKS => return Poll::Ready(Came::TooLate),
                     _ => {}
@@ -191,12 +200,13 @@ impl Waiting {
             }
             Poll::Pending
         })
-        .await;
-        if was_empty {
-            self.looks = 0; // now the head's time begins
-        }
-        came
+        .await
     }
+}
+
+/// Whether nothing of a head has come. Empty lines before it say nothing (RFC 9112, 2.2): some senders end a body with one.
+fn is_blank(input: &[u8]) -> bool {
+    input.iter().all(|byte| b"\r\n".contains(byte))
 }
 
 #[cfg(test)]

@@ -105,10 +105,14 @@ impl Handler for Desk {
     async fn answer(self: Arc<Self>, request: Request<Body>) -> Response<Body> {
         match Route::of(request.uri().path()) {
             None => message(404, "no such path"),
-            Some((method, route)) if method == request.method() => self.go(route).await,
+            Some((method, route)) if is_met(&method, request.method()) => self.go(route).await,
             Some((method, _)) => {
                 let mut response = message(405, "wrong method");
-                let allow = if method == Method::POST { "POST" } else { "GET" };
+                let allow = if method == Method::POST {
+                    "POST"
+                } else {
+                    "GET, HEAD"
+                };
                 response
                     .headers_mut()
                     .insert(ALLOW, HeaderValue::from_static(allow));
@@ -116,6 +120,11 @@ impl Handler for Desk {
             }
         }
     }
+}
+
+/// HEAD is answered as GET is (RFC 9110, 9.3.2), but for the body, which hyper leaves out.
+fn is_met(wanted: &Method, asked: &Method) -> bool {
+    wanted == asked || *wanted == Method::GET && *asked == Method::HEAD
 }
 
 impl Desk {

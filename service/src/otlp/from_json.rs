@@ -210,7 +210,7 @@ impl Walk<'_, '_> {
             Kind::Double => self.double(value)?,
             Kind::Doubles => self.list(value, Self::double)?,
             Kind::Fraction => self.fraction(value),
-            Kind::Map => self.push("{}"),
+            Kind::Foreign(_) => self.push("{}"),
             _ => self.push("\"\""),
         }
         Ok(())

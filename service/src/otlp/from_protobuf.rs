@@ -9,7 +9,7 @@ mod time;
 
 use super::json::is_text;
 use super::output::{Output, Written};
-use super::schema::{Field, Kind, Message, Wire, EXEMPLAR, KEY_VALUE, KEY_VALUE_LIST, REQUEST};
+use super::schema::{Field, Kind, Message, Wire, EXEMPLAR, KEY_VALUE, REQUEST};
 use super::wire::{Fields, Malformed, Payload};
 use super::{Reading, Refused};
 use std::ops::Range;
@@ -17,16 +17,11 @@ use time::Time;
 
 /// Messages may be nested as deep as protobuf's own readers allow.
 const MAX_DEPTH: usize = 100;
+/// How many times its length of a body may be copied: once for each message in another that a point taken may have.
+const COPIES: usize = 4;
 
 pub fn written(body: &[u8], reading: &Reading) -> Result<Written, Refused> {
-    let mut writer = Writer {
-        out: Output::new(body.len() * 3 + 64, reading),
-        found: Vec::new(),
-        start: Time::new(),
-        end: Time::new(),
-        last: Vec::new(),
-        bounds: Default::default(),
-    };
+    let mut writer = Writer::new(Output::new(body.len() * 3 + 64, reading), body.len() * COPIES);
     writer.message(&REQUEST, body, 0)?;
     Ok(writer.out.written())
 }
@@ -46,6 +41,8 @@ struct Writer<'a, 'r> {
     last: Vec<(&'a [u8], Range<usize>)>,
     /// of the last plain one of a histogram its bounds, in the same way.
     bounds: (&'a [u8], Range<usize>),
+    /// How many bytes may be copied for messages that are there in parts.
+    may_copy: usize,
 }
 
 /// What a message has of one field.
@@ -120,7 +117,19 @@ fn not_text(of: &'static Message, field: &Field) -> Refused {
     refused(of, format_args!("{} is not UTF-8", field.name))
 }
 
-impl<'a> Writer<'a, '_> {
+impl<'a, 'r> Writer<'a, 'r> {
+    fn new(out: Output<'r>, may_copy: usize) -> Writer<'a, 'r> {
+        Writer {
+            out,
+            found: Vec::new(),
+            start: Time::new(),
+            end: Time::new(),
+            last: Vec::new(),
+            bounds: Default::default(),
+            may_copy,
+        }
+    }
+
     fn message(&mut self, of: &'static Message, bytes: &'a [u8], depth: usize) -> Result<(), Refused> {
         if depth >= MAX_DEPTH {
             return Err(refused(of, "nested too deep"));
@@ -173,13 +182,13 @@ impl<'a> Writer<'a, '_> {
                     times += 1;
                 }
             }
+            if of.one_of.contains(&field.number) {
+                self.forget_others(of, first, place);
+            }
             let before = self.found[first..].iter().rposition(|found| found.place <= place);
             let index = before.map_or(first, |before| first + before + 1);
             match self.found[first..index].last_mut() {
                 Some(known) if known.place == place => {
-                    if let Kind::Message(_) | Kind::Part(_) | Kind::Map = field.kind {
-                        return Err(refused(of, format_args!("{} is there twice", field.name)));
-                    }
                     known.times += times;
                     known.last = payload;
                 }
@@ -196,6 +205,15 @@ impl<'a> Writer<'a, '_> {
         }
     }
 
+    /// Of the fields of which a message has one, the last that is there counts (a oneof of protobuf).
+    fn forget_others(&mut self, of: &'static Message, first: usize, place: usize) {
+        let is_other =
+            |found: &Found<'_>| found.place != place && of.one_of.contains(&of.fields[found.place].number);
+        while let Some(other) = self.found[first..].iter().position(is_other) {
+            self.found.remove(first + other);
+        }
+    }
+
     fn value(
         &mut self,
         of: &'static Message,
@@ -205,7 +223,7 @@ impl<'a> Writer<'a, '_> {
     ) -> Result<(), Refused> {
         let number = field.number;
         match field.kind {
-            Kind::Message(inner) | Kind::Part(inner) => self.message(inner, found.bytes(), depth + 1)?,
+            Kind::Message(inner) | Kind::Part(inner) => self.single(inner, number, found, depth + 1)?,
             Kind::Messages(inner) | Kind::Parts(inner) => self.messages(inner, field, found, depth)?,
             Kind::Exemplars => self.messages(&EXEMPLAR, field, found, depth)?,
             Kind::ResourceAttributes => self.messages(&KEY_VALUE, field, found, depth)?,
@@ -228,14 +246,47 @@ impl<'a> Writer<'a, '_> {
             Kind::Wholes => self.list(found, number, |out, bits| out.whole(bits)),
             Kind::Doubles => self.list(found, number, |out, bits| out.double(f64::from_bits(bits))),
             Kind::Bytes => self.out.push("\"\""),
-            Kind::Map => {
+            Kind::Foreign(inner) => {
                 let from = self.out.text.len();
-                self.message(&KEY_VALUE_LIST, found.bytes(), depth + 1)?;
+                self.single(inner, number, found, depth + 1)?;
                 self.out.text.truncate(from);
                 self.out.push("{}");
             }
         }
         Ok(())
+    }
+
+    /// A message that is no element of a list.
+    fn single(
+        &mut self,
+        of: &'static Message,
+        number: u8,
+        found: Found<'a>,
+        depth: usize,
+    ) -> Result<(), Refused> {
+        match found.times {
+            1 => self.message(of, found.bytes(), depth),
+            _ => self.parts(of, found.all_bytes(number), depth),
+        }
+    }
+
+    /// A message that is there several times: to protobuf all are one. What is copied for that is bounded, since there may
+    /// be more in parts within it.
+    #[inline(never)]
+    fn parts(
+        &mut self,
+        of: &'static Message,
+        parts: impl Iterator<Item = &'a [u8]>,
+        depth: usize,
+    ) -> Result<(), Refused> {
+        let mut whole = Vec::new();
+        parts.for_each(|part| whole.extend_from_slice(part));
+        let may_copy = self.may_copy.checked_sub(whole.len());
+        let may_copy = may_copy.ok_or_else(|| refused(of, "too much is there in parts"))?;
+        let mut writer = Writer::new(self.out.take(), may_copy);
+        let written = writer.message(of, &whole, depth);
+        (self.out, self.may_copy) = (writer.out, writer.may_copy);
+        written
     }
 
     /// A list of 8 bytes each, packed or not.

@@ -35,6 +35,12 @@ impl<'r> Output<'r> {
         }
     }
 
+    /// Gives it away until it is given back.
+    pub fn take(&mut self) -> Output<'r> {
+        let reading = self.reading;
+        std::mem::replace(self, Output::new(0, reading))
+    }
+
     pub fn written(self) -> Written {
         Written {
             text: self.text,

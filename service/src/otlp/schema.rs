@@ -8,6 +8,9 @@
 pub struct Message {
     pub name: &'static str,
     pub fields: &'static [Field],
+    /// Numbers of fields of which a message has one: in protobuf the last that is there. The kinds of a metric's data are
+    /// not here, since points of the others would be lost in silence: they are all written, and foreign.
+    pub one_of: &'static [u8],
     pub refused: &'static [RefusedField],
 }
 
@@ -57,8 +60,8 @@ pub enum Kind {
     /// A double that makes its point foreign, whatever it is.
     Fraction,
     Bytes,
-    /// A map, which makes foreign what it identifies.
-    Map,
+    /// A map or a list in a list, which makes foreign what it identifies: it is looked through, and written as empty.
+    Foreign(&'static Message),
     /// Is only looked through for what is malformed, in protobuf.
     Exemplars,
 }
@@ -104,6 +107,7 @@ pub static REQUEST: Message = Message {
         1,
         Kind::Messages(&RESOURCE_METRICS),
     )],
+    one_of: &[],
     refused: &[
         refused(&["resourceSpans", "resource_spans"], 0, OTHER_SIGNAL),
         refused(&["resourceLogs", "resource_logs"], 0, OTHER_SIGNAL),
@@ -129,6 +133,7 @@ static RESOURCE_METRICS: Message = Message {
         field!("resource", "resource", 1, Kind::Message(&RESOURCE)),
         field!("scopeMetrics", "scope_metrics", 2, Kind::Messages(&SCOPE_METRICS)),
     ],
+    one_of: &[],
     refused: &[
         refused(
             &["instrumentationLibraryMetrics", "instrumentation_library_metrics"],
@@ -151,6 +156,7 @@ static RESOURCE_METRICS: Message = Message {
 static RESOURCE: Message = Message {
     name: "Resource",
     fields: &[field!("attributes", "attributes", 1, Kind::ResourceAttributes)],
+    one_of: &[],
     refused: &[refused(&["labels"], 0, OLD)],
 };
 
@@ -160,6 +166,7 @@ static SCOPE_METRICS: Message = Message {
         field!("scope", "scope", 1, Kind::Message(&SCOPE)),
         field!("metrics", "metrics", 2, Kind::Messages(&METRIC)),
     ],
+    one_of: &[],
     refused: &[refused(
         &["instrumentationLibrary", "instrumentation_library"],
         0,
@@ -174,6 +181,7 @@ static SCOPE: Message = Message {
         field!("version", "version", 2, Kind::Text),
         field!("attributes", "attributes", 3, Kind::Parts(&KEY_VALUE)),
     ],
+    one_of: &[],
     refused: &[],
 };
 
@@ -193,6 +201,7 @@ static METRIC: Message = Message {
         ),
         field!("summary", "summary", 11, Kind::Message(&OTHER_DATA)),
     ],
+    one_of: &[],
     refused: &[
         refused(&["intGauge", "int_gauge"], 4, OLD),
         refused(&["intSum", "int_sum"], 6, OLD),
@@ -219,12 +228,14 @@ static METRIC: Message = Message {
 static OTHER_DATA: Message = Message {
     name: "Metric.data",
     fields: &[field!("dataPoints", "data_points", 1, Kind::Messages(&COUNTED))],
+    one_of: &[],
     refused: &[],
 };
 
 static COUNTED: Message = Message {
     name: "DataPoint",
     fields: &[],
+    one_of: &[],
     refused: &[],
 };
 
@@ -240,6 +251,7 @@ static SUM: Message = Message {
         ),
         field!("isMonotonic", "is_monotonic", 3, Kind::Bool),
     ],
+    one_of: &[],
     refused: &[],
 };
 
@@ -259,6 +271,7 @@ pub static NUMBER_POINT: Message = Message {
         field!("attributes", "attributes", 7, Kind::Parts(&KEY_VALUE)),
         field!("flags", "flags", 8, Kind::Whole(Wire::Uint32)),
     ],
+    one_of: &[4, 6],
     refused: &[refused(&["labels"], 1, OLD), refused(&["value"], 0, OLD)],
 };
 
@@ -273,6 +286,7 @@ static HISTOGRAM: Message = Message {
             Kind::Temporality,
         ),
     ],
+    one_of: &[],
     refused: &[],
 };
 
@@ -294,6 +308,7 @@ pub static HISTOGRAM_POINT: Message = Message {
         field!("attributes", "attributes", 9, Kind::Parts(&KEY_VALUE)),
         field!("flags", "flags", 10, Kind::Whole(Wire::Uint32)),
     ],
+    one_of: &[],
     refused: &[refused(&["labels"], 1, OLD)],
 };
 
@@ -312,6 +327,7 @@ pub static EXEMPLAR: Message = Message {
             Kind::Parts(&KEY_VALUE),
         ),
     ],
+    one_of: &[3, 6],
     refused: &[],
 };
 
@@ -321,31 +337,51 @@ pub static KEY_VALUE: Message = Message {
         field!("key", "key", 1, Kind::Text),
         field!("value", "value", 2, Kind::Part(&ANY_VALUE)),
     ],
+    one_of: &[],
     refused: &[],
 };
 
-static ANY_VALUE: Message = Message {
-    name: "AnyValue",
-    fields: &[
+/// All that a value may be.
+pub const ONE_VALUE: &[u8] = &[1, 2, 3, 4, 5, 6, 7];
+
+/// A value; `list` is the kind of its `arrayValue`.
+const fn any_value(list: Kind) -> [Field; 7] {
+    [
         field!("stringValue", "string_value", 1, Kind::Text),
         field!("boolValue", "bool_value", 2, Kind::Bool),
         field!("intValue", "int_value", 3, Kind::Whole(Wire::Int64)),
         field!("doubleValue", "double_value", 4, Kind::Fraction),
-        field!("arrayValue", "array_value", 5, Kind::Part(&ARRAY_VALUE)),
-        field!("kvlistValue", "kvlist_value", 6, Kind::Map),
+        field!("arrayValue", "array_value", 5, list),
+        field!("kvlistValue", "kvlist_value", 6, Kind::Foreign(&KEY_VALUE_LIST)),
         field!("bytesValue", "bytes_value", 7, Kind::Bytes),
-    ],
+    ]
+}
+
+static ANY_VALUE: Message = Message {
+    name: "AnyValue",
+    fields: &any_value(Kind::Part(&ARRAY_VALUE)),
+    one_of: ONE_VALUE,
     refused: &[],
 };
 
 static ARRAY_VALUE: Message = Message {
     name: "ArrayValue",
-    fields: &[field!("values", "values", 1, Kind::Parts(&ANY_VALUE))],
+    fields: &[field!("values", "values", 1, Kind::Parts(&SINGLE_VALUE))],
+    one_of: &[],
     refused: &[],
 };
 
-pub static KEY_VALUE_LIST: Message = Message {
+/// A value in a list. It may be no list itself, so what is written is no deeper than the gateway reads.
+static SINGLE_VALUE: Message = Message {
+    name: "AnyValue",
+    fields: &any_value(Kind::Foreign(&ARRAY_VALUE)),
+    one_of: ONE_VALUE,
+    refused: &[],
+};
+
+static KEY_VALUE_LIST: Message = Message {
     name: "KeyValueList",
     fields: &[field!("values", "values", 1, Kind::Parts(&KEY_VALUE))],
+    one_of: &[],
     refused: &[],
 };

@@ -1,6 +1,7 @@
 //! `--sender-from`: the name of a sender out of its resource, where it does not name itself.
 
 use super::json::{Document, Value};
+use super::schema::ONE_VALUE;
 use super::wire::{Fields, Payload};
 use super::{Encoding, Reading, Refused};
 use crate::slot::is_sender;
@@ -128,13 +129,19 @@ fn in_protobuf<'d>(body: &'d [u8], attribute: &'d str) -> impl Iterator<Item = F
         let pair = pairs.find(|pair| bytes_of(pair, 1).last() == Some(attribute.as_bytes()));
         match pair {
             None => Found::Nothing,
-            Some(pair) => bytes_of(pair, 2)
-                .last()
-                .and_then(|value| bytes_of(value, 1).last())
-                .and_then(|text| std::str::from_utf8(text).ok())
-                .map_or(Found::NoText, |text| name(Cow::Borrowed(text))),
+            Some(pair) => text_of(pair).map_or(Found::NoText, |text| name(Cow::Borrowed(text))),
         }
     })
+}
+
+/// The text that an attribute's value is: of all that it may be, the last that is there counts.
+fn text_of(pair: &[u8]) -> Option<&str> {
+    let is_value = |field: &(u32, Payload<'_>)| ONE_VALUE.iter().any(|number| u32::from(*number) == field.0);
+    let fields = bytes_of(pair, 2).flat_map(Fields::of).filter_map(Result::ok);
+    match fields.filter(is_value).last()? {
+        (1, Payload::Bytes(text)) => std::str::from_utf8(text).ok(),
+        _ => None,
+    }
 }
 
 #[cfg(test)]
@@ -213,6 +220,22 @@ mod tests {
             let why = named(&[&[("id", value)]]).unwrap_err();
             assert_eq!(why, "no sender: the resource's id is no text");
         }
+    }
+
+    #[test]
+    fn of_several_values_the_last_counts() {
+        let (text, int) = (b"\x0a\x01a", b"\x18\x05");
+        let with = |value: &[u8]| {
+            let pair = [b"\x0a\x02id\x12", &[value.len() as u8][..], value].concat();
+            let resource = [&[0x0a, pair.len() as u8][..], &pair].concat();
+            let resources = [&[0x0a, resource.len() as u8][..], &resource].concat();
+            let body = [&[0x0a, resources.len() as u8][..], &resources].concat();
+            in_protobuf(&body, "id")
+                .map(|found| format!("{found:?}"))
+                .collect::<String>()
+        };
+        assert_eq!(with(&[&text[..], int].concat()), "NoText");
+        assert_eq!(with(&[&int[..], text].concat()), "Name(\"a\")");
     }
 
     #[test]

@@ -9,6 +9,7 @@ mod explain;
 mod long;
 mod mapping;
 mod points;
+mod protobuf;
 mod random;
 mod refused;
 mod speed;
@@ -260,8 +261,11 @@ fn attributes_in_protobuf_may_come_in_any_form() {
         assert_eq!(written(&one), expected);
     }
     let of_two = bytes(2, &[bytes(1, b"t"), vec![24, 5]].concat());
-    let both = r#"[{"key":"k","value":{"stringValue":"t","intValue":"5"}}]"#;
-    assert_eq!(written(&[key, of_two].concat()), both);
+    assert_eq!(
+        written(&[key, of_two].concat()),
+        with_whole,
+        "the last one counts"
+    );
 }
 
 #[test]

@@ -237,7 +237,7 @@ impl<'a> Look<'a> {
             Kind::Doubles => self.bounds(),
             Kind::Fraction => self.scalar(),
             Kind::Exemplars => self.list(|_| None),
-            Kind::Map => None,
+            Kind::Foreign(_) => None,
         }
     }
 }

@@ -11,7 +11,12 @@ pub enum Malformed {
     NoNumber,
     #[error("a field of an unknown wire type")]
     WireType,
+    #[error("groups nested too deep")]
+    Deep,
 }
+
+/// Groups may be nested as deep as protobuf's own readers allow.
+const MAX_GROUPS: usize = 100;
 
 #[derive(Clone, Copy, Debug, PartialEq)]
 pub enum Payload<'a> {
@@ -19,6 +24,8 @@ pub enum Payload<'a> {
     Fixed64(u64),
     Bytes(&'a [u8]),
     Fixed32(u32),
+    /// What is in it is passed over: no message of OTLP has had one.
+    Group,
 }
 
 #[derive(Clone, Copy)]
@@ -46,22 +53,52 @@ impl<'a> Fields<'a> {
 
     #[inline(always)]
     fn field(&mut self) -> Result<(u32, Payload<'a>), Malformed> {
+        let key = self.key()?;
+        Ok((key >> 3, self.payload(key)?))
+    }
+
+    /// A field's number and wire type.
+    #[inline(always)]
+    fn key(&mut self) -> Result<u32, Malformed> {
         let key = u32::try_from(self.varint()?).map_err(|_| Malformed::LongNumber)?;
-        let payload = match key & 7 {
+        match key >> 3 {
+            0 => Err(Malformed::NoNumber),
+            _ => Ok(key),
+        }
+    }
+
+    #[inline(always)]
+    fn payload(&mut self, key: u32) -> Result<Payload<'a>, Malformed> {
+        Ok(match key & 7 {
             0 => Payload::Varint(self.varint()?),
             1 => Payload::Fixed64(u64::from_le_bytes(self.array()?)),
             2 => {
                 let length = usize::try_from(self.varint()?).map_err(|_| Malformed::Cut)?;
                 Payload::Bytes(self.take(length)?)
             }
+            3 => {
+                self.pass_group(key >> 3)?;
+                Payload::Group
+            }
             5 => Payload::Fixed32(u32::from_le_bytes(self.array()?)),
-            // Groups, which no message of OTLP has had.
             _ => return Err(Malformed::WireType),
-        };
-        match key >> 3 {
-            0 => Err(Malformed::NoNumber),
-            number => Ok((number, payload)),
+        })
+    }
+
+    /// Passes what is in a group of this number, and its end.
+    #[inline(never)]
+    fn pass_group(&mut self, number: u32) -> Result<(), Malformed> {
+        let mut open = vec![number];
+        while let Some(innermost) = open.last() {
+            let key = self.key()?;
+            match key & 7 {
+                3 if open.len() == MAX_GROUPS => return Err(Malformed::Deep),
+                3 => open.push(key >> 3),
+                4 if key >> 3 == *innermost => drop(open.pop()),
+                _ => drop(self.payload(key)?),
+            }
         }
+        Ok(())
     }
 
     /// Passes the next field, if it is this one: its bytes.

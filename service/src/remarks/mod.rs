@@ -17,8 +17,9 @@ use std::sync::{Arc, Mutex, PoisonError};
 /// How many senders and series are remembered as told.
 const REMEMBERED: usize = 1000;
 
-/// How much of a metric's name is told.
+/// How much of a metric's name is told, and of all that identifies a series, in characters.
 const NAME_SHOWN: usize = 100;
+const SERIES_SHOWN: usize = 2000;
 
 /// How many posts of a sender are read for reasons that are new.
 const MOST_READ: usize = 100;
@@ -144,20 +145,32 @@ impl<T: Taker> Remarks<T> {
         let Some(owner) = self.owners.owner(&series) else {
             return;
         };
-        tracing::warn!(
-            "posts of {sender} are refused, since the series is {owner}'s: give each process a name and a \
-             service.instance.id of its own. The series is {}",
-            series.0
-        );
+        tracing::warn!("{}", other_writer(sender, &owner, &series));
         self.told().series.insert(series);
     }
 }
 
 /// Why a point is foreign: one short line, whatever its sender wrote.
 fn reason(point: &Explained) -> String {
-    let name: String = point.metric.chars().take(NAME_SHOWN).collect();
+    let name = cut(&point.metric, NAME_SHOWN);
     let why = point.foreign.as_deref().unwrap_or_default();
     format!("{} `{name}`: {why}", point.kind).replace(char::is_control, " ")
+}
+
+/// That a sender posts to another's series: one line as well.
+fn other_writer(sender: &str, owner: &str, series: &SeriesKey) -> String {
+    let series = cut(&series.0, SERIES_SHOWN).replace(char::is_control, " ");
+    format!(
+        "posts of {sender} are refused, since the series is {owner}'s: give each process a name and a \
+         service.instance.id of its own. The series is {series}"
+    )
+}
+
+/// The first characters of a text.
+fn cut(text: &str, most: usize) -> &str {
+    text.char_indices()
+        .nth(most)
+        .map_or(text, |(end, _)| &text[..end])
 }
 
 impl<T: Taker> Taker for Remarks<T> {

@@ -84,6 +84,21 @@ async fn what_is_told_of_a_point_is_one_short_line() {
     );
 }
 
+/// Else a sender could fill the disk, or have the terminal of who reads the log do something.
+#[test]
+fn what_is_told_of_another_s_series_is_one_short_line() {
+    let key = SeriesKey(format!("[[],\"\u{7f}\u{9b}2J{}\"]", "x".repeat(60_000)).into());
+    let line = other_writer("b", "a", &key);
+    assert!(
+        line.starts_with("posts of b are refused, since the series is a's:") && line.len() < 2200,
+        "{line}"
+    );
+    assert!(
+        line.contains("[[],\"  2Jxx") && !line.contains(char::is_control),
+        "{line}"
+    );
+}
+
 #[tokio::test]
 async fn a_series_of_another_is_told_once_it_is_known() {
     let point = r#"{"startTimeUnixNano":"1","timeUnixNano":"2","asInt":"1"}"#;

@@ -64,6 +64,18 @@ async fn a_slow_head_and_a_slow_body_are_ended() {
     assert!(idle.ends().await);
 }
 
+/// Else its sender could take 503 for the answer to its next request.
+#[tokio::test]
+async fn an_empty_line_behind_a_body_is_no_head_that_is_slow() {
+    let served = Served::impatient().await;
+    let mut client = served.client().await;
+    client
+        .write(&[&json(BODY.as_bytes())[..], b"\r\n"].concat())
+        .await;
+    assert_eq!(client.answer().await.status, 200);
+    assert!(client.ends().await, "as one that is idle");
+}
+
 #[tokio::test]
 async fn a_cut_body_is_no_post() {
     let served = Served::start().await;

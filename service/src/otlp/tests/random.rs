@@ -263,7 +263,7 @@ fn with_long_keys(of: &Table, message: &[u8], is_long: &mut impl FnMut() -> bool
             }
             Payload::Varint(bits) => [varint(number << 3), varint(bits)].concat(),
             Payload::Fixed64(bits) => [&varint(number << 3 | 1)[..], &bits.to_le_bytes()].concat(),
-            Payload::Fixed32(_) => panic!("no message of metrics has one"),
+            Payload::Fixed32(_) | Payload::Group => panic!("no message of metrics has one"),
         };
         match is_long() {
             true => out.extend([&[field[0] | 128, 0], &field[1..]].concat()),

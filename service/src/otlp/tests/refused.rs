@@ -69,18 +69,24 @@ fn protobuf_that_is_malformed_or_would_be_lost_is_refused() {
         within_request(&bytes(7, &bytes(1, &point)))
     };
     let nested = |depth: usize| (0..depth).fold(vec![0x10, 1], |inner, _| bytes(5, &bytes(1, &inner)));
+    let in_parts = |depth: usize| {
+        (0..depth).fold(bytes(7, &[0; 1000]), |inner, _| {
+            [bytes(5, b""), bytes(5, &bytes(1, &inner))].concat()
+        })
+    };
     let cases = [
         (vec![0x0a], "cut"),
         (vec![0x0a, 5, 0], "cut"),
         (vec![0x80; 11], "64 bits"),
         (vec![0x00, 0], "without a number"),
-        (vec![0x0b], "wire type"),
+        (vec![0x0b], "cut"),
+        (vec![0x0b, 0x14], "wire type"),
+        (vec![0x0c], "wire type"),
+        (vec![0x0e], "wire type"),
+        (vec![0x0b, 0x0c], "resourceMetrics of another wire type"),
+        (vec![0x7b; 101], "groups nested too deep"),
         (vec![0x08, 1], "resourceMetrics of another wire type"),
         (bytes(1, &bytes(1000, b"")), "old version of OTLP"),
-        (
-            bytes(1, &[bytes(1, b""), bytes(1, b"")].concat()),
-            "resource is there twice",
-        ),
         (within_request(&bytes(1, b"\xff")), "name is not UTF-8"),
         (within_request(&bytes(6, b"")), "intSum is of an old version"),
         (
@@ -99,6 +105,7 @@ fn protobuf_that_is_malformed_or_would_be_lost_is_refused() {
         (attribute(&bytes(6, &bytes(1, b"\x0a"))), "KeyValue: cut"),
         (attribute(&bytes(7, b"\xff")[..2]), "cut"),
         (attribute(&nested(60)), "nested too deep"),
+        (attribute(&in_parts(30)), "too much is there in parts"),
     ];
     for (body, expected) in cases {
         let refused = prepared(Encoding::Protobuf, body.clone()).unwrap_err();
