@@ -2,7 +2,7 @@
 use Rattle.std.specs.Prelude.{◌≡◌, ◌≤◌, ℕ, List, [], ◌∷◌, Option, Some, None, codes, pos, true}
 use Rattle.std.specs.Prelude.{false, option_and_then}
 use Rattle.std.specs.Option.{option_map_or}
-use Rattle.clap.specs.Words.{App, Row, Rule, Text, first_of, new_app, new_rule}
+use Rattle.clap.specs.Words.{App, Row, Rule, Text, fault_of, first_of, new_app, new_rule}
 use Rattle.clap.specs.Words.{subcommand_of, with_rule, with_subcommand}
 use Rattle.clap.specs.declared.builder.value_parser.ValueParser.TheVariants as vp
 use Rattle.decimals.specs.Numbers.{number_up_to}
@@ -137,6 +137,6 @@ IsGiven given (Serve o) =
 IsGiven given (Rehearse o) =
     (rows : List Row) × (given ≡ Some (codes "rehearse", rows)) × AreRehearsed rows o
 
--- by clap's rules the words mean these options, defaults included
+-- by clap's rules the words have no fault, and mean these options, defaults included
 abbrev pub IsMeant : List Text → Options → Type 0
-IsMeant words o = IsGiven (subcommand_of gateway words) o
+IsMeant words o = (fault_of gateway words ≡ []) × IsGiven (subcommand_of gateway words) o

@@ -1,8 +1,9 @@
 //! The command line: its subcommands and options, with their ranges and defaults.
-ghost use Rattle.std.specs.Prelude.{◌≡◌, IfOk, IfSome, false, map};
+ghost use Rattle.std.specs.Prelude.{◌≡◌, IfErr, IfNone, IfOk, IfSome, false, map};
 ghost use Rattle.clap.specs.Words.{app_of, rule_of, found_of, rows_of, subcommand_rows_of};
 ghost use Rattle.gateway_options.specs.CommandLine as spec;
 ghost use Rattle.gateway_options.specs.CommandLine.{IsMeant, IsGiven, AreServed};
+ghost use Rattle.gateway_options.specs.LineFault.{IsRefused};
 ghost use Rattle.gateway_options.specs.inner.CommandLine.{IsCommand, IsOwn};
 ghost use Rattle.gateway_options.specs.CommandLine.{AreRehearsed, with_numbers};
 ghost use Rattle.gateway_options.specs.inner.NumberOption.{described};
@@ -13,8 +14,8 @@ use crate::rehearse_options::RehearseOptions;
 use crate::serve_options::ServeOptions;
 use crate::subcommand::Options;
 use clap::error::ErrorKind;
-use clap::{Arg, ArgMatches, Command, Error};
-use std::alloc::Global;
+use clap::{Arg, ArgMatches, Command};
+use std::alloc::{AllocError, Global};
 
 /// A numeric option with a range. `clap` and `read` both refuse by this range, and the help text
 /// names it.
@@ -124,7 +125,7 @@ fn with_numbers<'a>(
     command: Command<'a>,
     alloc: Global,
     numbers: &[NumberOption<'static>],
-) -> Result<Command<'a>, Error>
+) -> Result<Command<'a>, AllocError>
     requires own { IsOwn command }
     ensures { IfOk result (IsCommand (with_numbers (app_of command.entry)
         (map described numbers.now))) }
@@ -137,7 +138,7 @@ fn with_numbers<'a>(
 }
 
 /// The subcommand `serve`.
-fn serve<'a>(alloc: Global) -> Result<Command<'a>, Error>
+fn serve<'a>(alloc: Global) -> Result<Command<'a>, AllocError>
     ensures { IfOk result (IsCommand spec.serve) }
 {
     let bare = Command::new(alloc, "serve").about(
@@ -149,7 +150,7 @@ fn serve<'a>(alloc: Global) -> Result<Command<'a>, Error>
 }
 
 /// The subcommand `rehearse`.
-fn rehearse<'a>(alloc: Global) -> Result<Command<'a>, Error>
+fn rehearse<'a>(alloc: Global) -> Result<Command<'a>, AllocError>
     ensures { IfOk result (IsCommand spec.rehearse) }
 {
     let bare = Command::new(alloc, "rehearse").about(
@@ -159,21 +160,21 @@ fn rehearse<'a>(alloc: Global) -> Result<Command<'a>, Error>
 }
 
 /// The whole command, with its two subcommands; one of them must be given.
-fn command<'a>(alloc: Global) -> Result<Command<'a>, Error>
+fn command<'a>(alloc: Global) -> Result<Command<'a>, AllocError>
     ensures { IfOk result (λ c. app_of c ≡ spec.gateway) }
 {
     let bare = Command::new(alloc, "gateway")
         .about("Adds up OTLP/HTTP+JSON delta metrics and forwards the totals to one back end")
         .subcommand_required(true);
-    Ok(
-        bare.subcommand(serve(alloc)?)?
-            .subcommand(rehearse(alloc)?)?,
-    )
+    bare.subcommand(serve(alloc)?)?.subcommand(rehearse(alloc)?)
 }
 
-/// The options of `serve`, if each number is digits and in its range.
+/// The options of `serve`, if each number is digits and in its range, and the back end's address is
+/// no longer than `MAX_BACKEND`.
 fn serve_options<'a>(matches: &ArgMatches<'a>) -> Option<ServeOptions<'a>>
-    ensures { IfSome result (AreServed (rows_of (found_of matches.now))) }
+    ensures served { IfSome result (AreServed (rows_of (found_of matches.now))) }
+    ensures none { IfNone result ((o : ServeOptions) →
+        ¬ (AreServed (rows_of (found_of matches.now)) o)) }
 {
     let backend = matches.get_str("backend")?;
     if backend.len() > MAX_BACKEND {
@@ -192,7 +193,9 @@ fn serve_options<'a>(matches: &ArgMatches<'a>) -> Option<ServeOptions<'a>>
 
 /// The options of `rehearse`, if each number is digits and in its range.
 fn rehearse_options(matches: &ArgMatches<'_>) -> Option<RehearseOptions>
-    ensures { IfSome result (AreRehearsed (rows_of (found_of matches.now))) }
+    ensures rehearsed { IfSome result (AreRehearsed (rows_of (found_of matches.now))) }
+    ensures none { IfNone result ((o : RehearseOptions) →
+        ¬ (AreRehearsed (rows_of (found_of matches.now)) o)) }
 {
     Some(RehearseOptions {
         senders: SENDERS.read(matches)? as u16,
@@ -200,9 +203,10 @@ fn rehearse_options(matches: &ArgMatches<'_>) -> Option<RehearseOptions>
     })
 }
 
-/// The options of the subcommand that was given, if each number is digits and in its range.
+/// The options of the subcommand that was given. None where its words mean none.
 fn options_in<'a>(matches: &ArgMatches<'a>) -> Option<Options<'a>>
-    ensures { IfSome result (IsGiven (subcommand_rows_of matches.now)) }
+    ensures given { IfSome result (IsGiven (subcommand_rows_of matches.now)) }
+    ensures none { IfNone result ((o : Options) → ¬ (IsGiven (subcommand_rows_of matches.now) o)) }
 {
     match matches.subcommand_matches("serve") {
         Some(serve) => Some(Options::Serve(serve_options(serve)?)),
@@ -216,17 +220,18 @@ fn options_in<'a>(matches: &ArgMatches<'a>) -> Option<Options<'a>>
 /// Reads the options from the words of the command line; the first is the program's name.
 ///
 /// Errors: `Line`, with a text for the user, if the words are faulty or ask for help, or a number
-/// has a sign; `NoMemory`.
+/// has a sign, or the back end's address is too long; `NoMemory`.
 pub fn options<'a>(alloc: Global, words: &'a [&'a str]) -> Result<Options<'a>, LineFault>
-    ensures { IfOk result (IsMeant (map (λ s. s.now) words.entry.now)) }
+    ensures meant { IfOk result (IsMeant (map (λ s. s.now) words.entry.now)) }
+    ensures refused { IfErr result (IsRefused (map (λ s. s.now) words.entry.now)) }
 {
     let mut command = command(alloc)?;
     let matches = command.try_get_matches_from_mut(words)?;
     match options_in(&matches) {
         Some(options) => Ok(options),
-        None => match command.error(ErrorKind::ValueValidation, "a number is digits alone") {
-            Ok(error) => Err(LineFault::Line(error)),
-            Err(_) => Err(LineFault::NoMemory),
-        },
+        None => {
+            let error = command.error(ErrorKind::ValueValidation, "a number is digits alone")?;
+            Err(LineFault::Line(error))
+        }
     }
 }

@@ -1,7 +1,10 @@
+ghost use Rattle.std.specs.Prelude.{◌≡◌};
 ghost use Rattle.gateway_options.specs.LineFault.{IsFaultOf};
+ghost use Rattle.gateway_options.specs.declared.line_fault.LineFault.TheVariants.{NoMemory};
 
 use clap::Error;
 use clap::error::ErrorKind;
+use std::alloc::AllocError;
 use std::fmt;
 
 /// Why a command line has no options.
@@ -21,6 +24,14 @@ impl From<Error> for LineFault {
             ErrorKind::OutOfMemory => LineFault::NoMemory,
             _ => LineFault::Line(error),
         }
+    }
+}
+
+impl From<AllocError> for LineFault {
+    ghost from_gives = { λ error fault. fault ≡ NoMemory };
+
+    fn from(_error: AllocError) -> LineFault {
+        LineFault::NoMemory
     }
 }
 

@@ -2,7 +2,6 @@
 use Rattle.std.proofs.Common.{◌≡◌, ℕ, ◌≤◌, List, sym, arith}
 use Rattle.std.specs.Prelude.{Option}
 use Rattle.back_answers.specs.declared.answer.Answer.{Answer}
-use Rattle.http_edge.specs.Delivery.{StopsReading}
 use Rattle.http_edge.specs.Sent.{Sent}
 use Rattle.http_edge.specs.declared.written.Written.{Written}
 use Rattle.http_edge.specs.declared.written.Written.TheVariants.{All}
@@ -10,10 +9,6 @@ use Rattle.gate_workers.specs.Conversations.{Giving}
 use Rattle.gate_workers.specs.Exchanged.{IsAnswered}
 use Rattle.gate_workers.specs.Served.{IsServed}
 use Rattle.gate_workers.specs.declared.service.Served.{Served}
-
--- how far a reader was read, where the last call gave at most so many bytes
-pub stops_alike : (Open : List ℕ → Type 0) (a b c d : Option (List ℕ)) (given most : ℕ) → a ≡ b → c ≡ d → given ≤ most → StopsReading Open a c given → StopsReading Open b d most
-stops_alike Open a b c d given most old new few s = (s.0, s.1, rw (sym old) (rw (sym new) s.2), omega (arith, s.3, few), s.4)
 
 -- a request that was served
 pub served_at_ends : {K : Type 0} (gives : Giving K) (k l : K) (i j o p n m : Option (List ℕ)) (s : Served) → i ≡ j → o ≡ p → n ≡ m → IsServed gives i k l o n s → IsServed gives j k l p m s

@@ -1,6 +1,7 @@
 -- Connections that are served round by round.
 use Rattle.std.proofs.Common.{◌≡◌, ℕ, ◌+◌, ◌-◌, ◌*◌, ◌<◌, ◌≤◌, List, [], ◌∷◌, ◌∙◌, ap, sym, arith, refl}
-use Rattle.std.specs.Prelude.{min}
+use Rattle.std.specs.Prelude.{min, All, Ok}
+use Rattle.std.proofs.lemmas.List.Elements.{All-cons, All-nil}
 use Rattle.std.proofs.Math.Nat.{suc-mul}
 use Rattle.metric_events.specs.declared.opening.Opening.{Opening}
 use Rattle.delta_book.specs.Journal.{Journal}
@@ -9,7 +10,7 @@ use Rattle.delta_book.proofs.Journaled.{opening-history}
 use Rattle.shared_book.specs.declared.audit.Audit.{Audit}
 use Rattle.gateway_serve.specs.declared.sums.Sums.{Sums}
 use Rattle.gateway_serve.specs.Rounds.{ServedRound, IsRound, IsRun, MOST}
-use Rattle.gateway_serve.specs.inner.Rounds.{IsLastRound, IsOver}
+use Rattle.gateway_serve.specs.inner.Rounds.{AreCalls, AreServed, IsLastRound, IsOver, Serving}
 
 -- behind rounds 1, 2, .. up to the last so many of the connections are left; while some are, each round was full
 pub record AreThrough (connections round last left : ℕ) : Type 0 where
@@ -76,3 +77,12 @@ run_one_more c most left rest latest r earlier j audit s t h within count begun 
 pub next_number : (j b k : Journal) → b ≡ closed j → k.opening ≡ b.opening → k.opening.round ≡ j.opening.round + 1
 next_number j b k closing opening =
     ap (λ (O : Opening). O.round) opening ∙ ap (λ (J : Journal). J.opening.round) closing ∙ ap (λ (O : Opening). O.round + 1) (opening-history j)
+
+called_each : {S : Type 0} (serves : Serving S) (P : ServedRound → Type 0) → ((s t : S) (r : ServedRound) (audit : Audit) → serves s r.begun r.connections (Ok (r.ended, audit)) t → P r) → (s : S) (rounds : List ServedRound) (t : S) → AreCalls serves s rounds t → All P rounds
+called_each serves P each s [] t h = All-nil P
+called_each serves P each s (r ∷ earlier) t h =
+    All-cons P r earlier (each h.0 t r h.2 h.3) (called_each serves P each s earlier h.0 h.1)
+
+-- what each call that serves a round gives holds of all rounds
+pub served_each : {S : Type 0} {serves : Serving S} {s t : S} {rounds : List ServedRound} (P : ServedRound → Type 0) → AreServed serves s rounds t → ((s t : S) (r : ServedRound) (audit : Audit) → serves s r.begun r.connections (Ok (r.ended, audit)) t → P r) → All P rounds
+served_each {S} {serves} {s} {t} {rounds} P h each = called_each serves P each s rounds t h.calls

@@ -45,10 +45,11 @@ impl Listener {
 }
 
 impl Accept for Listener {
+    ghost use Rattle.gateway_serve.specs.Filled.{CameIn};
+
     type Connection = TcpStream;
 
-    /// No contract says what comes in.
-    ghost accepts = { λ listener connection. Unit {0} };
+    ghost accepts = { CameIn };
 
     fn accept(&self, _permit: Permit) -> Option<TcpStream> {
         let (stream, _) = self.listener.accept().ok()?;

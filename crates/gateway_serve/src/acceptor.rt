@@ -1,8 +1,8 @@
 //! How many connections of a round may still be accepted, and how many were.
 ghost use Rattle.std.specs.Prelude.{◌≡◌, ◌+◌, ◌-◌, ℕ, Option, Some, None, IfSome, IfNone, OnOk};
 ghost use Rattle.std.specs.Prelude.{unwrap_or};
-ghost use Rattle.gateway_serve.specs.inner.Accepted.{AreAccepted, IsAccepted, IsEnded};
-ghost use Rattle.gateway_serve.specs.inner.Accepted.{or_fault, round_fault};
+ghost use Rattle.gateway_serve.specs.Accepted.{AreAccepted, IsAccepted};
+ghost use Rattle.gateway_serve.specs.inner.Accepted.{IsEnded, or_fault, round_fault};
 
 use crate::accept::Accept;
 use crate::fault::GatewayFault;

@@ -1,6 +1,7 @@
 //! One round, served by workers in threads.
 ghost use Rattle.std.specs.Prelude.{◌≡◌, ◌+◌, [], IfOk, OnOk, Some};
-ghost use Rattle.gateway_serve.specs.inner.Accepted.{AreAccepted};
+ghost use Rattle.gateway_serve.specs.Accepted.{AreAccepted, HasAccepted};
+ghost use Rattle.gateway_serve.specs.Filled.{CameIn};
 ghost use Rattle.gateway_serve.specs.inner.Rounds.{IsOver};
 
 use crate::accept::{Accept, Listener};
@@ -68,8 +69,7 @@ pub fn one_round<
 ) -> Result<(Book, Audit), GatewayFault>
     requires empty { book.entries ≡ [] }
     ensures over { IfOk result (λ r. IsOver book r.0 r.1) }
-    ensures accepted { OnOk result ((begun : Listener)
-        × ∥ AreAccepted ⟦<Listener as Accept>⟧.accepts (Some begun) connections 0 ∥₁) }
+    ensures accepted { OnOk result (HasAccepted CameIn connections) }
 {
     let parts = u64::from(options.receivers) + u64::from(options.flushers);
     let blank = Blank::new(parts);

@@ -19,7 +19,8 @@ pub struct PieceSource<R> {
 impl<R: Read> PieceSource<R> {
     /// A source over this reader, with no failed call.
     pub fn new(reader: R) -> Self
-        ensures { result.reader ≡ reader }
+        ensures reader { result.reader ≡ reader }
+        ensures failures { result.failures ≡ 0 }
     {
         PieceSource {
             reader,

@@ -1,6 +1,8 @@
 //! Connections are served by workers over one store, and the report is told at the end.
-ghost use Rattle.std.specs.Prelude.{◌≡◌, IfOk, List, [], ◌∷◌};
+ghost use Rattle.std.specs.Prelude.{◌≡◌, IfOk, List, OnOk, [], ◌∷◌};
+ghost use Rattle.gateway_serve.specs.Accepted.{HasAccepted};
 ghost use Rattle.gateway_serve.specs.Ended.{IsEnding, ending_text};
+ghost use Rattle.gateway_serve.specs.Filled.{AreFilled, CameIn};
 ghost use Rattle.gateway_serve.specs.Rounds.{ServedRound};
 ghost use Rattle.gateway_serve.specs.inner.Rounds.{AreServed, CanServe, IsOver};
 
@@ -51,7 +53,8 @@ fn tell_rounds<F: FnMut(Book, u64) -> Result<(Book, Audit), GatewayFault>>(
 /// `CannotAccept` where a connection is refused, `CannotStart` where there is no thread for a
 /// worker, `AuditFailed` where what the workers were told is not what the book holds, and
 /// `NoMemory` where a growth was refused outside a request. Then nothing is given; what was served
-/// before that stands with its senders.
+/// before that stands with its senders. If it returns Ok, each round has accepted as many
+/// connections as it was given.
 pub fn serve_bound<
     R: Net<Listener = TcpListener, Stream = TcpStream> + Threads + Wait + Clock + Sync,
 >(
@@ -61,11 +64,13 @@ pub fn serve_bound<
     options: &ServeOptions<'_>,
 ) -> Result<Vec<u8>, GatewayFault>
     ensures { IfOk result (λ text. (latest : ServedRound) × (earlier : List ServedRound)
-        × IsEnding options.now.connections options.now.round latest earlier text.items) }
+        × IsEnding options.now.connections options.now.round latest earlier text.items
+        × AreFilled (latest ∷ earlier)) }
 {
     let mut serve_round = |book: Book, connections: u64| -> Result<(Book, Audit), GatewayFault>
         requires { book.entries ≡ [] }
-        ensures { IfOk result (λ r. IsOver book r.0 r.1) }
+        ensures over { IfOk result (λ r. IsOver book r.0 r.1) }
+        ensures accepted { OnOk result (HasAccepted CameIn connections) }
     { one_round(rt, alloc, listener, options, book, connections) };
     tell_rounds(&mut serve_round, alloc, options)
 }
@@ -75,7 +80,8 @@ pub fn serve_all<
     R: Net<Listener = TcpListener, Stream = TcpStream> + Threads + Wait + Clock + Sync,
 >(rt: &R, alloc: Global, options: &ServeOptions<'_>) -> Result<Vec<u8>, GatewayFault>
     ensures { IfOk result (λ text. (latest : ServedRound) × (earlier : List ServedRound)
-        × IsEnding options.now.connections options.now.round latest earlier text.items) }
+        × IsEnding options.now.connections options.now.round latest earlier text.items
+        × AreFilled (latest ∷ earlier)) }
 {
     let Ok(listener) = TcpListener::bind(rt, options.listen) else {
         return Err(GatewayFault::CannotListen);

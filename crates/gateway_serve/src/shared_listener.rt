@@ -1,7 +1,7 @@
 //! A round's listener, as its receivers share it.
 ghost use Rattle.std.specs.Prelude.{◌≡◌, Some, IfErr, IfOk, IfSome, IsSome, OnOk};
 ghost use Rattle.std.specs.Sync.Mutex.{mutex_guard_value};
-ghost use Rattle.gateway_serve.specs.inner.Accepted.{AreAccepted};
+ghost use Rattle.gateway_serve.specs.Accepted.{AreAccepted};
 
 use crate::accept::Accept;
 use crate::acceptor::{Accepted, Acceptor, Permit, RoundStart, accept_one};

@@ -1,5 +1,5 @@
 //! What a socket is told: how long its calls may wait, and that nothing more is written to it.
-ghost use Rattle.std.specs.Prelude.{OnOk};
+ghost use Rattle.std.specs.Prelude.{Bool, OnOk, is_ok};
 ghost use Rattle.std.specs.declared.time.Duration.{Duration};
 
 use std::io;
@@ -38,27 +38,20 @@ impl Timeouts for &TcpStream {
     }
 }
 
-impl<S: Timeouts> Timeouts for &mut S {
-    ghost sets_read_timeout = { λ stream wait. S.sets_read_timeout stream.now wait };
-
-    ghost sets_write_timeout = { λ stream wait. S.sets_write_timeout stream.now wait };
-
-    fn set_read_timeout(&self, wait: Duration) -> io::Result<()> {
-        (**self).set_read_timeout(wait)
-    }
-
-    fn set_write_timeout(&self, wait: Duration) -> io::Result<()> {
-        (**self).set_write_timeout(wait)
-    }
-}
-
 /// What can be told that nothing more is written to it.
 pub trait ShutdownWrite {
+    /// It was told so, and that was done or failed.
+    ghost shuts_write: { Self → Bool → Type 0 };
+
     /// Tells the other side that all was written.
-    fn shutdown_write(&self) -> io::Result<()>;
+    fn shutdown_write(&self) -> io::Result<()>
+        ensures { shuts_write self.now (is_ok result) };
 }
 
 impl ShutdownWrite for &TcpStream {
+    /// What a socket does no contract says.
+    ghost shuts_write = { λ stream done. Unit {0} };
+
     fn shutdown_write(&self) -> io::Result<()> {
         self.shutdown(Shutdown::Write)
     }

@@ -1,7 +1,7 @@
 //! The workers of a round, each in a thread of its own.
 ghost use Rattle.std.specs.Prelude.{◌≡◌, IfErr, IfOk, OnOk, Some, nat_lt};
 ghost use Rattle.gateway_serve.specs.inner.Tasks.{is_flush};
-ghost use Rattle.gateway_serve.specs.inner.Accepted.{AreAccepted};
+ghost use Rattle.gateway_serve.specs.Accepted.{AreAccepted};
 ghost use Rattle.gateway_serve.specs.declared.fault.GatewayFault.TheVariants.{NoMemory};
 
 use crate::accept::{Accept, Listener};

@@ -1,5 +1,6 @@
 -- Requests that were refused before all of them was read.
-use Rattle.std.specs.Prelude.{◌≡◌, ◌==◌, ◌||◌, Bool, false}
+use Rattle.std.specs.Prelude.{◌≡◌, ◌==◌, ◌||◌, ℕ, Bool, false, true, List, Option}
+use Rattle.byte_ends.specs.Drained.{IsDrained}
 use Rattle.gate_workers.specs.Paced.{Reaching}
 use Rattle.gate_workers.specs.Refusals.{refusal_status}
 use Rattle.gate_workers.specs.declared.refusal.Refusal.TheVariants as refusal
@@ -7,6 +8,7 @@ use Rattle.gate_workers.specs.declared.service.Served.{Served}
 use Rattle.gate_workers.specs.declared.service.Served.TheVariants.{Replied}
 use Rattle.gate_workers.specs.declared.worker.Spot.{Spot}
 use Rattle.gate_workers.specs.declared.worker.Spot.TheVariants.{BodyRead, BeforeSend}
+use Rattle.gateway_serve.specs.declared.client_connection.TheConstants.{MOST_REFUSED}
 use Rattle.gateway_serve.specs.declared.reading.Reading.{Reading}
 use Rattle.gateway_serve.specs.declared.reading.Reading.TheVariants.{Open, Whole}
 
@@ -26,3 +28,16 @@ is_cut_off (Replied status written end) Open =
     (status == refusal_status refusal.Malformed) || (status == refusal_status refusal.BodyTooLong)
     || (status == refusal_status refusal.NoMemory)
 is_cut_off served reading = false
+
+-- what still came is thrown away where the other side was told that all was written; without a
+-- failure, all of it, or MOST_REFUSED bytes. Else nothing is read
+abbrev pub IsThrownAway : Bool → Option (List ℕ) → Option (List ℕ) → Type 0 → Type 0
+IsThrownAway false old new well = new ≡ old
+IsThrownAway true old new well = IsDrained old new MOST_REFUSED well
+
+-- the end of a connection whose request was refused: the other side is told that all was written,
+-- and what still comes is thrown away
+abbrev pub IsLingering : {O : Type 0} → (O → Bool → Type 0) → O → Option (List ℕ)
+    → Option (List ℕ) → Type 0 → Type 0
+IsLingering shuts_write output old new well =
+    (is_told : Bool) × shuts_write output is_told × IsThrownAway is_told old new well

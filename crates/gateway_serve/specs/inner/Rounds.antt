@@ -22,12 +22,17 @@ pub record IsLastRound (connections round last : ℕ) : Type 0 where
 abbrev pub Serving : Type 0 → Type 1
 Serving S = S → Journal → ℕ → Result (Journal × Audit) GatewayFault → S → Type 0
 
--- these rounds were served one after another, the latest first, and nothing else was called
-abbrev pub AreServed : {S : Type 0} → Serving S → S → List ServedRound → S → Type 0
-AreServed serves s [] t = s ≡ t
-AreServed {S} serves s (r ∷ earlier) t =
-    (m : S) × AreServed serves s earlier m × (audit : Audit)
+-- a call for each of these rounds, the latest first, and no other
+abbrev pub AreCalls : {S : Type 0} → Serving S → S → List ServedRound → S → Type 0
+AreCalls serves s [] t = s ≡ t
+AreCalls {S} serves s (r ∷ earlier) t =
+    (m : S) × AreCalls serves s earlier m × (audit : Audit)
     × serves m r.begun r.connections (Ok (r.ended, audit)) t
+
+-- these rounds were served one after another, and nothing else was called
+pub record AreServed {S : Type 0} (serves : Serving S) (s : S) (rounds : List ServedRound)
+    (t : S) : Type 0 where
+  pub calls : AreCalls serves s rounds t
 
 -- a round is over: its book has the opening that it began with and a legal history, and the audit
 -- is that of its entries

@@ -14,7 +14,7 @@ loop-left-init g c =
     let over = c.requires.over _ _ c.in-Ok.new c.in_ok-book.book _ c.in_ok-book.audit (ap (λ (J : Journal). J.entries) begun) c.in_ok-book.ensures in (
       first,
       [],
-      (c.args.serve_round.now, refl, c.in_ok-book.audit, c.in_ok-book.ensures),
+      record { calls = (c.args.serve_round.now, refl, c.in_ok-book.audit, c.in_ok-book.ensures) },
       run_first options.connections options.round _ first c.in_ok-book.audit c.of-sums.result (record { given = omega (arith, count); begun = begun; opening = over.opening; legal = over.legal }) refl over (omega (arith, c.of-sums.ensures.admitted)) (omega (arith, c.of-sums.ensures.acknowledged)),
       through_first options.connections options.round _ c.next_count-first.result _ (ap (λ (O : Opening). O.round) over.opening ∙ ap (λ (J : Journal). J.opening.round) begun) count refl,
     )
@@ -31,7 +31,7 @@ loop-left-preserved g c =
     let r : ServedRound = record { connections = c.next_count-count.result; begun = c.close.new.book; ended = c.in_ok-next.next } in (
       r,
       old.0 ∷ old.1,
-      (c.loop-left.serve_round, old.2, c.in_ok-next.audit, c.in_ok-next.ensures),
+      record { calls = (c.loop-left.serve_round, old.2.calls, c.in_ok-next.audit, c.in_ok-next.ensures) },
       run_one_more options.connections options.round c.loop-left.left _ old.0 r old.1 c.loop-left.book c.in_ok-next.audit c.loop-left.sums c.and-sums.result old.3 (omega (arith, old.4.full some)) count closing refl over sums.admitted sums.acknowledged,
       through_one_more options.connections options.round _ _ c.loop-left.left _ _ old.4 some (next_number c.loop-left.book c.close.new.book c.in_ok-next.next closing over.opening) count refl,
     )

@@ -1,7 +1,7 @@
 use Rattle.std.proofs.Common.{◌∷◌, arith}
 use Rattle.std.proofs.Math.Logic.{∥∥₁_prop, ∥∥₁_map, ∥∥₁_elim}
 use Rattle.std.proofs.lemmas.List.Elements.{All-cons}
-use Rattle.gateway_serve.specs.inner.Accepted.{IsAccepted}
+use Rattle.gateway_serve.specs.Accepted.{IsAccepted}
 use Rattle.gateway_serve.proofs.acceptor.Acceptor.note.Goals as goal
 
 pub invariant_of-self : goal.invariant_of-self
