@@ -28,6 +28,7 @@ from service import OUT_OF_ORDER, Sender, SqliteSink, add_points, ask, differenc
 ROOT = os.path.dirname(os.path.dirname(os.path.abspath(__file__)))
 BASE = f"{ROOT}/out/debian"
 MIRROR = "http://deb.debian.org/debian"
+TRIES = 3  # a mirror may fail at first
 PACKAGES = "systemd,systemd-sysv,dbus,libsqlite3-0,ca-certificates"
 OPERATE, LISTEN = 4319, 4318
 SENDERS = 4
@@ -149,13 +150,14 @@ def fetch_base():
     if os.path.isdir(BASE):
         return ""
     new = f"{BASE}.new"
-    shutil.rmtree(new, ignore_errors=True)
-    ran = subprocess.run(["debootstrap", "--variant=minbase", f"--include={PACKAGES}", "bookworm", new, MIRROR],
-                         stdin=subprocess.DEVNULL, stdout=subprocess.PIPE, stderr=subprocess.STDOUT, text=True, check=False)
-    if ran.returncode:
-        return (ran.stdout.splitlines() or ["debootstrap failed"])[-1]
-    os.rename(new, BASE)
-    return ""
+    for _ in range(TRIES):
+        shutil.rmtree(new, ignore_errors=True)
+        ran = subprocess.run(["debootstrap", "--variant=minbase", f"--include={PACKAGES}", "bookworm", new, MIRROR],
+                             stdin=subprocess.DEVNULL, stdout=subprocess.PIPE, stderr=subprocess.STDOUT, text=True, check=False)
+        if ran.returncode == 0:
+            os.rename(new, BASE)
+            return ""
+    return (ran.stdout.splitlines() or ["debootstrap failed"])[-1]
 
 
 def earlier(deb, folder):
