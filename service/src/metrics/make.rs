@@ -73,14 +73,19 @@ pub fn metrics() -> Result<Metrics> {
             "log_lines_lost_total",
             "Lines of the log that nobody took in time, or that could not be written",
         )?,
-        faults: maker.counters("faults_total", "What must never be", "kind", &FAULTS)?,
+        faults: maker.counters(
+            "faults_total",
+            "Points that the sink rejected, and faults of the program",
+            "kind",
+            &FAULTS,
+        )?,
         checkpoint_pause_seconds: maker
             .seconds("checkpoint_pause_seconds", "How long a checkpoint held the posts")?,
         recovery_seconds: maker.seconds(
             "recovery_seconds",
             "How long it took to start, prime and refill a gateway",
         )?,
-        series: maker.gauges("series", "Series with an owner and a frontier", "slot")?,
+        series: maker.gauges("series", "Series that are known", "slot")?,
         gateway_connections: maker.gauges(
             "gateway_connections",
             "Connections that the gateway has had",
@@ -105,11 +110,17 @@ fn levels(maker: &Maker) -> Result<Levels> {
         journal_bytes: maker.gauge("journal_bytes", "Bytes of the journal's segments")?,
         journal_age_seconds: maker.gauge(
             "journal_age_seconds",
-            "Age of the oldest post that may be in no group",
+            "Age of the oldest post that may not be flushed yet",
         )?,
         outbox_requests: maker.gauge("outbox_requests", "Requests that the sink does not have")?,
-        outbox_bytes: maker.gauge("outbox_bytes", "Bytes of these on disk")?,
-        outbox_age_seconds: maker.gauge("outbox_age_seconds", "Age of the oldest of these")?,
+        outbox_bytes: maker.gauge(
+            "outbox_bytes",
+            "Bytes on disk of requests that the sink does not have",
+        )?,
+        outbox_age_seconds: maker.gauge(
+            "outbox_age_seconds",
+            "Age of the oldest request that the sink does not have",
+        )?,
         dead_requests: maker.gauge(
             "dead_requests",
             "Requests that the sink refused for good, kept aside",
