@@ -3,10 +3,12 @@
 
     tools/format.py [--check]
 
-With --check nothing is changed: the files are named that would be, and the status is 1 where there are any.
+With --check nothing is changed: the files are named that would be, and the lines of code and definitions that have
+more than 100 columns. The status is 1 where there are any.
 """
 import filecmp
 import os
+import re
 import shutil
 import subprocess
 import sys
@@ -16,6 +18,10 @@ from crates import PARTS, ROOT, read_crates
 
 # What a crate's folder needs around it, for `rt` to know what it is built over.
 AROUND = ("crates.txt", "HANDLES")
+# Parts whose lines have at most so many columns, and what of a line may be wider: a text, an attribute of the prover,
+# an import of one name.
+NARROW, COLUMNS = ("src", "specs"), 100
+WIDE = re.compile(r'"|\\$|^ *#!?\[|^(ghost |pub )?use [^,]*$')
 
 
 def lay_out(folder):
@@ -42,8 +48,19 @@ def changed(crate, folder):
     return [name for name in names if not filecmp.cmp(f"{crate.folder}/{name}", f"{folder}/{name}", shallow=False)]
 
 
+def too_wide(crate):
+    """The crate's lines that have too many columns, each by its file and number."""
+    for file in crate.files():
+        name = os.path.relpath(file, crate.folder)
+        if name.startswith(NARROW):
+            with open(file, encoding="utf-8") as lines:
+                for number, line in enumerate(map(str.rstrip, lines), 1):
+                    if len(line) > COLUMNS and not WIDE.search(line):
+                        yield f"{name}:{number}"
+
+
 def check(crates):
-    """How many files would be changed, or could not be read."""
+    """How many files would be changed, could not be read, or have a line that is too wide."""
     count = 0
     with tempfile.TemporaryDirectory(prefix="format-") as top:
         copy_of(crates, top)
@@ -53,6 +70,9 @@ def check(crates):
             for name in changed(crate, folder):
                 count += 1
                 print(f"crates/{crate.name}/{name}: make fmt changes it")
+            for place in too_wide(crate):
+                count += 1
+                print(f"crates/{crate.name}/{place}: more than {COLUMNS} columns")
     return count
 
 
@@ -62,7 +82,7 @@ def main(words):
     crates = list(read_crates().values())
     if words:
         count = check(crates)
-        print(f"{len(crates)} crates, {count} files that are not laid out")
+        print(f"{len(crates)} crates, {count} files or lines that are not laid out")
         return 1 if count else 0
     return 0 if all([lay_out(crate.folder) for crate in crates]) else 1
 

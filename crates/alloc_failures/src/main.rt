@@ -1,7 +1,7 @@
 //! Makes each call of the libraries that can be out of memory, and serves requests. Where one is, a
 //! line says so, and it is made again. At the end come the calls that allocate nothing. Each call's
-//! line is its answer, so that two runs can be compared. `tests/alloc_failures_libraries.py` makes each
-//! allocation fail in turn.
+//! line is its answer, so that two runs can be compared. `tests/alloc_failures_libraries.py` makes
+//! each allocation fail in turn.
 #![tactic(auto)]
 
 /// What a call returns. Where it is out of memory it is made again, and a line says so, and whether

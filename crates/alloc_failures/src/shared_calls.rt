@@ -1,5 +1,6 @@
-//! Calls of a book that threads share, from one of two seats. At the end the seats are compared with
-//! the journal, which shows that a call that was out of memory has left no entry and no receipt.
+//! Calls of a book that threads share, from one of two seats. At the end the seats are compared
+//! with the journal, which shows that a call that was out of memory has left no entry and no
+//! receipt.
 ghost use Rattle.std.specs.Prelude.{◌≡◌, ◌≤◌};
 
 use crate::books;

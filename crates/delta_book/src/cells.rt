@@ -216,7 +216,8 @@ pub fn remove_points(cells: &mut [Cell], batch: &[Point], fill: Fill, number: u6
 /// what was asked for.
 fn sweep_cell(cells: &mut Vec<Cell>, point: &Point)
     ensures { (qs : List Accepted) (ps : List DataPoint)
-        → AreCellsFor cells.old.items qs (ps ++ point.now ∷ []) → AreCellsFor cells.new.items qs ps }
+        → AreCellsFor cells.old.items qs (ps ++ point.now ∷ [])
+        → AreCellsFor cells.new.items qs ps }
 {
     if let Some(i) = find_cell(cells, point.shared_series()) {
         if cells[i].frontier() == 0 {

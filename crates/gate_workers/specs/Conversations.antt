@@ -21,7 +21,8 @@ use Rattle.gate_workers.specs.Calls.{Call, on_book, order}
 use Rattle.gate_workers.specs.Refusals.{of_admit, of_quarantine, of_lift}
 use Rattle.gate_workers.specs.Responses.{Response, json_response, refusal_response}
 use Rattle.gate_workers.specs.Responses.{IsThatOrNoMemory, order_response, report_response}
-use Rattle.gate_workers.specs.Requested.{Requested, Metrics, Quarantine, Lift, FlushNow, Report, Refused}
+use Rattle.gate_workers.specs.Requested.{Requested, Metrics, Quarantine, Lift, FlushNow, Report}
+use Rattle.gate_workers.specs.Requested.{Refused}
 
 -- how a call with its answer changes a keeper
 abbrev pub Giving : Type 0 → Type 1
@@ -29,7 +30,8 @@ Giving K = K → Call → K → Type 0
 
 abbrev pub IsConfirmed : {K : Type 0} → Giving K → ℕ → K → K → End → Type 0
 IsConfirmed gives batch k k' end =
-    (r : Result (Unit {0}) NotOpen) × gives k (on_book (book.confirm batch r)) k' × (end ≡ Confirmed)
+    (r : Result (Unit {0}) NotOpen) × gives k (on_book (book.confirm batch r)) k'
+    × (end ≡ Confirmed)
 
 -- after the answer to an undo: Taken is followed by the Confirm
 abbrev pub IsUndone : {K : Type 0} → Giving K → ℕ → Result (Unit {0}) UndoFault → K → K → End

@@ -39,8 +39,8 @@ AreConnectionsServed {S} {C} {K} {P} given serves gives reaches (x ∷ xs) s t w
 
 -- so many turns were made one after another, each with its asking of the pace, and nothing else was
 -- done, sent or asked; the latest comes first
-abbrev pub AreMade : {K U P : Type 0} → Giving K → (U → List ℕ → Answer → U → Type 0) → Reaching P → ℕ
-    → List Turn → K → K → U → U → P → P → Type 0
+abbrev pub AreMade : {K U P : Type 0} → Giving K → (U → List ℕ → Answer → U → Type 0)
+    → Reaching P → ℕ → List Turn → K → K → U → U → P → P → Type 0
 AreMade gives sends reaches max [] k k' u u' p p' = (k ≡ k') × (u ≡ u') × (p ≡ p')
 AreMade {K} {U} {P} gives sends reaches max (t ∷ ts) k k' u u' p p' =
     (m : K) × (v : U) × (q : P) × AreMade gives sends reaches max ts k m u v p q

@@ -50,8 +50,8 @@ fn post<K: Store>(alloc: Global, keeper: &mut K, body: Batch, text: Vec<u8>) -> 
 }
 
 fn quarantine<K: Store>(alloc: Global, keeper: &mut K, sender: SenderName) -> Response
-    ensures { IsOneCall K.gives (λ r. call.on_book (book.quarantine sender r)) SaysQuarantine keeper.old keeper.new
-        result }
+    ensures { IsOneCall K.gives (λ r. call.on_book (book.quarantine sender r)) SaysQuarantine
+        keeper.old keeper.new result }
 {
     match keeper.quarantine(sender) {
         Ok(()) => Response::empty(),
@@ -60,7 +60,8 @@ fn quarantine<K: Store>(alloc: Global, keeper: &mut K, sender: SenderName) -> Re
 }
 
 fn lift<K: Store>(alloc: Global, keeper: &mut K, sender: SenderName) -> Response
-    ensures { IsOneCall K.gives (λ r. call.on_book (book.lift sender r)) SaysLift keeper.old keeper.new result }
+    ensures { IsOneCall K.gives (λ r. call.on_book (book.lift sender r)) SaysLift
+        keeper.old keeper.new result }
 {
     match keeper.lift(&sender) {
         Ok(()) => Response::empty(),
@@ -76,7 +77,8 @@ fn flush<K: Keeper>(alloc: Global, keeper: &mut K) -> Response
 }
 
 fn report<K: Store>(alloc: Global, keeper: &mut K) -> Response
-    ensures { IsOneCall K.gives (λ rows. call.on_book (book.totals rows)) SaysReport keeper.old keeper.new result }
+    ensures { IsOneCall K.gives (λ rows. call.on_book (book.totals rows)) SaysReport
+        keeper.old keeper.new result }
 {
     match keeper.totals() {
         Err(_) => Response::no_memory(),

@@ -30,8 +30,8 @@ abbrev pub IsFresh : Option Run → Instant → Type 0
 IsFresh None now = ⊥
 IsFresh (Some run) now = nanos_since run.told now < STANDS_MILLIS * 1_000_000
 
--- what a call answers at this instant, and how the limit runs then. Nothing: the clock fails, or the
--- time is over. No wait: a fresh one stands. Else what is left
+-- what a call answers at this instant, and how the limit runs then. Nothing: the clock fails, or
+-- the time is over. No wait: a fresh one stands. Else what is left
 abbrev pub IsWait : Duration → Option Run → Option Instant → Option (Option Duration) → Option Run
     → Type 0
 IsWait whole run None answer next = (answer ≡ None) × (next ≡ run)
@@ -43,8 +43,8 @@ IsWait whole run (Some now) (Some (Some wait)) next =
     × (as_nanos wait ≡ left_at whole run now)
     × (next ≡ Some (record { begun = begun_at run now; told = now }))
 
--- a call of a stream with a limit asks it once, and fails where the time is over; where it has a wait
--- to tell, it goes on only once that was told
+-- a call of a stream with a limit asks it once, and fails where the time is over; where it has a
+-- wait to tell, it goes on only once that was told
 abbrev pub IsTimed : {X E : Type 0} → Option (Option Duration) → (Duration → Type 0) → Result X E
     → Type 0
 IsTimed None told result = IsErr result

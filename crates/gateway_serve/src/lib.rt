@@ -2,7 +2,8 @@
 //! with a request and with a flush is `gate_workers`'s, and what the workers share is
 //! `shared_book`'s; here are the calls of the system. From the top down: `serving` has connections
 //! served in `rounds`, `one_round` shares the book, `workers` starts a thread for each `worker`; a
-//! receiver takes a `client_connection` from the `shared_listener`, a flusher sends to the `backend`.
+//! receiver takes a `client_connection` from the `shared_listener`, a flusher sends to the
+//! `backend`.
 //! No contract can say what a socket gives or takes. So what is proved stands over traits, of what
 //! accepts, connects and reads a clock, and of streams; their impls over the system's only forward.
 #![tactic(auto)]

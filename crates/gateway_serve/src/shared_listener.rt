@@ -38,8 +38,8 @@ impl<A: Accept, B: RoundStart<A>> SharedListener<A, B> {
         self.acceptor.lock(rt)
     }
 
-    /// Accepts a connection, without the lock. Where it can't be accepted, the acceptor: locked, and
-    /// closed, so that it permits none any more.
+    /// Accepts a connection, without the lock. Where it can't be accepted, the acceptor: locked,
+    /// and closed, so that it permits none any more.
     fn accept<R: Wait>(
         &self,
         rt: &R,
@@ -57,8 +57,8 @@ impl<A: Accept, B: RoundStart<A>> SharedListener<A, B> {
     }
 
     /// Has the latest one noted, and accepts the next connection, without the lock. None once all
-    /// were permitted, or after a fault. None also where it can't be accepted, which is a fault: then
-    /// it ends the wait of the others.
+    /// were permitted, or after a fault. None also where it can't be accepted, which is a fault:
+    /// then it ends the wait of the others.
     pub fn next<R: Wait>(
         &self,
         rt: &R,

@@ -31,8 +31,8 @@ StopsReading Open old new given =
 abbrev pub ReportsSize : List ℕ → Result Request HttpFault → Type 0
 ReportsSize bytes r = IsTooLong bytes → (r ≡ Err Io) ⊎ ReportsTooLong r
 
--- no message yet, and no fault: a head that can still come; or a head that frames a body, and the front
--- of such a body, up to a size line or a trailer section that can still come
+-- no message yet, and no fault: a head that can still come; or a head that frames a body, and the
+-- front of such a body, up to a size line or a trailer section that can still come
 abbrev pub IsStillOpen : List ℕ → Type 0
 IsStillOpen before =
     NotYet before × ((p : Progress) × (Holds p before × IsSound p × (fault_in p ≡ None)))

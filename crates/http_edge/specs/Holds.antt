@@ -29,8 +29,8 @@ abbrev pub most_of_a_message : ℕ
 most_of_a_message = MAX_HEAD + most_of_chunks MAX_BODY
 
 -- bytes are a whole head and what was fed of its body: with any more bytes the body is what it
--- becomes from here; the part so far is at their end, and behind them without it too the body is what
--- it becomes
+-- becomes from here; the part so far is at their end, and behind them without it too the body is
+-- what it becomes
 pub record IsBehind (head : List ℕ) (body : BodyState) (bytes : List ℕ) (k : RequestHead)
     (fed : List ℕ) : Type 0 where
   pub at : IsHeadAt head k []

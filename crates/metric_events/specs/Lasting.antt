@@ -67,8 +67,8 @@ flying E = map bare (filter (stands is_flying) (points E))
 abbrev pub renumbered_flight : (ℕ → ℕ) → Flight → Flight
 renumbered_flight flush l = record { number = flush l.number; series = l.series }
 
--- after G they are still alike; the same points are in flight, with the same flushes; the same series
--- are picked, for every size; and each flush that G takes sends the same points
+-- after G they are still alike; the same points are in flight, with the same flushes; the same
+-- series are picked, for every size; and each flush that G takes sends the same points
 pub record StayAlike (E F G : History) (batch flush : ℕ → ℕ) : Type 0 where
   pub alike : Alike (E then G) (F then renumbered batch flush G)
   pub flying : flying (F then renumbered batch flush G) ≡ flying (E then G)

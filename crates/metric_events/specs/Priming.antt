@@ -1,6 +1,6 @@
 -- How a fresh history comes to know series: by one point of each, without any amount.
-use Rattle.std.specs.Prelude.{◌≡◌, ℕ, pos, true, ◌+◌, ◌-◌, ◌<◌, ◌≤◌, ◌^◌, List, [], ◌∷◌, map, length}
-use Rattle.std.specs.Prelude.{if◌then◌else◌, Some}
+use Rattle.std.specs.Prelude.{◌≡◌, ℕ, pos, true, ◌+◌, ◌-◌, ◌<◌, ◌≤◌, ◌^◌, List, [], ◌∷◌, map}
+use Rattle.std.specs.Prelude.{length, if◌then◌else◌, Some}
 use Rattle.series_id.specs.Identity.{Identity, IsIdentity}
 use Rattle.series_id.specs.Order.{same_series}
 use Rattle.series_id.specs.declared.kinds.Kind.{Kind}
@@ -54,8 +54,8 @@ primer_points ks = map primer_point ks
 abbrev pub all_known : List Known → List Identity
 all_known ks = map (λ k. k.series) ks
 
--- F is at rest, without a point. After it no flush is taken or ended, and what is pending is one such
--- point of each of these series, which are distinct
+-- F is at rest, without a point. After it no flush is taken or ended, and what is pending is one
+-- such point of each of these series, which are distinct
 pub record Primes (F S : History) (ks : List Known) : Type 0 where
   pub rest : IsAtRest F
   pub empty : points F ≡ []

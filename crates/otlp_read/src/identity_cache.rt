@@ -9,8 +9,8 @@ use std::alloc::{AllocError, Global};
 use std::marker::Model;
 
 /// The identities of earlier points. A point whose identity is kept shares it, and no second one is
-/// made. Contracts see the slots: there are none before the first identity is kept, and a cache that
-/// keeps nothing is `None`.
+/// made. Contracts see the slots: there are none before the first identity is kept, and a cache
+/// that keeps nothing is `None`.
 ///
 /// What a body says does not depend on its reader's cache: an identity in a slot is compared in
 /// full. It is replaced by a later one that needs its slot, so there are never more than `SLOTS` of

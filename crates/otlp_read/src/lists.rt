@@ -53,8 +53,8 @@ pub fn elements_in<'v>(found: Option<&'v Value>) -> Option<&'v [Value]>
     Some(list.as_slice())
 }
 
-/// The elements of an array, none if the field is absent. `None` if the field is no array, or one of
-/// its values is no such element.
+/// The elements of an array, none if the field is absent. `None` if the field is no array, or one
+/// of its values is no such element.
 pub fn list_in<T: Element>(
     alloc: Global,
     found: Option<&Value>,

@@ -40,8 +40,8 @@ pub fn read_request(alloc: Global, bytes: &[u8]) -> Result<Reading, ReadFault>
 /// Reads the body of a metrics request as `read_request` does. Points share the identities that
 /// the cache has, and new ones are added to it.
 ///
-/// Results and errors are those of `read_request`, whatever the cache has. What it has afterwards is
-/// left open, also after an error.
+/// Results and errors are those of `read_request`, whatever the cache has. What it has afterwards
+/// is left open, also after an error.
 pub fn read_request_with(
     alloc: Global,
     bytes: &[u8],

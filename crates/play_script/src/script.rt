@@ -84,8 +84,8 @@ fn answer_lines<W: Sink>(
 /// Errors: `CannotRead` and `CannotWrite` where a call of the reader or the writer failed,
 /// `TooLong` where the input has more than `MAX_INPUT` bytes, `NoMemory` where an allocation failed
 /// that no reply could report. After `CannotRead`, or any error where the input is too long,
-/// nothing was written; after another `NoMemory`, the replies to the lines before. The reader is not
-/// called again after the call that passes the limit, which gives at most 4,096 bytes.
+/// nothing was written; after another `NoMemory`, the replies to the lines before. The reader is
+/// not called again after the call that passes the limit, which gives at most 4,096 bytes.
 pub fn play<R: Source, W: Sink>(
     alloc: Global,
     reader: &mut R,

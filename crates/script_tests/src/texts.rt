@@ -1,5 +1,5 @@
-//! What no clause says: texts of answers that were worked out by hand. Texts of requests and reports
-//! are in `tests/scripts`.
+//! What no clause says: texts of answers that were worked out by hand. Texts of requests and
+//! reports are in `tests/scripts`.
 
 use back_answers::Act;
 use out_texts::{no_memory_text, status_text, success_text, turn_text};

@@ -1,5 +1,6 @@
 //! Compares a journal with the receipts of its seats, entry by entry.
-ghost use Rattle.std.specs.Prelude.{◌≡◌, ◌↔◌, ◌+◌, ◌<◌, [], IsTrue, false, length, take, option_copied};
+ghost use Rattle.std.specs.Prelude.{◌≡◌, ◌↔◌, ◌+◌, ◌<◌, [], IsTrue, false, length, take};
+ghost use Rattle.std.specs.Prelude.{option_copied};
 ghost use Rattle.std.specs.List.{All, Any};
 ghost use Rattle.shared_book.specs.inner.Audits.{IsTallied};
 ghost use Rattle.shared_book.specs.Receipts.{receipt_of};

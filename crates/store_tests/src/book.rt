@@ -1,5 +1,5 @@
-//! What no contract says of the book: at which count each limit refuses, and what shares an identity.
-//! That each call succeeds with ample memory is shown by the scripts of `tests/scripts`.
+//! What no contract says of the book: at which count each limit refuses, and what shares an
+//! identity. That each call succeeds with ample memory is shown by the scripts of `tests/scripts`.
 
 ghost use Rattle.std.specs.Prelude.{◌≤◌};
 ghost use Rattle.metric_events.specs.declared.limits.TheConstants.{MAX_TAKEN};

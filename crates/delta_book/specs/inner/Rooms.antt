@@ -51,7 +51,8 @@ pub record AreAsked (cs : List CellView) (qs : List Accepted) (s : List ℕ)
   pub asked : Each (IsAsked ps) cs
 
 -- cells that represent these points; one that represents none is of a series of the batch
-pub record AreCellsFor (cs : List CellView) (qs : List Accepted) (ps : List DataPoint) : Type 0 where
+pub record AreCellsFor (cs : List CellView) (qs : List Accepted) (ps : List DataPoint)
+    : Type 0 where
   pub table : IsTable cs qs
   pub some : (x : Identity) → is_among x (map id_of cs) ≡ true → HasPoint x qs ⊎ IsListed x ps
 

@@ -1,7 +1,8 @@
 -- What the program's value of an ask is in the definitions.
 use Rattle.gate_workers.specs.declared.request.Ask.{Ask}
 use Rattle.gate_workers.specs.declared.request.Ask.TheVariants as ask
-use Rattle.gate_workers.specs.Requested.{Requested, Metrics, Quarantine, Lift, FlushNow, Report, Refused}
+use Rattle.gate_workers.specs.Requested.{Requested, Metrics, Quarantine, Lift, FlushNow, Report}
+use Rattle.gate_workers.specs.Requested.{Refused}
 
 abbrev pub shown : Ask → Requested
 shown (ask.Metrics body text) = Metrics body text.items

@@ -16,8 +16,8 @@ pub record Steps (old new : BodyState) (bytes : List ℕ) : Type 0 where
   pub backward : (more : List ℕ) (body : Option (List ℕ)) → Becomes new more body
       → Becomes old (bytes ++ more) body
 
--- the old part and the bytes are done with but for the new part: what the body becomes from where the
--- new part begins, it becomes from where the old part began
+-- the old part and the bytes are done with but for the new part: what the body becomes from where
+-- the new part begins, it becomes from where the old part began
 pub record Splits (old new : BodyState) (bytes : List ℕ) : Type 0 where
   pub past : List ℕ
   pub are : old.part ++ bytes ≡ past ++ new.part
