@@ -129,11 +129,13 @@ impl<'d> Value<'d> {
     }
 
     pub fn text(self) -> Option<Cow<'d, str>> {
-        if self.kind() != Kind::Text {
-            return None;
-        }
+        (self.kind() == Kind::Text).then(|| parser::unescaped(self.inside()))
+    }
+
+    /// What is between the quotes of a text, as it is written.
+    fn inside(self) -> &'d str {
         let raw = self.raw();
-        Some(parser::unescaped(&raw[1..raw.len() - 1]))
+        &raw[1..raw.len() - 1]
     }
 
     /// The elements of an array.
@@ -155,8 +157,11 @@ impl<'d> Value<'d> {
     /// The values of these names, each its last one; `null` is absent. `None` of what is no object.
     pub fn named<const N: usize>(self, names: [&str; N]) -> Option<[Option<Value<'d>>; N]> {
         let mut found = [None; N];
-        for (name, value) in self.members()? {
-            if let Some(place) = names.iter().position(|wanted| *wanted == name) {
+        let place_of = |name: &str| names.iter().position(|wanted| *wanted == name);
+        let mut members = self.members()?;
+        while let Some((name, value)) = members.next_written() {
+            // As a rule it has no escapes.
+            if let Some(place) = place_of(name).or_else(|| place_of(&parser::unescaped(name))) {
                 found[place] = if value.is_null() { None } else { Some(value) };
             }
         }
@@ -189,17 +194,25 @@ pub struct Members<'d> {
     index: u32,
 }
 
-impl<'d> Iterator for Members<'d> {
-    type Item = (Cow<'d, str>, Value<'d>);
-
-    fn next(&mut self) -> Option<(Cow<'d, str>, Value<'d>)> {
+impl<'d> Members<'d> {
+    /// The next one, its name as it is written.
+    fn next_written(&mut self) -> Option<(&'d str, Value<'d>)> {
         if self.index >= self.of.entry().next {
             return None;
         }
         let name = self.of.at(self.index);
         let value = self.of.at(self.index + 1);
         self.index = value.entry().next;
-        Some((name.text().unwrap_or_default(), value))
+        Some((name.inside(), value))
+    }
+}
+
+impl<'d> Iterator for Members<'d> {
+    type Item = (Cow<'d, str>, Value<'d>);
+
+    fn next(&mut self) -> Option<(Cow<'d, str>, Value<'d>)> {
+        let (name, value) = self.next_written()?;
+        Some((parser::unescaped(name), value))
     }
 }
 

@@ -183,5 +183,11 @@ pub(crate) fn a_request_of_test() -> Vec<u8> {
     tests::a_request()
 }
 
+/// Requests drawn at random in the gateway's form, each as it comes of protobuf and of JSON.
+#[cfg(test)]
+pub(crate) fn requests_of_test(many: usize) -> Vec<[Bytes; 2]> {
+    tests::requests(many)
+}
+
 #[cfg(test)]
 mod tests;

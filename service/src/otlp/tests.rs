@@ -14,6 +14,8 @@ mod random;
 mod refused;
 mod speed;
 
+pub(super) use random::requests;
+
 fn prepared(encoding: Encoding, body: impl Into<Bytes>) -> Result<Vec<Bytes>, String> {
     prepare(encoding, body.into(), &Reading::default())
         .map(|prepared| prepared.bodies)

@@ -5,14 +5,14 @@
 //! it is in the journal; what of it nobody else holds or claims is free again where it was not taken. A start claims
 //! what each slot's snapshot and journal have, and a series that is forgotten is free.
 //!
-//! For that each post is read once more. Its series are told by digests: a key says all that identifies a series, which
-//! thousands of series of a post may share, and so the keys of a post may be hundreds of times its length.
+//! For that each post is read once more. Its series are told by `digests`: a key says all that identifies a series,
+//! which thousands of series of a post may share, and so the keys of a post may be hundreds of times its length.
 
+use super::digests::{Digests, SeriesDigest};
 use crate::files::{Fault, Journal, Outbox};
 use crate::otlp::series::{first_places, SeriesKey};
 use crate::work::{blocking, within};
 use bytes::Bytes;
-use sha2::{Digest, Sha256};
 use std::collections::hash_map::Entry;
 use std::collections::HashMap;
 use std::sync::{Arc, Mutex, MutexGuard, PoisonError};
@@ -36,22 +36,13 @@ pub struct Claims {
     settled: Notify,
 }
 
-/// A series, by the SHA-256 of its key.
-#[derive(Clone, Copy, Debug, PartialEq, Eq, Hash)]
-pub(super) struct SeriesDigest([u8; 32]);
-
-impl SeriesDigest {
-    fn of(key: &str) -> SeriesDigest {
-        SeriesDigest(Sha256::digest(key).into())
-    }
-}
-
 /// Series of a body, each with the place of its first point.
 pub(super) type Places = Vec<(SeriesDigest, u64)>;
 
 /// None of a body that can't be read: it is for the gateway to refuse.
 fn places(body: &[u8]) -> Places {
-    let mut places = first_places(body, SeriesDigest::of).unwrap_or_default();
+    let mut digests = Digests::default();
+    let mut places = first_places(body, |key| digests.of(key)).unwrap_or_default();
     places.shrink_to_fit(); // they are kept until the post is in the journal
     places
 }

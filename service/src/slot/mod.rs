@@ -1,9 +1,10 @@
 //! A slot: one gateway with its journal and outbox, and the way of a post through them.
 //!
 //! `request` is that way, `verdict` what is said of a post and when, `gate` who may ask the gateway and when. `slots` are
-//! several beside each other, and `claims` keep them from having one series twice.
+//! several beside each other, and `claims` keep them from having one series twice, told by `digests`.
 
 mod claims;
+mod digests;
 mod gate;
 mod points;
 mod request;

@@ -1,6 +1,6 @@
 //! From bytes to a document: an own stack in place of recursion, so that no text overflows the thread's.
 
-use super::{Document, Entry, NotJson, MAX_DEPTH};
+use super::{plain_length, Document, Entry, NotJson, MAX_DEPTH};
 use std::borrow::Cow;
 
 /// Numbers from here on may be past the range of a double for one reader and within it for another.
@@ -244,13 +244,13 @@ impl<'a> Parser<'a> {
         let bytes = self.text.as_bytes();
         self.at += 1;
         loop {
+            self.at += plain_length(&bytes[self.at..]);
             match bytes.get(self.at) {
                 Some(b'"') => break,
                 Some(b'\\') => {
                     let escape = escaped(&bytes[self.at..]).ok_or_else(|| self.expected("an escape"))?;
                     self.at += escape.1;
                 }
-                Some(32..) => self.at += 1,
                 _ => return Err(self.expected("the end of a text")),
             }
         }

@@ -37,7 +37,10 @@ pub fn posted(body: &[u8]) -> Option<Posted> {
 
 /// Each series that a body has points of the profile of, as `told` tells its key, with the place of the first among all of
 /// these. None where the gateway refuses the body whole.
-pub fn first_places<S: Copy + Eq + Hash>(body: &[u8], told: impl Fn(&str) -> S) -> Option<Vec<(S, u64)>> {
+pub fn first_places<S: Copy + Eq + Hash>(
+    body: &[u8],
+    mut told: impl FnMut(&str) -> S,
+) -> Option<Vec<(S, u64)>> {
     let document = Document::parse(body).ok()?;
     let (mut known, mut places, mut place) = (HashSet::new(), Vec::new(), 0);
     visit(&document, |seen| {

@@ -173,6 +173,25 @@ impl Random {
     }
 }
 
+/// Requests in the gateway's form, each as it comes of protobuf and of JSON.
+pub fn requests(many: usize) -> Vec<[Bytes; 2]> {
+    let mut random = Random(11);
+    let spelling = Spelling {
+        proto_names: false,
+        numbers: false,
+        enum_names: false,
+    };
+    let one = |_| {
+        let request = random.request();
+        let both = [
+            prepared(Encoding::Protobuf, request.encode_to_vec()),
+            prepared(Encoding::Json, spelling.request(&request)),
+        ];
+        both.map(|bodies| bodies.unwrap().remove(0))
+    };
+    (0..many).map(one).collect()
+}
+
 #[test]
 fn both_encodings_of_a_request_mean_the_same() {
     both_mean_the_same(&Reading::default());
