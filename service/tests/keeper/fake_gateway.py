@@ -155,6 +155,9 @@ def serve(stream):
             return
         while len(body) < int(fields["content-length"]):
             body += stream.recv(1 << 16)
+        if sender.startswith("standing"):
+            log("stands", sender)
+            time.sleep(3600)
         with LOCK:
             slow = path == "/v1/metrics" and told("post-slow")
             status, text = answer_to(path, sender, body)
