@@ -83,15 +83,16 @@ static bool is_let_in(int of) {
     return !await(EPOLL_CTL_ADD, of);
 }
 
-/* Lets in all that wait. Who else connects is sent away, and is none of the connections that the gateway counts. */
+/* Lets in one that waits. Who else connects is sent away, and is none of the connections that the gateway counts. The next
+ * one has its turn behind the requests that are there: a thread that let in all would be kept by strangers for as long as
+ * they come. */
 static int let_in(bool is_shut) {
-    int of;
-    while ((of = syscall(SYS_accept4, listener, NULL, NULL, SOCK_CLOEXEC)) >= 0)
-        if (!is_let_in(of)) drop(of);
-    int fault = is_shut ? EINVAL : errno;
+    int of = is_shut ? -1 : syscall(SYS_accept4, listener, NULL, NULL, SOCK_CLOEXEC);
+    int fault = is_shut ? EINVAL : of < 0 && errno != EAGAIN ? errno : 0;
+    if (of >= 0 && !is_let_in(of)) drop(of);
     await(EPOLL_CTL_MOD, listener);
     errno = fault;
-    return fault == EAGAIN ? 0 : -1;
+    return fault ? -1 : 0;
 }
 
 /* The first read of a request has its length too. */

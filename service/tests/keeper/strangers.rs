@@ -1,7 +1,8 @@
 //! Another process, also of the same user, gets no connection to a gateway, and forwards nothing in its name.
 
 use crate::support::{all, message, point, sums, Place, Run};
-use std::process::Command;
+use std::process::{Command, Stdio};
+use std::time::Duration;
 
 /// Sends a request to the socket that a process has by a name in its environment, and prints what comes back.
 const STRANGER: &str = r#"
@@ -74,4 +75,47 @@ async fn a_stranger_is_kept_out_of_the_real_gateway() {
     if let Some(place) = Place::of_real() {
         keeps_out(place).await;
     }
+}
+
+/// Several that connect to a gateway one time after the other, without an end.
+const CROWD: &str = r#"
+import os, socket, sys, time
+with open(f"/proc/{sys.argv[1]}/environ", "rb") as file:
+    environment = dict(pair.split(b"=", 1) for pair in file.read().split(b"\0") if pair)
+name = b"\0" + environment[b"TOTXEGUN_LISTENS"]
+parent = os.getpid()
+if not all(os.fork() for _ in range(4)):
+    while os.getppid() == parent:
+        with socket.socket(socket.AF_UNIX) as stream:
+            stream.connect(name)
+    os._exit(0)
+print("there", flush=True)
+time.sleep(100)
+"#;
+
+#[tokio::test(flavor = "multi_thread")]
+async fn a_crowd_of_strangers_holds_up_no_post() {
+    use std::io::{BufRead, BufReader};
+    let place = Place::of_fake();
+    let run = place.run().await;
+    let pid = run.slot.gateway().unwrap().to_string();
+    let mut crowd = Command::new("python3")
+        .args(["-c", CROWD, &pid])
+        .stdout(Stdio::piped())
+        .spawn()
+        .unwrap();
+    let mut there = String::new();
+    let mut lines = BufReader::new(crowd.stdout.take().unwrap());
+    lines.read_line(&mut there).unwrap();
+    let posts = async {
+        for start in 1..=100 {
+            assert_eq!(run.post("A", point("a", start, start + 1, 1)).await, all());
+        }
+    };
+    let in_time = tokio::time::timeout(Duration::from_secs(15), posts).await;
+    crowd.kill().unwrap();
+    crowd.wait().unwrap();
+    in_time.expect("the gateway has time for strangers alone");
+    assert_eq!(run.recoveries(), 1);
+    assert_eq!(sums(&run.stop().await), [("a", 100)]);
 }
