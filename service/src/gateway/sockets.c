@@ -60,9 +60,9 @@ static struct connection *kept(int of) {
     return of >= 0 && of < MOST_DESCRIPTORS && connections[of].is_kept ? &connections[of] : NULL;
 }
 
-/* One thread is woken, and none until this is called again. */
+/* One thread is woken, and none until this is called again. That it is shut is told of a listener by EPOLLRDHUP alone. */
 static int await(int operation, int of) {
-    struct epoll_event next = { .events = EPOLLIN | EPOLLONESHOT, .data.fd = of };
+    struct epoll_event next = { .events = EPOLLIN | EPOLLRDHUP | EPOLLONESHOT, .data.fd = of };
     return epoll_ctl(coming, operation, of, &next);
 }
 
@@ -180,7 +180,7 @@ int accept4(int of, struct sockaddr *address, socklen_t *length, int flags) {
         int found = epoll_wait(coming, &next, 1, -1);
         if (found < 0 && errno != EINTR) return -1; /* A stopped process that goes on is interrupted. */
         if (found <= 0) continue;
-        bool is_over = next.events & (EPOLLHUP | EPOLLERR);
+        bool is_over = next.events & (EPOLLHUP | EPOLLERR | EPOLLRDHUP);
         if (next.data.fd == listener) {
             if (let_in(is_over)) return -1;
         } else if (is_over) {

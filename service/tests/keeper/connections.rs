@@ -117,3 +117,18 @@ async fn a_doubt_ends_all_that_is_under_way() {
     assert_eq!(run.post("A", point("a", 1, 2, 1)).await, all());
     assert_eq!(sums(&run.stop().await), [("a", 1)]);
 }
+
+/// Each call that waits for a connection has to end, as TCP's do: else those threads wait, or look for ever.
+#[tokio::test]
+async fn a_gateway_that_shuts_its_listener_ends() {
+    let place = Place::of_fake();
+    let run = place.run().await;
+    place.tell("post-shuts", 1);
+    // It may end before it has answered.
+    let first = run.post_until_answered("A", point("a", 1, 2, 1)).await;
+    assert_eq!(first, all());
+    soon("it goes on", || run.recoveries() == 2).await;
+    let second = run.post_until_answered("A", point("a", 2, 3, 1)).await;
+    assert_eq!(second, all());
+    assert_eq!(sums(&run.stop().await), [("a", 2)]);
+}
