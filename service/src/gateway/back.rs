@@ -79,6 +79,8 @@ async fn listen(listener: UnixListener, side: Arc<Side>) {
         while connections.len() > CONNECTIONS {
             connections.join_next().await;
         }
+        // Where the next one is there already nothing above waits: a crowd of others would have this thread for itself.
+        tokio::task::yield_now().await;
     }
 }
 

@@ -191,9 +191,11 @@ impl Gateway {
         }
     }
 
-    /// From here on it refuses what is asked: an answer that did not come may have been a yes.
+    /// From here on it refuses what is asked: an answer that did not come may have been a yes. It is killed at once: a
+    /// checkpoint waits for all that is under way, and each of these would wait for an answer as long, and those behind
+    /// them that wait for a place again.
     pub(crate) fn doubt(&self, doubt: Doubt) -> Doubt {
-        self.doubted.store(true, Ordering::SeqCst);
+        self.kill();
         doubt
     }
 

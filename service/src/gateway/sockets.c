@@ -60,9 +60,9 @@ static struct connection *kept(int of) {
     return of >= 0 && of < MOST_DESCRIPTORS && connections[of].is_kept ? &connections[of] : NULL;
 }
 
-/* One thread is woken, and none until this is called again. */
+/* One thread is woken, and none until this is called again. That it is shut is told of a listener by EPOLLRDHUP alone. */
 static int await(int operation, int of) {
-    struct epoll_event next = { .events = EPOLLIN | EPOLLONESHOT, .data.fd = of };
+    struct epoll_event next = { .events = EPOLLIN | EPOLLRDHUP | EPOLLONESHOT, .data.fd = of };
     return epoll_ctl(coming, operation, of, &next);
 }
 
@@ -83,15 +83,16 @@ static bool is_let_in(int of) {
     return !await(EPOLL_CTL_ADD, of);
 }
 
-/* Lets in all that wait. Who else connects is sent away, and is none of the connections that the gateway counts. */
+/* Lets in one that waits. Who else connects is sent away, and is none of the connections that the gateway counts. The next
+ * one has its turn behind the requests that are there: a thread that let in all would be kept by strangers for as long as
+ * they come. */
 static int let_in(bool is_shut) {
-    int of;
-    while ((of = syscall(SYS_accept4, listener, NULL, NULL, SOCK_CLOEXEC)) >= 0)
-        if (!is_let_in(of)) drop(of);
-    int fault = is_shut ? EINVAL : errno;
+    int of = is_shut ? -1 : syscall(SYS_accept4, listener, NULL, NULL, SOCK_CLOEXEC);
+    int fault = is_shut ? EINVAL : of < 0 && errno != EAGAIN ? errno : 0;
+    if (of >= 0 && !is_let_in(of)) drop(of);
     await(EPOLL_CTL_MOD, listener);
     errno = fault;
-    return fault == EAGAIN ? 0 : -1;
+    return fault ? -1 : 0;
 }
 
 /* The first read of a request has its length too. */
@@ -179,7 +180,7 @@ int accept4(int of, struct sockaddr *address, socklen_t *length, int flags) {
         int found = epoll_wait(coming, &next, 1, -1);
         if (found < 0 && errno != EINTR) return -1; /* A stopped process that goes on is interrupted. */
         if (found <= 0) continue;
-        bool is_over = next.events & (EPOLLHUP | EPOLLERR);
+        bool is_over = next.events & (EPOLLHUP | EPOLLERR | EPOLLRDHUP);
         if (next.data.fd == listener) {
             if (let_in(is_over)) return -1;
         } else if (is_over) {

@@ -3,9 +3,14 @@
 use crate::support::{all, message, point, sums, Place, Run};
 use bytes::Bytes;
 use nix::sys::signal::Signal;
-use std::time::Duration;
+use std::time::{Duration, Instant};
+use totxegun::keeper::Order;
 
 const SHORT: Duration = Duration::from_millis(50);
+/// Less than an answer may take.
+const SOON: Duration = Duration::from_secs(15);
+/// Requests under way at a time, to one gateway.
+const PLACES: usize = 64;
 
 fn places() -> impl Iterator<Item = Place> {
     [Some(Place::of_fake()), Place::of_real()].into_iter().flatten()
@@ -71,5 +76,59 @@ async fn a_request_that_was_not_read_whole_ends_its_connection() {
         post_in_turn(&run, start, start + 1).await;
     }
     assert_eq!(run.recoveries(), 1);
+    assert_eq!(sums(&run.stop().await), [("a", 2)]);
+}
+
+async fn soon(what: &str, mut is_so: impl FnMut() -> bool) {
+    let begun = Instant::now();
+    while !is_so() {
+        assert!(begun.elapsed() < SOON, "{what}");
+        tokio::time::sleep(SHORT).await;
+    }
+}
+
+/// A checkpoint waits for all posts that have passed the gate, so each of them has to end with the gateway, also those
+/// that wait for a place.
+#[tokio::test]
+async fn a_doubt_ends_all_that_is_under_way() {
+    let place = Place::of_fake();
+    let run = place.run().await;
+    let stand = |count: usize, of: &str| -> Vec<_> {
+        let named = |number| format!("standing-{of}-{number}");
+        (0..count)
+            .map(|number| run.begin_post(&named(number), vec![point(&named(number), 1, 2, 1)]))
+            .collect()
+    };
+    let mut standing = stand(PLACES - 1, "inside");
+    soon("they stand", || place.log("stands").len() == PLACES - 1).await;
+    place.tell("post-slow", 1);
+    place.tell("post-odd", 1);
+    let odd = run.begin_post("A", vec![point("a", 1, 2, 1)]);
+    soon("it is slow", || !place.log("took").is_empty()).await;
+    standing.extend(stand(PLACES, "behind"));
+    tokio::time::sleep(SHORT).await;
+    let orders = run.orders.clone();
+    let checkpoint = tokio::spawn(async move { orders.order(Order::Checkpoint).await });
+    soon("a fresh gateway", || run.recoveries() == 2).await;
+    for post in standing.into_iter().chain([odd]) {
+        assert_eq!(message(&post.await.unwrap()), (503, "recovering"));
+    }
+    checkpoint.await.unwrap();
+    assert_eq!(run.post("A", point("a", 1, 2, 1)).await, all());
+    assert_eq!(sums(&run.stop().await), [("a", 1)]);
+}
+
+/// Each call that waits for a connection has to end, as TCP's do: else those threads wait, or look for ever.
+#[tokio::test]
+async fn a_gateway_that_shuts_its_listener_ends() {
+    let place = Place::of_fake();
+    let run = place.run().await;
+    place.tell("post-shuts", 1);
+    // It may end before it has answered.
+    let first = run.post_until_answered("A", point("a", 1, 2, 1)).await;
+    assert_eq!(first, all());
+    soon("it goes on", || run.recoveries() == 2).await;
+    let second = run.post_until_answered("A", point("a", 2, 3, 1)).await;
+    assert_eq!(second, all());
     assert_eq!(sums(&run.stop().await), [("a", 2)]);
 }

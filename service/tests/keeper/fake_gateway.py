@@ -14,6 +14,7 @@ HERE = os.path.dirname(os.path.abspath(__file__))
 WORDS = dict(zip(sys.argv[2::2], sys.argv[3::2]))
 LOCK = threading.Lock()
 PHRASES = {200: "OK", 400: "Bad Request", 403: "Forbidden", 404: "Not Found", 413: "Payload Too Large", 503: "Service Unavailable"}
+LISTENERS = []
 known, pending, quarantined = {}, {}, set()
 
 
@@ -122,6 +123,8 @@ def answer_to(path, sender, body):
         return ordered(path)
     if told("post-ends"):
         os._exit(3)
+    if told("post-shuts"):
+        LISTENERS[0].shutdown(socket.SHUT_RD)
     if told("post-full") or pending and told("post-full-behind-another"):
         return 503, {"message": "full"}
     if told("post-elsewhere"):
@@ -155,6 +158,9 @@ def serve(stream):
             return
         while len(body) < int(fields["content-length"]):
             body += stream.recv(1 << 16)
+        if sender.startswith("standing"):
+            log("stands", sender)
+            time.sleep(3600)
         with LOCK:
             slow = path == "/v1/metrics" and told("post-slow")
             status, text = answer_to(path, sender, body)
@@ -175,6 +181,7 @@ def main():
         sys.exit(1)
     host, port = WORDS["--listen"].split(":")
     with socket.create_server((host, int(port)), backlog=128) as listener:
+        LISTENERS.append(listener)
         while not told("hangs-at-start"):
             stream, _ = listener.accept()
             threading.Thread(target=serve, args=(stream,), daemon=True).start()
