@@ -239,11 +239,11 @@ impl<'a, 'r> Writer<'a, 'r> {
             }),
             // An enum has 32 bits, of which a reader keeps the lowest.
             Kind::Temporality => self.out.whole_number(found.bits() as i32),
-            Kind::Whole(Wire::Fixed64) => self.out.whole(found.bits()),
-            Kind::Whole(Wire::Uint32) => self.out.whole(found.bits() as u32),
-            Kind::Whole(Wire::Int64 | Wire::Sfixed64) => self.out.whole(found.bits() as i64),
+            Kind::Whole(Wire::Fixed64) => self.out.whole_number(found.bits()),
+            Kind::Whole(Wire::Uint32) => self.out.whole_number(found.bits() as u32),
+            Kind::Whole(Wire::Int64 | Wire::Sfixed64) => self.out.whole_number(found.bits() as i64),
             Kind::Double | Kind::Fraction => self.out.double(f64::from_bits(found.bits())),
-            Kind::Wholes => self.list(found, number, |out, bits| out.whole(bits)),
+            Kind::Wholes => self.list(found, number, |out, bits| out.whole_number(bits)),
             Kind::Doubles => self.list(found, number, |out, bits| out.double(f64::from_bits(bits))),
             Kind::Bytes => self.out.push("\"\""),
             Kind::Foreign(inner) => {

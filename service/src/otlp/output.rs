@@ -60,14 +60,14 @@ impl<'r> Output<'r> {
         }
     }
 
-    /// 64 bits do not fit a number of each reader of JSON, so it is a text.
+    /// As a text, which may be any: below -2^63 a number is no whole one for the gateway.
     pub fn whole(&mut self, whole: impl itoa::Integer) {
         self.text.push(b'"');
         self.whole_number(whole);
         self.text.push(b'"');
     }
 
-    /// A number that all readers read alike.
+    /// As a number of 64 bits, which takes the gateway less time than a text.
     pub fn whole_number(&mut self, number: impl itoa::Integer) {
         self.push(itoa::Buffer::new().format(number));
     }

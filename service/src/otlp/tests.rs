@@ -203,14 +203,14 @@ fn protobuf_is_written_as_the_gateway_reads_it() {
             [bytes(1, b"x"), bytes(1, b"m"), bytes(2, b"d"), bytes(7, &sum)].concat(),
             format!(
                 r#"{{"name":"m","sum":{{"aggregationTemporality":1,"isMonotonic":true,"dataPoints":[{},{},{}]}}}}"#,
-                r#"{"startTimeUnixNano":"1","timeUnixNano":"18446744073709551615","asInt":"-5","flags":"2"}"#,
+                r#"{"startTimeUnixNano":1,"timeUnixNano":18446744073709551615,"asInt":-5,"flags":2}"#,
                 r#"{"asDouble":5}"#,
                 r#"{"attributes":[{"value":{"stringValue":"\"\n"}},{"value":{"kvlistValue":{}}},{"value":{"arrayValue":{"values":[{"arrayValue":{}}]}}}]}"#
             ),
         ),
         (
             bytes(9, &bytes(1, &histogram)),
-            r#"{"histogram":{"dataPoints":[{"sum":2,"bucketCounts":["7"],"explicitBounds":[3,"0.5"]}]}}"#
+            r#"{"histogram":{"dataPoints":[{"sum":2,"bucketCounts":[7],"explicitBounds":[3,"0.5"]}]}}"#
                 .to_string(),
         ),
         (
@@ -251,7 +251,7 @@ fn attributes_in_protobuf_may_come_in_any_form() {
     ] {
         assert_eq!(written(&parts.map(|part| &part[..]).concat()), with_text);
     }
-    let with_whole = r#"[{"key":"k","value":{"intValue":"5"}}]"#;
+    let with_whole = r#"[{"key":"k","value":{"intValue":5}}]"#;
     for whole in [whole, bytes(2, &longer)] {
         assert_eq!(written(&[key.clone(), whole].concat()), with_whole);
     }

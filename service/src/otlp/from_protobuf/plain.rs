@@ -31,9 +31,8 @@ impl<'a> Writer<'a, '_> {
     fn point_of_sum(&mut self, point: &'a [u8]) -> Option<()> {
         let mut fields = Fields::of(point);
         self.times(&mut fields)?;
-        self.out.push(",\"asInt\":\"");
+        self.out.push(",\"asInt\":");
         self.out.whole_number(fields.fixed64(6)? as i64);
-        self.out.text.push(b'"');
         self.attributes_and_end(7, fields)
     }
 
@@ -44,7 +43,7 @@ impl<'a> Writer<'a, '_> {
         let mut fields = Fields::of(without_last(11, without_last(12, point)));
         self.times(&mut fields)?;
         self.out.push(",\"count\":");
-        self.out.whole(fields.fixed64(4)?);
+        self.out.whole_number(fields.fixed64(4)?);
         if let Some(sum) = fields.fixed64(5) {
             self.out.push(",\"sum\":");
             self.out.double(f64::from_bits(sum));
@@ -52,7 +51,7 @@ impl<'a> Writer<'a, '_> {
         fields.fixed64(11);
         fields.fixed64(12);
         self.out.push(",\"bucketCounts\":[");
-        self.packed(fields.bytes(6)?, |out, bits| out.whole(bits))?;
+        self.packed(fields.bytes(6)?, |out, bits| out.whole_number(bits))?;
         self.bounds(&mut fields)?;
         self.attributes_and_end(9, fields)
     }
@@ -153,7 +152,7 @@ impl<'a> Writer<'a, '_> {
         } else {
             let whole = value.number(3)?;
             self.out.push("\",\"value\":{\"intValue\":");
-            self.out.whole(whole as i64);
+            self.out.whole_number(whole as i64);
             self.out.push("}}");
         }
         (fields.rest().is_empty() && value.rest().is_empty()).then_some(())

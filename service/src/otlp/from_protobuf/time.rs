@@ -17,25 +17,25 @@ const PAIRS: [[u8; 2]; 100] = {
 pub struct Time {
     /// What is before the last eight digits.
     first: u64,
-    text: [u8; 21],
+    text: [u8; 19],
 }
 
 impl Time {
     pub fn new() -> Time {
         Time {
             first: 10_000_000_000,
-            text: *b"\"1000000000000000000\"",
+            text: *b"1000000000000000000",
         }
     }
 
-    /// A time in quotes. It has 19 digits, as those from 2001 to 2286 have.
+    /// A time of 19 digits, as those from 2001 to 2286 have.
     #[inline]
-    pub fn text(&mut self, time: u64) -> Option<&[u8; 21]> {
+    pub fn text(&mut self, time: u64) -> Option<&[u8; 19]> {
         let first = time / EIGHT;
         if first != self.first {
             self.begin(first)?;
         }
-        put_eight(&mut self.text[12..20], time % EIGHT);
+        put_eight(&mut self.text[11..], time % EIGHT);
         Some(&self.text)
     }
 
@@ -45,9 +45,9 @@ impl Time {
             return None;
         }
         self.first = first;
-        self.text[1] = b'0' + (three / 100) as u8;
-        self.text[2..4].copy_from_slice(&PAIRS[three % 100]);
-        put_eight(&mut self.text[4..12], first % EIGHT);
+        self.text[0] = b'0' + (three / 100) as u8;
+        self.text[1..3].copy_from_slice(&PAIRS[three % 100]);
+        put_eight(&mut self.text[3..11], first % EIGHT);
         Some(())
     }
 }
@@ -71,8 +71,8 @@ mod tests {
     fn times_are_written_as_any_number() {
         let mut before = Time::new();
         let mut is_as_any = |number: u64| {
-            let expected = format!("\"{number}\"");
-            let expected = (expected.len() == 21).then_some(expected.as_bytes());
+            let expected = number.to_string();
+            let expected = (expected.len() == 19).then_some(expected.as_bytes());
             for time in [&mut before, &mut Time::new()] {
                 assert_eq!(time.text(number).map(|text| &text[..]), expected, "{number}");
             }

@@ -30,10 +30,9 @@ fn a_point_is_written_alike_in_any_order() {
     let (text, whole) = (attribute(b"k\"", &bytes(1, b"t")), attribute(b"w", &[24, 5]));
     let (truth, flags) = (attribute(b"b", &[16, 1]), vec![64, 1]);
     let (exemplar, unknown) = (bytes(5, &fixed(2, 1)), bytes(15, b"x"));
-    let values =
-        r#"{"startTimeUnixNano":"1700000000000000000","timeUnixNano":"1700000001023456789","asInt":"-5""#;
+    let values = r#"{"startTimeUnixNano":1700000000000000000,"timeUnixNano":1700000001023456789,"asInt":-5"#;
     let of_text = r#"{"key":"k\"","value":{"stringValue":"t"}}"#;
-    let of_whole = r#"{"key":"w","value":{"intValue":"5"}}"#;
+    let of_whole = r#"{"key":"w","value":{"intValue":5}}"#;
     let of_truth = r#"{"key":"b","value":{"boolValue":true}}"#;
     let cases = [
         (vec![], String::new()),
@@ -48,7 +47,7 @@ fn a_point_is_written_alike_in_any_order() {
         ),
         (
             vec![&text, &flags],
-            format!(r#","attributes":[{of_text}],"flags":"1""#),
+            format!(r#","attributes":[{of_text}],"flags":1"#),
         ),
         (vec![&exemplar, &whole], format!(r#","attributes":[{of_whole}]"#)),
         (vec![&whole, &unknown], format!(r#","attributes":[{of_whole}]"#)),
@@ -73,14 +72,14 @@ fn a_point_is_written_alike_in_any_order() {
     assert_eq!(
         without,
         [
-            r#"{"startTimeUnixNano":"1700000000000000000","timeUnixNano":"1700000001023456789"}"#,
-            r#"{"timeUnixNano":"1700000001023456789","asInt":"-5"}"#,
+            r#"{"startTimeUnixNano":1700000000000000000,"timeUnixNano":1700000001023456789}"#,
+            r#"{"timeUnixNano":1700000001023456789,"asInt":-5}"#,
             "{}",
         ]
     );
     assert_eq!(
         written(&[fixed(2, 0), fixed(3, u64::MAX), fixed(6, 0)]),
-        r#"{"startTimeUnixNano":"0","timeUnixNano":"18446744073709551615","asInt":"0"}"#
+        r#"{"startTimeUnixNano":0,"timeUnixNano":18446744073709551615,"asInt":0}"#
     );
 }
 
@@ -110,7 +109,7 @@ fn a_point_of_a_histogram_is_written_alike_with_other_fields() {
     let expected = written(&fields);
     let text = std::str::from_utf8(&expected[0]).unwrap();
     let values =
-        r#""count":"3","sum":"0.5","bucketCounts":["1","2"],"explicitBounds":[10],"attributes":[{"key":"k""#;
+        r#""count":3,"sum":"0.5","bucketCounts":[1,2],"explicitBounds":[10],"attributes":[{"key":"k""#;
     assert!(text.contains(values), "{text}");
     for least in 0..=fields.len() {
         for largest in least..=fields.len() {

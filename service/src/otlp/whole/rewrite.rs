@@ -150,7 +150,7 @@ impl<'r> Rewriting<'r> {
     }
 
     fn whole(&mut self, metric: &Metric<'r, '_>, value: Value<'_>) {
-        let Some(text) = value.text() else { return };
+        let Some(text) = digits(value) else { return };
         let product = Decimal::times(&text, metric.rule.factor).and_then(|product| product.whole());
         match product.filter(is_word) {
             Some(product) => self.put((value.range(), format!("\"{product}\""))),
@@ -241,12 +241,14 @@ impl<'r> Rewriting<'r> {
     }
 }
 
+/// A number or a text, which may have one.
+fn digits(value: Value<'_>) -> Option<Cow<'_, str>> {
+    value.number().map(Cow::Borrowed).or_else(|| value.text())
+}
+
 /// A double of at most 2^53 in size, times the factor. Over that a shortest decimal is not the double's own value.
 fn exact(value: Value<'_>, rule: &Rule) -> Option<Decimal> {
-    let text = value
-        .number()
-        .map(String::from)
-        .or_else(|| value.text().map(String::from))?;
+    let text = digits(value)?;
     let double: f64 = text.parse().ok()?;
     let is_exact = double.abs() <= MAX_WHOLE_DOUBLE as f64;
     is_exact.then(|| Decimal::times(&text, rule.factor)).flatten()
@@ -254,12 +256,9 @@ fn exact(value: Value<'_>, rule: &Rule) -> Option<Decimal> {
 
 /// A value as people write it; `None` where it was no number.
 fn shown(value: Value<'_>) -> Option<String> {
-    let text = value
-        .number()
-        .map(String::from)
-        .or_else(|| value.text().map(String::from))?;
+    let text = digits(value)?;
     match text.parse::<i128>() {
-        Ok(_) => Some(text),
+        Ok(_) => Some(text.into_owned()),
         Err(_) => Some(double_shown(text.parse().ok()?)),
     }
 }
