@@ -269,10 +269,6 @@ def unit(checks, debian):
 
 
 def main(deb):
-    lacks = missing(deb) or fetch_base()
-    if lacks:
-        print(f"left out: missing {lacks}")
-        return 77
     checks = Checks()
     signal.signal(signal.SIGTERM, lambda *_: sys.exit(1))  # what was started and copied goes then too
     with tempfile.TemporaryDirectory(prefix="package-", dir=f"{ROOT}/out") as folder, contextlib.ExitStack() as stack:
@@ -305,6 +301,10 @@ if __name__ == "__main__":
     if len(sys.argv) != 2:
         sys.exit(f"usage: {sys.argv[0]} DEB")
     if "in_own_network" not in os.environ:
+        lacks = missing(sys.argv[1]) or fetch_base()  # Debian's mirror is not in that network
+        if lacks:
+            print(f"left out: missing {lacks}")
+            sys.exit(77)
         os.environ["in_own_network"] = "yes"
         os.execv(f"{ROOT}/tools/own_network.py", ["own_network.py", sys.executable, os.path.abspath(__file__), os.path.abspath(sys.argv[1])])
     sys.exit(main(sys.argv[1]))
