@@ -1,26 +1,13 @@
 -- What was read of a source and written to a sink, call by call.
-use Rattle.std.proofs.Common.{◌≡◌, ℕ, ◌+◌, ◌-◌, ◌<◌, ◌≤◌, take, drop, List, ◌++◌, length, Option, Some, None, sym, ap, ◌∙◌, append_assoc, length-append, length-take-le, arith}
-use Rattle.std.specs.Io.KnownBytes.{Consumes, IsAtEnd, Appends}
-use Rattle.std.proofs.lemmas.List.{append-nil, take-append-drop, take_rest}
-use Rattle.byte_ends.specs.Ends.{AreAll}
-use Rattle.play_script.specs.inner.Ends.{HasMore}
+use Rattle.std.proofs.Common.{◌≡◌, ℕ, ◌+◌, ◌-◌, ◌≤◌, take, drop, List, ◌++◌, length, Option, Some, None, sym, ap, ◌∙◌, append_assoc, length-take-le, arith}
+use Rattle.std.specs.Io.KnownBytes.{Consumes, Appends}
+use Rattle.std.proofs.lemmas.List.{take-append-drop, take_rest}
 
 pub consumed : (old mid new : Option (List ℕ)) (xs ys : List ℕ) → Consumes old mid xs → Consumes mid new ys → Consumes old new (xs ++ ys)
 consumed None mid new xs ys h k = tt
 consumed (Some a) None new xs ys h k = absurd h
 consumed (Some a) (Some b) None xs ys h k = absurd k
 consumed (Some a) (Some b) (Some c) xs ys h k = h ∙ ap (λ m. xs ++ m) k ∙ simp append_assoc
-
-pub all_consumed : (old mid : Option (List ℕ)) (input : List ℕ) → Consumes old mid input → IsAtEnd mid → AreAll old input
-all_consumed None mid input h k = tt
-all_consumed (Some a) None input h k = absurd h
-all_consumed (Some a) (Some b) input h k = h ∙ ap (λ m. input ++ m) k ∙ append-nil input
-
-pub more_consumed : (old mid new : Option (List ℕ)) (xs ys : List ℕ) (most : ℕ) → Consumes old mid xs → Consumes mid new ys → most < length xs + length ys → HasMore old most
-more_consumed None mid new xs ys most h k long = tt
-more_consumed (Some a) None new xs ys most h k long = absurd h
-more_consumed (Some a) (Some b) None xs ys most h k long = absurd k
-more_consumed (Some a) (Some b) (Some c) xs ys most h k long = omega (arith, ap length h, ap length k, length-append xs b, length-append ys c)
 
 -- how far an input was read, where n bytes came last
 pub stopped : (Passes : ℕ → Type 0) (old mid new : Option (List ℕ)) (given n : ℕ) (before buf : List ℕ) → Consumes old mid before → Consumes mid new (take n buf) → n ≤ length buf → length buf ≡ 4096 → given ≡ n → length before ≤ 16777216 → Passes (length before + given)
