@@ -23,7 +23,7 @@ TOP = (
     ("gate_workers", ["serve_with", "serve_book", "flush_turn", "book_turn"]),
     ("shared_book", ["finish"]),
     ("gateway_serve", ["serve_bound"]),
-    ("metric_events", ["striking", "closing", "recovery", "priming", "lasting"]),
+    ("metric_events", ["striking", "closing", "recovery", "priming", "congruence"]),
 )
 PROOFS = f"{ROOT}/docs/PROOFS.md"
 # In the name of each module that stands apart from what the promise says.

@@ -7,7 +7,7 @@ use Rattle.std.proofs.lemmas.List.Elements.{filter-append}
 use Rattle.series_id.specs.Identity.{Identity}
 use Rattle.metric_events.specs.DataPoint.{DataPoint}
 use Rattle.metric_events.specs.History.{History, Opened, ◌▸◌, ◌then◌, IsNewBatch}
-use Rattle.metric_events.specs.Points.{points, points_after, is_home, taken, landed, admitted, is_of_other_batch}
+use Rattle.metric_events.specs.Points.{points, is_home, taken, landed, admitted, is_of_other_batch}
 use Rattle.metric_events.specs.Running.{open_batches, live_flushes, is_another}
 use Rattle.metric_events.specs.Legal.{IsLegal, is_open}
 use Rattle.metric_events.specs.Recovery.{FlushesNothing}
@@ -15,18 +15,9 @@ use Rattle.metric_events.specs.declared.accepted.Accepted.{Accepted}
 use Rattle.metric_events.specs.declared.place.Place.{Place}
 use Rattle.metric_events.specs.declared.place.Place.TheVariants.{Home, Acknowledged, Dropped}
 use Rattle.metric_events.specs.declared.event.Event.TheVariants.{Admit, Undo, Confirm, Take, Settle, Drop, GiveBack, Quarantine, Lift}
+use Rattle.metric_events.specs.Recall.{moved, news}
 use Rattle.metric_events.proofs.Lists.{all_append, all_filter, any_split, any_filter, filter_keeps}
 use Rattle.metric_events.proofs.Invariants.{all_taken, all_landed, new_points}
-
--- where the events move points that none of them undoes, and the points of their own batches
-
-abbrev pub moved : History → List Accepted → List Accepted
-moved (Opened O) qs = qs
-moved (G ▸ Take f series) qs = map (taken f series) (moved G qs)
-moved (G ▸ Settle f) qs = map (landed f Acknowledged) (moved G qs)
-moved (G ▸ Drop f) qs = map (landed f Dropped) (moved G qs)
-moved (G ▸ GiveBack f) qs = map (landed f Home) (moved G qs)
-moved (G ▸ e) qs = moved G qs
 
 -- what taking and landing keep
 pub moved_keeps : (P : List Accepted → Type 0) → ((f : ℕ) (series : List Identity) (us : List Accepted) → P us → P (map (taken f series) us)) → ((f : ℕ) (q : Place) (us : List Accepted) → P us → P (map (landed f q) us)) → (G : History) (qs : List Accepted) → P qs → P (moved G qs)
@@ -36,10 +27,6 @@ moved_keeps P t l (G ▸ Settle f) qs h = l f Acknowledged (moved G qs) (moved_k
 moved_keeps P t l (G ▸ Drop f) qs h = l f Dropped (moved G qs) (moved_keeps P t l G qs h)
 moved_keeps P t l (G ▸ GiveBack f) qs h = l f Home (moved G qs) (moved_keeps P t l G qs h)
 moved_keeps P t l (G ▸ e) qs h = moved_keeps P t l G qs h
-
-abbrev pub news : History → List Accepted
-news (Opened O) = []
-news (G ▸ e) = points_after e (news G)
 
 -- each batch that G undoes is new after H
 abbrev pub UndoesOwn : History → History → Type 0
@@ -52,7 +39,7 @@ still_new H (Opened O) b h = h
 still_new H (G ▸ Admit c body) b h = still_new H G b h.1
 still_new H (G ▸ e) b h = still_new H G b h
 
-open_own : (H G : History) → open_batches H ≡ [] → IsLegal (H then G) → (b : ℕ) → is_open b (open_batches (H then G)) ≡ true → IsNewBatch b H
+pub open_own : (H G : History) → open_batches H ≡ [] → IsLegal (H then G) → (b : ℕ) → is_open b (open_batches (H then G)) ≡ true → IsNewBatch b H
 open_own H (Opened O) e l b h = absurd (let q : false ≡ true = rw e at h in cc)
 open_own H (G ▸ Admit c body) e l b h =
     elim (any_split (λ d. d == b) (open_batches (H then G)) c h) [

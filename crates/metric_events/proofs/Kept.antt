@@ -14,10 +14,11 @@ use Rattle.metric_events.specs.declared.accepted.Accepted.{Accepted}
 use Rattle.metric_events.specs.declared.place.Place.{Place}
 use Rattle.metric_events.specs.declared.place.Place.TheVariants.{Home, InFlight, Acknowledged, Dropped}
 use Rattle.metric_events.specs.declared.event.Event.TheVariants.{Admit, Undo, Take, Settle, Drop, GiveBack}
+use Rattle.metric_events.specs.Recall.{moved}
 use Rattle.metric_events.proofs.Lists.{any_map, map_same}
 use Rattle.metric_events.proofs.Moves.{made, rides, taken_blind, landed_blind}
 use Rattle.metric_events.proofs.Invariants.{all_ride}
-use Rattle.metric_events.proofs.Behind.{moved, moved_keeps}
+use Rattle.metric_events.proofs.Behind.{moved_keeps}
 
 taken_owner : (x : Identity) (f : ℕ) (series : List Identity) (qs : List Accepted) → owner x (map (taken f series) qs) ≡ owner x qs
 taken_owner x f series [] = refl

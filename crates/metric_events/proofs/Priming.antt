@@ -24,6 +24,7 @@ use Rattle.metric_events.specs.Priming.{Known, IsKnown, zero_row, zero_point, pr
 use Rattle.metric_events.specs.declared.accepted.Accepted.{Accepted}
 use Rattle.metric_events.specs.declared.place.Place.TheVariants.{Home, Acknowledged, Dropped}
 use Rattle.metric_events.specs.declared.event.Event.TheVariants.{Admit, Undo, Take, Settle, Drop, GiveBack}
+use Rattle.metric_events.specs.Recall.{moved, news}
 use Rattle.metric_events.proofs.Identities.{same_of, same_series-turned}
 use Rattle.metric_events.proofs.Lists.{all_append, all_filter, all_weaker, any_map, filter_none}
 use Rattle.metric_events.proofs.Invariants.{all_taken, all_landed}
@@ -32,7 +33,7 @@ use Rattle.metric_events.proofs.Intervals.{interval_is}
 use Rattle.metric_events.proofs.Fits.{taken_point, landed_point, sum_of-map, zeros_within}
 use Rattle.metric_events.proofs.Sums.{row_le_zeros, add_rows-zeros, add_rows-comm, added_at, length-zeros}
 use Rattle.metric_events.proofs.Bare.{bare_owner, bare_frontier, bare_sum, all_bare}
-use Rattle.metric_events.proofs.Behind.{moved, moved_keeps, news, only_behind}
+use Rattle.metric_events.proofs.Behind.{moved_keeps, only_behind}
 use Rattle.metric_events.proofs.Kept.{moved_owner, moved_frontier, moved_any, only_moved}
 use Rattle.metric_events.proofs.Recovering.{pending_behind, known}
 

@@ -9,27 +9,23 @@ use Rattle.series_id.specs.Identity.{Identity}
 use Rattle.series_id.specs.Order.{same_series}
 use Rattle.series_id.proofs.Order.{same_series-refl, same_series-exact}
 use Rattle.metric_events.specs.DataPoint.{DataPoint}
-use Rattle.metric_events.specs.History.{History, ◌▸◌, ◌then◌}
+use Rattle.metric_events.specs.History.{History, ◌then◌}
 use Rattle.metric_events.specs.Points.{points, is_home, admitted}
-use Rattle.metric_events.specs.Running.{held_senders}
 use Rattle.metric_events.specs.Senders.{same_sender}
 use Rattle.metric_events.specs.Series.{is_of, owner, frontier}
-use Rattle.metric_events.specs.Legal.{IsLegal, MayAdmit, is_clear, is_in_order, is_held, is_too_large}
+use Rattle.metric_events.specs.Legal.{IsLegal, is_clear, is_in_order}
 use Rattle.metric_events.specs.Standing.{stands}
-use Rattle.metric_events.specs.Recovery.{bare, pending, not_pending, is_not_home, IsAtRest, Remembers, FlushesNothing, Alike, are_in_turn, IsInTurn, bare_points, IsBatch, HasSpace}
+use Rattle.metric_events.specs.Recovery.{bare, pending, not_pending, is_not_home, IsAtRest, Remembers, FlushesNothing, are_in_turn}
 use Rattle.metric_events.specs.declared.accepted.Accepted.{Accepted}
-use Rattle.metric_events.specs.declared.batch.Batch.{Batch}
-use Rattle.metric_events.specs.declared.event.Event.TheVariants.{Admit}
+use Rattle.metric_events.specs.Recall.{news}
 use Rattle.metric_events.proofs.Lists.{all_append, all_first, all_last, all_filter, all_weaker, all_both, any_none, any_from_filter, both_at, filter_keeps, filter_none}
 use Rattle.metric_events.proofs.Senders.{same_sender-exact, same_sender-refl}
-use Rattle.metric_events.proofs.Owners.{OneOwner, one_owner, is_by, is_by_or_other}
+use Rattle.metric_events.proofs.Owners.{OneOwner, is_by, is_by_or_other}
 use Rattle.metric_events.proofs.Fits.{Made, made_points, made_filter}
 use Rattle.metric_events.proofs.Closing.{ends_there}
-use Rattle.metric_events.proofs.WithinLimits.{few_series}
-use Rattle.metric_events.proofs.Counts.{NoOther, count_le}
-use Rattle.metric_events.proofs.Bare.{bare_owner, bare_frontier, bare_admitted, all_bare, owner_append, frontier_append, none_frontier, none_owner}
-use Rattle.metric_events.proofs.Behind.{news, only_behind, news_home}
-use Rattle.metric_events.proofs.Striking.{legal_before}
+use Rattle.metric_events.proofs.Counts.{NoOther}
+use Rattle.metric_events.proofs.Bare.{all_bare, none_frontier, none_owner}
+use Rattle.metric_events.proofs.Behind.{only_behind, news_home}
 
 -- the pending points of a history, and the others
 
@@ -57,7 +53,7 @@ any_parts t h (a ∷ qs) e n = both (t a) (h a) refl refl (any_parts t h qs)
     both false true d g r = let e2 : list_any t qs ≡ true = rw d at e in let n2 : list_any t (filter (λ a. not (h a)) qs) ≡ false = rw g at n in rw g (or_right (t a) (list_any t (filter h qs)) (r e2 n2))
     both false false d g r = let e2 : list_any t qs ≡ true = rw d at e in let n2 : (false || list_any t (filter (λ a. not (h a)) qs)) ≡ false = rw (g, d) at n in rw g (r e2 n2)
 
-frontier_parts : (x : Identity) (h : Accepted → Bool) (qs : List Accepted) → frontier x qs ≡ max (frontier x (filter (λ a. not (h a)) qs)) (frontier x (filter h qs))
+pub frontier_parts : (x : Identity) (h : Accepted → Bool) (qs : List Accepted) → frontier x qs ≡ max (frontier x (filter (λ a. not (h a)) qs)) (frontier x (filter h qs))
 frontier_parts x h [] = refl
 frontier_parts x h (a ∷ qs) = both (is_of x a) (h a) refl refl (frontier_parts x h qs)
   where
@@ -90,10 +86,10 @@ owner_there x (a ∷ qs) h = both (is_of x a) refl (owner_there x qs)
     both true e r = found true e (or_left (is_by x a.sender a) (list_any (is_by x a.sender) qs) (and_from (same_series a.point.series x) (same_sender a.sender a.sender) e (same_sender-refl a.sender)))
     both false e r = let k : list_any (is_of x) qs ≡ true = rw e at h in found false e (or_right (is_by x (owner x qs) a) (list_any (is_by x (owner x qs)) qs) (r k))
 
-all_own : (x : Identity) (qs : List Accepted) → OneOwner qs → list_any (is_of x) qs ≡ true → list_all (is_by_or_other x (owner x qs)) qs ≡ true
+pub all_own : (x : Identity) (qs : List Accepted) → OneOwner qs → list_any (is_of x) qs ≡ true → list_all (is_by_or_other x (owner x qs)) qs ≡ true
 all_own x qs o h = o.all x (owner x qs) (owner_there x qs h)
 
-owner_parts : (x : Identity) (h : Accepted → Bool) (qs : List Accepted) → OneOwner qs → owner x qs ≡ cond (list_any (is_of x) (filter (λ a. not (h a)) qs)) (owner x (filter (λ a. not (h a)) qs)) (owner x (filter h qs))
+pub owner_parts : (x : Identity) (h : Accepted → Bool) (qs : List Accepted) → OneOwner qs → owner x qs ≡ cond (list_any (is_of x) (filter (λ a. not (h a)) qs)) (owner x (filter (λ a. not (h a)) qs)) (owner x (filter h qs))
 owner_parts x h qs o = both (list_any (is_of x) qs) (list_any (is_of x) (filter (λ a. not (h a)) qs)) refl refl
   where
     both : (v w : Bool) → list_any (is_of x) qs ≡ v → list_any (is_of x) (filter (λ a. not (h a)) qs) ≡ w → owner x qs ≡ cond (list_any (is_of x) (filter (λ a. not (h a)) qs)) (owner x (filter (λ a. not (h a)) qs)) (owner x (filter h qs))
@@ -119,35 +115,13 @@ alike_known H K l m x e = same_known x (points H) (points K) (made_points H l) (
 pub known : (E F : History) → IsLegal E → IsLegal F → Remembers F E → (x : Identity) → list_any (is_of x) (points F) ≡ list_any (is_of x) (not_pending E)
 known E F l m r x = same_known x (not_pending E) (points F) (made_filter is_not_home (points E) (made_points E l)) (made_points F m) (r.frontiers x)
 
-pub alike_law : (E F S : History) → IsLegal E → Remembers F E → FlushesNothing S → IsLegal (F then S) → pending (F then S) ≡ pending E → held_senders (F then S) ≡ held_senders E → Alike E (F then S)
-alike_law E F S l r n m p h = record {
-  owners = λ x.
-      ap (owner x) (only_behind F S r.rest.batches n m)
-      ∙ (owner_append x (points F) (news S)
-      ∙ (ap (λ v. cond v (owner x (points F)) (owner x (news S))) (known E F l (legal_before S F m) r x)
-      ∙ (ap (λ s. cond (list_any (is_of x) (not_pending E)) s (owner x (news S))) (r.owners x)
-      ∙ (ap (λ s. cond (list_any (is_of x) (not_pending E)) (owner x (not_pending E)) s) (sym (bare_owner x (news S)) ∙ (ap (owner x) same ∙ bare_owner x (home_points E)))
-      ∙ sym (owner_parts x (stands is_home) (points E) (one_owner E l))))));
-  frontiers = λ x.
-      ap (frontier x) (only_behind F S r.rest.batches n m)
-      ∙ (frontier_append x (points F) (news S)
-      ∙ (ap (λ k. max k (frontier x (news S))) (r.frontiers x)
-      ∙ (ap (λ k. max (frontier x (not_pending E)) k) (sym (bare_frontier x (news S)) ∙ (ap (frontier x) same ∙ bare_frontier x (home_points E)))
-      ∙ sym (frontier_parts x (stands is_home) (points E)))));
-  pending = p;
-  held = h;
-}
-  where
-    same : map bare (news S) ≡ pending E
-    same = sym (pending_behind F S r.rest n m) ∙ p
-
 -- turns
 
 -- what may come after qs may come after rs
 pub record Clearer (qs rs : List Accepted) : Type 0 where
   pub all : (s : List ℕ) (p : DataPoint) → list_all (λ a. is_clear s p a.point a.sender) qs ≡ true → list_all (λ a. is_clear s p a.point a.sender) rs ≡ true
 
-clearer_append : (qs rs ts : List Accepted) → Clearer qs rs → Clearer (qs ++ ts) (rs ++ ts)
+pub clearer_append : (qs rs ts : List Accepted) → Clearer qs rs → Clearer (qs ++ ts) (rs ++ ts)
 clearer_append qs rs ts h = record {
   all = λ s p k. all_append (λ a. is_clear s p a.point a.sender) rs ts (h.all s p (all_first (λ a. is_clear s p a.point a.sender) qs ts k)) (all_last (λ a. is_clear s p a.point a.sender) qs ts k);
 }
@@ -158,13 +132,13 @@ turn_clearer (a ∷ us) qs rs h k =
     let l = and_parts (list_all (λ q. is_clear a.sender a.point q.point q.sender) qs) (are_in_turn (qs ++ a ∷ []) us) k in
     and_from (list_all (λ q. is_clear a.sender a.point q.point q.sender) rs) (are_in_turn (rs ++ a ∷ []) us) (h.all a.sender a.point l.0) (turn_clearer us (qs ++ a ∷ []) (rs ++ a ∷ []) (clearer_append qs rs (a ∷ []) h) l.1)
 
-turn_first : (qs us vs : List Accepted) → are_in_turn qs (us ++ vs) ≡ true → are_in_turn qs us ≡ true
+pub turn_first : (qs us vs : List Accepted) → are_in_turn qs (us ++ vs) ≡ true → are_in_turn qs us ≡ true
 turn_first qs [] vs h = refl
 turn_first qs (a ∷ us) vs h =
     let l = and_parts (list_all (λ q. is_clear a.sender a.point q.point q.sender) qs) (are_in_turn (qs ++ a ∷ []) (us ++ vs)) h in
     and_from (list_all (λ q. is_clear a.sender a.point q.point q.sender) qs) (are_in_turn (qs ++ a ∷ []) us) l.0 (turn_first (qs ++ a ∷ []) us vs l.1)
 
-turn_last : (qs us vs : List Accepted) → are_in_turn qs (us ++ vs) ≡ true → are_in_turn (qs ++ us) vs ≡ true
+pub turn_last : (qs us vs : List Accepted) → are_in_turn qs (us ++ vs) ≡ true → are_in_turn (qs ++ us) vs ≡ true
 turn_last qs [] vs h = subst (λ (rs : List Accepted). are_in_turn rs vs ≡ true) (sym (append-nil qs)) h
 turn_last qs (a ∷ us) vs h =
     let l = and_parts (list_all (λ q. is_clear a.sender a.point q.point q.sender) qs) (are_in_turn (qs ++ a ∷ []) (us ++ vs)) h in
@@ -188,7 +162,7 @@ from_bare qs rs = record {
 }
 
 -- what comes after each point of a series comes after its frontier, and is of its owner
-clear_met : (s : List ℕ) (p : DataPoint) (qs : List Accepted) → list_all (λ a. is_clear s p a.point a.sender) qs ≡ true → list_any (is_of p.series) qs ≡ true → (same_sender (owner p.series qs) s ≡ true) × (frontier p.series qs ≤ p.span.start)
+pub clear_met : (s : List ℕ) (p : DataPoint) (qs : List Accepted) → list_all (λ a. is_clear s p a.point a.sender) qs ≡ true → list_any (is_of p.series) qs ≡ true → (same_sender (owner p.series qs) s ≡ true) × (frontier p.series qs ≤ p.span.start)
 clear_met s p [] h k = absurd (let q : false ≡ true = k in cc)
 clear_met s p (a ∷ qs) h k = both (is_of p.series a) (list_any (is_of p.series) qs) refl refl (clear_met s p qs l.1)
   where
@@ -207,7 +181,7 @@ clear_met s p (a ∷ qs) h k = both (is_of p.series a) (list_any (is_of p.series
     both false true e g r = rw e (r g)
     both false false e g r = absurd (let q : (false || false) ≡ true = rw (e, g) at k in cc)
 
-ends_by_frontier : (x : Identity) (qs : List Accepted) (n : ℕ) → frontier x qs ≤ n → list_all (λ a. not (is_of x a) || nat_le a.point.span.end n) qs ≡ true
+pub ends_by_frontier : (x : Identity) (qs : List Accepted) (n : ℕ) → frontier x qs ≤ n → list_all (λ a. not (is_of x a) || nat_le a.point.span.end n) qs ≡ true
 ends_by_frontier x [] n h = refl
 ends_by_frontier x (a ∷ qs) n h = both (is_of x a) refl (ends_by_frontier x qs n)
   where
@@ -219,8 +193,9 @@ ends_by_frontier x (a ∷ qs) n h = both (is_of x a) refl (ends_by_frontier x qs
         let k : frontier x qs ≤ n = rw e at h in
         and_from (not (is_of x a) || nat_le a.point.span.end n) _ (or_left (not (is_of x a)) (nat_le a.point.span.end n) (ap not e)) (r k)
 
-know_clearer : (E F : History) → IsLegal E → IsLegal F → Remembers F E → Clearer (not_pending E) (points F)
-know_clearer E F l m r = record { all = λ s p k. both s p k (list_any (is_of p.series) (points F)) refl }
+-- what may come after these may come after those, where each series has the same owner and frontier
+pub clearer_known : (qs rs : List Accepted) → OneOwner rs → ((x : Identity) → list_any (is_of x) rs ≡ list_any (is_of x) qs) → ((x : Identity) → owner x rs ≡ owner x qs) → ((x : Identity) → frontier x rs ≡ frontier x qs) → Clearer qs rs
+clearer_known qs rs o w own ends = record { all = λ s p k. both s p k (list_any (is_of p.series) rs) refl }
   where
     is_met : (s : List ℕ) (p : DataPoint) (a : Accepted) → is_by_or_other p.series s a ≡ true → (not (is_of p.series a) || nat_le a.point.span.end p.span.start) ≡ true → is_clear s p a.point a.sender ≡ true
     is_met s p a h k = parts (same_series a.point.series p.series) (same_sender a.sender s) (nat_le a.point.span.end p.span.start) h k
@@ -229,25 +204,14 @@ know_clearer E F l m r = record { all = λ s p k. both s p k (list_any (is_of p.
         parts true v w h k = and_from v w h k
         parts false v w h k = refl
 
-    both : (s : List ℕ) (p : DataPoint) → list_all (λ a. is_clear s p a.point a.sender) (not_pending E) ≡ true → (v : Bool) → list_any (is_of p.series) (points F) ≡ v → list_all (λ a. is_clear s p a.point a.sender) (points F) ≡ true
-    both s p k false e = all_weaker (λ a. not (is_of p.series a)) (λ a. is_clear s p a.point a.sender) (λ a n. or_left (not (is_of p.series a)) (same_sender a.sender s && nat_le a.point.span.end p.span.start) n) (points F) (any_none (is_of p.series) (points F) e)
+    both : (s : List ℕ) (p : DataPoint) → list_all (λ a. is_clear s p a.point a.sender) qs ≡ true → (v : Bool) → list_any (is_of p.series) rs ≡ v → list_all (λ a. is_clear s p a.point a.sender) rs ≡ true
+    both s p k false e = all_weaker (λ a. not (is_of p.series a)) (λ a. is_clear s p a.point a.sender) (λ a n. or_left (not (is_of p.series a)) (same_sender a.sender s && nat_le a.point.span.end p.span.start) n) rs (any_none (is_of p.series) rs e)
     both s p k true e =
-        let met = clear_met s p (not_pending E) k (sym (known E F l m r p.series) ∙ e) in
-        let mine : owner p.series (points F) ≡ s = r.owners p.series ∙ same_sender-exact (owner p.series (not_pending E)) s met.0 in
-        let own : list_all (is_by_or_other p.series s) (points F) ≡ true = subst (λ t. list_all (is_by_or_other p.series t) (points F) ≡ true) mine (all_own p.series (points F) (one_owner F m) e) in
-        all_both (is_by_or_other p.series s) (λ a. not (is_of p.series a) || nat_le a.point.span.end p.span.start) (λ a. is_clear s p a.point a.sender) (is_met s p) (points F) own
-        (ends_by_frontier p.series (points F) p.span.start (omega (arith, r.frontiers p.series, met.1)))
-
-in_order_behind : (E F S : History) (body : Batch) (rest : List Accepted) → IsLegal E → Remembers F E → IsInTurn E → FlushesNothing S → IsLegal (F then S) → pending (F then S) ++ (bare_points body ++ rest) ≡ pending E → is_in_order (points (F then S)) body.sender body.points ≡ true
-in_order_behind E F S body rest l r t n m e =
-    sym (turn_order body.sender body.points (points (F then S)))
-    ∙ subst (λ (us : List Accepted). are_in_turn us (bare_points body) ≡ true) (sym (only_behind F S r.rest.batches n m))
-    (turn_clearer (bare_points body) (points F ++ map bare (news S)) (points F ++ news S) (from_bare (points F) (news S))
-    (subst (λ (us : List Accepted). are_in_turn (points F ++ us) (bare_points body) ≡ true) (pending_behind F S r.rest n m)
-    (turn_first (points F ++ pending (F then S)) (bare_points body) rest
-    (turn_last (points F) (pending (F then S)) (bare_points body ++ rest)
-    (subst (λ (us : List Accepted). are_in_turn (points F) us ≡ true) (sym e)
-    (turn_clearer (pending E) (not_pending E) (points F) (know_clearer E F l (legal_before S F m) r) t))))))
+        let met = clear_met s p qs k (sym (w p.series) ∙ e) in
+        let mine : owner p.series rs ≡ s = own p.series ∙ same_sender-exact (owner p.series qs) s met.0 in
+        let all_mine : list_all (is_by_or_other p.series s) rs ≡ true = subst (λ t. list_all (is_by_or_other p.series t) rs ≡ true) mine (all_own p.series rs o e) in
+        all_both (is_by_or_other p.series s) (λ a. not (is_of p.series a) || nat_le a.point.span.end p.span.start) (λ a. is_clear s p a.point a.sender) (is_met s p) rs all_mine
+        (ends_by_frontier p.series rs p.span.start (omega (arith, ends p.series, met.1)))
 
 -- there are no more series
 
@@ -257,41 +221,7 @@ all_known t (a ∷ rs) k =
     and_from (t a.point.series) (list_all (λ a. t a.point.series) rs) (k a.point.series (or_left (same_series a.point.series a.point.series) (list_any (is_of a.point.series) rs) (same_series-refl a.point.series)))
     (all_known t rs (λ y h. k y (or_right (is_of y a) (list_any (is_of y) rs) h)))
 
-known_no_other : (qs rs : List Accepted) → ((x : Identity) → list_any (is_of x) rs ≡ list_any (is_of x) qs) → NoOther rs qs
+pub known_no_other : (qs rs : List Accepted) → ((x : Identity) → list_any (is_of x) rs ≡ list_any (is_of x) qs) → NoOther rs qs
 known_no_other qs rs e = record {
   all = λ t k. all_known t rs (λ y h. both_at (is_of y) (λ a. t a.point.series) (t y ≡ true) (λ a m n. subst (λ z. t z ≡ true) (same_series-exact a.point.series y m) n) qs (sym (e y) ∙ h) k);
-}
-
-no_other : (E F S : History) (b : ℕ) (body : Batch) (rest : List Accepted) → IsLegal E → Remembers F E → FlushesNothing S → IsLegal (F then S) → pending (F then S) ++ (bare_points body ++ rest) ≡ pending E → NoOther (points ((F then S) ▸ Admit b body)) (points E)
-no_other E F S b body rest l r n m e = record { all = every }
-  where
-    every : (t : Identity → Bool) → list_all (λ a. t a.point.series) (points E) ≡ true → list_all (λ a. t a.point.series) (points (F then S) ++ map (admitted b body.sender) body.points) ≡ true
-    every t k = all_append u (points (F then S)) (map (admitted b body.sender) body.points) (subst (λ (qs : List Accepted). list_all u qs ≡ true) (sym (only_behind F S r.rest.batches n m)) (all_append u (points F) (news S) of_first of_second)) of_third
-      where
-        u : Accepted → Bool
-        u a = t a.point.series
-
-        whole : list_all u (pending (F then S) ++ (bare_points body ++ rest)) ≡ true
-        whole = subst (λ (qs : List Accepted). list_all u qs ≡ true) (sym e) (all_bare u (λ a. refl) (home_points E) ∙ all_filter u (stands is_home) (points E) k)
-
-        of_first : list_all u (points F) ≡ true
-        of_first = (known_no_other (not_pending E) (points F) (known E F l (legal_before S F m) r)).all t (all_filter u is_not_home (points E) k)
-
-        of_second : list_all u (news S) ≡ true
-        of_second = sym (all_bare u (λ a. refl) (news S)) ∙ subst (λ (qs : List Accepted). list_all u qs ≡ true) (pending_behind F S r.rest n m) (all_first u (pending (F then S)) (bare_points body ++ rest) whole)
-
-        of_third : list_all u (map (admitted b body.sender) body.points) ≡ true
-        of_third = sym (all_bare u (λ a. refl) (map (admitted b body.sender) body.points)) ∙ subst (λ (qs : List Accepted). list_all u qs ≡ true) (sym (bare_admitted b body.sender body.points)) (all_first u (bare_points body) rest (all_last u (pending (F then S)) (bare_points body ++ rest) whole))
-
-pub admitted_law : (E F S : History) (b : ℕ) (body : Batch) (rest : List Accepted) → IsLegal E → Remembers F E → IsInTurn E → FlushesNothing S → IsLegal (F then S) → pending (F then S) ++ (bare_points body ++ rest) ≡ pending E → IsBatch body → HasSpace (F then S) b → is_held body.sender (held_senders (F then S)) ≡ false → is_too_large (points ((F then S) ▸ Admit b body)) body.points ≡ false → MayAdmit (F then S) b body
-admitted_law E F S b body rest l r t n m e c h free small = record {
-  fresh = h.fresh;
-  some = c.some;
-  made = c.made;
-  free = free;
-  few_open = h.few_open;
-  room = h.room;
-  in_order = in_order_behind E F S body rest l r t n m e;
-  few_series = omega (arith, count_le (points ((F then S) ▸ Admit b body)) (points E) (no_other E F S b body rest l r n m e), few_series E l);
-  small = small;
 }

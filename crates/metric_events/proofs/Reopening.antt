@@ -1,13 +1,12 @@
 -- The round after rest begins at rest, and knows the series as before.
-use Rattle.std.proofs.Common.{◌≡◌, ℕ, Bool, true, false, cond, not, ◌||◌, List, [], ◌∷◌, ◌++◌, map, max, refl, ap, sym, ◌∙◌, arith, suc, zero}
-use Rattle.std.specs.List.{list_any, list_all, filter}
+use Rattle.std.proofs.Common.{◌≡◌, ℕ, true, false, cond, not, List, [], ◌∷◌, ◌++◌, map, refl, ap, sym, ◌∙◌, arith, suc, zero}
+use Rattle.std.specs.List.{list_all, filter}
 use Rattle.std.proofs.lemmas.List.{append-nil}
 use Rattle.series_id.specs.Identity.{Identity, row_length}
 use Rattle.series_id.specs.Order.{same_series}
-use Rattle.series_id.proofs.Order.{same_series-exact}
 use Rattle.metric_events.specs.Rows.{add_rows, zeros}
 use Rattle.metric_events.specs.History.{History, Opened, opening, ◌then◌}
-use Rattle.metric_events.specs.Points.{points, is_home, is_among, mark, carried, carried_of}
+use Rattle.metric_events.specs.Points.{points, is_home, mark, carried, carried_of}
 use Rattle.metric_events.specs.Running.{held_senders}
 use Rattle.metric_events.specs.Series.{is_of, of_series, owner, frontier, hull, row_sum, sum_of, series_in_order}
 use Rattle.metric_events.specs.Standing.{stands, series_standing}
@@ -16,14 +15,14 @@ use Rattle.metric_events.specs.Legal.{IsLegal}
 use Rattle.metric_events.specs.Recovery.{IsAtRest, Remembers, FlushesNothing, not_pending, is_not_home, IsAtMost}
 use Rattle.metric_events.specs.declared.opened_series.OpenedSeries.{OpenedSeries}
 use Rattle.metric_events.specs.declared.accepted.Accepted.{Accepted}
-use Rattle.metric_events.proofs.Identities.{same_series-turned}
 use Rattle.metric_events.proofs.Lists.{all_filter, filter_none}
 use Rattle.metric_events.proofs.Sums.{row_le_zeros}
-use Rattle.metric_events.proofs.SeriesOnce.{among_in_order}
-use Rattle.metric_events.proofs.Bare.{none_owner, none_frontier}
 use Rattle.metric_events.proofs.Behind.{live_then}
 use Rattle.metric_events.proofs.Pasts.{handed}
 use Rattle.metric_events.proofs.Turns.{rested_law}
+use Rattle.metric_events.proofs.Striking.{legal_before}
+use Rattle.metric_events.proofs.CongruentClose.{closed_alike}
+use Rattle.metric_events.specs.Congruence.{StandAlike}
 
 -- nothing is carried
 nothing_carried : (before : List OpenedSeries) (qs : List Accepted) (held : List (List ℕ)) → list_all (λ a. not (is_home a.place)) qs ≡ true → (xs : List Identity) → carried (handed before qs held xs) ≡ []
@@ -35,43 +34,6 @@ nothing_carried before qs held h (x ∷ xs) =
 
 marks_of : (E : History) → IsAtRest E → points (Opened (close E)) ≡ map mark (close E).series
 marks_of E r = ap (λ us. map mark (close E).series ++ us) (nothing_carried (opening E).series (points E) (held_senders E) r.home (series_in_order (points E))) ∙ append-nil (map mark (close E).series)
-
-mark_owner : (x : Identity) (before : List OpenedSeries) (qs : List Accepted) (held : List (List ℕ)) (xs : List Identity) → owner x (map mark (handed before qs held xs)) ≡ cond (is_among x xs) (owner x qs) []
-mark_owner x before qs held [] = refl
-mark_owner x before qs held (y ∷ ys) = both (same_series y x) refl (mark_owner x before qs held ys)
-  where
-    both : (v : Bool) → same_series y x ≡ v → owner x (map mark (handed before qs held ys)) ≡ cond (is_among x ys) (owner x qs) [] → cond (same_series y x) (owner y qs) (owner x (map mark (handed before qs held ys))) ≡ cond (same_series x y || is_among x ys) (owner x qs) []
-    both true e r = rw (same_series-turned x y, e) (ap (λ z. owner z qs) (same_series-exact y x e))
-    both false e r = rw (same_series-turned x y, e) r
-
-mark_frontier : (x : Identity) (before : List OpenedSeries) (qs : List Accepted) (held : List (List ℕ)) (xs : List Identity) → frontier x (map mark (handed before qs held xs)) ≡ cond (is_among x xs) (frontier x qs) 0
-mark_frontier x before qs held [] = refl
-mark_frontier x before qs held (y ∷ ys) = both (same_series y x) (is_among x ys) refl refl (mark_frontier x before qs held ys)
-  where
-    both : (v w : Bool) → same_series y x ≡ v → is_among x ys ≡ w → frontier x (map mark (handed before qs held ys)) ≡ cond (is_among x ys) (frontier x qs) 0 → cond (same_series y x) (max (frontier y qs) (frontier x (map mark (handed before qs held ys)))) (frontier x (map mark (handed before qs held ys))) ≡ cond (same_series x y || is_among x ys) (frontier x qs) 0
-    both true true e g r =
-        let f : frontier y qs ≡ frontier x qs = ap (λ z. frontier z qs) (same_series-exact y x e) in
-        let n : frontier x (map mark (handed before qs held ys)) ≡ frontier x qs = r ∙ ap (λ v. cond v (frontier x qs) 0) g in
-        rw (same_series-turned x y, e) (omega (arith, f, n))
-    both true false e g r =
-        let f : frontier y qs ≡ frontier x qs = ap (λ z. frontier z qs) (same_series-exact y x e) in
-        let n : frontier x (map mark (handed before qs held ys)) ≡ 0 = r ∙ ap (λ v. cond v (frontier x qs) 0) g in
-        rw (same_series-turned x y, e) (omega (arith, f, n))
-    both false w e g r = rw (same_series-turned x y, e) r
-
-known_owner : (x : Identity) (qs : List Accepted) → cond (list_any (is_of x) qs) (owner x qs) [] ≡ owner x qs
-known_owner x qs = both (list_any (is_of x) qs) refl
-  where
-    both : (v : Bool) → list_any (is_of x) qs ≡ v → cond (list_any (is_of x) qs) (owner x qs) [] ≡ owner x qs
-    both true e = ap (λ v. cond v (owner x qs) []) e
-    both false e = ap (λ v. cond v (owner x qs) []) e ∙ sym (none_owner x qs e)
-
-known_frontier : (x : Identity) (qs : List Accepted) → cond (list_any (is_of x) qs) (frontier x qs) 0 ≡ frontier x qs
-known_frontier x qs = both (list_any (is_of x) qs) refl
-  where
-    both : (v : Bool) → list_any (is_of x) qs ≡ v → cond (list_any (is_of x) qs) (frontier x qs) 0 ≡ frontier x qs
-    both true e = ap (λ v. cond v (frontier x qs) 0) e
-    both false e = ap (λ v. cond v (frontier x qs) 0) e ∙ sym (none_frontier x qs e)
 
 marks_landed : (ss : List OpenedSeries) → list_all (λ a. not (is_home a.place)) (map mark ss) ≡ true
 marks_landed [] = refl
@@ -102,11 +64,14 @@ closed_law E R r n l = (
       live = refl;
       held = r.held;
     };
-    owners = λ x. ap (owner x) (marks_of E r) ∙ (mark_owner x (opening E).series (points E) (held_senders E) (series_in_order (points E)) ∙ (ap (λ v. cond v (owner x (points E)) []) (among_in_order x (points E)) ∙ (known_owner x (points E) ∙ ap (owner x) (sym same))));
-    frontiers = λ x. ap (frontier x) (marks_of E r) ∙ (mark_frontier x (opening E).series (points E) (held_senders E) (series_in_order (points E)) ∙ (ap (λ v. cond v (frontier x (points E)) 0) (among_in_order x (points E)) ∙ (known_frontier x (points E) ∙ ap (frontier x) (sym same))));
+    owners = λ x. alike.owners x ∙ ap (owner x) (sym same);
+    frontiers = λ x. alike.frontiers x ∙ ap (frontier x) (sym same);
   },
   λ x. rw (marks_of E r) (marks_sum x (close E).series (sum_of x (not_pending (E then R)))),
 )
   where
     same : not_pending (E then R) ≡ points E
     same = rested_law E R r n l
+
+    alike : StandAlike E (Opened (close E))
+    alike = closed_alike E (legal_before R E l) (record { batches = r.batches; live = r.live })

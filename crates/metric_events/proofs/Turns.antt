@@ -19,18 +19,19 @@ use Rattle.metric_events.specs.declared.accepted.Accepted.{Accepted}
 use Rattle.metric_events.specs.declared.place.Place.{Place}
 use Rattle.metric_events.specs.declared.place.Place.TheVariants.{Home, InFlight, Acknowledged, Dropped}
 use Rattle.metric_events.specs.declared.event.Event.TheVariants.{Admit, Undo, Take, Settle, Drop, GiveBack}
+use Rattle.metric_events.specs.Recall.{news}
 use Rattle.metric_events.proofs.Identities.{same_series-turned}
 use Rattle.metric_events.proofs.Lists.{all_always, all_append, all_first, all_last, all_filter, all_map, all_both, all_weaker, filter_keeps, filter_none}
 use Rattle.metric_events.proofs.Moves.{made, rides, rides-in_live, apart_at}
 use Rattle.metric_events.proofs.Invariants.{all_ride}
 use Rattle.metric_events.proofs.Fits.{taken_point, landed_point}
-use Rattle.metric_events.proofs.Behind.{news, undoes_own, behind, home_admitted, only_behind, news_home}
+use Rattle.metric_events.proofs.Behind.{undoes_own, behind, home_admitted, only_behind, news_home}
 use Rattle.metric_events.proofs.Kept.{is_settled, settled_or_home, no_ride, moved_settled}
 use Rattle.metric_events.proofs.Recovering.{Clearer, turn_clearer, turn_append, turn_order, home_points}
 
 -- turns of fewer points, and of the same points in other states
 
-turn_filter : (t : Accepted → Bool) (us qs : List Accepted) → are_in_turn qs us ≡ true → are_in_turn qs (filter t us) ≡ true
+pub turn_filter : (t : Accepted → Bool) (us qs : List Accepted) → are_in_turn qs us ≡ true → are_in_turn qs (filter t us) ≡ true
 turn_filter t [] qs h = refl
 turn_filter t (a ∷ us) qs h = both (t a) refl (turn_filter t us)
   where
@@ -41,7 +42,7 @@ turn_filter t (a ∷ us) qs h = both (t a) refl (turn_filter t us)
     both true e r = rw e (and_from (list_all (λ q. is_clear a.sender a.point q.point q.sender) qs) (are_in_turn (qs ++ a ∷ []) (filter t us)) l.0 (r (qs ++ a ∷ []) l.1))
     both false e r = rw e (r qs (turn_clearer us (qs ++ a ∷ []) qs (record { all = λ s p k. all_first (λ a. is_clear s p a.point a.sender) qs (a ∷ []) k }) l.1))
 
-turn_numbered : (b : ℕ) (s : List ℕ) (ps : List DataPoint) (qs : List Accepted) → are_in_turn qs (map (admitted 0 s) ps) ≡ true → are_in_turn qs (map (admitted b s) ps) ≡ true
+pub turn_numbered : (b : ℕ) (s : List ℕ) (ps : List DataPoint) (qs : List Accepted) → are_in_turn qs (map (admitted 0 s) ps) ≡ true → are_in_turn qs (map (admitted b s) ps) ≡ true
 turn_numbered b s [] qs h = refl
 turn_numbered b s (p ∷ ps) qs h =
     let l = and_parts (list_all (λ q. is_clear s p q.point q.sender) qs) (are_in_turn (qs ++ admitted 0 s p ∷ []) (map (admitted 0 s) ps)) h in
@@ -50,14 +51,14 @@ turn_numbered b s (p ∷ ps) qs h =
       all = λ t q k. all_append (λ a. is_clear t q a.point a.sender) qs (admitted b s p ∷ []) (all_first (λ a. is_clear t q a.point a.sender) qs (admitted 0 s p ∷ []) k) (all_last (λ a. is_clear t q a.point a.sender) qs (admitted 0 s p ∷ []) k);
     }) l.1))
 
-record Keeps (g : Accepted → Accepted) : Type 0 where
-  point : (a : Accepted) → (g a).point ≡ a.point
-  sender : (a : Accepted) → (g a).sender ≡ a.sender
+pub record Keeps (g : Accepted → Accepted) : Type 0 where
+  pub point : (a : Accepted) → (g a).point ≡ a.point
+  pub sender : (a : Accepted) → (g a).sender ≡ a.sender
 
-abbrev are_clear : List ℕ → DataPoint → List Accepted → Bool
+abbrev pub are_clear : List ℕ → DataPoint → List Accepted → Bool
 are_clear s p qs = list_all (λ q. is_clear s p q.point q.sender) qs
 
-turn_map : (g : Accepted → Accepted) → Keeps g → (us qs : List Accepted) → are_in_turn qs us ≡ true → are_in_turn qs (map g us) ≡ true
+pub turn_map : (g : Accepted → Accepted) → Keeps g → (us qs : List Accepted) → are_in_turn qs us ≡ true → are_in_turn qs (map g us) ≡ true
 turn_map g k [] qs h = refl
 turn_map g k (a ∷ us) qs h =
     let l = and_parts (are_clear a.sender a.point qs) (are_in_turn (qs ++ a ∷ []) us) h in
@@ -70,16 +71,16 @@ turn_map g k (a ∷ us) qs h =
         all_append (λ q. is_clear s p q.point q.sender) qs (g a ∷ []) (all_first (λ q. is_clear s p q.point q.sender) qs (a ∷ []) c)
         (ap (λ q. is_clear s p q (g a).sender && true) (k.point a) ∙ (ap (λ t. is_clear s p a.point t && true) (k.sender a) ∙ all_last (λ q. is_clear s p q.point q.sender) qs (a ∷ []) c))
 
-keeps_bare : Keeps bare
+pub keeps_bare : Keeps bare
 keeps_bare = record { point = λ a. refl; sender = λ a. refl }
 
-keeps_taken : (f : ℕ) (series : List Identity) → Keeps (taken f series)
+pub keeps_taken : (f : ℕ) (series : List Identity) → Keeps (taken f series)
 keeps_taken f series = record {
   point = taken_point f series;
   sender = λ a. (elim (is_home a.place && is_among a.point.series series) as (λ v. (cond v (at (InFlight f) a) a).sender ≡ a.sender) [ true ↦ refl | false ↦ refl ]);
 }
 
-keeps_landed : (f : ℕ) (q : Place) → Keeps (landed f q)
+pub keeps_landed : (f : ℕ) (q : Place) → Keeps (landed f q)
 keeps_landed f q = record {
   point = landed_point f q;
   sender = λ a. (elim (is_in_flight f a.place) as (λ v. (cond v (at q a) a).sender ≡ a.sender) [ true ↦ refl | false ↦ refl ]);
@@ -108,7 +109,7 @@ news_in_turn E (R ▸ e) r l = news_in_turn E R r l.0
 
 -- in a series, the states of two points, one behind the other: nothing that has landed is behind what is pending or in flight, nothing in flight behind what is pending, and what is in flight is in one flight
 
-abbrev may_follow : Place → Place → Bool
+abbrev pub may_follow : Place → Place → Bool
 may_follow Acknowledged q = true
 may_follow Dropped q = true
 may_follow (InFlight f) Home = true
@@ -116,10 +117,10 @@ may_follow (InFlight f) (InFlight g) = f == g
 may_follow Home Home = true
 may_follow p q = false
 
-abbrev follows : Accepted → Accepted → Bool
+abbrev pub follows : Accepted → Accepted → Bool
 follows a b = not (same_series a.point.series b.point.series) || may_follow a.place b.place
 
-abbrev are_after : List Accepted → Bool
+abbrev pub are_after : List Accepted → Bool
 are_after [] = true
 are_after (a ∷ qs) = list_all (follows a) qs && are_after qs
 
@@ -130,14 +131,14 @@ follow_home Acknowledged q h = refl
 follow_home Dropped q h = refl
 follow_home p q h = absurd (let q : false ≡ true = h in cc)
 
-follow_itself : (p : Place) → may_follow p p ≡ true
+pub follow_itself : (p : Place) → may_follow p p ≡ true
 follow_itself (InFlight f) = eq-eqb f f refl
 follow_itself place = refl
 
 all_homes : (a : Accepted) (us : List Accepted) → list_all (λ b. is_home b.place) us ≡ true → list_all (follows a) us ≡ true
 all_homes a us h = all_weaker (λ b. is_home b.place) (follows a) (λ b k. or_right (not (same_series a.point.series b.point.series)) (may_follow a.place b.place) (follow_home a.place b.place k)) us h
 
-after_homes : (qs us : List Accepted) → are_after qs ≡ true → list_all (λ a. is_home a.place) us ≡ true → are_after (qs ++ us) ≡ true
+pub after_homes : (qs us : List Accepted) → are_after qs ≡ true → list_all (λ a. is_home a.place) us ≡ true → are_after (qs ++ us) ≡ true
 after_homes [] [] h k = refl
 after_homes [] (a ∷ us) h k =
     let p = and_parts (is_home a.place) (list_all (λ a. is_home a.place) us) k in
@@ -146,7 +147,7 @@ after_homes (a ∷ qs) us h k =
     let p = and_parts (list_all (follows a) qs) (are_after qs) h in
     and_from (list_all (follows a) (qs ++ us)) (are_after (qs ++ us)) (all_append (follows a) qs us p.0 (all_homes a us k)) (after_homes qs us p.1 k)
 
-after_filter : (t : Accepted → Bool) (qs : List Accepted) → are_after qs ≡ true → are_after (filter t qs) ≡ true
+pub after_filter : (t : Accepted → Bool) (qs : List Accepted) → are_after qs ≡ true → are_after (filter t qs) ≡ true
 after_filter t [] h = refl
 after_filter t (a ∷ qs) h =
     let p = and_parts (list_all (follows a) qs) (are_after qs) h in
@@ -195,7 +196,7 @@ not_flying : (live : List Flight) (series : List Identity) → list_all (λ y. n
 not_flying live series e p b s (InFlight g) r h = absurd (let q : true ≡ false = sym h ∙ apart_at live series p.series e (rides-in_live live p.series g r) in cc)
 not_flying live series e p b s place r h = refl
 
-after_taken : (live : List Flight) (f : ℕ) (series : List Identity) → list_all (λ y. not (is_in_live live y)) series ≡ true → (qs : List Accepted) → list_all (rides live) qs ≡ true → are_after qs ≡ true → are_after (map (taken f series) qs) ≡ true
+pub after_taken : (live : List Flight) (f : ℕ) (series : List Identity) → list_all (λ y. not (is_in_live live y)) series ≡ true → (qs : List Accepted) → list_all (rides live) qs ≡ true → are_after qs ≡ true → are_after (map (taken f series) qs) ≡ true
 after_taken live f series e qs r h = after_map (rides live) (taken f series) (λ a b m n. follow_changed a b (taken f series a) (taken f series b) (taken_point f series a) (taken_point f series b) (λ s k. step a b m n s k)) qs r h
   where
     step : (a b : Accepted) → rides live a ≡ true → rides live b ≡ true → same_series a.point.series b.point.series ≡ true → may_follow a.place b.place ≡ true → may_follow (taken f series a).place (taken f series b).place ≡ true
@@ -213,7 +214,7 @@ follow_landed f r (InFlight i) Home h = follow_home (cond (i == f) r (InFlight i
 follow_landed f r (InFlight i) (InFlight g) h = subst (λ n. may_follow (cond (i == f) r (InFlight i)) (cond (n == f) r (InFlight n)) ≡ true) (eqb-true i g h) (follow_itself (cond (i == f) r (InFlight i)))
 follow_landed f r p q h = absurd (let q : false ≡ true = h in cc)
 
-after_landed : (f : ℕ) (q : Place) (qs : List Accepted) → are_after qs ≡ true → are_after (map (landed f q) qs) ≡ true
+pub after_landed : (f : ℕ) (q : Place) (qs : List Accepted) → are_after qs ≡ true → are_after (map (landed f q) qs) ≡ true
 after_landed f q qs h = after_map (λ a. true) (landed f q) (λ a b m n. follow_changed a b (landed f q a) (landed f q b) (landed_point f q a) (landed_point f q b) (λ s k. step a b k)) qs (all_always (λ a. true) (λ a. refl) qs) h
   where
     step : (a b : Accepted) → may_follow a.place b.place ≡ true → may_follow (landed f q a).place (landed f q b).place ≡ true
@@ -237,7 +238,7 @@ news_after E (R ▸ e) r l = news_after E R r l.0
 
 -- what is pending may come after all the rest
 
-swapped : (qs rs : List Accepted) (a : Accepted) → Clearer ((qs ++ a ∷ []) ++ rs) ((qs ++ rs) ++ a ∷ [])
+pub swapped : (qs rs : List Accepted) (a : Accepted) → Clearer ((qs ++ a ∷ []) ++ rs) ((qs ++ rs) ++ a ∷ [])
 swapped qs rs a = record { all = λ s p k. swap s p k }
   where
     swap : (s : List ℕ) (p : DataPoint) → are_clear s p ((qs ++ a ∷ []) ++ rs) ≡ true → are_clear s p ((qs ++ rs) ++ a ∷ []) ≡ true
@@ -268,7 +269,7 @@ none_behind a h (b ∷ qs) k = both (is_home b.place) refl (none_behind a h qs p
     both true e r = rw e r
     both false e r = rw e (and_from (is_clear a.sender a.point b.point b.sender) (are_clear a.sender a.point (filter is_not_home qs)) (clear (same_series a.point.series b.point.series) refl e) r)
 
-split_turn : (us qs : List Accepted) → are_in_turn qs us ≡ true → are_after us ≡ true → are_in_turn (qs ++ filter is_not_home us) (filter (stands is_home) us) ≡ true
+pub split_turn : (us qs : List Accepted) → are_in_turn qs us ≡ true → are_after us ≡ true → are_in_turn (qs ++ filter is_not_home us) (filter (stands is_home) us) ≡ true
 split_turn [] qs h k = refl
 split_turn (a ∷ us) qs h k = both (is_home a.place) refl (split_turn us)
   where

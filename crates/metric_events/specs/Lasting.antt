@@ -1,14 +1,7 @@
 -- The same events after two histories that are alike, on each side under numbers of its own.
-use Rattle.std.specs.Prelude.{◌≡◌, ℕ, ◌==◌, Bool, true, List, [], ◌∷◌, ◌++◌, filter, map}
+use Rattle.std.specs.Prelude.{◌≡◌, ℕ, ◌==◌, Bool, true, List, [], ◌∷◌, ◌++◌}
 use Rattle.std.specs.List.{list_any}
-use Rattle.metric_events.specs.History.{History, Opened, ◌▸◌, ◌then◌}
-use Rattle.metric_events.specs.Points.{points, is_flying}
-use Rattle.metric_events.specs.Running.{live_flushes}
-use Rattle.metric_events.specs.Choice.{pick, flush_points}
-use Rattle.metric_events.specs.Standing.{stands}
-use Rattle.metric_events.specs.Strike.{is_taken_in}
-use Rattle.metric_events.specs.Recovery.{Alike, bare}
-use Rattle.metric_events.specs.declared.accepted.Accepted.{Accepted}
+use Rattle.metric_events.specs.History.{History, Opened, ◌▸◌}
 use Rattle.metric_events.specs.declared.flight.Flight.{Flight}
 use Rattle.metric_events.specs.declared.event.Event.{Event}
 use Rattle.metric_events.specs.declared.event.Event.TheVariants.{Admit, Undo, Confirm, Take, Settle}
@@ -59,23 +52,6 @@ pub record KeepsApart (to : ℕ → ℕ) (ns : List ℕ) : Type 0 where
   pub all :
       (m n : ℕ) → is_one_of m ns ≡ true → is_one_of n ns ≡ true → to m ≡ to n → m ≡ n
 
--- the points in flight, in order, each as pending and of no batch
-abbrev pub flying : History → List Accepted
-flying E = map bare (filter (stands is_flying) (points E))
-
 -- a live flush with its number changed
 abbrev pub renumbered_flight : (ℕ → ℕ) → Flight → Flight
 renumbered_flight flush l = record { number = flush l.number; series = l.series }
-
--- after G they are still alike; the same points are in flight, with the same flushes; the same
--- series are picked, for every size; and each flush that G takes sends the same points
-pub record StayAlike (E F G : History) (batch flush : ℕ → ℕ) : Type 0 where
-  pub alike : Alike (E then G) (F then renumbered batch flush G)
-  pub flying : flying (F then renumbered batch flush G) ≡ flying (E then G)
-  pub live :
-      live_flushes (F then renumbered batch flush G)
-      ≡ map (renumbered_flight flush) (live_flushes (E then G))
-  pub choice : (max : ℕ) → pick (F then renumbered batch flush G) max ≡ pick (E then G) max
-  pub sent :
-      (f : ℕ) → is_taken_in G f ≡ true
-      → flush_points (F then renumbered batch flush G) (flush f) ≡ flush_points (E then G) f

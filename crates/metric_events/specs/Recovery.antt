@@ -1,27 +1,30 @@
 -- A history that was cut off, and a fresh one that is to go on in its place.
-use Rattle.std.specs.Prelude.{◌≡◌, ℕ, ◌+◌, ◌*◌, ◌<◌, ◌≤◌, Bool, true, not, ◌&&◌, List, [], ◌∷◌}
+use Rattle.std.specs.Prelude.{◌≡◌, ℕ, ◌<◌, ◌≤◌, Bool, true, not, ◌&&◌, List, [], ◌∷◌}
 use Rattle.std.specs.Prelude.{◌++◌, filter, map, length}
 use Rattle.std.specs.List.{list_all, All}
 use Rattle.series_id.specs.Identity.{Identity}
 use Rattle.metric_events.specs.DataPoint.{IsPoint}
-use Rattle.metric_events.specs.History.{History, Opened, ◌▸◌, entries, IsNewBatch}
+use Rattle.metric_events.specs.History.{History, Opened, ◌▸◌, IsNewBatch}
 use Rattle.metric_events.specs.Points.{points, is_home, admitted}
 use Rattle.metric_events.specs.Running.{open_batches, live_flushes, held_senders}
-use Rattle.metric_events.specs.Series.{owner, frontier, sum_of}
+use Rattle.metric_events.specs.Series.{owner, frontier}
 use Rattle.metric_events.specs.Legal.{HasRoom, is_clear}
 use Rattle.metric_events.specs.Standing.{stands}
-use Rattle.metric_events.specs.declared.limits.TheConstants.{MAX_OPEN, MAX_ENTRIES}
+use Rattle.metric_events.specs.declared.limits.TheConstants.{MAX_OPEN}
 use Rattle.metric_events.specs.declared.accepted.Accepted.{Accepted}
 use Rattle.metric_events.specs.declared.batch.Batch.{Batch}
 use Rattle.metric_events.specs.declared.event.Event.TheVariants.{Admit, Undo, Confirm, Quarantine}
 use Rattle.metric_events.specs.declared.event.Event.TheVariants.{Lift}
 
--- the pending points in order, each as of no batch
+-- a point as pending and of no batch; the pending ones of these points, in order; and of a history
 abbrev pub bare : Accepted → Accepted
 bare a = admitted 0 a.sender a.point
 
+abbrev pub homes : List Accepted → List Accepted
+homes qs = map bare (filter (stands is_home) qs)
+
 abbrev pub pending : History → List Accepted
-pending E = map bare (filter (stands is_home) (points E))
+pending E = homes (points E)
 
 -- the points that are not pending
 abbrev pub is_not_home : Accepted → Bool
@@ -54,13 +57,6 @@ FlushesNothing (S ▸ Confirm b) = FlushesNothing S
 FlushesNothing (S ▸ Quarantine s) = FlushesNothing S
 FlushesNothing (S ▸ Lift s) = FlushesNothing S
 FlushesNothing (S ▸ e) = ⊥
-
--- the same owners, frontiers, pending points and quarantined senders
-pub record Alike (E F : History) : Type 0 where
-  pub owners : (x : Identity) → owner x (points F) ≡ owner x (points E)
-  pub frontiers : (x : Identity) → frontier x (points F) ≡ frontier x (points E)
-  pub pending : pending F ≡ pending E
-  pub held : held_senders F ≡ held_senders E
 
 -- each point may come after those before it
 abbrev pub are_in_turn : List Accepted → List Accepted → Bool
@@ -120,9 +116,3 @@ abbrev pub IsAtMost : List ℕ → List ℕ → Type 0
 IsAtMost [] ys = Unit {0}
 IsAtMost (x ∷ xs) [] = (x ≡ 0) × IsAtMost xs []
 IsAtMost (x ∷ xs) (y ∷ ys) = (x ≤ y) × IsAtMost xs ys
-
--- the sums of F are no greater than those of E without what is pending, and F has room for these
--- batches and for the quarantined senders
-pub record HasNoMore (F E : History) (ns : List Numbered) : Type 0 where
-  pub sums : (x : Identity) → IsAtMost (sum_of x (points F)) (sum_of x (not_pending E))
-  pub room : entries F + 2 * length ns + 2 * length (held_senders E) ≤ MAX_ENTRIES

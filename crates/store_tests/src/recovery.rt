@@ -1,6 +1,6 @@
 //! Recovery, run on the book. A book is lost. A fresh one is primed with the owner and the frontier
 //! of each series that was sent, and gets the posts that were not; then both go on, and stay alike.
-//! The last tests show what each premise of `metric_events::laws::recovery` and `lasting` is for.
+//! The last tests show what premises of `metric_events::laws::congruence` are for.
 
 use crate::bodies::{sender, sum_point};
 use crate::call::Call::{Confirm, GiveBack, Ones, Quarantine, Settle, Single, Take, Undo};

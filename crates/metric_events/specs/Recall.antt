@@ -1,0 +1,55 @@
+-- A life of several rounds that was cut off, and a fresh history that is to go on in its place.
+use Rattle.std.specs.Prelude.{◌≡◌, ℕ, ◌+◌, ◌*◌, ◌≤◌, true, List, [], ◌∷◌, ◌++◌, map, filter}
+use Rattle.std.specs.Prelude.{length}
+use Rattle.std.specs.List.{list_any}
+use Rattle.series_id.specs.Identity.{Identity}
+use Rattle.metric_events.specs.Rows.{fits}
+use Rattle.metric_events.specs.History.{History, Opened, ◌▸◌, entries}
+use Rattle.metric_events.specs.Points.{points, points_after, taken, landed}
+use Rattle.metric_events.specs.Running.{held_senders}
+use Rattle.metric_events.specs.Senders.{are_once}
+use Rattle.metric_events.specs.Series.{is_of, owner, frontier, sum_of}
+use Rattle.metric_events.specs.Legal.{is_held}
+use Rattle.metric_events.specs.Recovery.{IsAtRest, Numbered, AreBatches, all_points}
+use Rattle.metric_events.specs.Recovery.{is_not_home}
+use Rattle.metric_events.specs.declared.limits.TheConstants.{MAX_ENTRIES}
+use Rattle.metric_events.specs.declared.accepted.Accepted.{Accepted}
+use Rattle.metric_events.specs.declared.place.Place.TheVariants.{Home, Acknowledged, Dropped}
+use Rattle.metric_events.specs.declared.event.Event.TheVariants.{Take, Settle, Drop, GiveBack}
+
+-- where the flushes of G move points that none of its events undoes
+abbrev pub moved : History → List Accepted → List Accepted
+moved (Opened O) qs = qs
+moved (G ▸ Take f series) qs = map (taken f series) (moved G qs)
+moved (G ▸ Settle f) qs = map (landed f Acknowledged) (moved G qs)
+moved (G ▸ Drop f) qs = map (landed f Dropped) (moved G qs)
+moved (G ▸ GiveBack f) qs = map (landed f Home) (moved G qs)
+moved (G ▸ e) qs = moved G qs
+
+-- the points of the batches of G, each where the events of G left it
+abbrev pub news : History → List Accepted
+news (Opened O) = []
+news (G ▸ e) = points_after e (news G)
+
+-- these points and those of the rounds after them, each where the last round left it: no round is
+-- closed, so no point becomes one with others
+abbrev pub unfolded : List Accepted → List History → List Accepted
+unfolded qs [] = qs
+unfolded qs (G ∷ Gs) = unfolded (moved G qs ++ news G) Gs
+
+-- F knows of each series what these points say that are not pending
+pub record Recalls (F : History) (qs : List Accepted) : Type 0 where
+  pub known :
+      (x : Identity) → list_any (is_of x) (points F) ≡ list_any (is_of x) (filter is_not_home qs)
+  pub owners : (x : Identity) → owner x (points F) ≡ owner x (filter is_not_home qs)
+  pub frontiers : (x : Identity) → frontier x (points F) ≡ frontier x (filter is_not_home qs)
+
+-- F is at rest, and has room for these batches, and for these senders, which are those that are
+-- quarantined after E, in whatever order; no sum passes a limit
+pub record HasPlace (E F : History) (ns : List Numbered) (ss : List (List ℕ)) : Type 0 where
+  pub rest : IsAtRest F
+  pub batches : AreBatches F ns
+  pub small : (x : Identity) → fits x.kind (sum_of x (points F ++ all_points ns)) ≡ true
+  pub once : are_once ss ≡ true
+  pub held : (s : List ℕ) → is_held s ss ≡ is_held s (held_senders E)
+  pub room : entries F + 2 * length ns + 2 * length ss ≤ MAX_ENTRIES
