@@ -276,6 +276,10 @@ life_turn Gs r = (v.stands, split_turn (unfolded [] Gs) [] v.turn v.after)
     v : Lives (lived Start Gs) (unfolded [] Gs)
     v = live_through Start Gs [] start_lives r
 
+-- and each series has one owner
+pub life_owner : (Gs : List History) → AreRounds Start Gs → OneOwner (unfolded [] Gs)
+life_owner Gs r = turn_one (unfolded [] Gs) (live_through Start Gs [] start_lives r).turn
+
 -- the whole recovery: a fresh history that remembers what is not pending takes again what is, in any order that is the same within each series
 
 any_parted : (t h : Accepted → Bool) (qs : List Accepted) → (list_any t (filter (λ a. not (h a)) qs) || list_any t (filter h qs)) ≡ list_any t qs
