@@ -1,5 +1,5 @@
 -- What was taken in any number of rounds and is pending still may come again behind what remembers the rest.
-use Rattle.std.proofs.Common.{◌≡◌, ℕ, ◌+◌, Bool, true, false, cond, not, ◌&&◌, ◌||◌, List, [], ◌∷◌, ◌++◌, map, max, refl, ap, sym, ◌∙◌, subst, arith, append_assoc, None, Some}
+use Rattle.std.proofs.Common.{◌≡◌, ℕ, Bool, true, false, cond, not, ◌&&◌, ◌||◌, List, [], ◌∷◌, ◌++◌, map, max, refl, ap, sym, ◌∙◌, subst, arith, append_assoc, None, Some}
 use Rattle.std.specs.declared.option.Option.{Option}
 use Rattle.std.specs.List.{list_any, list_all, filter}
 use Rattle.std.proofs.lemmas.Bool.{and_parts, and_from, or_left, or_right}

@@ -1,5 +1,5 @@
 -- A history without its flushes: what was in flight or landed is pending still, and nothing else differs.
-use Rattle.std.proofs.Common.{◌≡◌, ℕ, ◌==◌, ◌+◌, ◌≤◌, Bool, true, false, cond, not, ◌&&◌, ◌||◌, List, [], ◌∷◌, ◌++◌, map, max, length, refl, ap, sym, ◌∙◌, arith}
+use Rattle.std.proofs.Common.{◌≡◌, ℕ, ◌==◌, ◌≤◌, Bool, true, false, cond, not, ◌&&◌, ◌||◌, List, [], ◌∷◌, ◌++◌, map, max, length, refl, ap, sym, ◌∙◌, arith}
 use Rattle.std.specs.List.{list_any, list_all, filter}
 use Rattle.std.proofs.lemmas.Bool.{or_left, or_right}
 use Rattle.std.proofs.lemmas.List.{append-nil, map-append}
@@ -36,10 +36,10 @@ use Rattle.metric_events.proofs.Priming.{moved_sum}
 
 -- the same points, wherever they are
 
-home_taken : (f : ℕ) (series : List Identity) (a : Accepted) → at Home (taken f series a) ≡ at Home a
+pub home_taken : (f : ℕ) (series : List Identity) (a : Accepted) → at Home (taken f series a) ≡ at Home a
 home_taken f series a = elim (is_home a.place && is_among a.point.series series) as (λ v. at Home (cond v (at (InFlight f) a) a) ≡ at Home a) [ true ↦ refl | false ↦ refl ]
 
-home_landed : (f : ℕ) (q : Place) (a : Accepted) → at Home (landed f q a) ≡ at Home a
+pub home_landed : (f : ℕ) (q : Place) (a : Accepted) → at Home (landed f q a) ≡ at Home a
 home_landed f q a = elim (is_in_flight f a.place) as (λ v. at Home (cond v (at q a) a) ≡ at Home a) [ true ↦ refl | false ↦ refl ]
 
 home_maps : (g : Accepted → Accepted) → ((a : Accepted) → at Home (g a) ≡ at Home a) → (qs : List Accepted) → map (at Home) (map g qs) ≡ map (at Home) qs

@@ -1,9 +1,10 @@
 -- What stands alike, and what does not, worked out by the definitions.
-use Rattle.std.proofs.Common.{◌≡◌, [], ◌∷◌, refl, true, false, List}
+use Rattle.std.proofs.Common.{◌≡◌, ℕ, ◌==◌, Bool, [], ◌∷◌, refl, true, false, List}
 use Rattle.std.specs.List.{filter}
 use Rattle.series_id.specs.Order.{same_series, series_before, series_cmp, scope_cmp, metric_cmp}
 use Rattle.metric_events.specs.History.{History, Start, Opened, ◌▸◌, ◌then◌}
 use Rattle.metric_events.specs.Points.{points, is_home}
+use Rattle.metric_events.specs.Running.{open_batches}
 use Rattle.metric_events.specs.Series.{owner, frontier, of_series}
 use Rattle.metric_events.specs.Standing.{sum_where}
 use Rattle.metric_events.specs.Close.{close}
@@ -11,7 +12,7 @@ use Rattle.metric_events.specs.Choice.{pick, flush_points}
 use Rattle.metric_events.specs.Recovery.{homes, pending, not_pending, is_not_home, all_points, are_in_turn, readmitted, Numbered}
 use Rattle.metric_events.specs.Congruence.{home_hull}
 use Rattle.metric_events.specs.Recall.{unfolded}
-use Rattle.metric_events.specs.Unflushed.{unflushed}
+use Rattle.metric_events.specs.Unflushed.{unflushed, survived}
 use Rattle.metric_events.specs.declared.event.Event.TheVariants.{Admit, Confirm, Take, Settle}
 use Rattle.metric_events.proofs.WorkedHistories.{of_name, req, point, batch}
 
@@ -78,6 +79,22 @@ nothing_left = refl
 
 all_left : pending (before then unflushed flushed) ≡ all_points posts
 all_left = refl
+
+-- a journal has the second post, and not a third, which is open where the kill came
+abbrev is_second : ℕ → Bool
+is_second b = b == 2
+
+abbrev killed : History
+killed = flushed ▸ Admit 3 (batch 65 (point req 30 40 1 ∷ []))
+
+second_open : open_batches (before then killed) ≡ 3 ∷ []
+second_open = refl
+
+none_open : open_batches (before then survived is_second killed) ≡ []
+none_open = refl
+
+two_left : pending (before then survived is_second killed) ≡ all_points posts
+two_left = refl
 
 -- two senders' posts in another order: the same points within each series
 abbrev ab : History
