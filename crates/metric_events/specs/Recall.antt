@@ -1,8 +1,9 @@
 -- A life of several rounds that was cut off, and a fresh history that is to go on in its place.
-use Rattle.std.specs.Prelude.{◌≡◌, ℕ, ◌+◌, ◌*◌, ◌≤◌, true, List, [], ◌∷◌, ◌++◌, map, filter}
-use Rattle.std.specs.Prelude.{length}
+use Rattle.std.specs.Prelude.{◌≡◌, ℕ, ◌+◌, ◌*◌, ◌≤◌, Bool, true, false, List, [], ◌∷◌, ◌++◌}
+use Rattle.std.specs.Prelude.{map, filter, length}
 use Rattle.std.specs.List.{list_any}
 use Rattle.series_id.specs.Identity.{Identity}
+use Rattle.metric_events.specs.DataPoint.{DataPoint}
 use Rattle.metric_events.specs.Rows.{fits}
 use Rattle.metric_events.specs.History.{History, Opened, ◌▸◌, entries}
 use Rattle.metric_events.specs.Points.{points, points_after, taken, landed}
@@ -63,6 +64,17 @@ posts_by s ps = filter (λ p. same_sender p.sender s) ps
 -- these are the same posts, in an order that is the same for each sender
 pub record KeepsPosts (ps rs : List Batch) : Type 0 where
   pub each : (s : List ℕ) → posts_by s rs ≡ posts_by s ps
+
+-- what a post has of the series of one book, if it has any; and of each of these posts that
+abbrev pub part : (Identity → Bool) → Batch → Batch
+part is_own p = record { sender = p.sender; points = filter (λ d. is_own d.series) p.points }
+
+abbrev pub has_points : List DataPoint → Bool
+has_points [] = false
+has_points (d ∷ ds) = true
+
+abbrev pub parts : (Identity → Bool) → List Batch → List Batch
+parts is_own ps = filter (λ p. has_points p.points) (map (part is_own) ps)
 
 -- F knows of each series what these points say that are not pending
 pub record Recalls (F : History) (qs : List Accepted) : Type 0 where
