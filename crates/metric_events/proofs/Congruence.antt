@@ -14,7 +14,7 @@ use Rattle.metric_events.specs.Rows.{add_rows}
 use Rattle.metric_events.specs.DataPoint.{DataPoint}
 use Rattle.metric_events.specs.History.{History, Opened, ◌▸◌, ◌then◌, IsNewBatch}
 use Rattle.metric_events.specs.Points.{points, is_home, is_in_flight, is_among, at, taken, landed, admitted, is_of_other_batch}
-use Rattle.metric_events.specs.Running.{open_after, live_flushes, open_batches, held_senders, is_other_sender, is_another}
+use Rattle.metric_events.specs.Running.{open_after, held_after, live_flushes, open_batches, held_senders, is_other_sender, is_another}
 use Rattle.metric_events.specs.Senders.{same_sender, are_once}
 use Rattle.metric_events.specs.Series.{is_of, of_series, hull, row_sum, merged, owner, frontier, is_ascending, series_in_order}
 use Rattle.metric_events.specs.Legal.{IsLegal, HasRoom, Allowed, MayAdmit, MayUndo, MayTake, MayQuarantine, is_held, is_in_live, is_open, is_live, is_batch_home}
@@ -342,14 +342,19 @@ held_other s t (u ∷ xs) = both (same_sender u t) (same_sender u s) (same_sende
     both false true false e g i r = rw (e, i) (rw g refl)
     both false false z e g i r = rw e (rw g r)
 
+pub held_next : (e : Event) (xs ys : List (List ℕ)) → ((s : List ℕ) → is_held s ys ≡ is_held s xs) → (s : List ℕ) → is_held s (held_after e ys) ≡ is_held s (held_after e xs)
+held_next (Quarantine t) xs ys h s =
+    list_any-append (λ u. same_sender u s) ys (t ∷ [])
+    ∙ (ap (λ v. v || (same_sender t s || false)) (h s) ∙ sym (list_any-append (λ u. same_sender u s) xs (t ∷ [])))
+held_next (Lift t) xs ys h s =
+    held_other s t ys
+    ∙ (ap (λ v. not (same_sender s t) && v) (h s) ∙ sym (held_other s t xs))
+held_next e xs ys h s = h s
+
 held_on : (batch flush : ℕ → ℕ) (E F G : History) → ((s : List ℕ) → is_held s (held_senders F) ≡ is_held s (held_senders E)) → (s : List ℕ) → is_held s (held_senders (F then renumbered batch flush G)) ≡ is_held s (held_senders (E then G))
 held_on batch flush E F (Opened O) h s = h s
-held_on batch flush E F (G ▸ Quarantine t) h s =
-    list_any-append (λ u. same_sender u s) (held_senders (F then renumbered batch flush G)) (t ∷ [])
-    ∙ (ap (λ v. v || (same_sender t s || false)) (held_on batch flush E F G h s) ∙ sym (list_any-append (λ u. same_sender u s) (held_senders (E then G)) (t ∷ [])))
-held_on batch flush E F (G ▸ Lift t) h s =
-    held_other s t (held_senders (F then renumbered batch flush G))
-    ∙ (ap (λ v. not (same_sender s t) && v) (held_on batch flush E F G h s) ∙ sym (held_other s t (held_senders (E then G))))
+held_on batch flush E F (G ▸ Quarantine t) h s = held_next (Quarantine t) (held_senders (E then G)) (held_senders (F then renumbered batch flush G)) (held_on batch flush E F G h) s
+held_on batch flush E F (G ▸ Lift t) h s = held_next (Lift t) (held_senders (E then G)) (held_senders (F then renumbered batch flush G)) (held_on batch flush E F G h) s
 held_on batch flush E F (G ▸ e) h s = held_on batch flush E F G h s
 
 -- they still stand alike
@@ -639,10 +644,10 @@ admitted_series t b c s (p ∷ ps) h =
     let l = and_parts (t p.series) (list_all (λ a. t a.point.series) (map (admitted b s) ps)) h in
     and_from (t p.series) (list_all (λ a. t a.point.series) (map (admitted c s) ps)) l.0 (admitted_series t b c s ps l.1)
 
-no_other_on : (E F : History) (b c : ℕ) (body : Batch) → IsLegal E → IsLegal F → StandAlike E F → NoOther (points (F ▸ Admit c body)) (points (E ▸ Admit b body))
-no_other_on E F b c body l m h = record {
+pub no_other_on : (E F : History) (b c : ℕ) (body : Batch) → ((x : Identity) → list_any (is_of x) (points F) ≡ list_any (is_of x) (points E)) → NoOther (points (F ▸ Admit c body)) (points (E ▸ Admit b body))
+no_other_on E F b c body known = record {
   all = λ t k. all_append (λ a. t a.point.series) (points F) (map (admitted c body.sender) body.points)
-      ((known_no_other (points E) (points F) (known_on E F l m h)).all t (all_first (λ a. t a.point.series) (points E) (map (admitted b body.sender) body.points) k))
+      ((known_no_other (points E) (points F) known).all t (all_first (λ a. t a.point.series) (points E) (map (admitted b body.sender) body.points) k))
       (admitted_series t b c body.sender body.points (all_last (λ a. t a.point.series) (points E) (map (admitted b body.sender) body.points) k));
 }
 
@@ -694,7 +699,7 @@ may_admit_on batch flush E F G b body g m s = record {
   few_open = omega (arith, m.few_open, ap length (open_on batch flush F G g.calm_too.batches g.batches), length-map (opened G) batch, ap length (open_parts E G g.ends), length-append (open_batches E) (opened G));
   room = s.1;
   in_order = sym (turn_order body.sender body.points (points (F then renumbered batch flush G))) ∙ turn_clearer (map (admitted 0 body.sender) body.points) (points (E then G)) (points (F then renumbered batch flush G)) (clearer_on (E then G) (F then renumbered batch flush G) g.legal g.legal_too h) (turn_order body.sender body.points (points (E then G)) ∙ m.in_order);
-  few_series = omega (arith, m.few_series, count_le (points ((F then renumbered batch flush G) ▸ Admit (batch b) body)) (points ((E then G) ▸ Admit b body)) (no_other_on (E then G) (F then renumbered batch flush G) b (batch b) body g.legal g.legal_too h));
+  few_series = omega (arith, m.few_series, count_le (points ((F then renumbered batch flush G) ▸ Admit (batch b) body)) (points ((E then G) ▸ Admit b body)) (no_other_on (E then G) (F then renumbered batch flush G) b (batch b) body (known_on (E then G) (F then renumbered batch flush G) g.legal g.legal_too h)));
   small = s.2;
 }
   where

@@ -1,9 +1,7 @@
 -- What is pending of a history that was cut off may come again in any order that is the same within each series.
-use Rattle.std.proofs.Common.{◌≡◌, ℕ, Bool, true, false, cond, not, ◌&&◌, ◌||◌, List, [], ◌∷◌, ◌++◌, map, max, refl, ap, sym, ◌∙◌, subst, arith}
+use Rattle.std.proofs.Common.{◌≡◌, ℕ, Bool, true, false, cond, not, ◌&&◌, List, [], ◌∷◌, ◌++◌, map, max, refl, ap, sym, ◌∙◌, subst, arith}
 use Rattle.std.specs.Prelude.{nat_le}
 use Rattle.std.specs.List.{list_any, list_all, filter}
-use Rattle.std.proofs.lemmas.List.{append-nil}
-use Rattle.std.proofs.lemmas.List.Elements.{filter-append}
 use Rattle.std.proofs.lemmas.Bool.{and_parts, and_from, or_left}
 use Rattle.series_id.specs.Identity.{Identity, row_length}
 use Rattle.series_id.specs.Order.{same_series}
@@ -19,11 +17,10 @@ use Rattle.metric_events.specs.Legal.{IsLegal, is_clear, is_held}
 use Rattle.metric_events.specs.Recovery.{bare, pending, not_pending, is_not_home, Remembers, IsInTurn, are_in_turn, Numbered, all_points, AreBatches, IsAtMost}
 use Rattle.metric_events.specs.Congruence.{MayReplay, Repeats, AreInterleaved, LeavesRoom}
 use Rattle.metric_events.specs.declared.accepted.Accepted.{Accepted}
-use Rattle.metric_events.proofs.Lists.{all_append, all_first, all_both, all_weaker, filter_none, filter_keeps, all_filter, filter_all, filter-map, filter-filter, any_filter_same}
+use Rattle.metric_events.proofs.Lists.{all_append, all_first, all_filter, filter_all, filter-map, filter-filter, any_filter_same}
 use Rattle.metric_events.proofs.Counts.{count_le}
 use Rattle.metric_events.proofs.WithinLimits.{few_series, few_held}
-use Rattle.metric_events.proofs.Owners.{one_owner, is_by_or_other}
-use Rattle.metric_events.proofs.Senders.{same_sender-exact}
+use Rattle.metric_events.proofs.Owners.{one_owner}
 use Rattle.metric_events.proofs.Fits.{fits_le, sums_fit, row_sum-map}
 use Rattle.metric_events.proofs.Sums.{row_le_add_both, add_rows-comm}
 use Rattle.metric_events.proofs.Bare.{bare_owner, bare_frontier, bare_sum, bare_hull, all_bare, sum_append, owner_append, frontier_append}
@@ -31,7 +28,7 @@ use Rattle.metric_events.proofs.Renewing.{owner_own, frontier_own}
 use Rattle.metric_events.proofs.Recovering.{Clearer, home_points, known, known_no_other, clearer_known, turn_clearer, owner_parts, frontier_parts}
 use Rattle.metric_events.proofs.Readmitting.{sum_parts}
 use Rattle.metric_events.proofs.Turns.{swapped}
-use Rattle.metric_events.proofs.Congruence.{once_le, own_or_other}
+use Rattle.metric_events.proofs.Congruence.{once_le}
 
 -- points are in turn where those of each series are
 
@@ -133,32 +130,3 @@ repeats E F ns ss l m r i k = record {
 
 pub interleaved_law : (E F : History) (ns : List Numbered) (ss : List (List ℕ)) → IsLegal E → IsLegal F → Remembers F E → IsInTurn E → AreBatches F ns → AreInterleaved (pending E) (all_points ns) → LeavesRoom F E ns ss → ((s : List ℕ) → is_held s ss ≡ is_held s (held_senders E)) → MayReplay F ns ss × Repeats E F ns ss
 interleaved_law E F ns ss l m r t b i h k = (may_replay E F ns ss l m r t b i h k, repeats E F ns ss l m r i k)
-
--- those of some senders last: each series has one sender
-
-pub last_law : (E : History) (ss : List (List ℕ)) → IsLegal E → AreInterleaved (pending E) (filter (λ a. not (is_held a.sender ss)) (pending E) ++ filter (λ a. is_held a.sender ss) (pending E))
-last_law E ss l = record { each = λ x. both x (is_held (owner x (points E)) ss) refl }
-  where
-    mine : (x : Identity) → list_all (λ a. same_sender a.sender (owner x (points E))) (of_series x (pending E)) ≡ true
-    mine x = all_both (is_of x) (is_by_or_other x (owner x (points E))) (λ a. same_sender a.sender (owner x (points E))) (λ a e o. (let c : (not true || same_sender a.sender (owner x (points E))) ≡ true = rw e at o in c)) (of_series x (pending E)) (filter_all (is_of x) (pending E))
-        (all_filter (is_by_or_other x (owner x (points E))) (is_of x) (pending E) (all_bare (is_by_or_other x (owner x (points E))) (λ a. refl) (home_points E) ∙ all_filter (is_by_or_other x (owner x (points E))) (stands is_home) (points E) (own_or_other x (points E) (one_owner E l))))
-
-    split : (x : Identity) → of_series x (filter (λ a. not (is_held a.sender ss)) (pending E) ++ filter (λ a. is_held a.sender ss) (pending E)) ≡ filter (λ a. not (is_held a.sender ss)) (of_series x (pending E)) ++ filter (λ a. is_held a.sender ss) (of_series x (pending E))
-    split x =
-        filter-append (is_of x) (filter (λ a. not (is_held a.sender ss)) (pending E)) (filter (λ a. is_held a.sender ss) (pending E))
-        ∙ (ap (λ us. us ++ of_series x (filter (λ a. is_held a.sender ss) (pending E))) (filter-filter (is_of x) (λ a. not (is_held a.sender ss)) (pending E))
-        ∙ ap (λ us. filter (λ a. not (is_held a.sender ss)) (of_series x (pending E)) ++ us) (filter-filter (is_of x) (λ a. is_held a.sender ss) (pending E)))
-
-    each_is : (x : Identity) (v : Bool) → is_held (owner x (points E)) ss ≡ v → (u : Bool → Bool) → u v ≡ true → list_all (λ a. u (is_held a.sender ss)) (of_series x (pending E)) ≡ true
-    each_is x v e u k = all_weaker (λ a. same_sender a.sender (owner x (points E))) (λ a. u (is_held a.sender ss)) (λ a i. ap u (ap (λ s. is_held s ss) (same_sender-exact a.sender (owner x (points E)) i) ∙ e) ∙ k) (of_series x (pending E)) (mine x)
-
-    both : (x : Identity) (v : Bool) → is_held (owner x (points E)) ss ≡ v → of_series x (filter (λ a. not (is_held a.sender ss)) (pending E) ++ filter (λ a. is_held a.sender ss) (pending E)) ≡ of_series x (pending E)
-    both x true e =
-        split x
-        ∙ (ap (λ us. us ++ filter (λ a. is_held a.sender ss) (of_series x (pending E))) (filter_none (λ a. not (is_held a.sender ss)) (of_series x (pending E)) (each_is x true e (λ w. not (not w)) refl))
-        ∙ filter_keeps (λ a. is_held a.sender ss) (of_series x (pending E)) (each_is x true e (λ w. w) refl))
-    both x false e =
-        split x
-        ∙ (ap (λ us. us ++ filter (λ a. is_held a.sender ss) (of_series x (pending E))) (filter_keeps (λ a. not (is_held a.sender ss)) (of_series x (pending E)) (each_is x false e not refl))
-        ∙ (ap (λ us. of_series x (pending E) ++ us) (filter_none (λ a. is_held a.sender ss) (of_series x (pending E)) (each_is x false e not refl))
-        ∙ append-nil (of_series x (pending E))))

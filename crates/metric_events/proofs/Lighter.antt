@@ -6,7 +6,7 @@ use Rattle.series_id.specs.Identity.{Identity}
 use Rattle.metric_events.specs.DataPoint.{DataPoint}
 use Rattle.metric_events.specs.Rows.{add_rows, fits}
 use Rattle.metric_events.specs.History.{History, Opened, ◌▸◌, ◌then◌, entries}
-use Rattle.metric_events.specs.Points.{points, admitted, taken, landed}
+use Rattle.metric_events.specs.Points.{points, admitted}
 use Rattle.metric_events.specs.Running.{open_batches, live_flushes, held_senders}
 use Rattle.metric_events.specs.Series.{sum_of}
 use Rattle.metric_events.specs.Legal.{IsLegal, Allowed, HasRoom, is_over, is_too_large}
@@ -18,23 +18,17 @@ use Rattle.metric_events.specs.declared.event.Event.{Event}
 use Rattle.metric_events.specs.declared.event.Event.TheVariants.{Admit, Take, Quarantine}
 use Rattle.metric_events.specs.Recall.{moved, news}
 use Rattle.metric_events.proofs.Held.{held_once}
-use Rattle.metric_events.proofs.Fits.{fits_le, sum_of-map, taken_point, landed_point}
-use Rattle.metric_events.proofs.Sums.{row_le_add_both, add_rows-comm}
+use Rattle.metric_events.proofs.Fits.{fits_le, sum_of-map}
 use Rattle.metric_events.proofs.Bare.{sum_append, bare_sum, bare_admitted}
-use Rattle.metric_events.proofs.Behind.{moved_keeps, behind}
+use Rattle.metric_events.proofs.Behind.{behind}
+use Rattle.metric_events.proofs.Priming.{moved_sum, more}
 use Rattle.metric_events.proofs.Lasting.{apart_last, turned, turned_news, live_same}
 use Rattle.metric_events.proofs.Congruence.{Going, parallel, gone, step, ends_before, opened, open_on, open_parts, once_le}
 
 -- sums
 
-moved_sum : (x : Identity) (G : History) (qs : List Accepted) → sum_of x (moved G qs) ≡ sum_of x qs
-moved_sum x G qs = moved_keeps (λ us. sum_of x us ≡ sum_of x qs) (λ f series us e. sum_of-map x (taken f series) (taken_point f series) us ∙ e) (λ f q us e. sum_of-map x (landed f q) (landed_point f q) us ∙ e) G qs refl
-
 admitted_sum : (x : Identity) (b c : ℕ) (s : List ℕ) (ps : List DataPoint) → sum_of x (map (admitted b s) ps) ≡ sum_of x (map (admitted c s) ps)
 admitted_sum x b c s ps = sym (bare_sum x (map (admitted b s) ps)) ∙ (ap (sum_of x) (bare_admitted b s ps ∙ sym (bare_admitted c s ps)) ∙ bare_sum x (map (admitted c s) ps))
-
-more : (f e g : List ℕ) → IsAtMost f e → IsAtMost (add_rows f g) (add_rows e g)
-more f e g h = subst (λ ws. IsAtMost ws (add_rows e g)) (add_rows-comm g f) (subst (λ ws. IsAtMost (add_rows g f) ws) (add_rows-comm g e) (row_le_add_both g f e h))
 
 sum_less : (batch flush : ℕ → ℕ) (E F G : History) → IsLighter F E → Going batch flush E F G → (x : Identity) → IsAtMost (sum_of x (points (F then renumbered batch flush G))) (sum_of x (points (E then G)))
 sum_less batch flush E F G i g x =

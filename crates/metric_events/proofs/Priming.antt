@@ -30,9 +30,9 @@ use Rattle.metric_events.proofs.Lists.{all_append, all_filter, all_weaker, any_m
 use Rattle.metric_events.proofs.Invariants.{all_taken, all_landed}
 use Rattle.metric_events.proofs.Counts.{count_length}
 use Rattle.metric_events.proofs.Intervals.{interval_is}
-use Rattle.metric_events.proofs.Fits.{taken_point, landed_point, sum_of-map, zeros_within}
-use Rattle.metric_events.proofs.Sums.{row_le_zeros, add_rows-zeros, add_rows-comm, added_at, length-zeros}
-use Rattle.metric_events.proofs.Bare.{bare_owner, bare_frontier, bare_sum, all_bare}
+use Rattle.metric_events.proofs.Fits.{taken_point, landed_point, sum_of-map, zeros_within, fits_le}
+use Rattle.metric_events.proofs.Sums.{row_le_zeros, row_le_add_both, add_rows-zeros, add_rows-comm, added_at, length-zeros}
+use Rattle.metric_events.proofs.Bare.{bare_owner, bare_frontier, bare_sum, all_bare, sum_append}
 use Rattle.metric_events.proofs.Behind.{moved_keeps, only_behind}
 use Rattle.metric_events.proofs.Kept.{moved_owner, moved_frontier, moved_any, only_moved}
 use Rattle.metric_events.proofs.Recovering.{pending_behind, known}
@@ -223,15 +223,29 @@ primer_sum x (k ∷ ks) ys d h = both (same_series k.series x) refl (primer_sum 
         rw (e, none) (subst (λ y. IsAtMost (add_rows (zero_row y.kind) (zeros (row_length x.kind))) ys) (sym z) (subst (λ ws. IsAtMost ws ys) (sym (primer_row x.kind)) (zero_row_le x.kind ys one)))
     both false e r = rw e (r (λ n. h (or_right (same_series k.series x) (list_any (is_of x) (primer_points ks)) n)))
 
-moved_sum : (x : Identity) (G : History) (qs : List Accepted) → sum_of x (moved G qs) ≡ sum_of x qs
+pub moved_sum : (x : Identity) (G : History) (qs : List Accepted) → sum_of x (moved G qs) ≡ sum_of x qs
 moved_sum x G qs = moved_keeps (λ us. sum_of x us ≡ sum_of x qs) (λ f series us e. sum_of-map x (taken f series) (taken_point f series) us ∙ e) (λ f q us e. sum_of-map x (landed f q) (landed_point f q) us ∙ e) G qs refl
+
+primed_sums : (F S G : History) (ks : List Known) (x : Identity) → Primes F S ks → AdmitsNothing G → sum_of x (points ((F then S) then G)) ≡ sum_of x (primer_points ks)
+primed_sums F S G ks x w g = ap (sum_of x) (only_moved (F then S) G g) ∙ (moved_sum x G (points (F then S)) ∙ (ap (sum_of x) (primed_points F S ks w) ∙ (sym (bare_sum x (news S)) ∙ ap (sum_of x) (primed_bare F S ks w))))
 
 pub spared_law : (F S G E : History) (ks : List Known) (x : Identity) → Primes F S ks → AdmitsNothing G → IsLegal ((F then S) then G) → IsLegal E → (opening E).series ≡ [] → Remembers ((F then S) then G) E → IsAtMost (sum_of x (points ((F then S) then G))) (sum_of x (not_pending E))
 spared_law F S G E ks x w g l m b h =
-    subst (λ ws. IsAtMost ws (sum_of x (not_pending E))) (sym sums) (primer_sum x ks (sum_of x (not_pending E)) w.distinct (λ k. sum_counts x (not_pending E) (all_filter (λ a. nat_le 1 (slice_index a.point.row 0)) is_not_home (points E) (all_count E m b)) (sym (known E ((F then S) then G) m l h x) ∙ (there ∙ k))))
+    subst (λ ws. IsAtMost ws (sum_of x (not_pending E))) (sym (primed_sums F S G ks x w g)) (primer_sum x ks (sum_of x (not_pending E)) w.distinct (λ k. sum_counts x (not_pending E) (all_filter (λ a. nat_le 1 (slice_index a.point.row 0)) is_not_home (points E) (all_count E m b)) (sym (known E ((F then S) then G) m l h x) ∙ (there ∙ k))))
   where
-    sums : sum_of x (points ((F then S) then G)) ≡ sum_of x (primer_points ks)
-    sums = ap (sum_of x) (only_moved (F then S) G g) ∙ (moved_sum x G (points (F then S)) ∙ (ap (sum_of x) (primed_points F S ks w) ∙ (sym (bare_sum x (news S)) ∙ ap (sum_of x) (primed_bare F S ks w))))
-
     there : list_any (is_of x) (points ((F then S) then G)) ≡ list_any (is_of x) (primer_points ks)
     there = ap (list_any (is_of x)) (only_moved (F then S) G g) ∙ (moved_any x G (points (F then S)) ∙ (ap (list_any (is_of x)) (primed_points F S ks w) ∙ (sym (any_map (is_of x) bare (λ a. refl) (news S)) ∙ ap (list_any (is_of x)) (primed_bare F S ks w))))
+
+-- whatever the round: it has one point of each series more
+
+pub more : (f e g : List ℕ) → IsAtMost f e → IsAtMost (add_rows f g) (add_rows e g)
+more f e g h = subst (λ ws. IsAtMost ws (add_rows e g)) (add_rows-comm g f) (subst (λ ws. IsAtMost (add_rows g f) ws) (add_rows-comm g e) (row_le_add_both g f e h))
+
+pub slack_law : (F S G : History) (ks : List Known) (rs : List Accepted) (x : Identity) → Primes F S ks → AdmitsNothing G → fits x.kind (add_rows (zero_row x.kind) (sum_of x rs)) ≡ true → fits x.kind (sum_of x (points ((F then S) then G) ++ rs)) ≡ true
+slack_law F S G ks rs x w g h =
+    fits_le x.kind (sum_of x (points ((F then S) then G) ++ rs)) (add_rows (zero_row x.kind) (sum_of x rs))
+    (subst (λ ws. IsAtMost ws (add_rows (zero_row x.kind) (sum_of x rs))) (sym (sum_append x (points ((F then S) then G)) rs)) (more (sum_of x (points ((F then S) then G))) (zero_row x.kind) (sum_of x rs) less))
+    h
+  where
+    less : IsAtMost (sum_of x (points ((F then S) then G))) (zero_row x.kind)
+    less = subst (λ ws. IsAtMost ws (zero_row x.kind)) (sym (primed_sums F S G ks x w g)) (primer_sum x ks (zero_row x.kind) w.distinct (λ k. counts_one x.kind (zero_row x.kind) (zero_of_one x.kind)))

@@ -1,5 +1,5 @@
 -- What was taken in any number of rounds and is pending still may come again behind what remembers the rest.
-use Rattle.std.proofs.Common.{◌≡◌, ℕ, ◌+◌, Bool, true, false, cond, not, ◌&&◌, ◌||◌, List, [], ◌∷◌, ◌++◌, map, max, refl, ap, sym, ◌∙◌, subst, arith, append_assoc, None, Some}
+use Rattle.std.proofs.Common.{◌≡◌, ℕ, Bool, true, false, cond, not, ◌&&◌, ◌||◌, List, [], ◌∷◌, ◌++◌, map, max, refl, ap, sym, ◌∙◌, subst, arith, append_assoc, None, Some}
 use Rattle.std.specs.declared.option.Option.{Option}
 use Rattle.std.specs.List.{list_any, list_all, filter}
 use Rattle.std.proofs.lemmas.Bool.{and_parts, and_from, or_left, or_right}
@@ -275,6 +275,10 @@ life_turn Gs r = (v.stands, split_turn (unfolded [] Gs) [] v.turn v.after)
   where
     v : Lives (lived Start Gs) (unfolded [] Gs)
     v = live_through Start Gs [] start_lives r
+
+-- and each series has one owner
+pub life_owner : (Gs : List History) → AreRounds Start Gs → OneOwner (unfolded [] Gs)
+life_owner Gs r = turn_one (unfolded [] Gs) (live_through Start Gs [] start_lives r).turn
 
 -- the whole recovery: a fresh history that remembers what is not pending takes again what is, in any order that is the same within each series
 

@@ -1,19 +1,21 @@
 -- A life of several rounds that was cut off, and a fresh history that is to go on in its place.
-use Rattle.std.specs.Prelude.{◌≡◌, ℕ, ◌+◌, ◌*◌, ◌≤◌, true, List, [], ◌∷◌, ◌++◌, map, filter}
-use Rattle.std.specs.Prelude.{length}
+use Rattle.std.specs.Prelude.{◌≡◌, ℕ, ◌+◌, ◌*◌, ◌≤◌, Bool, true, false, List, [], ◌∷◌, ◌++◌}
+use Rattle.std.specs.Prelude.{map, filter, length}
 use Rattle.std.specs.List.{list_any}
 use Rattle.series_id.specs.Identity.{Identity}
+use Rattle.metric_events.specs.DataPoint.{DataPoint}
 use Rattle.metric_events.specs.Rows.{fits}
 use Rattle.metric_events.specs.History.{History, Opened, ◌▸◌, entries}
 use Rattle.metric_events.specs.Points.{points, points_after, taken, landed}
 use Rattle.metric_events.specs.Running.{held_senders}
-use Rattle.metric_events.specs.Senders.{are_once}
+use Rattle.metric_events.specs.Senders.{same_sender, are_once}
 use Rattle.metric_events.specs.Series.{is_of, owner, frontier, sum_of}
 use Rattle.metric_events.specs.Legal.{is_held}
 use Rattle.metric_events.specs.Recovery.{IsAtRest, Numbered, AreBatches, all_points}
-use Rattle.metric_events.specs.Recovery.{is_not_home}
+use Rattle.metric_events.specs.Recovery.{bare_points, is_not_home}
 use Rattle.metric_events.specs.declared.limits.TheConstants.{MAX_ENTRIES}
 use Rattle.metric_events.specs.declared.accepted.Accepted.{Accepted}
+use Rattle.metric_events.specs.declared.batch.Batch.{Batch}
 use Rattle.metric_events.specs.declared.place.Place.TheVariants.{Home, Acknowledged, Dropped}
 use Rattle.metric_events.specs.declared.event.Event.TheVariants.{Take, Settle, Drop, GiveBack}
 
@@ -36,6 +38,43 @@ news (G ▸ e) = points_after e (news G)
 abbrev pub unfolded : List Accepted → List History → List Accepted
 unfolded qs [] = qs
 unfolded qs (G ∷ Gs) = unfolded (moved G qs ++ news G) Gs
+
+-- of these points those of a sender
+abbrev pub sent_by : List ℕ → List Accepted → List Accepted
+sent_by s qs = filter (λ a. same_sender a.sender s) qs
+
+-- these are the same points, in an order that is the same within each sender's
+pub record KeepsSenders (qs rs : List Accepted) : Type 0 where
+  pub each : (s : List ℕ) → sent_by s rs ≡ sent_by s qs
+
+-- the points of these posts, each as of no batch
+abbrev pub posted : List Batch → List Accepted
+posted [] = []
+posted (p ∷ ps) = bare_points p ++ posted ps
+
+-- the posts of these batches, without their numbers
+abbrev pub bodies : List Numbered → List Batch
+bodies [] = []
+bodies (n ∷ ns) = n.body ∷ bodies ns
+
+-- of these posts those of a sender
+abbrev pub posts_by : List ℕ → List Batch → List Batch
+posts_by s ps = filter (λ p. same_sender p.sender s) ps
+
+-- these are the same posts, in an order that is the same for each sender
+pub record KeepsPosts (ps rs : List Batch) : Type 0 where
+  pub each : (s : List ℕ) → posts_by s rs ≡ posts_by s ps
+
+-- what a post has of the series of one book, if it has any; and of each of these posts that
+abbrev pub part : (Identity → Bool) → Batch → Batch
+part is_own p = record { sender = p.sender; points = filter (λ d. is_own d.series) p.points }
+
+abbrev pub has_points : List DataPoint → Bool
+has_points [] = false
+has_points (d ∷ ds) = true
+
+abbrev pub parts : (Identity → Bool) → List Batch → List Batch
+parts is_own ps = filter (λ p. has_points p.points) (map (part is_own) ps)
 
 -- F knows of each series what these points say that are not pending
 pub record Recalls (F : History) (qs : List Accepted) : Type 0 where

@@ -1,15 +1,19 @@
-//! Recovery, run on the book. A book is lost. A fresh one is primed with the owner and the frontier
-//! of each series that was sent, and gets the posts that were not; then both go on, and stay alike.
-//! The last tests show what premises of `metric_events::laws::congruence` are for.
+//! Recovery, run on the book. A book is lost, in whatever round. A fresh one is primed with the
+//! owner and the frontier of each series that was sent, and gets the posts that were not, those of
+//! quarantined senders last; then both go on, and stay alike. The last tests show what the premises
+//! of `metric_events::laws::recovery` and `congruence` are for.
 
 use crate::bodies::{sender, sum_point};
-use crate::call::Call::{Confirm, GiveBack, Ones, Quarantine, Settle, Single, Take, Undo};
+use crate::call::Call::{
+    Close, Confirm, GiveBack, Lift, Ones, Quarantine, Settle, Single, Take, Undo,
+};
 use crate::call::{Call, admit, run};
 use crate::look;
 use delta_book::book::Book;
 use delta_book::faults::{AdmitFault, NotLive};
 use delta_book::flush::FlushPoint;
 use metric_events::batch::Batch;
+use metric_events::limits::MAX_ENTRIES;
 use metric_events::points::Points;
 use metric_events::span::Span;
 use series_cell::cell::Cell;
@@ -41,8 +45,9 @@ impl Draw {
     }
 
     fn step(&mut self) -> Step {
-        match self.below(8) {
+        match self.below(9) {
             0 => Step::Flush(self.below(2) == 0),
+            8 => Step::Close,
             1 => Step::Toggle(self.sender()),
             2 => Step::Post(self.sender(), true, true),
             3 => Step::Post(self.sender(), true, false),
@@ -61,6 +66,8 @@ enum Step {
     Flush(bool),
     /// This sender is quarantined, or released.
     Toggle(usize),
+    /// The round is closed, with whatever is pending.
+    Close,
 }
 
 /// What is kept of a post: its sender and its batch.
@@ -245,6 +252,7 @@ fn step_lost(
             toggle(rt, alloc, lost, name, kept.is_held(name))?;
             kept.keep_toggle(rt, name);
         }
+        Step::Close => look::holds(rt, lost.close_round().is_ok(), "all has ended"),
     }
     Ok(())
 }
@@ -272,7 +280,23 @@ fn admit_again(rt: &impl Abort, book: &mut Book, body: Batch) -> Result<(), Fail
     Ok(())
 }
 
-/// A fresh book that is primed, gets what was pending, and quarantines again.
+/// Admits again what was pending of senders that are quarantined, or of the others.
+fn replay(
+    rt: &impl Abort,
+    alloc: Global,
+    book: &mut Book,
+    kept: &Kept,
+    held: bool,
+) -> Result<(), Fail> {
+    for post in kept.posts.iter() {
+        if kept.is_held(post.sent_by) == held {
+            admit_again(rt, book, post.body.copy(alloc)?)?;
+        }
+    }
+    Ok(())
+}
+
+/// A fresh book that is primed, gets what was pending, and quarantines again, in another order.
 fn recovered(rt: &impl Abort, alloc: Global, kept: &Kept) -> Result<Book, Fail> {
     let mut book = Book::new(alloc)?;
     for (name, end) in kept.sent.iter().enumerate() {
@@ -281,11 +305,10 @@ fn recovered(rt: &impl Abort, alloc: Global, kept: &Kept) -> Result<Book, Fail> 
         }
     }
     flush_all(rt, &mut book)?;
-    for post in kept.posts.iter() {
-        admit_again(rt, &mut book, post.body.copy(alloc)?)?;
-    }
-    for (name, held) in kept.held.iter().enumerate() {
-        if *held {
+    replay(rt, alloc, &mut book, kept, false)?;
+    replay(rt, alloc, &mut book, kept, true)?;
+    for name in [2usize, 1, 0] {
+        if kept.is_held(name) {
             toggle(rt, alloc, &mut book, name, false)?;
         }
     }
@@ -378,6 +401,7 @@ fn step_both(
             toggle(rt, alloc, fresh, name, kept.is_held(name))?;
             kept.keep_toggle(rt, name);
         }
+        Step::Close => look::holds(rt, lost.close_round().is_ok(), "all has ended"),
     }
     expect_alike(rt, lost.cells(), fresh.cells());
     Ok(())
@@ -525,5 +549,66 @@ fn a_live_flush_is_to_end_first(rt: HostRuntime) -> Result<(), Fail> {
         alloc,
         &mut fresh,
         &[GiveBack(1, Err(NotLive)), Take(Ok(None))],
+    )
+}
+
+// A round that was closed with a point pending knows its series up to the end of that point, so
+// what is pending does not come after the rest there. A fresh book has to know what was sent in all
+// rounds, which is nothing here.
+#[test]
+fn what_is_pending_comes_after_the_rest(rt: HostRuntime) -> Result<(), Fail> {
+    let late = [
+        Single(0, 10, 5, Ok(1)),
+        Confirm(1, Ok(())),
+        Close(Ok(2)),
+        Take(Ok(Some(1))),
+    ];
+    run_anew(&rt, rt.alloc(), &late)?;
+    let alloc = rt.alloc();
+    let mut fresh = Book::new(alloc)?;
+    run(&rt, alloc, &mut fresh, &known_by(0))?;
+    let again = [Single(0, 10, 5, Err(AdmitFault::OutOfOrder(0, 20)))];
+    run(&rt, alloc, &mut fresh, &again)?;
+    run_anew(
+        &rt,
+        rt.alloc(),
+        &[Single(0, 10, 5, Ok(1)), Take(Ok(Some(1)))],
+    )
+}
+
+// What was settled since rest is known too. A fresh book that knows no more than was known at rest
+// takes it twice.
+#[test]
+fn a_flush_since_rest_counts(rt: HostRuntime) -> Result<(), Fail> {
+    let alloc = rt.alloc();
+    let mut lost = Book::new(alloc)?;
+    run(&rt, alloc, &mut lost, &known_by(5))?;
+    let again = [Single(0, 10, 5, Err(AdmitFault::OutOfOrder(0, 20)))];
+    run(&rt, alloc, &mut lost, &again)?;
+    run_anew(&rt, rt.alloc(), &[Single(0, 10, 5, Ok(1))])
+}
+
+// A full journal refuses whatever comes again; the next round takes it.
+#[test]
+fn a_replay_needs_room(rt: HostRuntime) -> Result<(), Fail> {
+    let alloc = rt.alloc();
+    let mut fresh = Book::new(alloc)?;
+    for _ in 0..MAX_ENTRIES / 2 {
+        run(
+            &rt,
+            alloc,
+            &mut fresh,
+            &[Quarantine(1, Ok(())), Lift(1, Ok(()))],
+        )?;
+    }
+    run(
+        &rt,
+        alloc,
+        &mut fresh,
+        &[
+            Single(0, 10, 5, Err(AdmitFault::Full)),
+            Close(Ok(2)),
+            Single(0, 10, 5, Ok(1)),
+        ],
     )
 }
