@@ -18,7 +18,7 @@ pub fn make_all(rt: &impl Print, alloc: Global) -> Result<(), AllocError> {
     twice!(rt, "the value", reserve_points(rt, alloc, NO_POINTS))?;
     twice!(rt, "the value", reserve_points(rt, alloc, SUMS))?;
     twice!(rt, "the value", put(rt, alloc))?;
-    twice!(rt, "the value", ask_and_reserve(rt, alloc))
+    twice!(rt, "the value", put_span(rt, alloc))
 }
 
 /// An identity that is handed back is shared by the second call.
@@ -79,12 +79,17 @@ fn put(rt: &impl Print, alloc: Global) -> Result<(), AllocError> {
     Ok(())
 }
 
-/// A cell without memory for a point that is asked for, or for more points, is as before.
-fn ask_and_reserve(rt: &impl Print, alloc: Global) -> Result<(), AllocError> {
-    let mut cell = cell_of(alloc, own_series(alloc)?)?;
-    twice!(rt, "Cell::ask", cell.ask(), _ => is_zero(cell.accepted()))?;
-    print_right(rt, "Cell::ask", is_zero(cell.accepted()));
-    twice!(rt, "Cell::reserve", cell.reserve(100), _ => is_zero(cell.accepted()))?;
-    print_right(rt, "Cell::reserve", is_zero(cell.accepted()));
+/// A cell without memory for the span of a point is as before.
+fn put_span(rt: &impl Print, alloc: Global) -> Result<(), AllocError> {
+    let point = first_point(alloc, MIXED)?;
+    let mut cell = cell_of(alloc, point.series().copy(alloc)?)?;
+    twice!(rt, "Cell::put_span", {
+        if !cell.id().is_same(point.series()) || cell.frontier() > point.span().start() {
+            print_right(rt, "Cell::put_span", false);
+            return Ok(());
+        }
+        cell.put_span(&point, 1)
+    }, _ => cell.frontier() == 0)?;
+    print_right(rt, "Cell::put_span", cell.frontier() == point.span().end());
     Ok(())
 }

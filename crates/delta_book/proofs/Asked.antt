@@ -1,12 +1,13 @@
 -- What the cells say of a series that a point of a batch is of.
-use Rattle.std.proofs.Common.{◌≡◌, ℕ, ◌<◌, Bool, true, false, not, List, [], ◌∷◌, map, get_or, length, refl, ap, sym, ◌∙◌, subst, inl, inr, ◌⊎◌}
+use Rattle.std.proofs.Common.{◌≡◌, ℕ, ◌<◌, Bool, true, false, not, List, [], ◌∷◌, map, get_or, length, refl, ap, sym, ◌∙◌, subst, inl, inr, ◌⊎◌, cond, Some, None, arith}
 use Rattle.std.specs.List.{list_any}
-use Rattle.std.proofs.lemmas.Bool.{or_parts, cases_Bool}
+use Rattle.std.specs.Prelude.{nat_lt}
+use Rattle.std.proofs.lemmas.Bool.{or_parts, cases_Bool, le-ltb}
 use Rattle.std.proofs.Math.Bool.{or-false, or_self}
 use Rattle.series_id.specs.Identity.{Identity, row_length}
 use Rattle.metric_events.specs.Points.{is_among}
-use Rattle.metric_events.specs.Rows.{zeros}
-use Rattle.metric_events.specs.Series.{is_of, of_series, frontier, row_sum, sum_of}
+use Rattle.metric_events.specs.Rows.{zeros, add_rows, fits}
+use Rattle.metric_events.specs.Series.{is_of, of_series, frontier, is_ascending, row_sum, sum_of}
 use Rattle.metric_events.specs.Senders.{same_sender}
 use Rattle.metric_events.specs.declared.accepted.Accepted.{Accepted}
 use Rattle.metric_events.proofs.Bare.{none_frontier}
@@ -17,11 +18,13 @@ use Rattle.series_cell.proofs.Reading.{frontier_is}
 use Rattle.delta_book.specs.Tables.{AreCells, id_of}
 use Rattle.metric_events.specs.DataPoint.{DataPoint}
 use Rattle.metric_events.proofs.Senders.{same_sender-refl}
-use Rattle.delta_book.specs.inner.Rooms.{AreReady, IsListed, IsReady}
 use Rattle.delta_book.specs.inner.Tables.{HasPoint, IdAt}
-use Rattle.delta_book.proofs.Rooms.{each_at}
 use Rattle.delta_book.specs.Refusals.{has_other_writer}
 use Rattle.delta_book.proofs.Tables.{stands_at, at_id}
+use Rattle.delta_book.specs.declared.faults.AdmitFault.TheVariants.{OtherWriter, OutOfOrder}
+use Rattle.delta_book.specs.inner.Puts.{IsGap, fits_alone, fits_with, next_fault}
+use Rattle.delta_book.proofs.NewCell.{gap_absent}
+use Rattle.delta_book.proofs.Removing.{table_of}
 use Rattle.delta_book.proofs.CellTotals.{point_at, frontier_of}
 
 -- no cell is of the series
@@ -74,22 +77,16 @@ cell_of cs qs i c x h l e a =
       sum = st.accepted;
     })
 
--- the cell of a series of which there may be no point yet
-pub record ReadyCell (c : CellView) (qs : List Accepted) (s : List ℕ) (x : Identity) : Type 0 where
-  pub writer : has_other_writer qs x s ≡ not (same_sender c.owner s)
-  pub end : end_of c ≡ frontier x qs
-  pub sum : c.accepted ≡ sum_of x qs
+-- a series without a cell has no point that could refuse another
+pub nothing_against : (cs : List CellView) (qs : List Accepted) (s : List ℕ) (n : ℕ) (p : DataPoint) → AreCells cs qs → is_among p.series (map id_of cs) ≡ false → next_fault qs s n p ≡ None
+nothing_against cs qs s n p h m =
+    ap (λ k. cond (has_other_writer qs p.series s) (Some (OtherWriter n)) (cond (nat_lt p.span.start k) (Some (OutOfOrder n k)) None)) (end_none cs qs p.series h m)
+    ∙ (ap (λ v. cond v (Some (OtherWriter n)) (cond (nat_lt p.span.start 0) (Some (OutOfOrder n 0)) None)) (writer_none cs qs p.series s h m)
+    ∙ ap (λ v. cond v (Some (OutOfOrder n 0)) None) (le-ltb p.span.start 0 (omega arith)))
 
-pub ready_cell : (cs : List CellView) (qs : List Accepted) (s : List ℕ) (ps : List DataPoint) (i : ℕ) (c : CellView) (x : Identity) → AreReady cs qs s ps → i < length cs → c ≡ get_or cs i c → IdAt cs i x → ReadyCell c qs s x
-ready_cell cs qs s ps i c x h l e a =
-    let st = stands_at cs qs i c l e h.table.stand in
-    subst (ReadyCell c qs s) (at_id cs i c x a e) (record {
-      writer = both (list_any (is_of c.id) qs) refl st.own (each_at (IsReady qs s ps) cs i c l e h.each).some;
-      end = frontier_is c (of_series c.id qs) st ∙ frontier_of c.id qs;
-      sum = st.accepted;
-    })
-  where
-    both : (v : Bool) → list_any (is_of c.id) qs ≡ v → AllOwn c.owner c.id (of_series c.id qs) → HasPoint c.id qs ⊎ ((c.owner ≡ s) × IsListed c.id ps) → has_other_writer qs c.id s ≡ not (same_sender c.owner s)
-    both true m own k = writer_of c.owner c.id s qs own m
-    both false m own (inl k) = absurd (let q : true ≡ false = sym k ∙ m in cc)
-    both false m own (inr k) = no_writer c.id s qs m ∙ sym (ap not (ap (λ t. same_sender t s) k.0 ∙ same_sender-refl s))
+pub fits_new : (cs : List CellView) (qs : List Accepted) (p : DataPoint) → AreCells cs qs → is_among p.series (map id_of cs) ≡ false → fits_alone p ≡ fits_with qs p
+fits_new cs qs p h m = sym (ap (λ r. fits p.series.kind (add_rows r p.row)) (sum_none cs qs p.series h m))
+
+-- nor has one that belongs between the cells
+pub absent_at : (cs : List CellView) (qs : List Accepted) (i : ℕ) (x : Identity) → AreCells cs qs → (is_ascending (map id_of cs) ≡ true → IsGap cs i x) → is_among x (map id_of cs) ≡ false
+absent_at cs qs i x h gap = let u = (table_of cs qs h).ascending in gap_absent cs i x u (gap u)

@@ -37,7 +37,7 @@ pub frontier-parts : (x : Identity) (fill : Fill) (ps : List DataPoint) → fron
 frontier-parts x fill [] = refl
 frontier-parts x fill (p ∷ ps) = ap (λ n. cond (is_point_of x p) (max p.span.end n) n) (frontier-parts x fill ps)
 
-named-parts : (x : Identity) (fill : Fill) (ps : List DataPoint) → list_any (is_point_of x) (parts_of fill ps) ≡ list_any (is_point_of x) ps
+pub named-parts : (x : Identity) (fill : Fill) (ps : List DataPoint) → list_any (is_point_of x) (parts_of fill ps) ≡ list_any (is_point_of x) ps
 named-parts x fill [] = refl
 named-parts x fill (p ∷ ps) = ap (λ v. is_point_of x p || v) (named-parts x fill ps)
 

@@ -1,53 +1,52 @@
 -- A point goes into the cell of its series.
-use Rattle.std.proofs.Common.{◌≡◌, ℕ, ◌+◌, ◌<◌, ◌≤◌, Bool, true, false, cond, not, List, [], ◌∷◌, ◌++◌, map, take, drop, set, get_or, length, refl, ap, sym, ◌∙◌, subst, arith, inl, inr, ◌⊎◌, Some, None}
+use Rattle.std.proofs.Common.{◌≡◌, ℕ, ◌+◌, ◌<◌, ◌≤◌, Bool, true, false, cond, not, List, [], ◌∷◌, ◌++◌, map, take, set, get_or, length, refl, ap, sym, ◌∙◌, subst, arith, inl, inr, ◌⊎◌, Some, None}
 use Rattle.std.specs.declared.result.Result.{Result}
 use Rattle.std.specs.declared.result.Result.TheVariants.{Ok, Err}
-use Rattle.std.specs.Prelude.{OnOk, OnErr, IfErr, nat_lt}
-use Rattle.std.specs.List.{list_all, list_any}
-use Rattle.std.proofs.lemmas.Bool.{and_parts, and_from, ltb-false, or_cases, or_left, not-false, cases_lt}
-use Rattle.std.proofs.lemmas.List.{append-nil, take_all, drop_all}
+use Rattle.std.specs.Prelude.{OnOk, OnErr, IfErr, IfSome, nat_lt}
+use Rattle.std.specs.declared.option.Option.{Option}
+use Rattle.std.specs.List.{list_all, list_any, insert}
+use Rattle.std.proofs.lemmas.Bool.{and_from, ltb-false, or_cases, or_left, or_right, not-false, cases_lt}
+use Rattle.std.proofs.lemmas.List.{append-nil, take_all}
 use Rattle.std.proofs.lemmas.List.Elements.{filter-append}
 use Rattle.series_id.specs.Identity.{Identity, row_length}
 use Rattle.series_id.specs.Order.{same_series}
+use Rattle.series_id.proofs.Order.{same_series-exact}
+use Rattle.series_id.proofs.Refusals.{passed}
 use Rattle.metric_events.specs.DataPoint.{DataPoint}
 use Rattle.metric_events.specs.Points.{admitted, is_among}
-use Rattle.metric_events.specs.Rows.{add_rows, fits}
+use Rattle.metric_events.specs.Rows.{add_rows, fits, zeros}
 use Rattle.metric_events.specs.Senders.{same_sender}
-use Rattle.metric_events.specs.Series.{is_of, of_series, frontier, is_ascending, sum_of}
+use Rattle.metric_events.specs.Series.{is_of, of_series, frontier, is_ascending, row_sum, sum_of}
 use Rattle.metric_events.specs.declared.accepted.Accepted.{Accepted}
 use Rattle.metric_events.proofs.Identities.{same_of}
 use Rattle.metric_events.proofs.InOrder.{ascending_distinct}
-use Rattle.metric_events.proofs.Lists.{all_append, any_append_left, any_append_right}
+use Rattle.metric_events.proofs.Lists.{all_append, all_weaker, any_append_left, any_append_right, any_none, filter_none}
 use Rattle.metric_events.proofs.Senders.{same_sender-exact}
 use Rattle.series_cell.specs.Cells.{CellView, Stands, IsOfSame, end_of}
 use Rattle.series_cell.proofs.Sizes.{sized}
+use Rattle.series_cell.proofs.Standing.{end_is}
 use Rattle.delta_book.specs.Tables.{AreCells, id_of}
-use Rattle.delta_book.specs.inner.Batches.{is_point_of}
 use Rattle.delta_book.specs.inner.Parts.{part_of, parts_of}
-use Rattle.delta_book.specs.inner.Tables.{HasPoint, IsTable, IdAt}
-use Rattle.delta_book.specs.inner.Puts.{AddsPoint, RejectsAt, RejectsPart, fault_at, fits_with, next_fault}
-use Rattle.delta_book.specs.inner.Rooms.{points_of, IsListed, IsReady, AreReady, AreCellsFor, HasPart, IsSomeReadyFor, PutsFirst, RemovesPart}
+use Rattle.delta_book.specs.inner.Tables.{AreSome, HasPending, IsTable, IdAt, Keeps, Puts, Removes}
+use Rattle.delta_book.specs.inner.Puts.{AddsPoint, IsGap, RejectsAt, RejectsPart, fault_at, fits_with, next_fault}
 use Rattle.delta_book.specs.declared.faults.AdmitFault.TheVariants.{OtherWriter, OutOfOrder}
 use Rattle.delta_book.specs.declared.put.Rejection.{Rejection}
-use Rattle.delta_book.specs.declared.put.Rejection.TheVariants.{Fault, TooLarge}
+use Rattle.delta_book.specs.declared.put.Rejection.TheVariants.{Fault, TooLarge, NoMemory}
 use Rattle.delta_book.specs.declared.cells.Fill.{Fill}
 use Rattle.delta_book.specs.declared.cells.Fill.TheVariants.{Point, SpanOnly}
-use Rattle.delta_book.proofs.Asked.{ReadyCell, ready_cell}
-use Rattle.series_id.proofs.Refusals.{passed}
-use Rattle.delta_book.proofs.Rooms.{each_at, each_set, some_of_each, for_of}
-use Rattle.delta_book.proofs.Sweeping.{swept}
-use Rattle.delta_book.proofs.Tables.{stands_at, at_id, among_at, set_ids, set_stand}
-
--- the cell of a point that is to be put
-pub put_cell : (cs : List CellView) (i : ℕ) (c : CellView) (qs : List Accepted) (s : List ℕ) (p : DataPoint) (ps : List DataPoint) → i < length cs → c ≡ get_or cs i c → IdAt cs i p.series → AreReady cs qs s (p ∷ ps) → ReadyCell c qs s p.series
-put_cell cs i c qs s p ps l e a h = ready_cell cs qs s (p ∷ ps) i c p.series h l e a
+use Rattle.delta_book.proofs.Asked.{CellOf, none_of}
+use Rattle.delta_book.proofs.CellTotals.{has_points}
+use Rattle.delta_book.proofs.NewCell.{gap_absent, ascends_inserted, stand_inserted, among_inserted}
+use Rattle.delta_book.proofs.Removing.{table_of}
+use Rattle.delta_book.proofs.Sweeping.{cells_of_table}
+use Rattle.delta_book.proofs.Tables.{stands_at, at_id, among_at, set_ids, set_stand, others_stand}
 
 -- what the cell says against the point
 
-pub fault_is : (c : CellView) (qs : List Accepted) (s : List ℕ) (n : ℕ) (p : DataPoint) → ReadyCell c qs s p.series → fault_at c s n p ≡ next_fault qs s n p
+pub fault_is : (c : CellView) (qs : List Accepted) (s : List ℕ) (n : ℕ) (p : DataPoint) → CellOf c qs p.series → fault_at c s n p ≡ next_fault qs s n p
 fault_is c qs s n p k =
     ap (λ m. cond (not (same_sender c.owner s)) (Some (OtherWriter n)) (cond (nat_lt p.span.start m) (Some (OutOfOrder n m)) None)) k.end
-    ∙ ap (λ v. cond v (Some (OtherWriter n)) (cond (nat_lt p.span.start (frontier p.series qs)) (Some (OutOfOrder n (frontier p.series qs))) None)) (sym k.writer)
+    ∙ ap (λ v. cond v (Some (OtherWriter n)) (cond (nat_lt p.span.start (frontier p.series qs)) (Some (OutOfOrder n (frontier p.series qs))) None)) (sym (k.writer s))
 
 -- it says nothing
 pub record Clear (c : CellView) (s : List ℕ) (p : DataPoint) : Type 0 where
@@ -64,20 +63,8 @@ clear c d s n p e h =
     }
 
 -- the rows of a cell are as long as its series wants them
-pub row_long : (cs : List CellView) (i : ℕ) (c : CellView) (s : List ℕ) (p : DataPoint) → i < length cs → c ≡ get_or cs i c → IsSomeReadyFor cs s p → length c.accepted ≡ row_length c.id.kind
-row_long cs i c s p l e h = (sized c _ (stands_at cs h.1.0 i c l e h.1.1.table.stand)).accepted
-
-points_first : (x : Identity) (p : DataPoint) (ps : List DataPoint) → p.series ≡ x → points_of x (p ∷ ps) ≡ 1 + points_of x ps
-points_first x p ps e = ap (λ v. cond v (1 + points_of x ps) (points_of x ps)) (same_of p.series x e)
-
-points_fewer : (x : Identity) (p : DataPoint) (ps : List DataPoint) → points_of x ps ≤ points_of x (p ∷ ps)
-points_fewer x p ps = elim (is_point_of x p) as (λ v. points_of x ps ≤ cond v (1 + points_of x ps) (points_of x ps)) [ true ↦ omega arith | false ↦ omega arith ]
-
--- the cell has room for the point
-pub has_spare : (cs : List CellView) (i : ℕ) (c : CellView) (s : List ℕ) (p : DataPoint) → i < length cs → c ≡ get_or cs i c → IdAt cs i p.series → IsSomeReadyFor cs s p → 1 ≤ c.spare
-has_spare cs i c s p l e a h =
-    let ec : c.id ≡ p.series = at_id cs i c p.series a e in
-    omega (arith, points_first c.id p h.0 (sym ec), (each_at (IsReady h.1.0 s (p ∷ h.0)) cs i c l e h.1.1.each).room)
+pub row_long : (cs : List CellView) (i : ℕ) (c : CellView) → i < length cs → c ≡ get_or cs i c → AreSome cs → length c.accepted ≡ row_length c.id.kind
+row_long cs i c l e h = (sized c _ (stands_at cs h.0 i c l e h.1.stand)).accepted
 
 -- the sum of the series with the point, as its cell has it
 pub fits_at : (c : CellView) (qs : List Accepted) (p : DataPoint) → c.accepted ≡ sum_of p.series qs → fits p.series.kind (add_rows c.accepted p.row) ≡ fits_with qs p
@@ -87,6 +74,24 @@ fits_at c qs p e = ap (λ r. fits p.series.kind (add_rows r p.row)) e
 pub rejects_at : (e : Rejection) (fill : Fill) (v : Bool) (qs : List Accepted) (s : List ℕ) (n : ℕ) (p : DataPoint) → v ≡ fits_with qs p → RejectsPart e fill v → RejectsAt e fill qs s n p
 rejects_at (Fault f) fill v qs s n p k h = absurd h
 rejects_at TooLarge fill v qs s n p k h = (h.0, sym k ∙ h.1)
+rejects_at NoMemory fill v qs s n p k h = tt
+
+-- a cell without a point
+
+pub empty_end : (c : CellView) (n : ℕ) → Stands c [] → end_of c ≤ n
+empty_end c n h = omega (arith, end_is c [] h)
+
+pub empty_sum : (c : CellView) (x : Identity) → c.id ≡ x → Stands c [] → c.accepted ≡ zeros (row_length x.kind)
+empty_sum c x e h = h.accepted ∙ ap (λ (y : Identity). row_sum (row_length y.kind) []) e
+
+pub empty_long : (c : CellView) → Stands c [] → length c.accepted ≡ row_length c.id.kind
+empty_long c h = (sized c [] h).accepted
+
+pub alone_fits : (c : CellView) (p : DataPoint) (x : Identity) → x ≡ p.series → c.id ≡ x → Stands c [] → fits p.series.kind (add_rows c.accepted p.row) ≡ fits p.series.kind (add_rows (zeros (row_length p.series.kind)) p.row)
+alone_fits c p x k e h = ap (λ r. fits p.series.kind (add_rows r p.row)) (empty_sum c p.series (e ∙ k) h)
+
+pub stands_alone : (c d : CellView) (b : ℕ) (s : List ℕ) (p : DataPoint) → c.owner ≡ s → Stands c [] → AddsPoint c d b p → Stands d (admitted b s p ∷ [])
+stands_alone c d b s p o h k = subst (λ (w : List ℕ). Stands d (admitted b w p ∷ [])) o (k [] h)
 
 -- afterwards
 
@@ -114,61 +119,52 @@ put_table cs i c d b s qs p l e a o same k t =
           (all_append (λ a. is_among a.point.series (map id_of cs)) qs (q ∷ []) t.covered (and_from (is_among x (map id_of cs)) true (among_at cs i x a) refl));
     }
 
--- the other cells are ready for what is left
-ready_left : (qs : List Accepted) (s : List ℕ) (p : DataPoint) (ps : List DataPoint) (a : Accepted) (c : CellView) → a.point.series ≡ p.series → IsReady qs s (p ∷ ps) c → IsReady (qs ++ a ∷ []) s ps c
-ready_left qs s p ps a c e h = record { room = omega (arith, points_fewer c.id p ps, h.room); some = still h.some }
-  where
-    still : HasPoint c.id qs ⊎ ((c.owner ≡ s) × IsListed c.id (p ∷ ps)) → HasPoint c.id (qs ++ a ∷ []) ⊎ ((c.owner ≡ s) × IsListed c.id ps)
-    still (inl k) = inl (any_append_left (is_of c.id) qs (a ∷ []) k)
-    still (inr k) =
-        elim (or_cases (is_point_of c.id p) (list_any (is_point_of c.id) ps) k.1) [
-          | inl m ↦ inl (any_append_right (is_of c.id) qs (a ∷ []) (or_left (is_of c.id a) false (ap (λ y. same_series y c.id) e ∙ m)))
-          | inr m ↦ inr (k.0, m)
-        ]
+pub put_one : (cs : List CellView) (i : ℕ) (c d : CellView) (b : ℕ) (s : List ℕ) (fill : Fill) (p : DataPoint) → i < length cs → c ≡ get_or cs i c → IdAt cs i p.series → c.owner ≡ s → IsOfSame c d → AddsPoint c d b (part_of fill p) → Puts cs (set cs i d) b s (part_of fill p ∷ [])
+put_one cs i c d b s fill p l e a o same k qs h =
+    let q : Accepted = admitted b s (part_of fill p) in
+    let ids : map id_of (set cs i d) ≡ map id_of cs = set_ids cs i d p.series a (same.id ∙ at_id cs i c p.series a e) in
+    cells_of_table (set cs i d) (qs ++ q ∷ []) (put_table cs i c d b s qs (part_of fill p) l e a o same k (table_of cs qs h))
+    (λ x m. any_append_left (is_of x) qs (q ∷ []) (has_points cs qs h x (ap (is_among x) (sym ids) ∙ m)))
 
-pub put_first : (cs : List CellView) (i : ℕ) (c d : CellView) (b : ℕ) (s : List ℕ) (fill : Fill) (p : DataPoint) → i < length cs → c ≡ get_or cs i c → IdAt cs i p.series → c.owner ≡ s → IsOfSame c d → c.spare ≤ d.spare + 1 → AddsPoint c d b (part_of fill p) → PutsFirst cs (set cs i d) b s fill p
-put_first cs i c d b s fill p l e a o same room k qs ps h =
+-- or into a new one
+pub put_first : (cs : List CellView) (i : ℕ) (d : CellView) (b : ℕ) (s : List ℕ) (fill : Fill) (p : DataPoint) → (is_ascending (map id_of cs) ≡ true → IsGap cs i p.series) → d.id ≡ p.series → Stands d (admitted b s (part_of fill p) ∷ []) → Puts cs (insert cs i d) b s (part_of fill p ∷ [])
+put_first cs i d b s fill p gap ed st qs h =
     let x = p.series in
     let q : Accepted = admitted b s (part_of fill p) in
-    let ed : d.id ≡ x = same.id ∙ at_id cs i c x a e in
-    let ids : map id_of (set cs i d) ≡ map id_of cs = set_ids cs i d x a ed in
-    record {
-      table = put_table cs i c d b s qs (part_of fill p) l e a o same k h.table;
-      each = each_set (IsReady qs s (p ∷ ps)) (IsReady (qs ++ q ∷ []) s ps) cs i d x (ascending_distinct (map id_of cs) h.table.ascending) a
-          (λ w n r. ready_left qs s p ps q w refl r)
-          (record {
-            room = omega (arith, room, points_first d.id p ps (sym ed), ap (λ y. points_of y (p ∷ ps)) same.id, (each_at (IsReady qs s (p ∷ ps)) cs i c l e h.each).room);
-            some = inl (any_append_right (is_of d.id) qs (q ∷ []) (or_left (is_of d.id q) false (same_of x d.id (sym ed))));
-          })
-          h.each;
-      there = subst (λ xs. list_all (λ (r : DataPoint). is_among r.series xs) ps ≡ true) (sym ids) (and_parts (is_among x (map id_of cs)) (list_all (λ (r : DataPoint). is_among r.series (map id_of cs)) ps) h.there).1;
-    }
+    let t = table_of cs qs h in
+    let none : is_among x (map id_of cs) ≡ false = gap_absent cs i x t.ascending (gap t.ascending) in
+    let empty : of_series x qs ≡ [] = filter_none (is_of x) qs (any_none (is_of x) qs (none_of cs qs x h none)) in
+    let own : of_series x (qs ++ q ∷ []) ≡ q ∷ [] = of_own x qs q (same_of x x refl) ∙ ap (λ rs. rs ++ q ∷ []) empty in
+    cells_of_table (insert cs i d) (qs ++ q ∷ [])
+    (record {
+      ascending = ascends_inserted cs i d x t.ascending (gap t.ascending) ed;
+      stand = stand_inserted cs i d (qs ++ q ∷ [])
+          (subst (Stands d) (sym (ap (λ (y : Identity). of_series y (qs ++ q ∷ [])) ed ∙ own)) st)
+          (others_stand cs qs (qs ++ q ∷ []) x none (λ y n. of_more y qs q n) t.stand);
+      covered = all_append (λ (a : Accepted). is_among a.point.series (map id_of (insert cs i d))) qs (q ∷ [])
+          (all_weaker (λ (a : Accepted). is_among a.point.series (map id_of cs)) (λ (a : Accepted). is_among a.point.series (map id_of (insert cs i d))) (λ a m. among_inserted a.point.series cs i d ∙ or_left (is_among a.point.series (map id_of cs)) (same_series a.point.series d.id) m) qs t.covered)
+          (and_from (is_among x (map id_of (insert cs i d))) true (among_inserted x cs i d ∙ or_right (is_among x (map id_of cs)) (same_series x d.id) (same_of x d.id (sym ed))) refl);
+    })
+    (λ y m.
+    elim (or_cases (is_among y (map id_of cs)) (same_series y d.id) (sym (among_inserted y cs i d) ∙ m)) [
+      | inl e ↦ any_append_left (is_of y) qs (q ∷ []) (has_points cs qs h y e)
+      | inr e ↦ any_append_right (is_of y) qs (q ∷ []) (or_left (is_of y q) false (same_of x y (sym (same_series-exact y d.id e ∙ ed))))
+    ])
 
 -- part of a batch is put and taken out again
 
-with_none : (cs : List CellView) (b : ℕ) (s : List ℕ) (qs : List Accepted) (ps rs : List DataPoint) → rs ≡ ps → IsTable cs (qs ++ map (admitted b s) ps) → IsTable cs (qs ++ (map (admitted b s) rs ++ []))
-with_none cs b s qs ps rs e h = subst (λ (ys : List DataPoint). IsTable cs (qs ++ (map (admitted b s) ys ++ []))) (sym e) (subst (λ ys. IsTable cs (qs ++ ys)) (sym (append-nil (map (admitted b s) ps))) h)
+with_none : (cs : List CellView) (b : ℕ) (s : List ℕ) (qs : List Accepted) (ps rs : List DataPoint) → rs ≡ ps → AreCells cs (qs ++ map (admitted b s) ps) → AreCells cs (qs ++ (map (admitted b s) rs ++ []))
+with_none cs b s qs ps rs e h = subst (λ (ys : List DataPoint). AreCells cs (qs ++ (map (admitted b s) ys ++ []))) (sym e) (subst (λ ys. AreCells cs (qs ++ ys)) (sym (append-nil (map (admitted b s) ps))) h)
 
-pub has_part : (cs : List CellView) (b : ℕ) (s : List ℕ) (qs : List Accepted) (ps rs : List DataPoint) → rs ≡ ps → IsTable cs (qs ++ map (admitted b s) ps) → HasPart cs b rs
-has_part cs b s qs ps rs e h = (s, (qs, ([], with_none cs b s qs ps rs e h)))
+pub has_pending : (cs : List CellView) (b : ℕ) (s : List ℕ) (qs : List Accepted) (ps rs : List DataPoint) → rs ≡ ps → AreCells cs (qs ++ map (admitted b s) ps) → HasPending cs b rs
+has_pending cs b s qs ps rs e h = (s, (qs, ([], with_none cs b s qs ps rs e h)))
 
-pub table_without : (cs ds : List CellView) (b : ℕ) (s : List ℕ) (qs : List Accepted) (ps rs : List DataPoint) → rs ≡ ps → RemovesPart cs ds b rs → IsTable cs (qs ++ map (admitted b s) ps) → IsTable ds qs
-table_without cs ds b s qs ps rs e k h = subst (IsTable ds) (append-nil qs) (k s qs [] (with_none cs b s qs ps rs e h))
-
--- cells of the series of those that were ready for a batch
-pub kept_for : (cs ds : List CellView) (qs : List Accepted) (s : List ℕ) (ps : List DataPoint) → map id_of ds ≡ map id_of cs → IsTable ds qs → AreReady cs qs s ps → AreCellsFor ds qs ps
-kept_for cs ds qs s ps ids t h = record { table = t; some = λ x m. some_of_each cs qs s ps h.each x (ap (is_among x) (sym ids) ∙ m) }
+pub cells_without : (cs ds : List CellView) (b : ℕ) (s : List ℕ) (qs : List Accepted) (ps rs : List DataPoint) → rs ≡ ps → Removes cs ds b rs → AreCells cs (qs ++ map (admitted b s) ps) → AreCells ds qs
+cells_without cs ds b s qs ps rs e k h = subst (AreCells ds) (append-nil qs) (k s qs [] (with_none cs b s qs ps rs e h))
 
 -- all of a batch is put
-
-pub ready_none : (cs : List CellView) (qs : List Accepted) (s : List ℕ) → AreReady cs qs s [] → AreCells cs qs
-ready_none cs qs s h = swept cs qs (for_of cs qs s [] h)
-
-pub all_put : (cs : List CellView) (qs : List Accepted) (b : ℕ) (s : List ℕ) (fill : Fill) (ps : List DataPoint) (n : ℕ) → length ps ≤ n → AreReady cs (qs ++ map (admitted b s) (parts_of fill (take n ps))) s (drop n ps) → AreCells cs (qs ++ map (admitted b s) (parts_of fill ps))
-all_put cs qs b s fill ps n l h =
-    ready_none cs (qs ++ map (admitted b s) (parts_of fill ps)) s
-    (subst (AreReady cs (qs ++ map (admitted b s) (parts_of fill ps)) s) (drop_all n ps l)
-    (subst (λ (xs : List DataPoint). AreReady cs (qs ++ map (admitted b s) (parts_of fill xs)) s (drop n ps)) (take_all n ps l) h))
+pub all_put : (cs : List CellView) (qs : List Accepted) (b : ℕ) (s : List ℕ) (fill : Fill) (ps : List DataPoint) (n : ℕ) → length ps ≤ n → AreCells cs (qs ++ map (admitted b s) (parts_of fill (take n ps))) → AreCells cs (qs ++ map (admitted b s) (parts_of fill ps))
+all_put cs qs b s fill ps n l h = subst (λ (xs : List DataPoint). AreCells cs (qs ++ map (admitted b s) (parts_of fill xs))) (take_all n ps l) h
 
 -- of the spans all are
 pub all_spans : (n m : ℕ) (P : Type 0) → (n < m → (SpanOnly ≡ Point) × P) → m ≤ n
@@ -192,6 +188,6 @@ pub any_err : {T E : Type 0} (r : Result T E) (P : Type 0) → P → OnErr r P
 any_err (Ok x) P h = tt
 any_err (Err e) P h = h
 
-pub both_ok : {T E : Type 0} (r : Result T E) (P Q R : Type 0) → (P → Q → R) → OnOk r P → OnOk r Q → OnOk r R
-both_ok (Ok x) P Q R f h k = f h k
-both_ok (Err e) P Q R f h k = tt
+pub then_some : {T : Type 0} (o : Option T) (P Q : T → Type 0) → ((e : T) → P e → Q e) → IfSome o P → IfSome o Q
+then_some None P Q f h = tt
+then_some (Some e) P Q f h = f e h

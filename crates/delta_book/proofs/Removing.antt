@@ -20,13 +20,13 @@ use Rattle.delta_book.specs.inner.Parts.{part_of, parts_of}
 use Rattle.delta_book.specs.declared.cells.Fill.{Fill}
 use Rattle.delta_book.specs.declared.cells.Fill.TheVariants.{Point}
 use Rattle.delta_book.specs.Tables.{AreCells, id_of}
-use Rattle.delta_book.specs.inner.Rooms.{AreCellsFor, HasPart, IsListed}
-use Rattle.delta_book.specs.inner.Tables.{HasPoint, IsTable, IdAt}
+use Rattle.delta_book.specs.inner.Removals.{AreCellsFor, HasPart, IsListed}
+use Rattle.delta_book.specs.inner.Tables.{HasPoint, HasPending, IsTable, IdAt, Removes}
 use Rattle.delta_book.proofs.CellTotals.{has_points}
 use Rattle.delta_book.proofs.CountedSeries.{listed-admitted}
 use Rattle.delta_book.proofs.Counting.{each_in}
 use Rattle.delta_book.proofs.Tables.{stands_at, at_id, set_ids, set_stand}
-use Rattle.delta_book.proofs.Parts.{whole_parts, last_point}
+use Rattle.delta_book.proofs.Parts.{whole_parts, last_point, named-parts}
 
 split_of : (x : Identity) (before after : List Accepted) (a : Accepted) → is_of x a ≡ true → of_series x (before ++ a ∷ after) ≡ of_series x before ++ a ∷ of_series x after
 split_of x before after a e = filter-append (is_of x) before (a ∷ after) ∙ rw e refl
@@ -94,18 +94,24 @@ last_out fill b s before after ps k p l e =
     ∙ sym (append_assoc before (map f (parts_of fill left)) (f q ∷ after)))))
 
 -- with all of a batch the cells may be left without a point of one of its series
-pub left_for : (cs ds : List CellView) (b : ℕ) (s : List ℕ) (before after : List Accepted) (ps : List DataPoint) → map id_of ds ≡ map id_of cs → IsTable ds (before ++ after) → AreCells cs (before ++ (map (admitted b s) ps ++ after)) → AreCellsFor ds (before ++ after) ps
-left_for cs ds b s before after ps ids t h = record { table = t; some = λ x m. part x (has_points cs _ h x (ap (is_among x) (sym ids) ∙ m)) }
+pub left_for : (cs ds : List CellView) (b : ℕ) (s : List ℕ) (fill : Fill) (before after : List Accepted) (ps : List DataPoint) → map id_of ds ≡ map id_of cs → IsTable ds (before ++ after) → AreCells cs (before ++ (map (admitted b s) (parts_of fill ps) ++ after)) → AreCellsFor ds (before ++ after) ps
+left_for cs ds b s fill before after ps ids t h = record { table = t; some = λ x m. part x (has_points cs _ h x (ap (is_among x) (sym ids) ∙ m)) }
   where
-    part : (x : Identity) → HasPoint x (before ++ (map (admitted b s) ps ++ after)) → HasPoint x (before ++ after) ⊎ IsListed x ps
-    part x m = elim (or_cases (list_any (is_of x) before) (list_any (is_of x) (map (admitted b s) ps ++ after)) (sym (list_any-append (is_of x) before (map (admitted b s) ps ++ after)) ∙ m)) [
+    put : List Accepted
+    put = map (admitted b s) (parts_of fill ps)
+
+    part : (x : Identity) → HasPoint x (before ++ (put ++ after)) → HasPoint x (before ++ after) ⊎ IsListed x ps
+    part x m = elim (or_cases (list_any (is_of x) before) (list_any (is_of x) (put ++ after)) (sym (list_any-append (is_of x) before (put ++ after)) ∙ m)) [
       | inl e ↦ inl (any_append_left (is_of x) before after e)
-      | inr e ↦ elim (or_cases (list_any (is_of x) (map (admitted b s) ps)) (list_any (is_of x) after) (sym (list_any-append (is_of x) (map (admitted b s) ps) after) ∙ e)) [
-        | inl f ↦ inr (sym (listed-admitted x b s ps) ∙ f)
+      | inr e ↦ elim (or_cases (list_any (is_of x) put) (list_any (is_of x) after) (sym (list_any-append (is_of x) put after) ∙ e)) [
+        | inl f ↦ inr (sym (listed-admitted x b s (parts_of fill ps) ∙ named-parts x fill ps) ∙ f)
         | inr f ↦ inl (any_append_right (is_of x) before after f)
       ]
     ]
 
 -- all of each point is the point
-pub whole_batch : (cs : List CellView) (b : ℕ) (s : List ℕ) (before after : List Accepted) (ps : List DataPoint) → AreCells cs (before ++ (map (admitted b s) ps ++ after)) → IsTable cs (before ++ (map (admitted b s) (parts_of Point ps) ++ after))
-whole_batch cs b s before after ps h = table_of cs _ (subst (λ (xs : List DataPoint). AreCells cs (before ++ (map (admitted b s) xs ++ after))) (sym (whole_parts ps)) h)
+pub pending_whole : (cs : List CellView) (b : ℕ) (ps : List DataPoint) → HasPending cs b ps → HasPending cs b (parts_of Point ps)
+pending_whole cs b ps h = subst (HasPending cs b) (sym (whole_parts ps)) h
+
+pub removes_whole : (cs ds : List CellView) (b : ℕ) (ps : List DataPoint) → Removes cs ds b (parts_of Point ps) → Removes cs ds b ps
+removes_whole cs ds b ps h = subst (λ (xs : List DataPoint). Removes cs ds b xs) (whole_parts ps) h

@@ -18,7 +18,7 @@ use Rattle.metric_events.proofs.Intervals.{ends_after}
 use Rattle.series_cell.proofs.Standing.{end_is}
 use Rattle.delta_book.specs.Tables.{AreCells, AllStand, id_of}
 use Rattle.delta_book.specs.inner.Batches.{is_point_of}
-use Rattle.delta_book.specs.inner.Rooms.{AreCellsFor, IsListed, KeepsFor}
+use Rattle.delta_book.specs.inner.Removals.{AreCellsFor, IsListed}
 use Rattle.delta_book.specs.inner.Tables.{HasPoint, IsTable, IdAt}
 use Rattle.delta_book.proofs.Choosing.{same_ascending}
 use Rattle.delta_book.proofs.Tables.{agree, not_first, stands_at, at_id, among_at}
@@ -135,9 +135,9 @@ still_for cs qs ps p k h = record { table = h.table; some = λ x m. one x m (h.s
         ]
 
 -- its cell has a frontier, and stays
-pub stays_for : (cs : List CellView) (i : ℕ) (c d : CellView) (qs : List Accepted) (ps : List DataPoint) (p : DataPoint) → i < length cs → c ≡ get_or cs i c → IdAt cs i p.series → is_some_cell c ≡ true → KeepsFor cs (set cs i d) → AreCellsFor cs qs (ps ++ p ∷ []) → AreCellsFor (set cs i d) qs ps
-stays_for cs i c d qs ps p l e a m k h =
-    still_for (set cs i d) qs ps p (λ _. some_of p.series qs (λ n. full_cell c (of_series c.id qs) (stands_at cs qs i c l e h.table.stand) m (ap (λ y. of_series y qs) (at_id cs i c p.series a e) ∙ n))) (k qs (ps ++ p ∷ []) h)
+pub stays_for : (cs : List CellView) (i : ℕ) (c : CellView) (qs : List Accepted) (ps : List DataPoint) (p : DataPoint) → i < length cs → c ≡ get_or cs i c → IdAt cs i p.series → is_some_cell c ≡ true → AreCellsFor cs qs (ps ++ p ∷ []) → AreCellsFor cs qs ps
+stays_for cs i c qs ps p l e a m h =
+    still_for cs qs ps p (λ _. some_of p.series qs (λ n. full_cell c (of_series c.id qs) (stands_at cs qs i c l e h.table.stand) m (ap (λ y. of_series y qs) (at_id cs i c p.series a e) ∙ n))) h
 
 -- its cell has none, and goes
 pub goes_for : (cs : List CellView) (i : ℕ) (c : CellView) (qs : List Accepted) (ps : List DataPoint) (p : DataPoint) → i < length cs → c ≡ get_or cs i c → IdAt cs i p.series → is_some_cell c ≡ false → AreCellsFor cs qs (ps ++ p ∷ []) → AreCellsFor (remove cs i) qs ps

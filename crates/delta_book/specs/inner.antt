@@ -1,7 +1,7 @@
 pub mod Stored
 pub mod Tables
 pub mod Parts
-pub mod Rooms
+pub mod Removals
 pub mod Puts
 pub mod Ready
 pub mod Pasts

@@ -13,7 +13,7 @@ ghost use Rattle.series_cell.specs.Cells.{lifted};
 ghost use Rattle.delta_book.specs.Tables.{AreCells, id_of};
 ghost use Rattle.delta_book.specs.inner.Tables.{ForPoints, HasPending, IdAt, IsEntered, Removes};
 ghost use Rattle.delta_book.specs.inner.Tables.{on_series};
-ghost use Rattle.delta_book.specs.inner.Rooms.{AreOfSame, AreCellsFor, HasPart, RemovesPart};
+ghost use Rattle.delta_book.specs.inner.Removals.{AreOfSame, AreCellsFor, HasPart, RemovesPart};
 ghost use Rattle.delta_book.specs.inner.Parts.{part_of, parts_of};
 ghost use Rattle.delta_book.specs.inner.Puts.{IsGap};
 
@@ -201,7 +201,7 @@ fn remove_one(cells: &mut [Cell], point: &Point, fill: Fill, number: u64)
 }
 
 /// Removes this part of the points of a batch. Their cells stay.
-pub fn remove_points(cells: &mut [Cell], batch: &[Point], fill: Fill, number: u64)
+fn remove_points(cells: &mut [Cell], batch: &[Point], fill: Fill, number: u64)
     requires { HasPart cells.old number (parts_of fill batch.now) }
     ensures removed { RemovesPart cells.old cells.new number (parts_of fill batch.now) }
     ensures series { AreOfSame cells.old cells.new }
@@ -212,8 +212,7 @@ pub fn remove_points(cells: &mut [Cell], batch: &[Point], fill: Fill, number: u6
     }
 }
 
-/// Removes the cell of a point's series where it represents no point. Where it stays, it forgets
-/// what was asked for.
+/// Removes the cell of a point's series where it represents no point.
 fn sweep_cell(cells: &mut Vec<Cell>, point: &Point)
     ensures { (qs : List Accepted) (ps : List DataPoint)
         → AreCellsFor cells.old.items qs (ps ++ point.now ∷ [])
@@ -222,15 +221,13 @@ fn sweep_cell(cells: &mut Vec<Cell>, point: &Point)
     if let Some(i) = find_cell(cells, point.shared_series()) {
         if cells[i].frontier() == 0 {
             cells.remove(i);
-        } else {
-            cells[i].forget();
         }
     }
 }
 
 /// Removes the cells of a batch's series that represent no point. The last one goes first: cells
 /// that were opened in series order then go from the end, and move no other.
-pub fn sweep_cells(cells: &mut Vec<Cell>, batch: &[Point])
+fn sweep_cells(cells: &mut Vec<Cell>, batch: &[Point])
     ensures { (qs : List Accepted) → AreCellsFor cells.old.items qs batch.now
         → AreCells cells.new.items qs }
 {
@@ -240,11 +237,19 @@ pub fn sweep_cells(cells: &mut Vec<Cell>, batch: &[Point])
     }
 }
 
+/// Removes this part of the points of a batch, and the cells whose last points they were.
+pub fn remove_parts(cells: &mut Vec<Cell>, batch: &[Point], fill: Fill, number: u64)
+    requires { HasPending cells.old.items number (parts_of fill batch.now) }
+    ensures { Removes cells.old.items cells.new.items number (parts_of fill batch.now) }
+{
+    remove_points(cells, batch, fill, number);
+    sweep_cells(cells, batch);
+}
+
 /// Removes the points of a batch, each with its words, and the cells whose last points they were.
 pub fn remove_batch(cells: &mut Vec<Cell>, batch: &[Point], number: u64)
     requires { HasPending cells.old.items number batch.now }
     ensures { Removes cells.old.items cells.new.items number batch.now }
 {
-    remove_points(cells, batch, Fill::Point, number);
-    sweep_cells(cells, batch);
+    remove_parts(cells, batch, Fill::Point, number);
 }

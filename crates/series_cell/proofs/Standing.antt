@@ -52,31 +52,9 @@ pub end_is : (c : CellView) (qs : List Accepted) → Stands c qs → end_of c �
 end_is c qs h =
     omega (arith, h.landed, rest_end c qs h, last_greatest c.owner c.id (h.away ++ h.home) (rest_own c qs h) h.ordered, ap greatest_end h.parts, greatest_end-append h.gone (h.away ++ h.home))
 
--- whatever was asked for
-pub stands_asked : (c : CellView) (n : ℕ) (qs : List Accepted) → Stands c qs → Stands (record c { asked = n }) qs
-stands_asked c n qs h = record {
-  gone = h.gone;
-  away = h.away;
-  home = h.home;
-  parts = h.parts;
-  are_gone = h.are_gone;
-  are_away = h.are_away;
-  are_home = h.are_home;
-  own = h.own;
-  ordered = h.ordered;
-  accepted = h.accepted;
-  stored = h.stored;
-  in_flight = h.in_flight;
-  acknowledged = h.acknowledged;
-  dropped = h.dropped;
-  spans = h.spans;
-  cut = h.cut;
-  landed = h.landed;
-}
-
 -- a point put at home
-pub stands_put : (c : CellView) (s : List ℕ) (p : DataPoint) (b : ℕ) (qs : List Accepted) (accepted stored : List ℕ) (spans : List BatchSpan) (spare asked : ℕ) → s ≡ c.owner → Stands c qs → IsInterval p.span → length p.row ≡ row_length p.series.kind → p.series ≡ c.id → end_of c ≤ p.span.start → accepted ≡ add_rows c.accepted p.row → stored ≡ add_rows c.stored p.row → spans ≡ c.spans ++ span_of (admitted b s p) ∷ [] → Stands (record c { accepted = accepted; stored = stored; spans = spans; spare = spare; asked = asked }) (qs ++ admitted b s p ∷ [])
-stands_put c s p b qs accepted stored spans spare asked e h interval long same late ea es em =
+pub stands_put : (c : CellView) (s : List ℕ) (p : DataPoint) (b : ℕ) (qs : List Accepted) (accepted stored : List ℕ) (spans : List BatchSpan) (spare : ℕ) → s ≡ c.owner → Stands c qs → IsInterval p.span → length p.row ≡ row_length p.series.kind → p.series ≡ c.id → end_of c ≤ p.span.start → accepted ≡ add_rows c.accepted p.row → stored ≡ add_rows c.stored p.row → spans ≡ c.spans ++ span_of (admitted b s p) ∷ [] → Stands (record c { accepted = accepted; stored = stored; spans = spans; spare = spare }) (qs ++ admitted b s p ∷ [])
+stands_put c s p b qs accepted stored spans spare e h interval long same late ea es em =
     let a = admitted b s p in
     record {
       gone = h.gone;
@@ -427,11 +405,11 @@ can_remove_is c qs b r h some one e = cases (list_any (is_of_batch b) h.home) re
     cases false o = is ∙ (o ∙ sym (none_home o))
 
 -- a span put at home alone: the rows stay
-pub stands_put_span : (c : CellView) (s : List ℕ) (p : DataPoint) (b : ℕ) (qs : List Accepted) (spans : List BatchSpan) (spare asked : ℕ) → s ≡ c.owner → Stands c qs → IsInterval p.span → p.series ≡ c.id → end_of c ≤ p.span.start → spans ≡ c.spans ++ span_of (admitted b s p) ∷ [] → Stands (record c { spans = spans; spare = spare; asked = asked }) (qs ++ admitted b s (bare p) ∷ [])
-stands_put_span c s p b qs spans spare asked e h interval same late em =
+pub stands_put_span : (c : CellView) (s : List ℕ) (p : DataPoint) (b : ℕ) (qs : List Accepted) (spans : List BatchSpan) (spare : ℕ) → s ≡ c.owner → Stands c qs → IsInterval p.span → p.series ≡ c.id → end_of c ≤ p.span.start → spans ≡ c.spans ++ span_of (admitted b s p) ∷ [] → Stands (record c { spans = spans; spare = spare }) (qs ++ admitted b s (bare p) ∷ [])
+stands_put_span c s p b qs spans spare e h interval same late em =
     let m = row_length p.series.kind in
     let n : m ≡ row_length c.id.kind = ap (λ (x : Identity). row_length x.kind) same in
-    stands_put c s (bare p) b qs c.accepted c.stored spans spare asked e h interval (length-zeros m) same late
+    stands_put c s (bare p) b qs c.accepted c.stored spans spare e h interval (length-zeros m) same late
     (unchanged c.accepted m (ap length h.accepted ∙ (sum_length c.owner c.id qs h.own ∙ sym n)))
     (unchanged c.stored m (ap length h.stored ∙ (sum_length c.owner c.id h.home (home_own c qs h) ∙ sym n))) em
   where

@@ -20,8 +20,8 @@ use Rattle.series_cell.specs.Spans.{span_of, end_of_spans, hull_of}
 use Rattle.series_cell.specs.declared.batch_span.BatchSpan.{BatchSpan}
 
 -- the contents of a cell: five rows; the spans of points that have not landed, those before the cut
--- being in flight with flush; the greatest end of those that have landed; how many more spans there
--- is room for; and how often room was asked for since a point was last put
+-- being in flight with flush; the greatest end of those that have landed; and how many more spans
+-- there is room for
 pub record CellView : Type 0 where
   pub owner : List ℕ
   pub id : Identity
@@ -35,7 +35,6 @@ pub record CellView : Type 0 where
   pub flush : ℕ
   pub landed : ℕ
   pub spare : ℕ
-  pub asked : ℕ
 
 -- acknowledged or dropped
 abbrev pub is_landed : Place → Bool

@@ -1,10 +1,19 @@
-ghost use Rattle.std.specs.Prelude.{◌≡◌, ◌≤◌, ◌-◌, length, drop, take, vec_capacity, vec_len};
+ghost use Rattle.std.specs.Prelude.{◌≡◌, ◌≤◌, ◌<◌, ◌+◌, ◌-◌, [], length, drop, take, max};
+ghost use Rattle.std.specs.Prelude.{vec_capacity, vec_len, OnOk, OnErr, IsOk};
 ghost use Rattle.std.specs.List.{list_any};
 ghost use Rattle.std.specs.List.Sorted.{IsNonDecreasingBy};
 ghost use Rattle.series_cell.specs.Spans.{is_span_of, place_of, end_of_spans, hull_of};
 ghost use Rattle.series_cell.specs.Spans.{joined_spans, AreInOrder};
 
 use metric_events::span::Span;
+use std::alloc::AllocError;
+
+/// Room for so many spans is made at least, where room is made.
+pub const LEAST_ROOM: usize = 4;
+
+/// Room for so many spans may be kept where there is none: what the points of a few usual posts
+/// need.
+pub const KEPT_ROOM: usize = 16;
 
 /// The span of a point that is pending or in flight, and its batch.
 #[derive(Clone, Copy, Drop)]
@@ -67,6 +76,39 @@ pub fn hull(spans: &[BatchSpan]) -> Option<Span>
     let first = spans[0].span;
     let last = spans[spans.len() - 1].span;
     Some(first.hull(&last))
+}
+
+/// Makes room for one more span where there is none: for as many as there are, so that room is
+/// made seldom.
+pub fn make_room(spans: &mut Vec<BatchSpan>) -> Result<(), AllocError>
+    ensures items { spans.new.items ≡ spans.old.items }
+    ensures len { vec_len spans.new ≡ vec_len spans.old }
+    ensures room { OnOk result (vec_len spans.new < vec_capacity spans.new) }
+    ensures succeeds { vec_len spans.old < vec_capacity spans.old → IsOk result }
+    ensures most { vec_capacity spans.new ≤ max (vec_capacity spans.old) (vec_len spans.old
+        + max (vec_len spans.old) LEAST_ROOM) }
+    ensures err { OnErr result (vec_capacity spans.new ≡ vec_capacity spans.old) }
+{
+    let len = spans.len();
+    if len < spans.capacity() {
+        return Ok(());
+    }
+    spans.reserve_exact(len.max(LEAST_ROOM))
+}
+
+/// Gives room back: where no span is left, all that is more than `KEPT_ROOM`; else what is more
+/// than that and than four times what the spans take, unless the allocator makes no block smaller.
+pub fn give_back_room(spans: &mut Vec<BatchSpan>)
+    ensures items { spans.new.items ≡ spans.old.items }
+    ensures len { vec_len spans.new ≡ vec_len spans.old }
+    ensures less { vec_capacity spans.new ≤ vec_capacity spans.old }
+    ensures lean { spans.new.items ≡ [] → vec_capacity spans.new - vec_len spans.new ≤ KEPT_ROOM }
+{
+    let len = spans.len();
+    let spare = spans.capacity() - len;
+    if spare > KEPT_ROOM && spare / 4 > len {
+        spans.shrink_to_fit();
+    }
 }
 
 /// Removes the first `count` spans. Takes no memory.

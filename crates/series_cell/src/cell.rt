@@ -1,7 +1,7 @@
 //! The cell of one series.
 ghost use Rattle.std.specs.Prelude.{◌≡◌, ℕ, ◌+◌, ◌-◌, ◌<◌, ◌≤◌, ◌^◌, ◌++◌, ◌∷◌, [], List, map};
 ghost use Rattle.std.specs.Prelude.{drop, take, length, slice_index, nat_lt, true, IfOk, OnOk};
-ghost use Rattle.std.specs.Prelude.{OnErr, IsOk};
+ghost use Rattle.std.specs.Prelude.{OnErr, IsOk, max};
 ghost use Rattle.std.specs.List.{list_any};
 ghost use Rattle.bucket_lanes.specs.ByPlace.{Fits};
 ghost use Rattle.metric_events.specs.Points.{admitted, landed};
@@ -12,9 +12,11 @@ ghost use Rattle.metric_events.specs.declared.opened_series.OpenedSeries.{Opened
 ghost use Rattle.series_cell.specs.Cells.{Stands, IsOfSame, HasHome, HandsOn, AreTogether};
 ghost use Rattle.series_cell.specs.Cells.{is_of_batch, is_home_of, bare, end_of, home_hull};
 ghost use Rattle.series_cell.specs.Cells.{flight_hull, lifted, opened_with};
+ghost use Rattle.series_cell.specs.declared.batch_span.TheConstants.{KEPT_ROOM, LEAST_ROOM};
 
 use crate::batch_span::{
-    BatchSpan, drop_first, end_or, find_start, has_batch, hull, join_all, spans_from, spans_to,
+    BatchSpan, drop_first, end_or, find_start, give_back_room, has_batch, hull, join_all,
+    make_room, spans_from, spans_to,
 };
 use crate::cell_parts::CellParts;
 use crate::rows::zero_row;
@@ -53,7 +55,6 @@ impl Cell {
         ensures none { IfOk result (λ c. Stands c []) }
         ensures owner { IfOk result (λ c. c.owner ≡ owner) }
         ensures id { IfOk result (λ c. c.id ≡ id) }
-        ensures asked { IfOk result (λ c. c.asked ≡ 0) }
     {
         Cell::of_shared(alloc, owner, SharedId::new(alloc, id)?)
     }
@@ -63,7 +64,6 @@ impl Cell {
         ensures none { IfOk result (λ c. Stands c []) }
         ensures owner { IfOk result (λ c. c.owner ≡ owner) }
         ensures id { IfOk result (λ c. c.id ≡ id) }
-        ensures asked { IfOk result (λ c. c.asked ≡ 0) }
     {
         let n = id.as_series().row_len();
         let accepted = zero_row(alloc, n)?;
@@ -83,54 +83,27 @@ impl Cell {
             cut: 0,
             flush: 0,
             landed: 0,
-            asked: 0,
         };
         Ok(Cell {
             kept: Box::new(alloc, kept)?,
         })
     }
 
-    /// Reserves room for `n` more points. Nothing else changes. Takes memory only if less is spare.
-    pub fn reserve(&mut self, n: usize) -> Result<(), AllocError>
-        ensures spare { OnOk result (n ≤ self.new.spare) }
-        ensures less { self.old.spare ≤ self.new.spare }
-        ensures room { n ≤ self.old.spare → IsOk result }
+    /// Makes room for one more point where there is none. Nothing else changes.
+    fn make_room(&mut self) -> Result<(), AllocError>
+        ensures room { OnOk result (1 ≤ self.new.spare) }
+        ensures succeeds { 1 ≤ self.old.spare → IsOk result }
+        ensures most { self.new.spare ≤ max self.old.spare (max (length self.old.spans)
+            LEAST_ROOM) }
         ensures rest { self.new ≡ record self.old { spare = self.new.spare } }
+        ensures err { OnErr result (self.new ≡ self.old) }
         ensures stands { (qs : List Accepted) → Stands self.old qs → Stands self.new qs }
     {
-        self.kept.spans.reserve(n)
+        make_room(&mut self.kept.spans)
     }
 
-    /// Asks for room for one point more: there is room for as many points as were asked for since
-    /// one was last put. Nothing else changes. Fails only if an allocation fails.
-    pub fn ask(&mut self) -> Result<(), AllocError>
-        ensures asked { OnOk result (self.new.asked ≡ self.old.asked + 1) }
-        ensures spare { OnOk result (self.new.asked ≤ self.new.spare) }
-        ensures less { self.old.spare ≤ self.new.spare }
-        ensures err { OnErr result (self.new.asked ≡ self.old.asked) }
-        ensures same { IsOfSame self.old self.new }
-        ensures flush { self.new.flush ≡ self.old.flush }
-        ensures stands { (qs : List Accepted) → Stands self.old qs → Stands self.new qs }
-    {
-        let asked = self.kept.asked.checked_add(1).ok_or(AllocError)?;
-        self.reserve(asked)?;
-        self.kept.asked = asked;
-        Ok(())
-    }
-
-    /// Forgets what was asked for. The room stays, and nothing else changes.
-    pub fn forget(&mut self)
-        ensures asked { self.new.asked ≡ 0 }
-        ensures spare { self.new.spare ≡ self.old.spare }
-        ensures same { IsOfSame self.old self.new }
-        ensures flush { self.new.flush ≡ self.old.flush }
-        ensures stands { (qs : List Accepted) → Stands self.old qs → Stands self.new qs }
-    {
-        self.kept.asked = 0;
-    }
-
-    /// Adds a point of a batch, as pending. Takes memory only if no room is spare. If memory runs
-    /// out, nothing changes.
+    /// Adds a point of a batch, as pending. Takes memory only if no room is spare, and then at
+    /// most doubles the room. If memory runs out, nothing changes.
     pub fn put(&mut self, point: &Point, batch: u64) -> Result<(), AllocError>
         requires series { point.now.series ≡ self.old.id }
         requires order { end_of self.old ≤ point.now.span.start }
@@ -140,19 +113,17 @@ impl Cell {
         ensures same { IsOfSame self.old self.new }
         ensures flush { self.new.flush ≡ self.old.flush }
         ensures room { 1 ≤ self.old.spare → IsOk result }
-        ensures spare { self.old.spare ≤ self.new.spare + 1 }
-        ensures asked { OnOk result (self.new.asked ≡ 0) }
-        ensures rest { OnErr result (self.new.asked ≡ self.old.asked) }
-        ensures err { OnErr result ((qs : List Accepted) → Stands self.old qs
-            → Stands self.new qs) }
+        ensures most { self.new.spare ≤ max self.old.spare (max (length self.old.spans)
+            LEAST_ROOM) }
+        ensures err { OnErr result (self.new ≡ self.old) }
     {
-        self.reserve(1)?;
+        self.make_room()?;
         self.put_reserved(point, batch);
         Ok(())
     }
 
     /// As `put`, where room is spare. Takes no memory.
-    pub fn put_reserved(&mut self, point: &Point, batch: u64)
+    fn put_reserved(&mut self, point: &Point, batch: u64)
         requires room { 1 ≤ self.old.spare }
         requires series { point.now.series ≡ self.old.id }
         requires order { end_of self.old ≤ point.now.span.start }
@@ -161,8 +132,7 @@ impl Cell {
             → Stands self.new (qs ++ admitted batch self.old.owner point.now ∷ []) }
         ensures same { IsOfSame self.old self.new }
         ensures flush { self.new.flush ≡ self.old.flush }
-        ensures spare { self.old.spare ≤ self.new.spare + 1 }
-        ensures asked { self.new.asked ≡ 0 }
+        ensures spare { self.new.spare ≤ self.old.spare }
     {
         let kept = self.kept.as_mut();
         add_into(&mut kept.accepted, point.row());
@@ -171,12 +141,29 @@ impl Cell {
             span: point.span(),
             batch,
         });
-        kept.asked = 0;
     }
 
-    /// Adds the span of a point of a batch, as pending, without its words: the rows stay. Room is
-    /// spare, and this takes no memory.
-    pub fn put_span(&mut self, point: &Point, batch: u64)
+    /// Adds the span of a point of a batch, as pending, without its words: the rows stay. As with
+    /// `put`, memory is taken only if no room is spare, and nothing changes if it runs out.
+    pub fn put_span(&mut self, point: &Point, batch: u64) -> Result<(), AllocError>
+        requires series { point.now.series ≡ self.old.id }
+        requires order { end_of self.old ≤ point.now.span.start }
+        ensures ok { OnOk result ((qs : List Accepted) → Stands self.old qs
+            → Stands self.new (qs ++ admitted batch self.old.owner (bare point.now) ∷ [])) }
+        ensures same { IsOfSame self.old self.new }
+        ensures flush { self.new.flush ≡ self.old.flush }
+        ensures room { 1 ≤ self.old.spare → IsOk result }
+        ensures most { self.new.spare ≤ max self.old.spare (max (length self.old.spans)
+            LEAST_ROOM) }
+        ensures err { OnErr result (self.new ≡ self.old) }
+    {
+        self.make_room()?;
+        self.put_span_reserved(point, batch);
+        Ok(())
+    }
+
+    /// As `put_span`, where room is spare. Takes no memory.
+    fn put_span_reserved(&mut self, point: &Point, batch: u64)
         requires room { 1 ≤ self.old.spare }
         requires series { point.now.series ≡ self.old.id }
         requires order { end_of self.old ≤ point.now.span.start }
@@ -184,15 +171,13 @@ impl Cell {
             → Stands self.new (qs ++ admitted batch self.old.owner (bare point.now) ∷ []) }
         ensures same { IsOfSame self.old self.new }
         ensures flush { self.new.flush ≡ self.old.flush }
-        ensures spare { self.old.spare ≤ self.new.spare + 1 }
-        ensures asked { self.new.asked ≡ 0 }
+        ensures spare { self.new.spare ≤ self.old.spare }
     {
         let kept = self.kept.as_mut();
         let span = point.span();
         // So the span is an interval.
         let _end = span.end();
         kept.spans.push_reserved(BatchSpan { span, batch });
-        kept.asked = 0;
     }
 
     /// Whether a point of the batch is pending here. If the batch has points here, and all of them
@@ -215,8 +200,6 @@ impl Cell {
             → Stands self.old (before ++ admitted batch self.old.owner point.now ∷ after)
             → Stands self.new (before ++ after) }
         ensures same { IsOfSame self.old self.new }
-        ensures spare { self.old.spare ≤ self.new.spare }
-        ensures asked { self.new.asked ≡ self.old.asked }
     {
         // Only the contract needs it.
         let _batch = batch;
@@ -225,6 +208,7 @@ impl Cell {
         sub_from(&mut kept.accepted, point.row());
         sub_from(&mut kept.stored, point.row());
         kept.spans.remove(at);
+        give_back_room(&mut kept.spans);
     }
 
     /// Removes a pending point of a batch that was added by its span alone: the rows stay.
@@ -234,8 +218,6 @@ impl Cell {
             → Stands self.old (before ++ admitted batch self.old.owner (bare point.now) ∷ after)
             → Stands self.new (before ++ after) }
         ensures same { IsOfSame self.old self.new }
-        ensures spare { self.old.spare ≤ self.new.spare }
-        ensures asked { self.new.asked ≡ self.old.asked }
     {
         // Only the contract needs it.
         let _batch = batch;
@@ -243,6 +225,7 @@ impl Cell {
         let home = spans_from(&kept.spans, kept.cut);
         let place = kept.cut + find_start(home, point.span().start());
         kept.spans.remove(place);
+        give_back_room(&mut kept.spans);
     }
 
     /// All pending points go into flight with this flush.
@@ -253,7 +236,6 @@ impl Cell {
         ensures same { IsOfSame self.old self.new }
         ensures flush { self.new.flush ≡ flush }
         ensures spare { self.old.spare ≤ self.new.spare }
-        ensures asked { self.new.asked ≡ self.old.asked }
     {
         let kept = self.kept.as_mut();
         move_into(&mut kept.in_flight, &mut kept.stored);
@@ -267,7 +249,6 @@ impl Cell {
             → Stands self.new (map (landed self.old.flush Home) qs) }
         ensures same { IsOfSame self.old self.new }
         ensures spare { self.old.spare ≤ self.new.spare }
-        ensures asked { self.new.asked ≡ self.old.asked }
     {
         let kept = self.kept.as_mut();
         move_into(&mut kept.stored, &mut kept.in_flight);
@@ -279,13 +260,12 @@ impl Cell {
         ensures stands { (qs : List Accepted) → Stands self.old qs
             → Stands self.new (map (landed self.old.flush Acknowledged) qs) }
         ensures same { IsOfSame self.old self.new }
-        ensures spare { self.old.spare ≤ self.new.spare }
-        ensures asked { self.new.asked ≡ self.old.asked }
     {
         let kept = self.kept.as_mut();
         move_into(&mut kept.acknowledged, &mut kept.in_flight);
         kept.landed = kept.landed.max(end_or(spans_to(&kept.spans, kept.cut), 0));
         drop_first(&mut kept.spans, kept.cut);
+        give_back_room(&mut kept.spans);
         kept.cut = 0;
     }
 
@@ -294,13 +274,12 @@ impl Cell {
         ensures stands { (qs : List Accepted) → Stands self.old qs
             → Stands self.new (map (landed self.old.flush Dropped) qs) }
         ensures same { IsOfSame self.old self.new }
-        ensures spare { self.old.spare ≤ self.new.spare }
-        ensures asked { self.new.asked ≡ self.old.asked }
     {
         let kept = self.kept.as_mut();
         move_into(&mut kept.dropped, &mut kept.in_flight);
         kept.landed = kept.landed.max(end_or(spans_to(&kept.spans, kept.cut), 0));
         drop_first(&mut kept.spans, kept.cut);
+        give_back_room(&mut kept.spans);
         kept.cut = 0;
     }
 
@@ -314,8 +293,6 @@ impl Cell {
             → Stands self.new (opened_with s) }
         ensures none { Stands self.old [] → Stands self.new [] }
         ensures same { IsOfSame self.old self.new }
-        ensures spare { self.old.spare ≤ self.new.spare }
-        ensures asked { self.new.asked ≡ self.old.asked }
     {
         let frontier = self.frontier();
         let kept = self.kept.as_mut();
@@ -324,6 +301,7 @@ impl Cell {
         clear(&mut kept.dropped);
         kept.landed = frontier;
         join_all(&mut kept.spans);
+        give_back_room(&mut kept.spans);
     }
 
     /// Whether points are in flight.
@@ -338,6 +316,15 @@ impl Cell {
         ensures { result ≡ nat_lt self.now.cut (length self.now.spans) }
     {
         self.kept.cut < self.kept.spans.len()
+    }
+
+    /// For how many more points there is room. Where no point is pending or in flight that is not
+    /// more than `KEPT_ROOM`: what was asked for beyond it is given back.
+    pub fn room(&self) -> usize
+        ensures value { result ≡ self.now.spare }
+        ensures lean { self.now.spans ≡ [] → result ≤ KEPT_ROOM }
+    {
+        self.kept.spans.capacity() - self.kept.spans.len()
     }
 
     /// The owner of the series: its sender.

@@ -20,6 +20,4 @@ pub(crate) struct CellParts {
     /// The greatest end of the points that are acknowledged or dropped, in nanoseconds; 0 if none
     /// is.
     pub(crate) landed: u64,
-    /// How often room was asked for since a point was last put.
-    pub(crate) asked: usize,
 }

@@ -1,5 +1,5 @@
 //! What no contract says of a cell: that its calls succeed with ample memory, over a worked list of
-//! calls, over rows longer than a block with each remainder, and with room that was reserved.
+//! calls, and over rows longer than a block with each remainder.
 ghost use Rattle.std.specs.Prelude.{◌≡◌, ◌++◌, ◌∷◌, [], List, IfOk};
 ghost use Rattle.metric_events.specs.PointFaults.{IsHistogram};
 ghost use Rattle.metric_events.specs.Points.{admitted};
@@ -139,11 +139,10 @@ fn bring(rt: &impl Abort, cell: &mut Cell, point: &Point, batch: u64) {
 
 /// Puts the span of a point of the cell's series, after its frontier.
 fn bring_span(rt: &impl Abort, cell: &mut Cell, point: &Point, batch: u64) {
-    let room = cell.reserve(1);
-    assert!(rt; room.is_ok(), "memory");
     assert!(rt; cell.id().is_same(point.series()), "another series");
     assert!(rt; cell.frontier() <= point.span().start(), "out of order");
-    cell.put_span(point, batch);
+    let put = cell.put_span(point, batch);
+    assert!(rt; put.is_ok(), "memory");
 }
 
 /// Takes all pending points, where nothing is in flight.
@@ -200,19 +199,6 @@ fn a_round_begins_with_what_is_pending(rt: HostRuntime) -> Result<(), Fail> {
     let mut cell = sum_cell(alloc)?;
     land_twice(&rt, &mut cell, [&a, &b, &c, &d]);
     carry_twice(&rt, &mut cell);
-    Ok(())
-}
-
-/// Room that was reserved is used, and reserving changes no row.
-#[test]
-fn room_is_reserved(rt: HostRuntime) -> Result<(), Fail> {
-    let alloc = rt.alloc();
-    let point = sum_point(alloc, 1, 10, 10, 5)?;
-    let mut cell = sum_cell(alloc)?;
-    bring(&rt, &mut cell, &point, 1);
-    cell.reserve(100)?;
-    expect_rows(&rt, &cell, [[1, 5, 0], [1, 5, 0], ZERO, ZERO, ZERO]);
-    expect_span(&rt, cell.stored_span(), Some((10, 20)));
     Ok(())
 }
 

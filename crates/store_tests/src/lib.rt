@@ -20,4 +20,6 @@ mod look;
 #[cfg(test)]
 mod recovery;
 #[cfg(test)]
+mod rooms;
+#[cfg(test)]
 mod series;

@@ -2,11 +2,11 @@
 use Rattle.std.specs.Prelude.{◌≡◌, ℕ, zero, suc, Bool, true, false, not, List, [], ◌∷◌, ◌++◌, map}
 use Rattle.std.specs.Prelude.{if◌then◌else◌, nat_lt, unwrap_or, Some, None}
 use Rattle.std.specs.declared.option.Option.{Option}
-use Rattle.series_id.specs.Identity.{Identity}
+use Rattle.series_id.specs.Identity.{Identity, row_length}
 use Rattle.series_id.specs.Order.{series_before}
 use Rattle.metric_events.specs.DataPoint.{DataPoint}
 use Rattle.metric_events.specs.Points.{admitted}
-use Rattle.metric_events.specs.Rows.{add_rows, fits}
+use Rattle.metric_events.specs.Rows.{add_rows, fits, zeros}
 use Rattle.metric_events.specs.Senders.{same_sender}
 use Rattle.metric_events.specs.Series.{frontier, series_count, sum_of}
 use Rattle.metric_events.specs.declared.limits.TheConstants.{MAX_SERIES}
@@ -18,7 +18,7 @@ use Rattle.delta_book.specs.declared.faults.AdmitFault.TheVariants.{OtherWriter,
 use Rattle.delta_book.specs.declared.faults.AdmitFault.TheVariants.{TooManySeries}
 use Rattle.delta_book.specs.declared.faults.AdmitFault.TheVariants as sums
 use Rattle.delta_book.specs.declared.put.Rejection.{Rejection}
-use Rattle.delta_book.specs.declared.put.Rejection.TheVariants.{Fault, TooLarge}
+use Rattle.delta_book.specs.declared.put.Rejection.TheVariants.{Fault, TooLarge, NoMemory}
 use Rattle.delta_book.specs.declared.cells.Fill.{Fill}
 use Rattle.delta_book.specs.declared.cells.Fill.TheVariants.{Point}
 
@@ -55,16 +55,22 @@ AddsPoint old new b p =
 abbrev pub fits_in : CellView → DataPoint → Bool
 fits_in c p = fits p.series.kind (add_rows c.accepted p.row)
 
+-- the point alone is within the limits of its series
+abbrev pub fits_alone : DataPoint → Bool
+fits_alone p = fits p.series.kind (add_rows (zeros (row_length p.series.kind)) p.row)
+
 -- what refuses this part of a point in its cell, with which the sum fits or not
 abbrev pub RejectsPart : Rejection → Fill → Bool → Type 0
 RejectsPart (Fault f) fill fits = ⊥
 RejectsPart TooLarge fill fits = (fill ≡ Point) × (fits ≡ false)
+RejectsPart NoMemory fill fits = Unit {0}
 
--- what refuses this part of the point at position i of a batch after these points: its fault, or a
--- sum over its limits
+-- what refuses this part of the point at position i of a batch after these points: its fault, a sum
+-- over its limits, or a failed allocation
 abbrev pub RejectsAt : Rejection → Fill → List Accepted → List ℕ → ℕ → DataPoint → Type 0
 RejectsAt (Fault f) fill qs s i p = next_fault qs s i p ≡ Some f
 RejectsAt TooLarge fill qs s i p = RejectsPart TooLarge fill (fits_with qs p)
+RejectsAt NoMemory fill qs s i p = Unit {0}
 
 -- what refuses a batch with a sum over its limits, whose points before position i are accepted: a
 -- point from there on, else the count of series, else the sum

@@ -27,6 +27,10 @@ use Rattle.delta_book.specs.Tables.{id_of, AllStand, AreCells}
 abbrev pub ForPoints : List CellView → (List Accepted → Type 0) → Type 0
 ForPoints cs P = (qs : List Accepted) → AreCells cs qs → P qs
 
+-- the cells are of some points
+abbrev pub AreSome : List CellView → Type 0
+AreSome cs = (qs : List Accepted) × AreCells cs qs
+
 -- and this, of whatever points that some history accepted
 abbrev pub ForAccepted : List CellView → (List Accepted → Type 0) → Type 0
 ForAccepted cs P = (qs : List Accepted) → AreAccepted qs → AreCells cs qs → P qs

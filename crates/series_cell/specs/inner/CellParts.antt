@@ -1,7 +1,9 @@
 -- The contents of a cell, as contracts see it.
-use Rattle.std.specs.Prelude.{ℕ, ◌-◌, ◌<◌, ◌^◌, List, length, slice_index, vec_capacity, vec_len}
+use Rattle.std.specs.Prelude.{◌≡◌, ℕ, ◌-◌, ◌<◌, ◌≤◌, ◌^◌, List, [], length, slice_index}
+use Rattle.std.specs.Prelude.{vec_capacity, vec_len}
 use Rattle.metric_events.specs.declared.accepted.Accepted.{Accepted}
 use Rattle.series_cell.specs.Cells.{CellView, Stands}
+use Rattle.series_cell.specs.declared.batch_span.TheConstants.{KEPT_ROOM}
 use Rattle.series_cell.specs.declared.cell_parts.CellParts.{CellParts}
 
 -- rows and spans as lists; spare is the room that is left for spans
@@ -19,7 +21,6 @@ view_of k = record {
   flush = k.flush;
   landed = k.landed;
   spare = vec_capacity k.spans - vec_len k.spans;
-  asked = k.asked;
 }
 
 -- a cell represents some points
@@ -30,8 +31,13 @@ IsCell c = (qs : List Accepted) × Stands c qs
 abbrev pub AreWords : List ℕ → Type 0
 AreWords row = (k : ℕ) → k < length row → slice_index row k < 2 ^ 64
 
+-- where no span is left, no more room is kept than what a few usual posts need
+abbrev pub IsLean : CellView → Type 0
+IsLean c = c.spans ≡ [] → c.spare ≤ KEPT_ROOM
+
 -- the contents represent some points, and each word of the sum of all their rows has 64 bits. So
--- has each word of a sum of some of those rows.
+-- has each word of a sum of some of those rows. Room that is not needed is given back.
 pub record IsKept (k : CellParts) : Type 0 where
   pub cell : IsCell (view_of k)
   pub words : AreWords k.accepted.items
+  pub lean : IsLean (view_of k)

@@ -1,6 +1,5 @@
 use Rattle.std.proofs.Common.{◌≡◌, ◌∙◌, subst, sym, true, false}
-use Rattle.delta_book.specs.inner.Rooms.{AreCellsFor}
-use Rattle.delta_book.proofs.Rooms.{keep_set}
+use Rattle.delta_book.specs.inner.Removals.{AreCellsFor}
 use Rattle.delta_book.proofs.Sweeping.{found, missed, has_end, lacks_end, still_for, stays_for, goes_for}
 use Rattle.delta_book.proofs.cells.sweep_cell.Goals as goal
 
@@ -13,8 +12,7 @@ returns-then-frontier-eq0 c = λ qs ps h.
 pub returns-else-frontier-eq0 : goal.returns-else-frontier-eq0
 returns-else-frontier-eq0 c = λ qs ps h.
     let f = found c.deref.result.now c.args.cells.now.items c.in-Some.i c.shared_series.result.now c.args.point.now.series c.deref.ensures.value c.shared_series.ensures c.in-Some.ensures in
-    stays_for c.args.cells.now.items c.in-Some.i c.index.result.now c.forget.new.self qs ps c.args.point.now f.0 c.index.ensures f.1 (has_end c.index.result.now c.frontier.result c.frontier.ensures c.if-frontier-eq0.false)
-    (keep_set c.args.cells.now.items c.in-Some.i c.index_mut.result.now c.forget.new.self c.args.point.now.series f.0 c.index_mut.ensures.value f.1 c.forget.ensures.same c.forget.ensures.stands) h
+    stays_for c.args.cells.now.items c.in-Some.i c.index.result.now qs ps c.args.point.now f.0 c.index.ensures f.1 (has_end c.index.result.now c.frontier.result c.frontier.ensures c.if-frontier-eq0.false) h
 
 pub returns-in_default : goal.returns-in_default
 returns-in_default c = λ qs ps h.

@@ -1,6 +1,6 @@
 use Rattle.std.proofs.Common.{◌≡◌, ◌+◌, ◌-◌, length, take, arith, subst, sym}
 use Rattle.std.proofs.lemmas.List.{take_all}
-use Rattle.delta_book.specs.inner.Rooms.{AreCellsFor}
+use Rattle.delta_book.specs.inner.Removals.{AreCellsFor}
 use Rattle.delta_book.proofs.Parts.{last_point}
 use Rattle.delta_book.proofs.Sweeping.{swept}
 use Rattle.delta_book.proofs.cells.sweep_cells.Goals as goal

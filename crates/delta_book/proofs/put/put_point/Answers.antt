@@ -5,8 +5,8 @@ use Rattle.metric_events.proofs.Sums.{added_at}
 use Rattle.delta_book.proofs.Adding.{word_fits}
 use Rattle.delta_book.proofs.put.put_point.Goals as goal
 
-pub put_reserved-requires-clause-fits : goal.put_reserved-requires-clause-fits
-put_reserved-requires-clause-fits c = λ k l.
+pub put-requires-clause-fits : goal.put-requires-clause-fits
+put-requires-clause-fits c = λ k l.
     let row = c.accepted.result.now in
     let more = c.row.result.now in
     omega (

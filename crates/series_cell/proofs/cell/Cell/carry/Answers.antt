@@ -33,9 +33,10 @@ invariant_of-self c =
           (c.copy_from_slice.ensures.items ∙ c.as_slice.ensures.value)
           (cleared_row i.acknowledged.items _ _ i.acknowledged.len c.deref_mut.ensures.value c.clear.auto.words c.clear.ensures i.acknowledged.ok.0 ∙ ap zeros s.acknowledged)
           (cleared_row i.dropped.items _ _ i.dropped.len c.deref_mut-2.ensures.value c.clear-2.auto.words c.clear-2.ensures i.dropped.ok.0 ∙ ap zeros s.dropped)
-          (c.join_all.ensures.items (home_in_order v own.0 h i.spans.items (ap (λ n. drop n i.spans.items) (sym none))) ∙ ap (λ n. joined_spans (hull_of (drop n i.spans.items))) (sym none))
+          (c.give_back_room.ensures.items ∙ (c.join_all.ensures.items (home_in_order v own.0 h i.spans.items (ap (λ n. drop n i.spans.items) (sym none))) ∙ ap (λ n. joined_spans (hull_of (drop n i.spans.items))) (sym none)))
           (c.frontier-frontier.ensures ∙ ap end_of (sym is));
       words = words_stored v own.0 _ h (lent_words c.as_mut-kept.ensures.value c.self.invariant) (c.copy_from_slice.ensures.items ∙ c.as_slice.ensures.value);
+      lean = c.give_back_room.ensures.lean;
     }
 
 pub returns-clause-stands : goal.returns-clause-stands
@@ -53,7 +54,7 @@ returns-clause-stands c = λ t k l.
     (c.copy_from_slice.ensures.items ∙ c.as_slice.ensures.value)
     (cleared_row i.acknowledged.items _ _ i.acknowledged.len c.deref_mut.ensures.value c.clear.auto.words c.clear.ensures i.acknowledged.ok.0 ∙ ap zeros s.acknowledged)
     (cleared_row i.dropped.items _ _ i.dropped.len c.deref_mut-2.ensures.value c.clear-2.auto.words c.clear-2.ensures i.dropped.ok.0 ∙ ap zeros s.dropped)
-    (c.join_all.ensures.items (home_in_order v own.0 h i.spans.items (ap (λ n. drop n i.spans.items) (sym none))) ∙ ap (λ n. joined_spans (hull_of (drop n i.spans.items))) (sym none))
+    (c.give_back_room.ensures.items ∙ (c.join_all.ensures.items (home_in_order v own.0 h i.spans.items (ap (λ n. drop n i.spans.items) (sym none))) ∙ ap (λ n. joined_spans (hull_of (drop n i.spans.items))) (sym none)))
     (c.frontier-frontier.ensures ∙ ap end_of (sym is))
 
 pub returns-clause-none : goal.returns-clause-none
@@ -69,5 +70,5 @@ returns-clause-none c k =
     (c.copy_from_slice.ensures.items ∙ c.as_slice.ensures.value)
     (cleared_row i.acknowledged.items _ _ i.acknowledged.len c.deref_mut.ensures.value c.clear.auto.words c.clear.ensures i.acknowledged.ok.0 ∙ ap zeros s.acknowledged)
     (cleared_row i.dropped.items _ _ i.dropped.len c.deref_mut-2.ensures.value c.clear-2.auto.words c.clear-2.ensures i.dropped.ok.0 ∙ ap zeros s.dropped)
-    (c.join_all.ensures.items (home_in_order v [] h i.spans.items (ap (λ n. drop n i.spans.items) (sym none))) ∙ ap (λ n. joined_spans (hull_of (drop n i.spans.items))) (sym none))
+    (c.give_back_room.ensures.items ∙ (c.join_all.ensures.items (home_in_order v [] h i.spans.items (ap (λ n. drop n i.spans.items) (sym none))) ∙ ap (λ n. joined_spans (hull_of (drop n i.spans.items))) (sym none)))
     (c.frontier-frontier.ensures ∙ ap end_of (sym is))

@@ -3,7 +3,7 @@ use Rattle.metric_events.specs.Rows.{zeros}
 use Rattle.series_cell.specs.Cells.{CellView, Stands, lifted}
 use Rattle.series_cell.specs.inner.CellParts.{view_of}
 use Rattle.series_cell.proofs.ByPlace.{moved}
-use Rattle.series_cell.proofs.Lent.{lent_cell, lent_words, lent_view}
+use Rattle.series_cell.proofs.Lent.{lent_cell, lent_words, lent_view, lent_lean}
 use Rattle.series_cell.proofs.Sizes.{sized, within}
 use Rattle.series_cell.proofs.Standing.{stands_lift}
 use Rattle.series_cell.proofs.Words.{rows_fit}
@@ -30,6 +30,7 @@ invariant_of-self c =
     record {
       cell = (map (lifted c.args.flush) own.0, stands_lift _ c.args.flush own.0 _ _ _ h (ap (λ (w : CellView). w.cut) is ∙ c.requires) m.0 (m.1 ∙ ap zeros s.stored) (c.len-kept.ensures ∙ i.spans.ok.0));
       words = lent_words c.as_mut-kept.ensures.value c.self.invariant;
+      lean = lent_lean c.as_mut-kept.ensures.value c.self.invariant;
     }
 
 pub returns-clause-stands : goal.returns-clause-stands

@@ -1,4 +1,4 @@
-use Rattle.std.proofs.Common.{◌≡◌, ap, ◌∙◌, refl, []}
+use Rattle.std.proofs.Common.{◌≡◌, ap, ◌∙◌, arith, refl, []}
 use Rattle.series_id.specs.Identity.{Identity, row_length}
 use Rattle.metric_events.specs.Rows.{zeros}
 use Rattle.series_cell.proofs.Standing.{stands_none}
@@ -11,6 +11,7 @@ invariant_of-result c =
     record {
       cell = ([], rw c.in_ok-new.ensures.ok (stands_none _ (c.in_ok-accepted.ensures ∙ ap zeros n) (c.in_ok-stored.ensures ∙ ap zeros n) (c.in_ok-in_flight.ensures ∙ ap zeros n) (c.in_ok-acknowledged.ensures ∙ ap zeros n) (c.in_ok-dropped.ensures ∙ ap zeros n) c.new.ensures.items refl refl));
       words = rw c.in_ok-new.ensures.ok (words_none _ _ c.in_ok-accepted.ensures);
+      lean = rw c.in_ok-new.ensures.ok (λ _. omega (arith, c.new.ensures.capacity));
     }
 
 pub returns-clause-none : goal.returns-clause-none

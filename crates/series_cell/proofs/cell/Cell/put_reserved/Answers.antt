@@ -7,7 +7,7 @@ use Rattle.metric_events.specs.Interval.{Interval}
 use Rattle.series_cell.specs.Cells.{CellView, Stands, end_of}
 use Rattle.series_cell.specs.inner.CellParts.{view_of}
 use Rattle.series_cell.proofs.ByPlace.{added_row}
-use Rattle.series_cell.proofs.Lent.{lent_cell, lent_view}
+use Rattle.series_cell.proofs.Lent.{lent_cell, lent_view, some_put}
 use Rattle.series_cell.proofs.Sizes.{sized, within}
 use Rattle.series_cell.proofs.Standing.{stands_put}
 use Rattle.series_cell.proofs.Words.{words_added}
@@ -50,13 +50,14 @@ invariant_of-self c =
     record {
       cell = (
         own.0 ++ admitted c.args.batch i.owner c.args.point.now ∷ [],
-        stands_put _ i.owner c.args.point.now c.args.batch own.0 _ _ _ _ _ refl h c.row.ensures.made.merged.span c.row.ensures.made.merged.long (c.requires.series ∙ sym (ap (λ (w : CellView). w.id) is))
+        stands_put _ i.owner c.args.point.now c.args.batch own.0 _ _ _ _ refl h c.row.ensures.made.merged.span c.row.ensures.made.merged.long (c.requires.series ∙ sym (ap (λ (w : CellView). w.id) is))
             (subst (λ (w : CellView). end_of w ≤ c.args.point.now.span.start) (sym is) c.requires.order)
             added
             (added_row i.stored.items c.args.point.now.row _ _ _ i.stored.len c.deref_mut-2.ensures.value c.row-2.ensures.value (long ∙ sym s.stored) c.add_into-2.auto.dst c.add_into-2.ensures i.stored.ok.0)
             (c.push_reserved.ensures.items ∙ ap (λ (t : Interval). i.spans.items ++ record { span = t; batch = c.args.batch } ∷ []) c.span.ensures),
       );
       words = words_added i.accepted.items c.args.point.now.row _ (long ∙ sym s.accepted) (subst (λ (w : CellView). Fits (2 ^ 64 - 1) w.accepted c.args.point.now.row) (sym is) c.requires.fits) added;
+      lean = λ n. absurd (some_put _ i.spans.items _ c.push_reserved.ensures.items n);
     }
 
 pub returns-clause-stands : goal.returns-clause-stands
@@ -67,7 +68,7 @@ returns-clause-stands c = λ qs g.
     let v : CellView = view_of i in
     let h : Stands v qs = subst (λ (w : CellView). Stands w qs) (sym is) g in
     let s = sized v qs h in
-    stands_put v c.args.self.now.owner c.args.point.now c.args.batch qs _ _ _ _ _ (sym (ap (λ (w : CellView). w.owner) is)) h c.row.ensures.made.merged.span c.row.ensures.made.merged.long (c.requires.series ∙ sym (ap (λ (w : CellView). w.id) is))
+    stands_put v c.args.self.now.owner c.args.point.now c.args.batch qs _ _ _ _ (sym (ap (λ (w : CellView). w.owner) is)) h c.row.ensures.made.merged.span c.row.ensures.made.merged.long (c.requires.series ∙ sym (ap (λ (w : CellView). w.id) is))
     (subst (λ (w : CellView). end_of w ≤ c.args.point.now.span.start) (sym is) c.requires.order)
     (added_row i.accepted.items c.args.point.now.row _ _ _ i.accepted.len c.deref_mut.ensures.value c.row.ensures.value (long ∙ sym s.accepted) c.add_into.auto.dst c.add_into.ensures i.accepted.ok.0)
     (added_row i.stored.items c.args.point.now.row _ _ _ i.stored.len c.deref_mut-2.ensures.value c.row-2.ensures.value (long ∙ sym s.stored) c.add_into-2.auto.dst c.add_into-2.ensures i.stored.ok.0)

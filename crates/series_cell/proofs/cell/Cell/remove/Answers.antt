@@ -67,9 +67,10 @@ invariant_of-self c =
         stands_remove v c.args.batch c.args.point.now g.0 g.1.0 _ _ _ _ h
             left
             (taken_row i.stored.items c.args.point.now.row _ _ _ _ i.stored.len c.deref_mut-2.ensures.value c.row-2.ensures.value t.stored (t.stored_long ∙ sym s.stored) c.sub_from-2.auto.dst c.sub_from-2.ensures i.stored.ok.0)
-            (c.remove.ensures.items ∙ ap (λ n. remove i.spans.items (i.cut + n)) at),
+            (c.give_back_room.ensures.items ∙ (c.remove.ensures.items ∙ ap (λ n. remove i.spans.items (i.cut + n)) at)),
       );
       words = words_left i.accepted.items c.args.point.now.row _ _ (lent_words c.as_mut-kept.ensures.value c.self.invariant) t.accepted (t.accepted_long ∙ sym s.accepted) left;
+      lean = c.give_back_room.ensures.lean;
     }
 
 pub returns-clause-stands : goal.returns-clause-stands
@@ -86,4 +87,4 @@ returns-clause-stands c = λ before after k.
     stands_remove v c.args.batch c.args.point.now before after _ _ _ _ h
     (taken_row i.accepted.items c.args.point.now.row _ _ _ _ i.accepted.len c.deref_mut.ensures.value c.row.ensures.value t.accepted (t.accepted_long ∙ sym s.accepted) c.sub_from.auto.dst c.sub_from.ensures i.accepted.ok.0)
     (taken_row i.stored.items c.args.point.now.row _ _ _ _ i.stored.len c.deref_mut-2.ensures.value c.row-2.ensures.value t.stored (t.stored_long ∙ sym s.stored) c.sub_from-2.auto.dst c.sub_from-2.ensures i.stored.ok.0)
-    (c.remove.ensures.items ∙ ap (λ n. remove i.spans.items (i.cut + n)) at)
+    (c.give_back_room.ensures.items ∙ (c.remove.ensures.items ∙ ap (λ n. remove i.spans.items (i.cut + n)) at))

@@ -33,9 +33,10 @@ invariant_of-self c =
     record {
       cell = (
         g.0 ++ g.1.0,
-        stands_remove_span v c.args.batch c.args.point.now g.0 g.1.0 _ _ h (c.remove.ensures.items ∙ ap (λ n. remove i.spans.items (i.cut + n)) at),
+        stands_remove_span v c.args.batch c.args.point.now g.0 g.1.0 _ _ h (c.give_back_room.ensures.items ∙ (c.remove.ensures.items ∙ ap (λ n. remove i.spans.items (i.cut + n)) at)),
       );
       words = lent_words c.as_mut-kept.ensures.value c.self.invariant;
+      lean = c.give_back_room.ensures.lean;
     }
 
 pub returns-clause-stands : goal.returns-clause-stands
@@ -47,4 +48,4 @@ returns-clause-stands c = λ before after k.
     found v _ c.spans_from-home.result.now c.args.point.now.span.start c.start.result c.find_start.result h
     (c.spans_from-home.ensures ∙ ap (drop i.cut) c.deref.ensures.value)
     (c.start.ensures ∙ ap (λ (t : Interval). t.start) c.span.ensures) c.find_start.ensures.value in
-    stands_remove_span v c.args.batch c.args.point.now before after _ _ h (c.remove.ensures.items ∙ ap (λ n. remove i.spans.items (i.cut + n)) at)
+    stands_remove_span v c.args.batch c.args.point.now before after _ _ h (c.give_back_room.ensures.items ∙ (c.remove.ensures.items ∙ ap (λ n. remove i.spans.items (i.cut + n)) at))

@@ -5,7 +5,7 @@ use Rattle.metric_events.specs.declared.place.Place.TheVariants.{Home}
 use Rattle.series_cell.specs.Cells.{CellView, Stands}
 use Rattle.series_cell.specs.inner.CellParts.{view_of}
 use Rattle.series_cell.proofs.ByPlace.{moved}
-use Rattle.series_cell.proofs.Lent.{lent_cell, lent_words, lent_view}
+use Rattle.series_cell.proofs.Lent.{lent_cell, lent_words, lent_view, lent_lean}
 use Rattle.series_cell.proofs.Sizes.{sized, within}
 use Rattle.series_cell.proofs.Standing.{stands_down}
 use Rattle.series_cell.proofs.Words.{rows_fit}
@@ -30,6 +30,7 @@ invariant_of-self c =
     record {
       cell = (map (landed i.flush Home) own.0, stands_down _ i.flush own.0 _ _ refl h m.0 (m.1 ∙ ap zeros s.in_flight));
       words = lent_words c.as_mut-kept.ensures.value c.self.invariant;
+      lean = lent_lean c.as_mut-kept.ensures.value c.self.invariant;
     }
 
 pub returns-clause-stands : goal.returns-clause-stands

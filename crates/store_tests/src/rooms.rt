@@ -1,0 +1,103 @@
+//! What no contract says of the room of cells: that it is given back, also where points are left.
+
+use crate::bodies::{sender, sum_point};
+use crate::call::Call::{Confirm, Settle, Single, Take};
+use crate::call::{admit, run};
+use delta_book::book::Book;
+use delta_book::faults::AdmitFault;
+use metric_events::batch::Batch;
+use metric_events::points::Points;
+use series_cell::batch_span::KEPT_ROOM;
+use std::alloc::Global;
+use std::process::Abort;
+use std::test::Fail;
+
+/// So many points of series 1, one after another from this time on. Where `late` is, one that comes
+/// too late ends the batch.
+fn many(alloc: Global, sent_by: usize, start: u64, count: u64, late: bool) -> Result<Batch, Fail> {
+    let mut points = Points::new(alloc);
+    for k in 0..count {
+        points.push(sum_point(alloc, 1, start.saturating_add(k), 1, 1)?)?;
+    }
+    if late {
+        points.push(sum_point(alloc, 1, start, 1, 1)?)?;
+    }
+    let sender = sender(alloc, sent_by)?;
+    Ok(Batch { sender, points })
+}
+
+/// The first cell has room for at most so many points more.
+fn expect_room(rt: &impl Abort, book: &Book, most: usize) -> Result<(), Fail> {
+    let cell = book.cells().first().ok_or("no cell")?;
+    assert!(rt; cell.room() <= most, "room for {} points", cell.room());
+    Ok(())
+}
+
+// A stranger's posts, and its own ones that come too late, ask for no room that stays.
+#[test]
+fn refused_posts_keep_no_room(rt: HostRuntime) -> Result<(), Fail> {
+    let alloc = rt.alloc();
+    let mut book = Book::new(alloc)?;
+    run(&rt, alloc, &mut book, &[Single(0, 1, 1, Ok(1))])?;
+    for _ in 0..3 {
+        let strange = many(alloc, 1, 20, 1000, false)?;
+        assert_eq!(rt;
+            admit(&rt, &mut book, strange),
+            Err(AdmitFault::OtherWriter(0))
+        );
+        expect_room(&rt, &book, KEPT_ROOM)?;
+        let late = many(alloc, 0, 1, 1000, false)?;
+        assert_eq!(rt;
+            admit(&rt, &mut book, late),
+            Err(AdmitFault::OutOfOrder(0, 11))
+        );
+        expect_room(&rt, &book, KEPT_ROOM)?;
+        let last_late = many(alloc, 0, 20, 1000, true)?;
+        let fault = Err(AdmitFault::OutOfOrder(1000, 1020));
+        assert_eq!(rt; admit(&rt, &mut book, last_late), fault);
+        expect_room(&rt, &book, KEPT_ROOM)?;
+    }
+    Ok(())
+}
+
+// Points that were taken and have landed keep no room, whether others are pending or none.
+#[test]
+fn landed_points_keep_no_room(rt: HostRuntime) -> Result<(), Fail> {
+    let alloc = rt.alloc();
+    let mut book = Book::new(alloc)?;
+    let first = many(alloc, 0, 1, 1000, false)?;
+    assert_eq!(rt; admit(&rt, &mut book, first), Ok(1));
+    run(
+        &rt,
+        alloc,
+        &mut book,
+        &[
+            Confirm(1, Ok(())),
+            Take(Ok(Some(1))),
+            Single(0, 2000, 1, Ok(2)),
+            Settle(1, Ok(())),
+        ],
+    )?;
+    expect_room(&rt, &book, KEPT_ROOM)?;
+    let second = many(alloc, 0, 3000, 1000, false)?;
+    assert_eq!(rt; admit(&rt, &mut book, second), Ok(3));
+    run(
+        &rt,
+        alloc,
+        &mut book,
+        &[Take(Ok(Some(2))), Settle(2, Ok(()))],
+    )?;
+    expect_room(&rt, &book, KEPT_ROOM)
+}
+
+// A batch that is undone keeps no room.
+#[test]
+fn undone_points_keep_no_room(rt: HostRuntime) -> Result<(), Fail> {
+    let alloc = rt.alloc();
+    let mut book = Book::new(alloc)?;
+    run(&rt, alloc, &mut book, &[Single(0, 1, 1, Ok(1))])?;
+    let undone = many(alloc, 0, 20, 1000, false)?;
+    assert_eq!(rt; admit(&rt, &mut book, undone), Ok(2));
+    assert_eq!(rt; book.undo(7, 2), Ok(()));
+    expect_room(&rt, &book, KEPT_ROOM)
+}
