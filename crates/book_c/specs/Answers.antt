@@ -1,9 +1,10 @@
 -- How results are answered: the one table of statuses is in src/statuses.rt.
-use Rattle.std.specs.Prelude.{ℕ}
+use Rattle.std.specs.Prelude.{ℕ, ◌==◌, if◌then◌else◌, List, [], Option}
 use Rattle.delta_book.specs.declared.faults.AdmitFault.TheVariants as admit
 use Rattle.delta_book.specs.declared.faults.QuarantineFault.{QuarantineFault}
 use Rattle.delta_book.specs.declared.faults.QuarantineFault.TheVariants as hold
 use Rattle.delta_book.specs.declared.faults.TakeFault.TheVariants as taking
+use Rattle.delta_book.specs.declared.flush.Flush.{Flush}
 use Rattle.book_desk.specs.declared.desk.DeskFault.{DeskFault}
 use Rattle.book_desk.specs.declared.desk.DeskFault.TheVariants as desk
 use Rattle.book_desk.specs.declared.desk.EndFault.{EndFault}
@@ -57,6 +58,10 @@ take_status (all.Refused taking.NoMemory) = NO_MEMORY
 abbrev pub end_status : EndFault → ℕ
 end_status end.Nothing = NOTHING
 end_status end.NotLive = NO_SUCH
+
+-- the flushes that are left then: none, but where they were not of so many books
+abbrev pub left_of : (status : ℕ) → List (Option Flush) → List (Option Flush)
+left_of status flushes = if status == NOTHING then flushes else []
 
 -- why a text is not written
 abbrev pub text_status : TextFault → ℕ

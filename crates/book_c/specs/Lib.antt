@@ -1,3 +1,4 @@
 pub mod Answers
-pub mod Handles
+pub mod Calls
 pub mod Kinds
+pub mod inner

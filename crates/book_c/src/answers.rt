@@ -2,9 +2,10 @@
 ghost use Rattle.std.specs.Prelude.{◌≡◌, ◌≢◌};
 ghost use Rattle.book_c.specs.Answers as spec;
 
-use crate::statuses::{ALREADY, BAD_SENDER, FULL, NO_MEMORY, NO_SUCH, NOT_ENDED, NOT_JSON, NOTHING};
-use crate::statuses::{OTHER_WRITER, OUT_OF_ORDER, QUARANTINED, TOO_LARGE, TOO_MANY_SERIES};
-use crate::statuses::{WRONG_SHAPE};
+use crate::statuses::{
+    ALREADY, BAD_SENDER, FULL, NO_MEMORY, NO_SUCH, NOT_ENDED, NOT_JSON, NOTHING, OTHER_WRITER,
+    OUT_OF_ORDER, QUARANTINED, TOO_LARGE, TOO_MANY_SERIES, WRONG_SHAPE,
+};
 use book_desk::desk::{DeskFault, EndFault, TakeAllFault};
 use book_desk::flushes::TextFault;
 use book_desk::reader::PostFault;
@@ -35,8 +36,12 @@ impl Answer {
 
     /// A status that tells of a point.
     fn of_point(status: u32, position: usize, frontier: u64) -> Answer
-        ensures { result ≡ record { status = status; number = 0; at = position;
-            frontier = frontier } }
+        ensures { result ≡ record {
+          status = status;
+          number = 0;
+          at = position;
+          frontier = frontier;
+        } }
     {
         Answer {
             status,

@@ -2,7 +2,7 @@
 ghost use Rattle.std.specs.Prelude.{◌≡◌, ◌≢◌};
 ghost use Rattle.std.specs.Ptr.{null_ptr};
 ghost use Rattle.book_c.specs.declared.kept.Kept.{Kept};
-ghost use Rattle.book_c.specs.Handles.{keeps, kept_coded};
+ghost use Rattle.book_c.specs.inner.Handles.{keeps, kept_coded};
 
 pub mod parts;
 

@@ -2,11 +2,25 @@
 //! are here. Each of a program's handles is one word; one call at a time has it.
 #![tactic(auto)]
 
-ghost use Rattle.std.specs.Prelude.{◌≡◌, ◌≢◌, ◌≤◌, ◌<◌, [], true, false, None, length, take};
+ghost use Rattle.std.specs.Prelude.{◌≡◌, ◌≢◌, ◌≤◌, ◌<◌, ◌++◌, [], true, false, None, length, drop};
 ghost use Rattle.std.specs.Prelude.{IfOk};
 ghost use Rattle.std.specs.List.{All};
 ghost use Rattle.std.specs.Ptr.{null_ptr};
-ghost use Rattle.book_c.specs.Answers as answer;
+ghost use Rattle.metric_events.specs.Opening.{first_opening};
+ghost use Rattle.delta_book.specs.Journal.{journal_of};
+ghost use Rattle.book_desk.specs.Each.{Each, EachBook};
+ghost use Rattle.book_desk.specs.Ends.{IsEndedBy};
+ghost use Rattle.book_desk.specs.Holds.{Holds, Releases, hold_refusal, is_held_in};
+ghost use Rattle.book_desk.specs.Posts.{Keeps};
+ghost use Rattle.book_desk.specs.Reads.{IsRead};
+ghost use Rattle.book_desk.specs.Refusals.{post_refusal};
+ghost use Rattle.book_desk.specs.Rounds.{AreClosed};
+ghost use Rattle.book_desk.specs.Takes.{Takes, count, take_all_refusal};
+ghost use Rattle.book_desk.specs.Written.{IsForwarded, IsReported, all_series};
+ghost use Rattle.book_c.specs.Answers.{counts_of, written_of, left_of};
+ghost use Rattle.book_c.specs.Calls.{TellsUnread, TellsNotAdmitted, TellsNotTaken, TellsNotEnded};
+ghost use Rattle.book_c.specs.Calls.{TellsNotForwarded, TellsNotReported};
+ghost use Rattle.book_c.specs.Calls.{TellsNotHeld, TellsNotLifted};
 ghost use Rattle.book_c.specs.Kinds.{HasReader, HasDesk, HasFlushes};
 ghost use Rattle.book_c.specs.Kinds.{parts_of, books_of, flushes_of, text_of};
 
@@ -25,6 +39,7 @@ use handle::Handle;
 use handle::parts::Parts;
 use kept::Kept;
 use metric_events::limits::MAX_TAKEN;
+use statuses::DONE;
 use std::alloc::{AllocError, Global};
 use std::mem;
 
@@ -94,6 +109,10 @@ pub extern "C" fn reader_read(
     requires reader { HasReader reader.old }
     requires books { 0 < books }
     ensures reader { HasReader reader.new }
+    ensures read { out.new.status ≡ DONE → IsRead sender.now body.now books (counts_of out.new)
+        (parts_of reader.new.kept) }
+    ensures unread { out.new.status ≢ DONE → TellsUnread sender.now body.now out.new
+        (parts_of reader.new.kept) }
 {
     let mut kept = out_of(alloc, reader);
     let Kept::Reader(it) = &mut *kept else {
@@ -107,6 +126,9 @@ pub extern "C" fn reader_read(
 #[unsafe(no_mangle)]
 pub extern "C" fn desk_new(alloc: Global, books: usize, out: &mut Handle) -> bool
     ensures desk { result ≡ true → HasDesk out.new }
+    ensures count { result ≡ true → length (books_of out.new.kept) ≡ books }
+    ensures books { result ≡ true → All (λ b. b ≡ journal_of first_opening [])
+        (books_of out.new.kept) }
 {
     let Ok(desk) = Desk::new(alloc, books) else {
         return false;
@@ -141,6 +163,13 @@ pub extern "C" fn desk_admit(
     requires reader { HasReader reader.old }
     ensures desk { HasDesk desk.new }
     ensures reader { HasReader reader.new }
+    ensures taken { out.new.status ≡ DONE → Each Keeps (books_of desk.old.kept)
+        (books_of desk.new.kept) (parts_of reader.old.kept) }
+    ensures none { out.new.status ≡ DONE → post_refusal (books_of desk.old.kept)
+        (parts_of reader.old.kept) ≡ None }
+    ensures refused { out.new.status ≢ DONE → TellsNotAdmitted (books_of desk.old.kept)
+        (books_of desk.new.kept) (parts_of reader.old.kept) out.new }
+    ensures gone { parts_of reader.new.kept ≡ [] }
 {
     let mut kept = out_of(alloc, desk);
     let mut post = out_of(alloc, reader);
@@ -159,6 +188,8 @@ pub extern "C" fn desk_admit(
 #[unsafe(no_mangle)]
 pub extern "C" fn flushes_new(alloc: Global, out: &mut Handle) -> bool
     ensures flushes { result ≡ true → HasFlushes out.new }
+    ensures none { result ≡ true → flushes_of out.new.kept ≡ [] }
+    ensures text { result ≡ true → text_of out.new.kept ≡ [] }
 {
     match handle_of(alloc, Kept::Flushes(Flushes::new(alloc))) {
         Ok(handle) => {
@@ -192,6 +223,17 @@ pub extern "C" fn desk_take(
     requires high { max ≤ MAX_TAKEN }
     ensures desk { HasDesk desk.new }
     ensures flushes { HasFlushes flushes.new }
+    ensures taken { out.new.status ≡ DONE → Each (Takes max) (books_of desk.old.kept)
+        (books_of desk.new.kept) (flushes_of flushes.new.kept) }
+    ensures none { out.new.status ≡ DONE → take_all_refusal (books_of desk.old.kept) max ≡ None }
+    ensures count { out.new.status ≡ DONE → out.new.number ≡ count
+        (flushes_of flushes.new.kept) }
+    ensures some { out.new.status ≡ DONE → 1 ≤ out.new.number }
+    ensures refused { out.new.status ≢ DONE → TellsNotTaken max (books_of desk.old.kept)
+        (books_of desk.new.kept) (flushes_of flushes.old.kept) out.new }
+    ensures same { out.new.status ≢ DONE → flushes_of flushes.new.kept
+        ≡ flushes_of flushes.old.kept }
+    ensures text { text_of flushes.new.kept ≡ text_of flushes.old.kept }
 {
     let mut kept = out_of(alloc, desk);
     let mut taken = out_of(alloc, flushes);
@@ -211,6 +253,12 @@ pub extern "C" fn desk_take(
 pub extern "C" fn flushes_text(alloc: Global, flushes: &mut Handle, i: usize, out: &mut Answer)
     requires { HasFlushes flushes.old }
     ensures flushes { HasFlushes flushes.new }
+    ensures written { out.new.status ≡ DONE → IsForwarded (flushes_of flushes.old.kept) i
+        (text_of flushes.new.kept) (written_of out.new) }
+    ensures refused { out.new.status ≢ DONE → TellsNotForwarded (flushes_of flushes.old.kept) i
+        out.new }
+    ensures none { out.new.status ≢ DONE → text_of flushes.new.kept ≡ [] }
+    ensures same { flushes_of flushes.new.kept ≡ flushes_of flushes.old.kept }
 {
     let mut taken = out_of(alloc, flushes);
     let Kept::Flushes(it) = &mut *taken else {
@@ -225,6 +273,11 @@ pub extern "C" fn flushes_text(alloc: Global, flushes: &mut Handle, i: usize, ou
 pub extern "C" fn flushes_copy(alloc: Global, flushes: &mut Handle, out: &mut [u8]) -> bool
     requires { HasFlushes flushes.old }
     ensures flushes { HasFlushes flushes.new }
+    ensures copied { result ≡ true → out.new ≡ text_of flushes.old.kept
+        ++ drop (length (text_of flushes.old.kept)) out.old }
+    ensures short { result ≡ false → length out.old < length (text_of flushes.old.kept) }
+    ensures left { result ≡ false → out.new ≡ out.old }
+    ensures same { flushes.new.kept ≡ flushes.old.kept }
 {
     let taken = out_of(alloc, flushes);
     let Kept::Flushes(it) = &*taken else {
@@ -242,6 +295,12 @@ pub extern "C" fn desk_settle(alloc: Global, desk: &mut Handle, flushes: &mut Ha
     requires flushes { HasFlushes flushes.old }
     ensures desk { HasDesk desk.new }
     ensures flushes { HasFlushes flushes.new }
+    ensures ended { result ≡ DONE → Each (IsEndedBy End.Settle) (books_of desk.old.kept)
+        (books_of desk.new.kept) (flushes_of flushes.old.kept) }
+    ensures refused { result ≢ DONE → TellsNotEnded End.Settle (books_of desk.old.kept)
+        (books_of desk.new.kept) (flushes_of flushes.old.kept) result }
+    ensures left { flushes_of flushes.new.kept ≡ left_of result (flushes_of flushes.old.kept) }
+    ensures text { text_of flushes.new.kept ≡ text_of flushes.old.kept }
 {
     end_all(alloc, desk, flushes, End::Settle)
 }
@@ -253,6 +312,12 @@ pub extern "C" fn desk_drop(alloc: Global, desk: &mut Handle, flushes: &mut Hand
     requires flushes { HasFlushes flushes.old }
     ensures desk { HasDesk desk.new }
     ensures flushes { HasFlushes flushes.new }
+    ensures ended { result ≡ DONE → Each (IsEndedBy End.Drop) (books_of desk.old.kept)
+        (books_of desk.new.kept) (flushes_of flushes.old.kept) }
+    ensures refused { result ≢ DONE → TellsNotEnded End.Drop (books_of desk.old.kept)
+        (books_of desk.new.kept) (flushes_of flushes.old.kept) result }
+    ensures left { flushes_of flushes.new.kept ≡ left_of result (flushes_of flushes.old.kept) }
+    ensures text { text_of flushes.new.kept ≡ text_of flushes.old.kept }
 {
     end_all(alloc, desk, flushes, End::Drop)
 }
@@ -264,6 +329,12 @@ pub extern "C" fn desk_give_back(alloc: Global, desk: &mut Handle, flushes: &mut
     requires flushes { HasFlushes flushes.old }
     ensures desk { HasDesk desk.new }
     ensures flushes { HasFlushes flushes.new }
+    ensures ended { result ≡ DONE → Each (IsEndedBy End.GiveBack) (books_of desk.old.kept)
+        (books_of desk.new.kept) (flushes_of flushes.old.kept) }
+    ensures refused { result ≢ DONE → TellsNotEnded End.GiveBack (books_of desk.old.kept)
+        (books_of desk.new.kept) (flushes_of flushes.old.kept) result }
+    ensures left { flushes_of flushes.new.kept ≡ left_of result (flushes_of flushes.old.kept) }
+    ensures text { text_of flushes.new.kept ≡ text_of flushes.old.kept }
 {
     end_all(alloc, desk, flushes, End::GiveBack)
 }
@@ -274,6 +345,12 @@ fn end_all(alloc: Global, desk: &mut Handle, flushes: &mut Handle, end: End) -> 
     requires flushes { HasFlushes flushes.old }
     ensures desk { HasDesk desk.new }
     ensures flushes { HasFlushes flushes.new }
+    ensures ended { result ≡ DONE → Each (IsEndedBy end) (books_of desk.old.kept)
+        (books_of desk.new.kept) (flushes_of flushes.old.kept) }
+    ensures refused { result ≢ DONE → TellsNotEnded end (books_of desk.old.kept)
+        (books_of desk.new.kept) (flushes_of flushes.old.kept) result }
+    ensures left { flushes_of flushes.new.kept ≡ left_of result (flushes_of flushes.old.kept) }
+    ensures text { text_of flushes.new.kept ≡ text_of flushes.old.kept }
 {
     let mut kept = out_of(alloc, desk);
     let mut taken = out_of(alloc, flushes);
@@ -294,6 +371,11 @@ fn end_all(alloc: Global, desk: &mut Handle, flushes: &mut Handle, end: End) -> 
 pub extern "C" fn desk_quarantine(alloc: Global, desk: &mut Handle, sender: &[u8]) -> u32
     requires { HasDesk desk.old }
     ensures desk { HasDesk desk.new }
+    ensures held { result ≡ DONE → EachBook (Holds sender.now) (books_of desk.old.kept)
+        (books_of desk.new.kept) }
+    ensures none { result ≡ DONE → hold_refusal (books_of desk.old.kept) sender.now ≡ None }
+    ensures refused { result ≢ DONE → TellsNotHeld (books_of desk.old.kept)
+        (books_of desk.new.kept) sender.now result }
 {
     let mut kept = out_of(alloc, desk);
     let Kept::Desk(books) = &mut *kept else {
@@ -309,6 +391,11 @@ pub extern "C" fn desk_quarantine(alloc: Global, desk: &mut Handle, sender: &[u8
 pub extern "C" fn desk_lift(alloc: Global, desk: &mut Handle, sender: &[u8]) -> u32
     requires { HasDesk desk.old }
     ensures desk { HasDesk desk.new }
+    ensures released { result ≡ DONE → EachBook (Releases sender.now) (books_of desk.old.kept)
+        (books_of desk.new.kept) }
+    ensures held { result ≡ DONE → is_held_in (books_of desk.old.kept) sender.now ≡ true }
+    ensures refused { result ≢ DONE → TellsNotLifted (books_of desk.old.kept) sender.now result }
+    ensures same { result ≢ DONE → books_of desk.new.kept ≡ books_of desk.old.kept }
 {
     let mut kept = out_of(alloc, desk);
     let Kept::Desk(books) = &mut *kept else {
@@ -325,6 +412,7 @@ pub extern "C" fn desk_lift(alloc: Global, desk: &mut Handle, sender: &[u8]) -> 
 pub extern "C" fn desk_close_rounds(alloc: Global, desk: &mut Handle, entries: usize) -> usize
     requires { HasDesk desk.old }
     ensures desk { HasDesk desk.new }
+    ensures closed { AreClosed entries (books_of desk.old.kept) (books_of desk.new.kept) result }
 {
     let mut kept = out_of(alloc, desk);
     let Kept::Desk(books) = &mut *kept else {
@@ -340,6 +428,8 @@ pub extern "C" fn desk_close_rounds(alloc: Global, desk: &mut Handle, entries: u
 pub extern "C" fn desk_series(alloc: Global, desk: &mut Handle) -> usize
     requires { HasDesk desk.old }
     ensures desk { HasDesk desk.new }
+    ensures series { result ≡ all_series (books_of desk.old.kept) }
+    ensures same { desk.new.kept ≡ desk.old.kept }
 {
     let kept = out_of(alloc, desk);
     let Kept::Desk(books) = &*kept else {
@@ -363,6 +453,12 @@ pub extern "C" fn desk_report(
     requires flushes { HasFlushes flushes.old }
     ensures desk { HasDesk desk.new }
     ensures flushes { HasFlushes flushes.new }
+    ensures written { out.new.status ≡ DONE → IsReported (books_of desk.old.kept) i
+        (text_of flushes.new.kept) out.new.number }
+    ensures refused { out.new.status ≢ DONE → TellsNotReported (books_of desk.old.kept) i out.new }
+    ensures none { out.new.status ≢ DONE → flushes.new.kept ≡ flushes.old.kept }
+    ensures same { desk.new.kept ≡ desk.old.kept }
+    ensures live { flushes_of flushes.new.kept ≡ flushes_of flushes.old.kept }
 {
     let kept = out_of(alloc, desk);
     let mut taken = out_of(alloc, flushes);

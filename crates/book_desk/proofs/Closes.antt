@@ -1,5 +1,5 @@
 -- The rounds of the first book and of the rest.
-use Rattle.std.proofs.Common.{◌≡◌, ◌<◌, ◌-◌, ◌+◌, ℕ, List, [], ◌∷◌, Bool, true, false, length, get_or, set, take, drop, refl, sym, subst, ap, inl, inr, arith}
+use Rattle.std.proofs.Common.{◌≡◌, ◌<◌, ◌-◌, ◌+◌, ℕ, List, [], ◌∷◌, Bool, true, false, length, get_or, set, take, drop, refl, sym, subst, inl, inr, arith}
 use borrow.Rule.Slice.PartMut.{put_mid}
 use Rattle.delta_book.specs.Journal.{Journal}
 use Rattle.book_desk.specs.Rounds.{IsClosed, AreClosed}

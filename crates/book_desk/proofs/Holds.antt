@@ -10,11 +10,13 @@ use Rattle.metric_events.specs.declared.event.Event.TheVariants as event
 use Rattle.delta_book.specs.Journal.{Journal, history, Appends}
 use Rattle.delta_book.specs.Refusals.{lift_refusal, quarantine_refusal}
 use Rattle.delta_book.specs.declared.faults.QuarantineFault.TheVariants.{NoMemory}
-use Rattle.book_desk.proofs.Firsts.{rest_after}
+use borrow.Rule.Slice.PartMut.{put_mid}
+use Rattle.book_desk.proofs.Firsts.{rest_after, put_rest}
 use Rattle.book_desk.specs.Holds.{HoldFails, hold_refusal, first_hold, is_held_in}
+use Rattle.delta_book.specs.declared.faults.NotQuarantined.{NotQuarantined}
 use Rattle.delta_book.specs.declared.faults.QuarantineFault.{QuarantineFault}
 use Rattle.delta_book.proofs.Journaled.{grows}
-use Rattle.book_desk.specs.Holds.{Holds, RestsFrom, IsReleased}
+use Rattle.book_desk.specs.Holds.{Holds, RestsFrom, IsReleased, Releases}
 
 itself : (s : List ℕ) → same_sender s s ≡ true
 itself s = (bytes_eq-Decides s s).1 refl
@@ -75,3 +77,25 @@ pub held_none : (os : List Journal) (s : List ℕ) → length os ≡ 0 → false
 unfolding is_held_in
 held_none [] s l = refl
 held_none (o ∷ os) s l = absurd (omega arith)
+
+pub or_first : (a b : Bool) → (a || b) ≡ false → a ≡ false
+or_first true b h = absurd (cc)
+or_first false b h = refl
+
+pub or_second : (a b : Bool) → (a || b) ≡ false → b ≡ false
+or_second true b h = absurd (cc)
+or_second false b h = h
+
+-- a sender that is not quarantined is not released
+same_book : (u : Bool) (s : List ℕ) (old new : Journal) → u ≡ false → u ≡ is_held s (held_senders (history old)) → Releases s old new → new ≡ old
+same_book u s old new e h (inl r) = r.1
+same_book u s old new e h (inr r) = absurd (held_not (is_held s (held_senders (history old))) (sym h ∙ e) r.none)
+  where
+    held_not : (b : Bool) → b ≡ false → if◌then◌else◌ {A = Option NotQuarantined} b None (Some (record {})) ≡ None → ⊥
+    held_not true f n = cc
+    held_not false f n = cc
+
+pub not_lifted : (os ys : List Journal) (b d : Journal) (u : Bool) (s : List ℕ) → 0 < length os → u ≡ false → u ≡ is_held s (held_senders (history (get_or os 0 d))) → Releases s (get_or os 0 d) b → ys ≡ take (length (set os 0 b) - 1) (drop 1 (set os 0 b)) → put_mid 1 (length (set os 0 b) - 1) (set os 0 b) ys ≡ os
+not_lifted [] ys b d u s l e h r q = absurd (omega arith)
+not_lifted (o ∷ os) ys b d u s l e h r q =
+    put_rest os ys o b ∙ (ap (λ (x : Journal). x ∷ ys) (same_book u s o b e h r) ∙ ap (λ (xs : List Journal). o ∷ xs) (q ∙ rest_after os o b))

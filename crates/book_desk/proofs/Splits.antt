@@ -46,22 +46,25 @@ one_more parts to new r ps i q s m h w e f = λ k d l. subst (λ (j : ℕ). IsSp
   where
     n : ℕ
     n = length parts
+
     at : (k : ℕ) (d : Option Part) → k < length parts → (k ≡ to) ⊎ (k ≡ to → ⊥) → IsSplit n k (get_or (set parts to new) k d) (take (suc i) ps)
     at k d l (inl c) =
         let g : get_or (set parts to new) k d ≡ new = ap (λ (j : ℕ). get_or (set parts to new) j d) c ∙ get_or-set_same parts to new d w in
         let b : (home n (get_or ps i q).series == k) ≡ true = eq-eqb (home n (get_or ps i q).series) k (sym (c ∙ h)) in
         let u = s k r l in
-        let v : get_or parts to r ≡ get_or parts k r = ap (λ (j : ℕ). get_or parts j r) (sym c) in
-        (ap points_in g ∙ (e ∙ (ap (λ (z : Option Part). points_in z ++ get_or ps i q ∷ []) v ∙ (ap (λ (z : List DataPoint). z ++ get_or ps i q ∷ []) (u.0)
-        ∙ sym (added _ (get_or ps i q) _ _ b (chosen_more n k ps i q m))))),
-        ap places_in g ∙ (f ∙ (ap (λ (z : Option Part). places_in z ++ i ∷ []) v ∙ (ap (λ (z : List ℕ). z ++ i ∷ []) (u.1)
-        ∙ sym (added _ i _ _ b (places_from n k ps i q m))))))
+        let v : get_or parts to r ≡ get_or parts k r = ap (λ (j : ℕ). get_or parts j r) (sym c) in (
+          ap points_in g ∙ (e ∙ (ap (λ (z : Option Part). points_in z ++ get_or ps i q ∷ []) v ∙ (ap (λ (z : List DataPoint). z ++ get_or ps i q ∷ []) (u.0)
+              ∙ sym (added _ (get_or ps i q) _ _ b (chosen_more n k ps i q m))))),
+          ap places_in g ∙ (f ∙ (ap (λ (z : Option Part). places_in z ++ i ∷ []) v ∙ (ap (λ (z : List ℕ). z ++ i ∷ []) (u.1)
+              ∙ sym (added _ i _ _ b (places_from n k ps i q m))))),
+        )
     at k d l (inr c) =
         let g : get_or (set parts to new) k d ≡ get_or parts k d = get_or-set_other parts to k new d c in
         let b : (home n (get_or ps i q).series == k) ≡ false = differ (home n (get_or ps i q).series) k (λ x. c (sym x ∙ sym h)) in
-        let u = s k d l in
-        (ap points_in g ∙ (u.0 ∙ sym (kept _ (get_or ps i q) _ _ b (chosen_more n k ps i q m))),
-        ap places_in g ∙ (u.1 ∙ sym (kept _ i _ _ b (places_from n k ps i q m))))
+        let u = s k d l in (
+          ap points_in g ∙ (u.0 ∙ sym (kept _ (get_or ps i q) _ _ b (chosen_more n k ps i q m))),
+          ap places_in g ∙ (u.1 ∙ sym (kept _ i _ _ b (places_from n k ps i q m))),
+        )
 
 pub set_all : {A : Type 0} (P : A → Type 0) (xs : List A) (i : ℕ) (y : A) → All P xs → P y → i < length xs → All P (set xs i y)
 set_all {A = A} P xs i y h p w = λ k d n. at k d (omega (arith, length-set xs i y)) (cases_eq k i)

@@ -1,6 +1,6 @@
 -- What the end of flushes does to each book.
 use Rattle.std.specs.Prelude.{◌≡◌, ◌≢◌, ℕ, ◌⊎◌, Option, Some, None, Bool, true, false, ◌&&◌}
-use Rattle.std.specs.Prelude.{List, [], ◌∷◌, length}
+use Rattle.std.specs.Prelude.{List, [], ◌∷◌, length, Result, Err}
 use Rattle.series_id.specs.Identity.{Identity}
 use Rattle.metric_events.specs.Settled.{SendsBefore, is_settled_in, is_taken_before}
 use Rattle.metric_events.specs.Running.{live_flushes}
@@ -61,3 +61,8 @@ abbrev pub IsNotEnded : End → (old new : List Journal) → List (Option Flush)
 IsNotEnded end old new flushes faults.Nothing = (length flushes ≢ length old) × (new ≡ old)
 IsNotEnded end old new flushes faults.NotLive =
     Each (MayEndBy end) old new flushes × (are_live old flushes ≡ false)
+
+-- after that there are no flushes left, but where they were not of so many books
+abbrev pub AreLeft : Result (Unit {0}) EndFault → (old new : List (Option Flush)) → Type 0
+AreLeft (Err faults.Nothing) old new = new ≡ old
+AreLeft result old new = new ≡ []

@@ -26,6 +26,7 @@ RestsFrom sender old new = (new ≡ old) ⊎ IsLifted sender old new
 
 -- the sender is released, as if it had never been quarantined
 pub record IsReleased (sender : List ℕ) (old new : Journal) : Type 0 where
+  pub none : lift_refusal (history old) sender ≡ None
   pub entry : Appends old new 0 (event.Lift sender)
   pub struck : CanBeStruck (history new)
 

@@ -1,5 +1,5 @@
 -- Which book a series belongs to: by a hash of its identity.
-use Rattle.std.specs.Prelude.{ℕ, ◌%◌, List, fold}
+use Rattle.std.specs.Prelude.{ℕ, ◌%◌, fold}
 use Rattle.std.specs.Hash.FoldHasher.{initial, write, finish}
 use Rattle.std.specs.Hash as fed
 use Rattle.std.specs.declared.hash.FoldHasher.{FoldHasher}

@@ -9,3 +9,4 @@ pub mod Rounds
 pub mod Splits
 pub mod Takes
 pub mod Written
+pub mod inner

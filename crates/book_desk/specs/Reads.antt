@@ -10,10 +10,6 @@ use Rattle.book_desk.specs.declared.part.Part.{Part}
 use Rattle.book_desk.specs.declared.reader.Counts.{Counts}
 use Rattle.book_desk.specs.declared.reader.PostFault.{PostFault}
 use Rattle.book_desk.specs.declared.reader.PostFault.TheVariants as faults
-use Rattle.metric_events.specs.declared.sender_name.NameFault.{NameFault}
-use Rattle.metric_events.specs.declared.sender_name.NameFault.TheVariants as names
-use Rattle.otlp_read.specs.declared.fault.ReadFault.{ReadFault}
-use Rattle.otlp_read.specs.declared.fault.ReadFault.TheVariants as bodies
 use Rattle.book_desk.specs.Splits.{AreSplit, IsFrom}
 
 -- the parts of these points of this sender: one for each of so many books, or none if there are no
@@ -29,17 +25,6 @@ IsRead sender bytes books counts parts =
     (t : Tally) × (text_reading bytes ≡ Some (Ok t)) × (name_fault sender ≡ None)
     × (counts.points ≡ length t.points) × (counts.foreign ≡ t.foreign)
     × AreParts books sender t.points parts
-
--- the fault of a post whose sender's name has this one
-abbrev pub sender_fault : NameFault → PostFault
-sender_fault names.NoMemory = faults.NoMemory
-sender_fault fault = faults.BadSender
-
--- the fault of a post whose body has this one
-abbrev pub body_fault : ReadFault → PostFault
-body_fault bodies.NotJson = faults.NotJson
-body_fault (bodies.WrongShape p) = faults.WrongShape
-body_fault bodies.NoMemory = faults.NoMemory
 
 -- why a post is not read
 abbrev pub IsUnread : (sender bytes : List ℕ) → PostFault → Type 0

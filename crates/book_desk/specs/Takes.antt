@@ -1,8 +1,7 @@
 -- What a take over many books does to each.
 use Rattle.std.specs.Prelude.{◌≡◌, ◌≢◌, ℕ, ◌+◌, ◌-◌, ◌==◌, Option, Some, None, ◌⊎◌, List, [], ◌∷◌}
 use Rattle.std.specs.Prelude.{if◌then◌else◌}
-use Rattle.delta_book.specs.Journal.{Journal, Appends, history, takes}
-use Rattle.delta_book.specs.Refusals.{flush_refusal}
+use Rattle.delta_book.specs.Journal.{Journal, history, takes}
 use Rattle.delta_book.specs.Flushes.{IsTaken, take_refusal}
 use Rattle.delta_book.specs.declared.faults.TakeFault.{TakeFault}
 use Rattle.delta_book.specs.declared.faults.TakeFault.TheVariants.{NoMemory}
@@ -46,17 +45,6 @@ abbrev pub nth : List (Option Flush) → ℕ → Option Flush
 nth [] i = None
 nth (None ∷ flushes) i = nth flushes i
 nth (Some flush ∷ flushes) i = if i == 0 then Some flush else nth flushes (i - 1)
-
--- the flush is live
-abbrev pub IsLive : Journal → Option Flush → Type 0
-IsLive now None = Unit {0}
-IsLive now (Some flush) = flush_refusal (history now) flush.number ≡ None
-
--- the flush was given back
-abbrev pub IsReturned : (old new : Journal) → Option Flush → Type 0
-IsReturned old new None = new ≡ old
-IsReturned old new (Some flush) =
-    Appends old new 0 (event.GiveBack flush.number) × CanBeStruck (history new)
 
 -- why a book refuses to give a flush: only where there is something to take
 abbrev pub refusal_of : List Identity → Option TakeFault → Option TakeFault

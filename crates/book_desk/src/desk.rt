@@ -1,10 +1,10 @@
 //! The books of a desk, each with the series that belong to it.
-ghost use Rattle.std.specs.Prelude.{◌≡◌, ◌≢◌, ◌≤◌, [], None, length, OnOk, OnErr, IfErr, IfOk, true};
+ghost use Rattle.std.specs.Prelude.{◌≡◌, ◌≢◌, ◌≤◌, [], None, length, OnOk, OnErr, IfErr, IfOk, false};
 ghost use Rattle.std.specs.List.{All};
 ghost use Rattle.delta_book.specs.Journal.{journal_of};
 ghost use Rattle.metric_events.specs.Opening.{first_opening};
 ghost use Rattle.book_desk.specs.Each.{Each, EachBook};
-ghost use Rattle.book_desk.specs.Ends.{IsEndedBy, IsNotEnded};
+ghost use Rattle.book_desk.specs.Ends.{IsEndedBy, IsNotEnded, AreLeft};
 ghost use Rattle.book_desk.specs.Holds.{Holds, RestsFrom, Releases, HoldFails, hold_refusal};
 ghost use Rattle.book_desk.specs.Holds.{is_held_in};
 ghost use Rattle.book_desk.specs.Posts.{Keeps};
@@ -134,6 +134,7 @@ impl Desk {
         ensures refused { IfErr result (λ e. IsNotTaken max self.old.books.items
             self.new.books.items flushes.old.flushes.items e) }
         ensures same { OnErr result (flushes.new ≡ flushes.old) }
+        ensures text { flushes.new.text ≡ flushes.old.text }
     {
         if !flushes.flushes.is_empty() {
             return Err(TakeAllFault::NotEnded);
@@ -159,7 +160,8 @@ impl Desk {
             self.new.books.items flushes.old.flushes.items) }
         ensures refused { IfErr result (λ e. IsNotEnded end self.old.books.items
             self.new.books.items flushes.old.flushes.items e) }
-        ensures gone { OnOk result (flushes.new.flushes.items ≡ []) }
+        ensures left { AreLeft result flushes.old.flushes.items flushes.new.flushes.items }
+        ensures text { flushes.new.text ≡ flushes.old.text }
     {
         if flushes.flushes.len() != self.books.len() {
             return Err(EndFault::Nothing);
@@ -191,6 +193,7 @@ impl Desk {
         ensures held { result ≡ is_held_in self.old.books.items sender.now }
         ensures released { EachBook (Releases sender.now) self.old.books.items
             self.new.books.items }
+        ensures same { result ≡ false → self.new.books.items ≡ self.old.books.items }
     {
         lift_each(&mut self.books, sender)
     }

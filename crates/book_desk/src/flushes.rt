@@ -1,5 +1,5 @@
 //! What was taken of many books and is not ended.
-ghost use Rattle.std.specs.Prelude.{◌≡◌, ◌≤◌, [], take, length, true};
+ghost use Rattle.std.specs.Prelude.{◌≡◌, ◌<◌, ◌++◌, [], drop, length, true, false};
 ghost use Rattle.std.specs.Prelude.{IfOk, IfErr, OnErr};
 ghost use Rattle.book_desk.specs.Written.{IsForwarded, IsNotForwarded};
 ghost use Rattle.std.specs.Prelude.{option_map};
@@ -101,7 +101,10 @@ impl Flushes {
 
     /// Copies the text that was written last, where there is room for it.
     pub fn copy_text(&self, out: &mut [u8]) -> bool
-        ensures { result ≡ true → take (length self.now.text.items) out.new ≡ self.now.text.items }
+        ensures copied { result ≡ true → out.new ≡ self.now.text.items
+            ++ drop (length self.now.text.items) out.old }
+        ensures short { result ≡ false → length out.old < length self.now.text.items }
+        ensures same { result ≡ false → out.new ≡ out.old }
     {
         let text = self.text.as_slice();
         if out.len() < text.len() {

@@ -76,6 +76,7 @@ pub fn hold_each(
 pub fn lift_each(books: &mut [Book], sender: &SenderName) -> bool
     ensures held { result ≡ is_held_in books.old sender.now }
     ensures released { EachBook (Releases sender.now) books.old books.new }
+    ensures same { result ≡ false → books.new ≡ books.old }
 {
     if books.is_empty() {
         return false;

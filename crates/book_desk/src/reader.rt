@@ -1,8 +1,8 @@
 //! Reads posts. A reader has no lock: each thread has one of its own.
 ghost use Rattle.std.specs.Prelude.{◌≡◌, ◌<◌, [], IfOk, IfErr, OnErr};
 ghost use Rattle.std.specs.List.{All};
-ghost use Rattle.book_desk.specs.Posts.{HasPoints};
-ghost use Rattle.book_desk.specs.Reads as reads;
+ghost use Rattle.book_desk.specs.inner.Opened.{HasPoints};
+ghost use Rattle.book_desk.specs.inner.Faults as faults;
 ghost use Rattle.book_desk.specs.Reads.{AreParts, IsRead, IsUnread};
 
 use crate::none::none_of;
@@ -49,7 +49,7 @@ impl Model for Reader {
     ghost use Rattle.std.specs.Prelude.{List, Option};
     ghost use Rattle.std.specs.List.{All};
     ghost use Rattle.book_desk.specs.declared.part.Part.{Part};
-    ghost use Rattle.book_desk.specs.Posts.{HasPoints};
+    ghost use Rattle.book_desk.specs.inner.Opened.{HasPoints};
 
     ghost Value = { List (Option Part) };
 
@@ -59,7 +59,7 @@ impl Model for Reader {
 }
 
 fn sender_fault(fault: NameFault) -> PostFault
-    ensures { result ≡ reads.sender_fault fault }
+    ensures { result ≡ faults.sender_fault fault }
 {
     match fault {
         NameFault::NoMemory => PostFault::NoMemory,
@@ -68,7 +68,7 @@ fn sender_fault(fault: NameFault) -> PostFault
 }
 
 fn body_fault(fault: ReadFault) -> PostFault
-    ensures { result ≡ reads.body_fault fault }
+    ensures { result ≡ faults.body_fault fault }
 {
     match fault {
         ReadFault::NotJson => PostFault::NotJson,

@@ -1,4 +1,4 @@
-use Rattle.std.proofs.Common.{inl, refl, sym, ◌∙◌, arith}
+use Rattle.std.proofs.Common.{inl, refl, arith}
 use Rattle.std.proofs.lemmas.Grind.{common_steps}
 use Rattle.book_desk.specs.Takes.{RestsTaken}
 use Rattle.book_desk.proofs.Firsts.{book_same}
