@@ -3,10 +3,11 @@
 
     tools/build.py [CRATE ..]
 
-The crates are play and gateway, or those that are named; then the service is not built. Crates that don't use each other are proved
-side by side, as many as processors and memory carry; a crate that is proved and has not changed since,
-nor one below it, is not proved again, also not after an interrupt. Beside a program is written of which revision
-it is, and that it was proved (tools/proved.py). The logs are in out/logs.
+The crates are play, gateway and book_c, which the service is linked with, or those that are named; then the service is
+not built. A static library stays in the folder out/ of its crate. Crates that don't use each other are proved side by
+side, as many as processors and memory carry; a crate that is proved and has not changed since, nor one below it, is
+not proved again, also not after an interrupt. Beside a program or a static library is written of which revision it is,
+and that it was proved (tools/proved.py). The logs are in out/logs.
 """
 import hashlib
 import os
@@ -21,6 +22,8 @@ from proved import write_proof
 from steps import GIGABYTE, Failed, Step, Steps, end_of, locked, shown
 
 PROGRAMS = ["play", "gateway"]
+# What the service is linked with.
+LIBRARY = "book_c"
 SERVICE = "totxegun"
 SERVICE_MADE = f"{os.environ.get('CARGO_TARGET_DIR', f'{ROOT}/service/target')}/release/{SERVICE}"
 # It takes about as long as a crate of so many lines.
@@ -95,8 +98,8 @@ def steps_for(crates, building):
     return [building.step(crate, missing) for crate in missing], len(wanted)
 
 
-def service_step():
-    """The step that builds the service. Nothing of it is proved."""
+def service_step(after):
+    """The step that builds the service, after these. Nothing of it is proved."""
 
     def work(step):
         for command in (["tools/needs", "service"], ["tools/cargo", "build", "--release"]):
@@ -105,7 +108,22 @@ def service_step():
         install(SERVICE_MADE, SERVICE)
         return "built, not proved"
 
-    return Step(SERVICE, work, "tools/cargo build --release", weight=SERVICE_WEIGHT, memory=GIGABYTE)
+    return Step(
+        SERVICE, work, "tools/cargo build --release", after=after, weight=SERVICE_WEIGHT, memory=GIGABYTE
+    )
+
+
+def hand_over(crate):
+    """Puts what a crate is for where it belongs, with its proof beside it: its path. A library is for crates alone."""
+    if crate.is_program:
+        install(made_by(crate), crate.name)
+        path = f"bin/{crate.name}"
+    elif crate.is_static:
+        path = os.path.relpath(made_by(crate), ROOT)
+    else:
+        return None
+    write_proof(f"{ROOT}/{path}")
+    return path
 
 
 def install(made, name):
@@ -120,20 +138,17 @@ def main(names):
     unknown = [name for name in names if name not in known]
     if unknown:
         sys.exit(f"crates.txt lists no crate {' '.join(unknown)}")
-    crates = [known[name] for name in names or PROGRAMS]
+    crates = [known[name] for name in names or [*PROGRAMS, LIBRARY]]
     begun = time.monotonic()
     with locked(OUT):
         steps, whole = steps_for(crates, Building())
         if len(steps) < whole:
             print(f"{whole - len(steps)} of {whole} crates are proved and have not changed", flush=True)
-        if not Steps([*steps, *([] if names else [service_step()])]).run():
+        service = [] if names else [service_step([it.name for it in steps if it.name == LIBRARY])]
+        if not Steps([*steps, *service]).run():
             return 1
-    programs = [crate.name for crate in crates if crate.is_program]
-    for crate in crates:
-        if crate.is_program:
-            install(made_by(crate), crate.name)
-            write_proof(f"{ROOT}/bin/{crate.name}")
-    built = " and ".join(shlex.quote(f"bin/{name}") for name in [*programs, *([] if names else [SERVICE])])
+    made = [*map(hand_over, crates), *([] if names else [f"bin/{SERVICE}"])]
+    built = " and ".join(shlex.quote(it) for it in made if it)
     print(f"{built or 'the libraries'}: built in {shown(time.monotonic() - begun)}")
     return 0
 

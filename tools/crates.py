@@ -19,6 +19,8 @@ class Crate:
         self.below = below
         self.folder = f"{ROOT}/crates/{name}"
         self.is_program = os.path.isfile(f"{self.folder}/src/main.rt")
+        # One that C can call, and that no crate can use.
+        self.is_static = "staticlib" in line.partition(":")[0].split()
 
     def uses(self):
         """The names of the toolchain's libraries that it uses, but for the standard one."""

@@ -1,7 +1,7 @@
 """The functions of a Rattle file, by the lines that the formatter gives them."""
 import re
 
-BEGIN = re.compile(r"( *)(?:pub(?:\([^)]*\))? )?(?:const )?fn (\w+)")
+BEGIN = re.compile(r"( *)(?:pub(?:\([^)]*\))? )?(?:const |extern .C. )?fn (\w+)")
 ABOVE = re.compile(r" *(?:#\[|///)")
 
 

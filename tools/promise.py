@@ -36,13 +36,13 @@ DIRECTIVE = re.compile(r"(pub )?(use|mod) ")
 # What stands before the code of a definition: its comment, and how its operator binds.
 BEFORE = re.compile(r"\s*(--|infix[lr]? )")
 # What begins at the margin of a file of src/, with what it may have further in.
-ITEM = re.compile(r"^(?P<public>pub )?(?:(?P<kind>fn|trait) (?P<name>\w+)|impl\b(?P<head>[^{]*)\{)", re.MULTILINE)
+ITEM = re.compile(r"^(?P<public>pub )?(?:extern .C. )?(?:(?P<kind>fn|trait) (?P<name>\w+)|impl\b(?P<head>[^{]*)\{)", re.MULTILINE)
 METHOD = re.compile(r"^    (?P<public>pub )?fn (?P<name>\w+)", re.MULTILINE)
 # What an implementation gives in the place of a trait's own words.
 MEANT = re.compile(r"^    ghost \w+ [^;]*= [^;]*;$", re.MULTILINE)
 # The type of `impl<L: Round> Drop for Book<L>`, and whose trait it is.
 IMPLEMENTED = re.compile(r"(?:<.*?> )?(?:(?P<trait>\w+)(?:<.*>)? for )?(?P<type>\w+)")
-EXPORT = re.compile(r"^\s*pub (?:mod (\w+);|use [\w:]+?::(?:\{([^}]*)\}|(\w+));|(?:fn|trait|struct|enum) (\w+))", re.MULTILINE)
+EXPORT = re.compile(r"^\s*pub (?:mod (\w+);|use [\w:]+?::(?:\{([^}]*)\}|(\w+));|(?:(?:extern .C. )?fn|trait|struct|enum) (\w+))", re.MULTILINE)
 # A word of a text, with what stands behind its dots; or an operator.
 WORD = re.compile(r"[\w']+(?:\.[\w']+)*|[^\w\s'.,;(){}\[\]]+")
 

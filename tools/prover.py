@@ -22,9 +22,11 @@ class Prover:
     def build(self, crate, jobs):
         """The commands that prove a crate in its folder and build it."""
         proving = [f"{self.kit}/bin/rattle", "build", *self.words(crate, jobs)]
+        tools = ["--toolchain", f"{self.kit}/toolchain"]
+        if crate.is_static:
+            return [[*proving, *tools, "-o", made_by(crate)]]
         if not crate.is_program:
             return [[*proving, "--statements", "-o", made_by(crate)]]
-        tools = ["--toolchain", f"{self.kit}/toolchain"]
         module = f"{made_by(crate)}.o"
         system = [f"{self.kit}/c/{name}" for name in ("libos_c.a", "liblibc_c.a")]
         linking = [f"{self.kit}/bin/rattle-link", "--target", "x86_64-unknown-linux-gnu", *tools]
@@ -37,6 +39,8 @@ class Prover:
         """What a check of a crate reads, with so many jobs."""
         libraries = f"{self.kit}/rlibs"
         words = ["--crate-name", crate.name, f"src/{'main' if crate.is_program else 'lib'}.rt"]
+        if crate.is_static:
+            words += ["--crate-type", "staticlib"]
         for use in ("std", *crate.uses()):
             words += ["--extern", f"{use}={libraries}/{use}.rlib"]
         for below in crate.below:
@@ -54,7 +58,9 @@ def room_of(crate):
 
 
 def made_by(crate):
-    """What is built of a crate: a program, or the folder of a library."""
+    """What is built of a crate: a program, a static library, or the folder of a library."""
     if crate.is_program:
         return f"{crate.folder}/out/{crate.name}"
+    if crate.is_static:
+        return f"{crate.folder}/out/lib{crate.name}.a"
     return f"{room_of(crate)}/{crate.name}.rlib"

@@ -6,6 +6,8 @@ mod bodies;
 #[cfg(test)]
 mod uses_back_answers;
 #[cfg(test)]
+mod uses_book_desk;
+#[cfg(test)]
 mod uses_bucket_lanes;
 #[cfg(test)]
 mod uses_byte_ends;

@@ -1,0 +1,73 @@
+-- What the calls answer, and what they leave: each answer but DONE tells why.
+use Rattle.std.specs.Prelude.{◌≡◌, ◌≢◌, ◌⊎◌, ℕ, List, [], Option, None, false}
+use Rattle.metric_events.specs.Senders.{name_fault}
+use Rattle.delta_book.specs.Journal.{Journal}
+use Rattle.delta_book.specs.declared.faults.QuarantineFault.{QuarantineFault}
+use Rattle.delta_book.specs.declared.flush.Flush.{Flush}
+use Rattle.book_desk.specs.Each.{EachBook}
+use Rattle.book_desk.specs.Ends.{IsNotEnded}
+use Rattle.book_desk.specs.Holds.{RestsFrom, HoldFails, hold_refusal, is_held_in}
+use Rattle.book_desk.specs.Reads.{IsUnread}
+use Rattle.book_desk.specs.Refusals.{IsNotAdmitted}
+use Rattle.book_desk.specs.Takes.{IsNotTaken}
+use Rattle.book_desk.specs.Written.{IsNotForwarded, IsNotReported}
+use Rattle.book_desk.specs.declared.desk.DeskFault.{DeskFault}
+use Rattle.book_desk.specs.declared.desk.EndFault.{EndFault}
+use Rattle.book_desk.specs.declared.desk.TakeAllFault.{TakeAllFault}
+use Rattle.book_desk.specs.declared.end.End.{End}
+use Rattle.book_desk.specs.declared.flushes.TextFault.{TextFault}
+use Rattle.book_desk.specs.declared.part.Part.{Part}
+use Rattle.book_desk.specs.declared.reader.PostFault.{PostFault}
+use Rattle.book_c.specs.Answers.{plain, admit_answer, post_status, take_status, end_status}
+use Rattle.book_c.specs.Answers.{text_status, hold_status}
+use Rattle.book_c.specs.declared.answers.Answer.{Answer}
+use Rattle.book_c.specs.declared.statuses.TheConstants.{BAD_SENDER, NO_MEMORY}
+use Rattle.book_c.specs.declared.statuses.TheConstants.{NOT_QUARANTINED}
+
+-- a post was not read, and the reader has nothing
+abbrev pub TellsUnread : (sender bytes : List ℕ) → Answer → List (Option Part) → Type 0
+TellsUnread sender bytes answer parts =
+    (e : PostFault) × (answer ≡ plain (post_status e)) × IsUnread sender bytes e × (parts ≡ [])
+
+-- a post was not admitted
+abbrev pub TellsNotAdmitted : (old new : List Journal) → List (Option Part) → Answer → Type 0
+TellsNotAdmitted old new parts answer =
+    (e : DeskFault) × (answer ≡ admit_answer e) × IsNotAdmitted old new parts e
+
+-- flushes were not taken
+abbrev pub TellsNotTaken : (max : ℕ) → (old new : List Journal) → List (Option Flush) → Answer → Type 0
+TellsNotTaken max old new before answer =
+    (e : TakeAllFault) × (answer ≡ plain (take_status e)) × IsNotTaken max old new before e
+
+-- flushes were not ended
+abbrev pub TellsNotEnded : End → (old new : List Journal) → List (Option Flush) → (status : ℕ) → Type 0
+TellsNotEnded end old new flushes status =
+    (e : EndFault) × (status ≡ end_status e) × IsNotEnded end old new flushes e
+
+-- the request of the i-th flush was not written
+abbrev pub TellsNotForwarded : List (Option Flush) → (i : ℕ) → Answer → Type 0
+TellsNotForwarded flushes i answer =
+    (e : TextFault) × (answer ≡ plain (text_status e)) × IsNotForwarded flushes i e
+
+-- the report of the i-th book was not written
+abbrev pub TellsNotReported : List Journal → (i : ℕ) → Answer → Type 0
+TellsNotReported books i answer =
+    (e : TextFault) × (answer ≡ plain (text_status e)) × IsNotReported books i e
+
+-- the bytes are no sender's name, or memory ran out
+abbrev pub TellsNoName : (sender : List ℕ) → (status : ℕ) → Type 0
+TellsNoName sender status =
+    ((status ≡ BAD_SENDER) × (name_fault sender ≢ None)) ⊎ (status ≡ NO_MEMORY)
+
+-- a sender was not quarantined
+abbrev pub TellsNotHeld : (old new : List Journal) → (sender : List ℕ) → (status : ℕ) → Type 0
+TellsNotHeld old new sender status =
+    (TellsNoName sender status × (new ≡ old))
+    ⊎ ((e : QuarantineFault) × (status ≡ hold_status e) × EachBook (RestsFrom sender) old new
+    × HoldFails e (hold_refusal old sender))
+
+-- a sender was not released: it is no name, or in no book quarantined
+abbrev pub TellsNotLifted : List Journal → (sender : List ℕ) → (status : ℕ) → Type 0
+TellsNotLifted books sender status =
+    TellsNoName sender status
+    ⊎ ((status ≡ NOT_QUARANTINED) × (is_held_in books sender ≡ false))

@@ -1,0 +1,180 @@
+//! The calls, with what they answer.
+ghost use Rattle.std.specs.Prelude.{◌≡◌, ◌≢◌, ◌≤◌, ◌<◌, [], None, true};
+ghost use Rattle.book_desk.specs.Each.{Each, EachBook};
+ghost use Rattle.book_desk.specs.Ends.{IsEndedBy};
+ghost use Rattle.book_desk.specs.Holds.{Holds, Releases, hold_refusal, is_held_in};
+ghost use Rattle.book_desk.specs.Posts.{Keeps};
+ghost use Rattle.book_desk.specs.Reads.{IsRead};
+ghost use Rattle.book_desk.specs.Refusals.{post_refusal};
+ghost use Rattle.book_desk.specs.Takes as takes;
+ghost use Rattle.book_desk.specs.Takes.{Takes, take_all_refusal};
+ghost use Rattle.book_desk.specs.Written.{IsForwarded, IsReported};
+ghost use Rattle.book_c.specs.Answers.{counts_of, written_of, left_of};
+ghost use Rattle.book_c.specs.Calls.{TellsUnread, TellsNotAdmitted, TellsNotTaken, TellsNotEnded};
+ghost use Rattle.book_c.specs.Calls.{TellsNotForwarded, TellsNotReported};
+ghost use Rattle.book_c.specs.inner.Names as names;
+ghost use Rattle.book_c.specs.Calls.{TellsNotHeld, TellsNotLifted};
+
+use crate::answers::{
+    Answer, admit_answer, end_status, hold_status, post_status, take_status, text_status,
+};
+use crate::statuses::{BAD_SENDER, DONE, NO_MEMORY, NOT_QUARANTINED};
+use book_desk::desk::Desk;
+use book_desk::end::End;
+use book_desk::flushes::Flushes;
+use book_desk::reader::Reader;
+use metric_events::limits::MAX_TAKEN;
+use metric_events::sender_name::{NameFault, SenderName};
+use std::alloc::Global;
+
+pub fn read(reader: &mut Reader, sender: &[u8], body: &[u8], books: usize) -> Answer
+    requires { 0 < books }
+    ensures read { result.status ≡ DONE → IsRead sender.now body.now books (counts_of result)
+        reader.new }
+    ensures unread { result.status ≢ DONE → TellsUnread sender.now body.now result reader.new }
+{
+    match reader.read(sender, body, books) {
+        Ok(counts) => Answer {
+            status: DONE,
+            number: counts.points,
+            at: counts.foreign,
+            frontier: 0,
+        },
+        Err(fault) => Answer::plain(post_status(fault)),
+    }
+}
+
+pub fn admit(desk: &mut Desk, reader: &mut Reader) -> Answer
+    ensures taken { result.status ≡ DONE → Each Keeps desk.old.books.items desk.new.books.items
+        reader.old }
+    ensures none { result.status ≡ DONE → post_refusal desk.old.books.items reader.old ≡ None }
+    ensures refused { result.status ≢ DONE → TellsNotAdmitted desk.old.books.items
+        desk.new.books.items reader.old result }
+    ensures gone { reader.new ≡ [] }
+{
+    match desk.admit(reader) {
+        Ok(()) => Answer::plain(DONE),
+        Err(fault) => admit_answer(fault),
+    }
+}
+
+pub fn take(desk: &mut Desk, flushes: &mut Flushes, max: usize) -> Answer
+    requires low { 1 ≤ max }
+    requires high { max ≤ MAX_TAKEN }
+    ensures taken { result.status ≡ DONE → Each (Takes max) desk.old.books.items
+        desk.new.books.items flushes.new.flushes.items }
+    ensures none { result.status ≡ DONE → take_all_refusal desk.old.books.items max ≡ None }
+    ensures count { result.status ≡ DONE → result.number ≡ takes.count
+        flushes.new.flushes.items }
+    ensures some { result.status ≡ DONE → 1 ≤ result.number }
+    ensures refused { result.status ≢ DONE → TellsNotTaken max desk.old.books.items
+        desk.new.books.items flushes.old.flushes.items result }
+    ensures same { result.status ≢ DONE → flushes.new ≡ flushes.old }
+    ensures text { flushes.new.text ≡ flushes.old.text }
+{
+    match desk.take(flushes, max) {
+        Ok(found) => Answer {
+            status: DONE,
+            number: found as u64,
+            at: 0,
+            frontier: 0,
+        },
+        Err(fault) => Answer::plain(take_status(fault)),
+    }
+}
+
+pub fn write(flushes: &mut Flushes, i: usize) -> Answer
+    ensures written { result.status ≡ DONE → IsForwarded flushes.old.flushes.items i
+        flushes.new.text.items (written_of result) }
+    ensures refused { result.status ≢ DONE → TellsNotForwarded flushes.old.flushes.items i
+        result }
+    ensures none { result.status ≢ DONE → flushes.new.text.items ≡ [] }
+    ensures same { flushes.new.flushes ≡ flushes.old.flushes }
+{
+    match flushes.write_request(i) {
+        Ok(written) => Answer {
+            status: DONE,
+            number: written.bytes as u64,
+            at: written.series as u64,
+            frontier: 0,
+        },
+        Err(fault) => Answer::plain(text_status(fault)),
+    }
+}
+
+pub fn report(desk: &Desk, flushes: &mut Flushes, i: usize) -> Answer
+    ensures written { result.status ≡ DONE → IsReported desk.now.books.items i
+        flushes.new.text.items result.number }
+    ensures refused { result.status ≢ DONE → TellsNotReported desk.now.books.items i result }
+    ensures none { result.status ≢ DONE → flushes.new ≡ flushes.old }
+    ensures same { flushes.new.flushes ≡ flushes.old.flushes }
+{
+    match desk.report(flushes, i) {
+        Ok(bytes) => Answer {
+            status: DONE,
+            number: bytes as u64,
+            at: 0,
+            frontier: 0,
+        },
+        Err(fault) => Answer::plain(text_status(fault)),
+    }
+}
+
+pub fn end(desk: &mut Desk, flushes: &mut Flushes, end: End) -> u32
+    ensures ended { result ≡ DONE → Each (IsEndedBy end) desk.old.books.items
+        desk.new.books.items flushes.old.flushes.items }
+    ensures refused { result ≢ DONE → TellsNotEnded end desk.old.books.items
+        desk.new.books.items flushes.old.flushes.items result }
+    ensures left { flushes.new.flushes.items ≡ left_of result flushes.old.flushes.items }
+    ensures text { flushes.new.text ≡ flushes.old.text }
+{
+    match desk.end(flushes, end) {
+        Ok(()) => DONE,
+        Err(fault) => end_status(fault),
+    }
+}
+
+/// What bytes are answered that are no sender's name.
+fn name_status(fault: NameFault) -> u32
+    ensures value { result ≡ names.name_status fault }
+    ensures some { result ≢ DONE }
+{
+    match fault {
+        NameFault::NoMemory => NO_MEMORY,
+        _ => BAD_SENDER,
+    }
+}
+
+pub fn quarantine(alloc: Global, desk: &mut Desk, sender: &[u8]) -> u32
+    ensures held { result ≡ DONE → EachBook (Holds sender.now) desk.old.books.items
+        desk.new.books.items }
+    ensures none { result ≡ DONE → hold_refusal desk.old.books.items sender.now ≡ None }
+    ensures refused { result ≢ DONE → TellsNotHeld desk.old.books.items desk.new.books.items
+        sender.now result }
+{
+    let sender = match SenderName::new(alloc, sender) {
+        Ok(sender) => sender,
+        Err(fault) => return name_status(fault),
+    };
+    match desk.quarantine(&sender) {
+        Ok(()) => DONE,
+        Err(fault) => hold_status(fault),
+    }
+}
+
+pub fn lift(alloc: Global, desk: &mut Desk, sender: &[u8]) -> u32
+    ensures released { result ≡ DONE → EachBook (Releases sender.now) desk.old.books.items
+        desk.new.books.items }
+    ensures held { result ≡ DONE → is_held_in desk.old.books.items sender.now ≡ true }
+    ensures refused { result ≢ DONE → TellsNotLifted desk.old.books.items sender.now result }
+    ensures same { result ≢ DONE → desk.new.books.items ≡ desk.old.books.items }
+{
+    let sender = match SenderName::new(alloc, sender) {
+        Ok(sender) => sender,
+        Err(fault) => return name_status(fault),
+    };
+    if desk.lift(&sender) {
+        return DONE;
+    }
+    NOT_QUARANTINED
+}

@@ -1,0 +1,474 @@
+//! Many books for a program that is not Rattle: a static library over `book_desk`. Its exports alone
+//! are here. Each of a program's handles is one word; one call at a time has it.
+#![tactic(auto)]
+
+ghost use Rattle.std.specs.Prelude.{◌≡◌, ◌≢◌, ◌≤◌, ◌<◌, ◌++◌, [], true, false, None, length, drop};
+ghost use Rattle.std.specs.Prelude.{IfOk};
+ghost use Rattle.std.specs.List.{All};
+ghost use Rattle.std.specs.Ptr.{null_ptr};
+ghost use Rattle.metric_events.specs.Opening.{first_opening};
+ghost use Rattle.delta_book.specs.Journal.{journal_of};
+ghost use Rattle.book_desk.specs.Each.{Each, EachBook};
+ghost use Rattle.book_desk.specs.Ends.{IsEndedBy};
+ghost use Rattle.book_desk.specs.Holds.{Holds, Releases, hold_refusal, is_held_in};
+ghost use Rattle.book_desk.specs.Posts.{Keeps};
+ghost use Rattle.book_desk.specs.Reads.{IsRead};
+ghost use Rattle.book_desk.specs.Refusals.{post_refusal};
+ghost use Rattle.book_desk.specs.Rounds.{AreClosed};
+ghost use Rattle.book_desk.specs.Takes.{Takes, count, take_all_refusal};
+ghost use Rattle.book_desk.specs.Written.{IsForwarded, IsReported, all_series};
+ghost use Rattle.book_c.specs.Answers.{counts_of, written_of, left_of};
+ghost use Rattle.book_c.specs.Calls.{TellsUnread, TellsNotAdmitted, TellsNotTaken, TellsNotEnded};
+ghost use Rattle.book_c.specs.Calls.{TellsNotForwarded, TellsNotReported};
+ghost use Rattle.book_c.specs.Calls.{TellsNotHeld, TellsNotLifted};
+ghost use Rattle.book_c.specs.Kinds.{HasReader, HasDesk, HasFlushes};
+ghost use Rattle.book_c.specs.Kinds.{parts_of, books_of, flushes_of, text_of};
+
+mod answers;
+mod calls;
+mod handle;
+mod kept;
+mod statuses;
+
+use answers::Answer;
+use book_desk::desk::Desk;
+use book_desk::end::End;
+use book_desk::flushes::Flushes;
+use book_desk::reader::Reader;
+use handle::Handle;
+use handle::parts::Parts;
+use kept::Kept;
+use metric_events::limits::MAX_TAKEN;
+use statuses::DONE;
+use std::alloc::{AllocError, Global};
+use std::mem;
+
+/// Whoever calls this shows that a value may go from one thread to another, one call at a time.
+fn may_cross<T: Send>(_it: &T) {}
+
+/// A handle of this, or the failure to have the memory.
+fn handle_of(alloc: Global, it: Kept) -> Result<Handle, AllocError>
+    ensures some { IfOk result (λ h. h.at ≢ null_ptr) }
+    ensures kept { IfOk result (λ h. h.kept ≡ it) }
+{
+    may_cross(&it);
+    let it = Box::new(alloc, it)?;
+    Ok(Handle::of_parts(Parts::of(it)))
+}
+
+/// Takes out what a handle keeps.
+fn out_of(alloc: Global, h: &mut Handle) -> Box<Kept, Global>
+    requires { h.old.at ≢ null_ptr }
+    ensures { result.value ≡ h.old.kept }
+{
+    mem::replace(h, Handle::none(alloc)).into_parts().into_box()
+}
+
+/// Puts it back.
+fn put_back(h: &mut Handle, it: Box<Kept, Global>)
+    ensures some { h.new.at ≢ null_ptr }
+    ensures kept { h.new.kept ≡ it.value }
+{
+    *h = Handle::of_parts(Parts::of(it));
+}
+
+/// Makes a reader. True where there was memory.
+#[unsafe(no_mangle)]
+pub extern "C" fn reader_new(alloc: Global, out: &mut Handle) -> bool
+    ensures reader { result ≡ true → HasReader out.new }
+    ensures parts { result ≡ true → parts_of out.new.kept ≡ [] }
+{
+    match handle_of(alloc, Kept::Reader(Reader::new(alloc))) {
+        Ok(handle) => {
+            *out = handle;
+            true
+        }
+        Err(_) => false,
+    }
+}
+
+/// Frees a reader.
+#[unsafe(no_mangle)]
+pub extern "C" fn reader_free(alloc: Global, reader: &mut Handle)
+    requires { HasReader reader.old }
+{
+    drop(out_of(alloc, reader));
+}
+
+/// Reads a post and splits it into parts, one for each of so many books. What was read before is
+/// gone, also if the post can't be read.
+#[unsafe(no_mangle)]
+pub extern "C" fn reader_read(
+    alloc: Global,
+    reader: &mut Handle,
+    sender: &[u8],
+    body: &[u8],
+    books: usize,
+    out: &mut Answer,
+)
+    requires reader { HasReader reader.old }
+    requires books { 0 < books }
+    ensures reader { HasReader reader.new }
+    ensures read { out.new.status ≡ DONE → IsRead sender.now body.now books (counts_of out.new)
+        (parts_of reader.new.kept) }
+    ensures unread { out.new.status ≢ DONE → TellsUnread sender.now body.now out.new
+        (parts_of reader.new.kept) }
+{
+    let mut kept = out_of(alloc, reader);
+    let Kept::Reader(it) = &mut *kept else {
+        unreachable!()
+    };
+    *out = calls::read(it, sender, body, books);
+    put_back(reader, kept);
+}
+
+/// Makes a desk of so many books. True where there was memory.
+#[unsafe(no_mangle)]
+pub extern "C" fn desk_new(alloc: Global, books: usize, out: &mut Handle) -> bool
+    ensures desk { result ≡ true → HasDesk out.new }
+    ensures count { result ≡ true → length (books_of out.new.kept) ≡ books }
+    ensures books { result ≡ true → All (λ b. b ≡ journal_of first_opening [])
+        (books_of out.new.kept) }
+{
+    let Ok(desk) = Desk::new(alloc, books) else {
+        return false;
+    };
+    match handle_of(alloc, Kept::Desk(desk)) {
+        Ok(handle) => {
+            *out = handle;
+            true
+        }
+        Err(_) => false,
+    }
+}
+
+/// Frees a desk.
+#[unsafe(no_mangle)]
+pub extern "C" fn desk_free(alloc: Global, desk: &mut Handle)
+    requires { HasDesk desk.old }
+{
+    drop(out_of(alloc, desk));
+}
+
+/// Admits what the reader has read, which is gone from it then: all books have their parts, confirmed,
+/// or none has.
+#[unsafe(no_mangle)]
+pub extern "C" fn desk_admit(
+    alloc: Global,
+    desk: &mut Handle,
+    reader: &mut Handle,
+    out: &mut Answer,
+)
+    requires desk { HasDesk desk.old }
+    requires reader { HasReader reader.old }
+    ensures desk { HasDesk desk.new }
+    ensures reader { HasReader reader.new }
+    ensures taken { out.new.status ≡ DONE → Each Keeps (books_of desk.old.kept)
+        (books_of desk.new.kept) (parts_of reader.old.kept) }
+    ensures none { out.new.status ≡ DONE → post_refusal (books_of desk.old.kept)
+        (parts_of reader.old.kept) ≡ None }
+    ensures refused { out.new.status ≢ DONE → TellsNotAdmitted (books_of desk.old.kept)
+        (books_of desk.new.kept) (parts_of reader.old.kept) out.new }
+    ensures gone { parts_of reader.new.kept ≡ [] }
+{
+    let mut kept = out_of(alloc, desk);
+    let mut post = out_of(alloc, reader);
+    let Kept::Desk(books) = &mut *kept else {
+        unreachable!()
+    };
+    let Kept::Reader(it) = &mut *post else {
+        unreachable!()
+    };
+    *out = calls::admit(books, it);
+    put_back(reader, post);
+    put_back(desk, kept);
+}
+
+/// Makes room for flushes. True where there was memory.
+#[unsafe(no_mangle)]
+pub extern "C" fn flushes_new(alloc: Global, out: &mut Handle) -> bool
+    ensures flushes { result ≡ true → HasFlushes out.new }
+    ensures none { result ≡ true → flushes_of out.new.kept ≡ [] }
+    ensures text { result ≡ true → text_of out.new.kept ≡ [] }
+{
+    match handle_of(alloc, Kept::Flushes(Flushes::new(alloc))) {
+        Ok(handle) => {
+            *out = handle;
+            true
+        }
+        Err(_) => false,
+    }
+}
+
+/// Frees it.
+#[unsafe(no_mangle)]
+pub extern "C" fn flushes_free(alloc: Global, flushes: &mut Handle)
+    requires { HasFlushes flushes.old }
+{
+    drop(out_of(alloc, flushes));
+}
+
+/// Takes a flush of at most so many series of each book that has some, or none of any.
+#[unsafe(no_mangle)]
+pub extern "C" fn desk_take(
+    alloc: Global,
+    desk: &mut Handle,
+    flushes: &mut Handle,
+    max: usize,
+    out: &mut Answer,
+)
+    requires desk { HasDesk desk.old }
+    requires flushes { HasFlushes flushes.old }
+    requires low { 1 ≤ max }
+    requires high { max ≤ MAX_TAKEN }
+    ensures desk { HasDesk desk.new }
+    ensures flushes { HasFlushes flushes.new }
+    ensures taken { out.new.status ≡ DONE → Each (Takes max) (books_of desk.old.kept)
+        (books_of desk.new.kept) (flushes_of flushes.new.kept) }
+    ensures none { out.new.status ≡ DONE → take_all_refusal (books_of desk.old.kept) max ≡ None }
+    ensures count { out.new.status ≡ DONE → out.new.number ≡ count
+        (flushes_of flushes.new.kept) }
+    ensures some { out.new.status ≡ DONE → 1 ≤ out.new.number }
+    ensures refused { out.new.status ≢ DONE → TellsNotTaken max (books_of desk.old.kept)
+        (books_of desk.new.kept) (flushes_of flushes.old.kept) out.new }
+    ensures same { out.new.status ≢ DONE → flushes_of flushes.new.kept
+        ≡ flushes_of flushes.old.kept }
+    ensures text { text_of flushes.new.kept ≡ text_of flushes.old.kept }
+{
+    let mut kept = out_of(alloc, desk);
+    let mut taken = out_of(alloc, flushes);
+    let Kept::Desk(books) = &mut *kept else {
+        unreachable!()
+    };
+    let Kept::Flushes(it) = &mut *taken else {
+        unreachable!()
+    };
+    *out = calls::take(books, it, max);
+    put_back(flushes, taken);
+    put_back(desk, kept);
+}
+
+/// Writes the request that forwards the i-th flush.
+#[unsafe(no_mangle)]
+pub extern "C" fn flushes_text(alloc: Global, flushes: &mut Handle, i: usize, out: &mut Answer)
+    requires { HasFlushes flushes.old }
+    ensures flushes { HasFlushes flushes.new }
+    ensures written { out.new.status ≡ DONE → IsForwarded (flushes_of flushes.old.kept) i
+        (text_of flushes.new.kept) (written_of out.new) }
+    ensures refused { out.new.status ≢ DONE → TellsNotForwarded (flushes_of flushes.old.kept) i
+        out.new }
+    ensures none { out.new.status ≢ DONE → text_of flushes.new.kept ≡ [] }
+    ensures same { flushes_of flushes.new.kept ≡ flushes_of flushes.old.kept }
+{
+    let mut taken = out_of(alloc, flushes);
+    let Kept::Flushes(it) = &mut *taken else {
+        unreachable!()
+    };
+    *out = calls::write(it, i);
+    put_back(flushes, taken);
+}
+
+/// Copies the text that was written last, where there is room for it.
+#[unsafe(no_mangle)]
+pub extern "C" fn flushes_copy(alloc: Global, flushes: &mut Handle, out: &mut [u8]) -> bool
+    requires { HasFlushes flushes.old }
+    ensures flushes { HasFlushes flushes.new }
+    ensures copied { result ≡ true → out.new ≡ text_of flushes.old.kept
+        ++ drop (length (text_of flushes.old.kept)) out.old }
+    ensures short { result ≡ false → length out.old < length (text_of flushes.old.kept) }
+    ensures left { result ≡ false → out.new ≡ out.old }
+    ensures same { flushes.new.kept ≡ flushes.old.kept }
+{
+    let taken = out_of(alloc, flushes);
+    let Kept::Flushes(it) = &*taken else {
+        unreachable!()
+    };
+    let is_copied = it.copy_text(out);
+    put_back(flushes, taken);
+    is_copied
+}
+
+/// Settles all flushes: the sink has their points for good.
+#[unsafe(no_mangle)]
+pub extern "C" fn desk_settle(alloc: Global, desk: &mut Handle, flushes: &mut Handle) -> u32
+    requires desk { HasDesk desk.old }
+    requires flushes { HasFlushes flushes.old }
+    ensures desk { HasDesk desk.new }
+    ensures flushes { HasFlushes flushes.new }
+    ensures ended { result ≡ DONE → Each (IsEndedBy End.Settle) (books_of desk.old.kept)
+        (books_of desk.new.kept) (flushes_of flushes.old.kept) }
+    ensures refused { result ≢ DONE → TellsNotEnded End.Settle (books_of desk.old.kept)
+        (books_of desk.new.kept) (flushes_of flushes.old.kept) result }
+    ensures left { flushes_of flushes.new.kept ≡ left_of result (flushes_of flushes.old.kept) }
+    ensures text { text_of flushes.new.kept ≡ text_of flushes.old.kept }
+{
+    end_all(alloc, desk, flushes, End::Settle)
+}
+
+/// Drops all flushes: the sink has refused their points for good.
+#[unsafe(no_mangle)]
+pub extern "C" fn desk_drop(alloc: Global, desk: &mut Handle, flushes: &mut Handle) -> u32
+    requires desk { HasDesk desk.old }
+    requires flushes { HasFlushes flushes.old }
+    ensures desk { HasDesk desk.new }
+    ensures flushes { HasFlushes flushes.new }
+    ensures ended { result ≡ DONE → Each (IsEndedBy End.Drop) (books_of desk.old.kept)
+        (books_of desk.new.kept) (flushes_of flushes.old.kept) }
+    ensures refused { result ≢ DONE → TellsNotEnded End.Drop (books_of desk.old.kept)
+        (books_of desk.new.kept) (flushes_of flushes.old.kept) result }
+    ensures left { flushes_of flushes.new.kept ≡ left_of result (flushes_of flushes.old.kept) }
+    ensures text { text_of flushes.new.kept ≡ text_of flushes.old.kept }
+{
+    end_all(alloc, desk, flushes, End::Drop)
+}
+
+/// Gives all flushes back: their points are pending, as if nothing had been taken.
+#[unsafe(no_mangle)]
+pub extern "C" fn desk_give_back(alloc: Global, desk: &mut Handle, flushes: &mut Handle) -> u32
+    requires desk { HasDesk desk.old }
+    requires flushes { HasFlushes flushes.old }
+    ensures desk { HasDesk desk.new }
+    ensures flushes { HasFlushes flushes.new }
+    ensures ended { result ≡ DONE → Each (IsEndedBy End.GiveBack) (books_of desk.old.kept)
+        (books_of desk.new.kept) (flushes_of flushes.old.kept) }
+    ensures refused { result ≢ DONE → TellsNotEnded End.GiveBack (books_of desk.old.kept)
+        (books_of desk.new.kept) (flushes_of flushes.old.kept) result }
+    ensures left { flushes_of flushes.new.kept ≡ left_of result (flushes_of flushes.old.kept) }
+    ensures text { text_of flushes.new.kept ≡ text_of flushes.old.kept }
+{
+    end_all(alloc, desk, flushes, End::GiveBack)
+}
+
+/// Ends all flushes.
+fn end_all(alloc: Global, desk: &mut Handle, flushes: &mut Handle, end: End) -> u32
+    requires desk { HasDesk desk.old }
+    requires flushes { HasFlushes flushes.old }
+    ensures desk { HasDesk desk.new }
+    ensures flushes { HasFlushes flushes.new }
+    ensures ended { result ≡ DONE → Each (IsEndedBy end) (books_of desk.old.kept)
+        (books_of desk.new.kept) (flushes_of flushes.old.kept) }
+    ensures refused { result ≢ DONE → TellsNotEnded end (books_of desk.old.kept)
+        (books_of desk.new.kept) (flushes_of flushes.old.kept) result }
+    ensures left { flushes_of flushes.new.kept ≡ left_of result (flushes_of flushes.old.kept) }
+    ensures text { text_of flushes.new.kept ≡ text_of flushes.old.kept }
+{
+    let mut kept = out_of(alloc, desk);
+    let mut taken = out_of(alloc, flushes);
+    let Kept::Desk(books) = &mut *kept else {
+        unreachable!()
+    };
+    let Kept::Flushes(it) = &mut *taken else {
+        unreachable!()
+    };
+    let status = calls::end(books, it, end);
+    put_back(flushes, taken);
+    put_back(desk, kept);
+    status
+}
+
+/// Quarantines a sender in all books, or in none.
+#[unsafe(no_mangle)]
+pub extern "C" fn desk_quarantine(alloc: Global, desk: &mut Handle, sender: &[u8]) -> u32
+    requires { HasDesk desk.old }
+    ensures desk { HasDesk desk.new }
+    ensures held { result ≡ DONE → EachBook (Holds sender.now) (books_of desk.old.kept)
+        (books_of desk.new.kept) }
+    ensures none { result ≡ DONE → hold_refusal (books_of desk.old.kept) sender.now ≡ None }
+    ensures refused { result ≢ DONE → TellsNotHeld (books_of desk.old.kept)
+        (books_of desk.new.kept) sender.now result }
+{
+    let mut kept = out_of(alloc, desk);
+    let Kept::Desk(books) = &mut *kept else {
+        unreachable!()
+    };
+    let status = calls::quarantine(alloc, books, sender);
+    put_back(desk, kept);
+    status
+}
+
+/// Releases a sender in each book in which it is quarantined.
+#[unsafe(no_mangle)]
+pub extern "C" fn desk_lift(alloc: Global, desk: &mut Handle, sender: &[u8]) -> u32
+    requires { HasDesk desk.old }
+    ensures desk { HasDesk desk.new }
+    ensures released { result ≡ DONE → EachBook (Releases sender.now) (books_of desk.old.kept)
+        (books_of desk.new.kept) }
+    ensures held { result ≡ DONE → is_held_in (books_of desk.old.kept) sender.now ≡ true }
+    ensures refused { result ≢ DONE → TellsNotLifted (books_of desk.old.kept) sender.now result }
+    ensures same { result ≢ DONE → books_of desk.new.kept ≡ books_of desk.old.kept }
+{
+    let mut kept = out_of(alloc, desk);
+    let Kept::Desk(books) = &mut *kept else {
+        unreachable!()
+    };
+    let status = calls::lift(alloc, books, sender);
+    put_back(desk, kept);
+    status
+}
+
+/// Closes the round of each book whose journal has at least so many entries, where it can: how many
+/// were closed.
+#[unsafe(no_mangle)]
+pub extern "C" fn desk_close_rounds(alloc: Global, desk: &mut Handle, entries: usize) -> usize
+    requires { HasDesk desk.old }
+    ensures desk { HasDesk desk.new }
+    ensures closed { AreClosed entries (books_of desk.old.kept) (books_of desk.new.kept) result }
+{
+    let mut kept = out_of(alloc, desk);
+    let Kept::Desk(books) = &mut *kept else {
+        unreachable!()
+    };
+    let closed = books.close_rounds(entries);
+    put_back(desk, kept);
+    closed
+}
+
+/// How many series all books have.
+#[unsafe(no_mangle)]
+pub extern "C" fn desk_series(alloc: Global, desk: &mut Handle) -> usize
+    requires { HasDesk desk.old }
+    ensures desk { HasDesk desk.new }
+    ensures series { result ≡ all_series (books_of desk.old.kept) }
+    ensures same { desk.new.kept ≡ desk.old.kept }
+{
+    let kept = out_of(alloc, desk);
+    let Kept::Desk(books) = &*kept else {
+        unreachable!()
+    };
+    let series = books.series();
+    put_back(desk, kept);
+    series
+}
+
+/// Writes the report of the i-th book.
+#[unsafe(no_mangle)]
+pub extern "C" fn desk_report(
+    alloc: Global,
+    desk: &mut Handle,
+    flushes: &mut Handle,
+    i: usize,
+    out: &mut Answer,
+)
+    requires desk { HasDesk desk.old }
+    requires flushes { HasFlushes flushes.old }
+    ensures desk { HasDesk desk.new }
+    ensures flushes { HasFlushes flushes.new }
+    ensures written { out.new.status ≡ DONE → IsReported (books_of desk.old.kept) i
+        (text_of flushes.new.kept) out.new.number }
+    ensures refused { out.new.status ≢ DONE → TellsNotReported (books_of desk.old.kept) i out.new }
+    ensures none { out.new.status ≢ DONE → flushes.new.kept ≡ flushes.old.kept }
+    ensures same { desk.new.kept ≡ desk.old.kept }
+    ensures live { flushes_of flushes.new.kept ≡ flushes_of flushes.old.kept }
+{
+    let kept = out_of(alloc, desk);
+    let mut taken = out_of(alloc, flushes);
+    let Kept::Desk(books) = &*kept else {
+        unreachable!()
+    };
+    let Kept::Flushes(it) = &mut *taken else {
+        unreachable!()
+    };
+    *out = calls::report(books, it, i);
+    put_back(flushes, taken);
+    put_back(desk, kept);
+}

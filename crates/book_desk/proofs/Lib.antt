@@ -1,0 +1,9 @@
+pub mod Firsts
+pub mod Ends
+pub mod Joins
+pub mod Holds
+pub mod Takes
+pub mod Splits
+pub mod Flights
+pub mod Closes
+pub mod Counts

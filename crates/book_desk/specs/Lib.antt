@@ -1,0 +1,12 @@
+pub mod Each
+pub mod Ends
+pub mod Holds
+pub mod Homes
+pub mod Posts
+pub mod Reads
+pub mod Refusals
+pub mod Rounds
+pub mod Splits
+pub mod Takes
+pub mod Written
+pub mod inner

@@ -1,0 +1,18 @@
+-- The faults of a post by those of its sender's name and of its body.
+use Rattle.metric_events.specs.declared.sender_name.NameFault.{NameFault}
+use Rattle.metric_events.specs.declared.sender_name.NameFault.TheVariants as names
+use Rattle.otlp_read.specs.declared.fault.ReadFault.{ReadFault}
+use Rattle.otlp_read.specs.declared.fault.ReadFault.TheVariants as bodies
+use Rattle.book_desk.specs.declared.reader.PostFault.{PostFault}
+use Rattle.book_desk.specs.declared.reader.PostFault.TheVariants as faults
+
+-- the fault of a post whose sender's name has this one
+abbrev pub sender_fault : NameFault → PostFault
+sender_fault names.NoMemory = faults.NoMemory
+sender_fault fault = faults.BadSender
+
+-- the fault of a post whose body has this one
+abbrev pub body_fault : ReadFault → PostFault
+body_fault bodies.NotJson = faults.NotJson
+body_fault (bodies.WrongShape p) = faults.WrongShape
+body_fault bodies.NoMemory = faults.NoMemory

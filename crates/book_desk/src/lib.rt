@@ -1,0 +1,18 @@
+//! Many books, of which each has the series that belong to it. A post is split into parts, one for
+//! each book: all books take their parts, or none keeps anything of its own. The same holds of a
+//! flush of all books, and of a quarantine.
+#![tactic(auto)]
+
+pub mod desk;
+mod earlier;
+pub mod end;
+pub mod flushes;
+mod hold;
+mod home;
+mod none;
+pub mod part;
+mod post;
+pub mod reader;
+mod rounds;
+mod split;
+mod take;

@@ -1,0 +1,146 @@
+//! Reads posts. A reader has no lock: each thread has one of its own.
+ghost use Rattle.std.specs.Prelude.{◌≡◌, ◌<◌, [], IfOk, IfErr, OnErr};
+ghost use Rattle.std.specs.List.{All};
+ghost use Rattle.book_desk.specs.inner.Opened.{HasPoints};
+ghost use Rattle.book_desk.specs.inner.Faults as faults;
+ghost use Rattle.book_desk.specs.Reads.{AreParts, IsRead, IsUnread};
+
+use crate::none::none_of;
+use crate::part::Part;
+use crate::split::split;
+use metric_events::points::Points;
+use metric_events::sender_name::{NameFault, SenderName};
+use otlp_read::{IdentityCache, ReadFault, read_request_with};
+use std::alloc::{AllocError, Global};
+use std::marker::Model;
+use std::mem;
+
+/// How many points a post has.
+#[derive(Clone, Copy)]
+pub struct Counts {
+    /// Those of the profile, which are admitted.
+    pub points: u64,
+    /// All others.
+    pub foreign: u64,
+}
+
+/// Why a post is not read.
+#[derive(Clone, Copy, Debug, PartialEq, Eq)]
+pub enum PostFault {
+    /// The sender has no name of 1 to 64 bytes of `A-Z a-z 0-9 . _ -`.
+    BadSender,
+    /// The body is no JSON.
+    NotJson,
+    /// A container of the body has the wrong type.
+    WrongShape,
+    NoMemory,
+}
+
+/// Identities that were read, and the post that was read last, in parts: one for each book, or none
+/// if the post has no points. Contracts see the parts.
+#[derive(Drop)]
+pub struct Reader {
+    alloc: Global,
+    cache: IdentityCache,
+    parts: Vec<Option<Part>>,
+}
+
+impl Model for Reader {
+    ghost use Rattle.std.specs.Prelude.{List, Option};
+    ghost use Rattle.std.specs.List.{All};
+    ghost use Rattle.book_desk.specs.declared.part.Part.{Part};
+    ghost use Rattle.book_desk.specs.inner.Opened.{HasPoints};
+
+    ghost Value = { List (Option Part) };
+
+    ghost view = { λ r. r.parts.items };
+
+    ghost invariant = { λ r. All HasPoints r.parts.items };
+}
+
+fn sender_fault(fault: NameFault) -> PostFault
+    ensures { result ≡ faults.sender_fault fault }
+{
+    match fault {
+        NameFault::NoMemory => PostFault::NoMemory,
+        _ => PostFault::BadSender,
+    }
+}
+
+fn body_fault(fault: ReadFault) -> PostFault
+    ensures { result ≡ faults.body_fault fault }
+{
+    match fault {
+        ReadFault::NotJson => PostFault::NotJson,
+        ReadFault::WrongShape(_) => PostFault::WrongShape,
+        ReadFault::NoMemory => PostFault::NoMemory,
+    }
+}
+
+/// The parts of these points: one for each book, or none if there are no points.
+fn parts_of(
+    alloc: Global,
+    sender: &SenderName,
+    points: &Points,
+    books: usize,
+) -> Result<Vec<Option<Part>>, AllocError>
+    requires { 0 < books }
+    ensures { IfOk result (λ parts. AreParts books sender.now points.now parts.items) }
+{
+    let points = points.as_slice();
+    if points.is_empty() {
+        return Ok(Vec::new(alloc));
+    }
+    let mut parts = none_of(alloc, books)?;
+    split(alloc, &mut parts, sender, points)?;
+    Ok(parts)
+}
+
+impl Reader {
+    /// A reader that has read nothing. Takes no memory.
+    pub fn new(alloc: Global) -> Reader
+        ensures { result ≡ [] }
+    {
+        Reader {
+            alloc,
+            cache: IdentityCache::new(alloc),
+            parts: Vec::new(alloc),
+        }
+    }
+
+    /// Reads a post and splits it into parts, one for each of so many books. What was read before is
+    /// gone, also if the post can't be read.
+    pub fn read(&mut self, sender: &[u8], body: &[u8], books: usize) -> Result<Counts, PostFault>
+        requires { 0 < books }
+        ensures read { IfOk result (λ counts. IsRead sender.now body.now books counts self.new) }
+        ensures fault { IfErr result (λ e. IsUnread sender.now body.now e) }
+        ensures none { OnErr result (self.new ≡ []) }
+    {
+        self.parts = Vec::new(self.alloc);
+        let sender = match SenderName::new(self.alloc, sender) {
+            Ok(sender) => sender,
+            Err(fault) => return Err(sender_fault(fault)),
+        };
+        let reading = match read_request_with(self.alloc, body, &mut self.cache) {
+            Ok(reading) => reading,
+            Err(fault) => return Err(body_fault(fault)),
+        };
+        let Ok(parts) = parts_of(self.alloc, &sender, &reading.points, books) else {
+            return Err(PostFault::NoMemory);
+        };
+        self.parts = parts;
+        Ok(Counts {
+            points: reading.points.as_slice().len() as u64,
+            foreign: reading.foreign,
+        })
+    }
+
+    /// The parts, which are gone from the reader then.
+    pub(crate) fn take_parts(&mut self) -> Vec<Option<Part>>
+        ensures parts { result.items ≡ self.old }
+        ensures points { All HasPoints result.items }
+        ensures gone { self.new ≡ [] }
+    {
+        mem::replace(&mut self.parts, Vec::new(self.alloc))
+    }
+}

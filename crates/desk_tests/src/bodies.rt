@@ -1,0 +1,26 @@
+//! Bodies with points of numbered series.
+use std::alloc::{AllocError, Global};
+
+/// Appends a data point of the sum `a`, of this series: value 1, over ten nanoseconds.
+fn put_point(body: &mut String, series: u64, start: u64) -> Result<(), AllocError> {
+    let alloc = body.allocator();
+    let end = start.saturating_add(10);
+    body.push_str(&format!(in alloc; "{{\"asInt\":\"1\",\"startTimeUnixNano\":\"{start}\",")?)?;
+    body.push_str(&format!(in alloc; "\"timeUnixNano\":\"{end}\",\"attributes\":[{{\"key\":\"k\",")?)?;
+    body.push_str(&format!(in alloc; "\"value\":{{\"intValue\":\"{series}\"}}}}]}}")?)
+}
+
+/// A body with these points: each of a series, from a start.
+pub fn body_of(alloc: Global, points: &[(u64, u64)]) -> Result<String, AllocError> {
+    let mut body = String::new(alloc);
+    body.push_str("{\"resourceMetrics\":[{\"scopeMetrics\":[{\"metrics\":[{\"name\":\"a\",")?;
+    body.push_str("\"sum\":{\"aggregationTemporality\":1,\"isMonotonic\":true,\"dataPoints\":[")?;
+    for (i, (series, start)) in points.iter().enumerate() {
+        if i > 0 {
+            body.push_str(",")?;
+        }
+        put_point(&mut body, *series, *start)?;
+    }
+    body.push_str("]}}]}]}]}")?;
+    Ok(body)
+}
