@@ -2,7 +2,7 @@
 
 use crate::support::{Place, NO_SINK};
 
-/// More than a gateway has, so that none is kept. A key of each of them takes 170 MB together.
+/// More than one book has, so that none is kept. A key of each of them takes 170 MB together.
 const SERIES: usize = 10_500;
 const MOST: u64 = 100 << 20;
 
@@ -36,8 +36,12 @@ fn greatest_memory(pid: u32) -> u64 {
 #[test]
 fn series_that_share_a_long_resource_take_little_memory() {
     let place = Place::new();
-    let service = place.serve_to(2, NO_SINK);
-    assert!(service.post("A", &many_series()).is_some());
+    let service = place.serve_with(&["--sink", NO_SINK, "--most-series", "8000"]);
+    let answer = service.post("A", &many_series()).unwrap();
+    assert!(
+        answer.0 == 503 && answer.1.contains("too many series"),
+        "{answer:?}"
+    );
     let most = greatest_memory(service.pid());
     assert!(most < MOST, "{} MiB", most >> 20);
 }

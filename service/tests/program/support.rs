@@ -1,9 +1,9 @@
-//! The program on a folder with several slots, its senders, and what its SQLite file has.
+//! The program on a folder, its senders, and what its SQLite file has.
 
 use std::collections::BTreeMap;
 use std::io::{Read, Write};
 use std::net::{TcpListener, TcpStream};
-use std::path::{Path, PathBuf};
+use std::path::PathBuf;
 use std::process::{Child, Command, Stdio};
 use std::sync::atomic::{AtomicBool, Ordering::Relaxed};
 use std::sync::{Arc, RwLock};
@@ -14,26 +14,15 @@ const PATIENCE: Duration = Duration::from_secs(120);
 /// Nobody listens there.
 pub const NO_SINK: &str = "http://127.0.0.1:9/v1/metrics";
 
-/// A folder for all, and a gateway program: the real one where there is one, else the one that plays it.
+/// A folder for all.
 pub struct Place {
     pub folder: tempfile::TempDir,
-    gateway: PathBuf,
 }
 
 impl Place {
     pub fn new() -> Place {
         let folder = tempfile::tempdir().unwrap();
-        let service = Path::new(env!("CARGO_MANIFEST_DIR"));
-        let top = service.parent().unwrap();
-        let named = std::env::var_os("TOTXEGUN_GATEWAY").map(PathBuf::from);
-        let built = ["bin/gateway", "crates/gateway/out/gateway"].map(|path| top.join(path));
-        let real = named.into_iter().chain(built).find(|path| path.is_file());
-        let gateway = real.unwrap_or_else(|| {
-            let fake = folder.path().join("fake_gateway.py");
-            std::fs::copy(service.join("tests/keeper/fake_gateway.py"), &fake).unwrap();
-            fake
-        });
-        Place { folder, gateway }
+        Place { folder }
     }
 
     pub fn data(&self) -> PathBuf {
@@ -67,8 +56,6 @@ impl Place {
                 "--data",
             ])
             .arg(self.data())
-            .arg("--gateway")
-            .arg(&self.gateway)
             .args(["--listen", &listen, "--operate", &operate])
             .args(words)
             .stderr(log)
@@ -83,12 +70,12 @@ impl Place {
     }
 
     /// One that is ready, with a SQLite file as its sink.
-    pub fn serve(&self, slots: u16) -> Service {
-        self.serve_to(slots, &self.sink())
+    pub fn serve(&self) -> Service {
+        self.serve_with(&["--sink", &self.sink()])
     }
 
-    pub fn serve_to(&self, slots: u16, sink: &str) -> Service {
-        let service = self.begin(&["--slots", &slots.to_string(), "--sink", sink]);
+    pub fn serve_with(&self, words: &[&str]) -> Service {
+        let service = self.begin(words);
         until("it is ready", || service.is_ready());
         service
     }
@@ -191,21 +178,9 @@ impl Service {
         serde_json::from_str(&body).unwrap()
     }
 
-    /// How many series each slot has.
-    pub fn series(&self) -> Vec<u64> {
-        let status = self.status();
-        let slots = status["slots"].as_array().unwrap();
-        slots
-            .iter()
-            .map(|slot| slot["series"].as_u64().unwrap())
-            .collect()
-    }
-
-    pub fn gateways(&self) -> Vec<u32> {
-        let status = self.status();
-        let slots = status["slots"].as_array().unwrap();
-        let pids = slots.iter().filter_map(|slot| slot["gateway"]["pid"].as_u64());
-        pids.map(|pid| pid as u32).collect()
+    /// How many series are known.
+    pub fn series(&self) -> u64 {
+        self.status()["slots"][0]["series"].as_u64().unwrap()
     }
 
     pub fn order(&self, path: &str) -> (u16, String) {

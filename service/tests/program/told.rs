@@ -11,7 +11,7 @@ use std::time::Duration;
 #[test]
 fn a_quarantined_sender_that_names_none_is_shown() {
     let place = Place::new();
-    let service = place.serve(1);
+    let service = place.serve();
     let shown = || service.said(&["status"]).lines().last().unwrap().to_string();
     assert!(shown().ends_with("none"), "{}", shown());
     assert_eq!(service.order("/quarantine/-").0, 200);
@@ -29,7 +29,7 @@ fn a_quarantined_sender_that_names_none_is_shown() {
 #[test]
 fn a_wrong_key_is_that_of_no_request() {
     let place = Place::new();
-    let service = place.serve(1);
+    let service = place.serve();
     for what in ["show", "resend", "drop"] {
         let said = service.said(&["dead", what, "0-a-1"]);
         assert!(said.contains("no such request"), "{what}: {said}");
@@ -40,7 +40,7 @@ fn a_wrong_key_is_that_of_no_request() {
 #[test]
 fn letters_that_take_long_hold_up_nothing_else() {
     let place = Place::new();
-    let service = place.serve(1);
+    let service = place.serve();
     // It is read once somebody writes to it.
     let letter = place.data().join("dead/0-a-1.json");
     let made = Command::new("mkfifo").arg(&letter).status();

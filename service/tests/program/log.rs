@@ -26,9 +26,6 @@ fn a_log_that_nobody_can_write_ends_nothing() {
         let place = Place::new();
         let service = place.begin_by(into(log), &["--sink", NO_SINK]);
         until("it is ready", || service.is_ready());
-        for pid in service.gateways() {
-            signal(pid, "KILL");
-        }
         assert_eq!(
             service.post_until_answered("A", &points(&["a"], 100, 5)).0,
             200,
@@ -99,9 +96,6 @@ fn a_log_that_nobody_reads_holds_up_nothing() {
         assert!(begun.elapsed() < SOON, "a start waits for its log");
         service.is_ready()
     });
-    for pid in service.gateways() {
-        signal(pid, "KILL");
-    }
     let answer = service.post_until_answered("A", &points(&["a"], 100, 5));
     assert_eq!((answer.0, service.order("/flush").0), (200, 200));
     assert_eq!(service.end(), Some(0));
