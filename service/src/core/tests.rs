@@ -234,7 +234,10 @@ fn a_block_that_is_refused_changes_nothing() {
     assert!(blocks > 5, "{blocks} blocks to report");
     assert_eq!(post(&core, "A", &points(&known, 30, 1)), Ok(0));
     let all = taken(&core);
-    assert!(all.len() == 6 && all.values().all(|one| *one == (1, 40)), "{all:?}");
+    assert!(
+        all.len() == 6 && all.values().all(|one| *one == (1, 40)),
+        "{all:?}"
+    );
 }
 
 /// Without a second try.
@@ -276,7 +279,11 @@ fn posts_are_read_alike_on_both_sides() {
                 let texts = flushed.texts().unwrap();
                 let points = texts.iter().flat_map(|text| forwarded(text).unwrap());
                 let ends = points.map(|point| (point.series, point.end));
-                assert_eq!(ends.collect::<std::collections::HashMap<_, _>>(), posted.series, "{number}");
+                assert_eq!(
+                    ends.collect::<std::collections::HashMap<_, _>>(),
+                    posted.series,
+                    "{number}"
+                );
                 fresh.lock().settle(flushed).unwrap();
             }
         }

@@ -80,7 +80,10 @@ fn checkpoint(slot: &Slot, carried: Vec<Vec<u8>>) -> Result<Checkpointed, Troubl
             Ok((Vec::new(), Ok(commit(slot, group)?)))
         }
         Err(refused) => {
-            slot.core.lock().give_back(taken.flushed).map_err(Trouble::Broken)?;
+            slot.core
+                .lock()
+                .give_back(taken.flushed)
+                .map_err(Trouble::Broken)?;
             Ok((carried, Err(refused)))
         }
     }
