@@ -255,16 +255,23 @@ fn what_is_not_possible_has_status_1_and_is_named() {
         1,
         &format!("--operate {address}"),
     );
-    let room = [
+    let other = tempfile::tempdir().unwrap();
+    let place = [
+        "--data",
+        other.path().to_str().unwrap(),
         "--listen",
         "127.0.0.1:0",
+    ];
+    let short = [
         "--operate",
         "127.0.0.1:0",
         "--book-memory",
         "64MiB",
+        "--most-series",
+        "1000000",
     ];
     refused(
-        &[&serve[..], &room, &["--most-series", "1000000"]].concat(),
+        &[&["serve"][..], &place, &short].concat(),
         1,
         "give a greater --book-memory, or a smaller --most-series",
     );

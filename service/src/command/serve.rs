@@ -162,7 +162,7 @@ fn header(text: &str) -> Result<(String, String), String> {
 #[command(next_help_heading = "Options of the book")]
 struct OfBook {
     /// How many series fit for sure
-    #[arg(long, env = "TOTXEGUN_MOST_SERIES", value_name = "N", default_value_t = 100_000, value_parser = value_parser!(u64).range(1..=core::MOST_SERIES))]
+    #[arg(long, env = "TOTXEGUN_MOST_SERIES", value_name = "N", default_value_t = 100_000, value_parser = value_parser!(u64).range(1..=core::MOST_SERIES as u64))]
     most_series: u64,
     /// The most memory of the book: posts get 503 before it is used up [default: half of what this process may have]
     #[arg(long, env = "TOTXEGUN_BOOK_MEMORY", value_name = "BYTES", value_parser = memory)]
@@ -181,17 +181,13 @@ impl OfBook {
 
 /// What the machine has, or what this process' group may have where that is less.
 fn machine_memory() -> u64 {
+    let total = nix::sys::sysinfo::sysinfo().map_or(LEAST_MEMORY, |machine| machine.ram_total());
     let read = |path: &str| std::fs::read_to_string(path).unwrap_or_default();
-    let number = |text: &str| text.trim().parse::<u64>().ok();
-    let about = read("/proc/meminfo");
-    let total = about
-        .lines()
-        .find_map(|line| number(line.strip_prefix("MemTotal:")?.strip_suffix("kB")?));
-    let total = total.map_or(LEAST_MEMORY, |kibibytes| kibibytes << 10);
     let own = read("/proc/self/cgroup");
     let group = own.lines().find_map(|line| line.strip_prefix("0::"));
-    let group = group.and_then(|group| number(&read(&format!("/sys/fs/cgroup{group}/memory.max"))));
-    total.min(group.unwrap_or(u64::MAX))
+    let most = group.map(|group| read(&format!("/sys/fs/cgroup{group}/memory.max")));
+    let most = most.and_then(|most| most.trim().parse().ok());
+    total.min(most.unwrap_or(u64::MAX))
 }
 
 /// What gets into the log. Libraries warn of single frames and headers that a sender may send at any rate.
@@ -267,7 +263,7 @@ impl Options {
             most_bytes: usize::try_from(self.most_bytes).unwrap_or(usize::MAX),
             most_connections,
             threads: usize::from(self.threads),
-            most_series: self.of_book.most_series,
+            most_series: self.of_book.most_series as usize,
             metrics,
         })
     }

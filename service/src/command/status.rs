@@ -202,7 +202,7 @@ mod tests {
     #[test]
     fn who_is_quarantined_is_shown() {
         let line = |quarantined: &[&str]| text(&status(quarantined)).lines().last().map(str::to_string);
-        let slot = "0     none     -       0       0 B      0 requests  0 B     ";
+        let slot = "0     0       0 B      0 requests  0 B     ";
         assert_eq!(line(&[]).unwrap(), format!("{slot}none"));
         assert_eq!(
             line(&["-"]).unwrap(),

@@ -9,7 +9,7 @@ use super::memory;
 use std::ptr::null_mut;
 
 /// The most series of each book that one flush takes.
-const MOST_TAKEN: u64 = 1000;
+pub(super) const MOST_TAKEN: usize = 1000;
 
 /// One word, that of the library's own value.
 #[repr(C)]
@@ -36,23 +36,23 @@ extern "C" {
         sender_length: usize,
         body: *const u8,
         body_length: usize,
-        books: u64,
+        books: usize,
         out: *mut Answer,
     );
-    fn desk_new(books: u64, out: *mut Handle) -> bool;
+    fn desk_new(books: usize, out: *mut Handle) -> bool;
     fn desk_free(desk: *mut Handle);
     fn desk_admit(desk: *mut Handle, reader: *mut Handle, out: *mut Answer);
-    fn desk_take(desk: *mut Handle, flushes: *mut Handle, most: u64, out: *mut Answer);
+    fn desk_take(desk: *mut Handle, flushes: *mut Handle, most: usize, out: *mut Answer);
     fn desk_settle(desk: *mut Handle, flushes: *mut Handle) -> u32;
     fn desk_give_back(desk: *mut Handle, flushes: *mut Handle) -> u32;
     fn desk_quarantine(desk: *mut Handle, sender: *const u8, length: usize) -> u32;
     fn desk_lift(desk: *mut Handle, sender: *const u8, length: usize) -> u32;
-    fn desk_close_rounds(desk: *mut Handle, entries: u64) -> u64;
-    fn desk_series(desk: *mut Handle) -> u64;
-    fn desk_report(desk: *mut Handle, flushes: *mut Handle, book: u64, out: *mut Answer);
+    fn desk_close_rounds(desk: *mut Handle, entries: usize) -> usize;
+    fn desk_series(desk: *mut Handle) -> usize;
+    fn desk_report(desk: *mut Handle, flushes: *mut Handle, book: usize, out: *mut Answer);
     fn flushes_new(out: *mut Handle) -> bool;
     fn flushes_free(flushes: *mut Handle);
-    fn flushes_text(flushes: *mut Handle, number: u64, out: *mut Answer);
+    fn flushes_text(flushes: *mut Handle, number: usize, out: *mut Answer);
     fn flushes_copy(flushes: *mut Handle, out: *mut u8, length: usize) -> bool;
 }
 
@@ -75,10 +75,10 @@ impl Reader {
     pub fn new() -> Option<Reader> {
         let mut handle = Handle { at: null_mut() };
         // SAFETY: `handle` is there through the call, which makes it live where it returns true.
-        unsafe { reader_new(&mut handle) }.then_some(Reader(handle))
+        unsafe { reader_new(&mut handle) }.then(|| Reader(handle))
     }
 
-    pub fn read(&mut self, sender: &[u8], body: &[u8], books: u64) -> Answer {
+    pub fn read(&mut self, sender: &[u8], body: &[u8], books: usize) -> Answer {
         let mut answer = Answer::default();
         let (sender_at, body_at) = (sender.as_ptr(), body.as_ptr());
         // SAFETY: the handle is live and lent for this call alone; both slices and the answer are there through it.
@@ -89,7 +89,7 @@ impl Reader {
                 sender.len(),
                 body_at,
                 body.len(),
-                books,
+                books.max(1),
                 &mut answer,
             )
         };
@@ -106,10 +106,10 @@ impl Drop for Reader {
 
 impl Desk {
     /// None where there is no memory.
-    pub fn new(books: u64) -> Option<Desk> {
+    pub fn new(books: usize) -> Option<Desk> {
         let mut handle = Handle { at: null_mut() };
         // SAFETY: as of a reader; there is one book at least.
-        unsafe { desk_new(books.max(1), &mut handle) }.then_some(Desk(handle))
+        unsafe { desk_new(books.max(1), &mut handle) }.then(|| Desk(handle))
     }
 
     /// Of what the reader has read for so many books as there are.
@@ -120,11 +120,12 @@ impl Desk {
         answer
     }
 
-    /// Takes a flush of each book that has something.
-    pub fn take(&mut self, flushes: &mut Flushes) -> Answer {
+    /// Takes a flush of each book that has something, of at most so many series.
+    pub fn take(&mut self, flushes: &mut Flushes, most: usize) -> Answer {
+        let most = most.clamp(1, MOST_TAKEN);
         let mut answer = Answer::default();
         // SAFETY: both handles are live and lent for this call alone; the number is from 1 to 1,000.
-        memory::forwarding(|| unsafe { desk_take(&mut self.0, &mut flushes.0, MOST_TAKEN, &mut answer) });
+        memory::forwarding(|| unsafe { desk_take(&mut self.0, &mut flushes.0, most, &mut answer) });
         answer
     }
 
@@ -148,17 +149,17 @@ impl Desk {
         memory::forwarding(|| unsafe { desk_lift(&mut self.0, sender.as_ptr(), sender.len()) })
     }
 
-    pub fn close_rounds(&mut self, entries: u64) -> u64 {
+    pub fn close_rounds(&mut self, entries: usize) -> usize {
         // SAFETY: the handle is live and lent for this call alone.
         memory::forwarding(|| unsafe { desk_close_rounds(&mut self.0, entries) })
     }
 
-    pub fn series(&mut self) -> u64 {
+    pub fn series(&mut self) -> usize {
         // SAFETY: the handle is live and lent for this call alone.
         unsafe { desk_series(&mut self.0) }
     }
 
-    pub fn report(&mut self, flushes: &mut Flushes, book: u64) -> Answer {
+    pub fn report(&mut self, flushes: &mut Flushes, book: usize) -> Answer {
         let mut answer = Answer::default();
         // SAFETY: both handles are live and lent for this call alone.
         unsafe { desk_report(&mut self.0, &mut flushes.0, book, &mut answer) };
@@ -178,11 +179,11 @@ impl Flushes {
     pub fn new() -> Option<Flushes> {
         let mut handle = Handle { at: null_mut() };
         // SAFETY: as of a reader.
-        memory::forwarding(|| unsafe { flushes_new(&mut handle) }).then_some(Flushes(handle))
+        memory::forwarding(|| unsafe { flushes_new(&mut handle) }).then(|| Flushes(handle))
     }
 
     /// Writes the request of one of them: its bytes can be copied then.
-    pub fn text(&mut self, number: u64) -> Answer {
+    pub fn text(&mut self, number: usize) -> Answer {
         let mut answer = Answer::default();
         // SAFETY: the handle is live and lent for this call alone.
         memory::forwarding(|| unsafe { flushes_text(&mut self.0, number, &mut answer) });
@@ -203,12 +204,14 @@ impl Drop for Flushes {
     }
 }
 
-/// Whether there is a block, and where.
+/// Whether there is a block, and where. Where there is none the address is that of a byte which is always there.
 #[repr(C)]
 struct Tried {
     ok: bool,
     at: *mut u8,
 }
+
+static NO_BLOCK: u8 = 0;
 
 impl Tried {
     fn of(at: *mut libc::c_void) -> Tried {
@@ -216,10 +219,12 @@ impl Tried {
         Tried { ok: true, at }
     }
 
-    const NOT: Tried = Tried {
-        ok: false,
-        at: null_mut(),
-    };
+    fn not() -> Tried {
+        Tried {
+            ok: false,
+            at: (&raw const NO_BLOCK).cast_mut(),
+        }
+    }
 }
 
 /// The length that the allocator gave a block, which counts.
@@ -234,14 +239,14 @@ extern "C" fn rattle_alloc(bytes: usize, align: usize) -> Tried {
     // SAFETY: any number may be asked for.
     let at = unsafe { libc::malloc(if bytes == 0 { align } else { bytes }) };
     if at.is_null() {
-        return Tried::NOT;
+        return Tried::not();
     }
     if memory::take(length_of(at)) {
         return Tried::of(at);
     }
     // SAFETY: it came from malloc just now, and nobody has it.
     unsafe { libc::free(at) };
-    Tried::NOT
+    Tried::not()
 }
 
 /// Another length for a block, whose first bytes stay. Where that fails the block is as it was.
@@ -251,13 +256,13 @@ extern "C" fn rattle_realloc(at: *mut u8, _kept: usize, bytes: usize, align: usi
     let before = length_of(at);
     let more = bytes.saturating_sub(before);
     if more > 0 && !memory::take(more) {
-        return Tried::NOT;
+        return Tried::not();
     }
     // SAFETY: the library gives what it has from these functions, and not freed.
     let moved = unsafe { libc::realloc(at, bytes) };
     if moved.is_null() {
         memory::give(more);
-        return Tried::NOT;
+        return Tried::not();
     }
     memory::correct(before + more, length_of(moved));
     Tried::of(moved)

@@ -12,12 +12,13 @@ const DRIFT: i64 = 128 << 10;
 /// A reserve has so many bytes at least, more for each series, and for so many texts.
 const LEAST_RESERVE: u64 = 8 << 20;
 const RESERVE_OF_A_SERIES: u64 = 1 << 10;
-const TEXTS: u64 = 6;
+const TEXTS: u64 = 3;
 
 static USED: AtomicI64 = AtomicI64::new(0);
 static MOST: AtomicI64 = AtomicI64::new(i64::MAX);
 static MOST_OF_POSTS: AtomicI64 = AtomicI64::new(i64::MAX);
-static LONGEST_TEXT: AtomicU64 = AtomicU64::new(0);
+/// Until one was written it may be as long.
+static LONGEST_TEXT: AtomicU64 = AtomicU64::new(4 << 20);
 
 thread_local! {
     static OWN: Own = const { Own::new() };
@@ -142,9 +143,9 @@ pub(super) fn note_text(bytes: u64) {
 }
 
 /// Keeps back what it takes to forward so many series by texts as long as those before, up to half of all.
-pub(super) fn reserve(series: u64) {
+pub(super) fn reserve(series: usize) {
     let most = MOST.load(Relaxed);
-    let wanted = LEAST_RESERVE + RESERVE_OF_A_SERIES * series + TEXTS * LONGEST_TEXT.load(Relaxed);
+    let wanted = LEAST_RESERVE + RESERVE_OF_A_SERIES * series as u64 + TEXTS * LONGEST_TEXT.load(Relaxed);
     let reserve = i64::try_from(wanted).unwrap_or(i64::MAX).min(most / 2);
     MOST_OF_POSTS.store(most - reserve, Relaxed);
 }

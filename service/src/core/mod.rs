@@ -12,24 +12,26 @@ mod refusal;
 pub use memory::used as memory_used;
 pub use refusal::Refused;
 
-use book::{Answer, Desk, Flushes, Reader};
+use book::{Answer, Desk, Flushes, Reader, MOST_TAKEN};
 use bytes::Bytes;
 use refusal::check;
 use std::ops::{Deref, DerefMut};
 use std::sync::{Arc, Mutex, MutexGuard, PoisonError};
 
 /// A book takes 10,000 series, and a series goes to one by a hash: so many on average leave room for the uneven.
-const SERIES_OF_A_BOOK: u64 = 8_000;
+const SERIES_OF_A_BOOK: usize = 8_000;
+/// How many series of each book are taken at once where memory is short.
+const SMALL: usize = 10;
 /// What may be asked for.
-pub const MOST_SERIES: u64 = 1_000_000;
+pub const MOST_SERIES: usize = 1_000_000;
 
 /// A round is closed behind so many posts or points: what ended is forgotten then, which takes some milliseconds.
-const POSTS_OF_A_ROUND: u64 = 2_000;
+const ENTRIES_OF_A_ROUND: u64 = 2_000;
 const POINTS_OF_A_ROUND: u64 = 50_000;
 
 /// The book with its lock, and what reads posts.
 pub struct Core {
-    books: u64,
+    books: usize,
     readers: Mutex<Vec<Reader>>,
     book: Mutex<Book>,
 }
@@ -37,11 +39,11 @@ pub struct Core {
 /// All series, in as many books of the library as they need.
 pub struct Book {
     desk: Desk,
-    books: u64,
-    /// Since rounds were closed last.
-    posts: u64,
+    books: usize,
+    /// Since rounds were closed last: posts, and ends of what was taken.
+    entries: u64,
     points: u64,
-    rounds_closed: u64,
+    rounds_closed: usize,
 }
 
 /// A post that was read, and is in no book yet. Its reader is another's once this is dropped.
@@ -59,7 +61,7 @@ pub struct Read {
 #[must_use = "what was taken has to be settled or given back"]
 pub struct Flushed {
     /// Each with how many requests it has.
-    parts: Vec<(Flushes, u64)>,
+    parts: Vec<(Flushes, usize)>,
 }
 
 /// The book, for who has its lock.
@@ -72,14 +74,14 @@ pub fn bound_memory(most: u64) {
 
 impl Core {
     /// A book with room for so many series.
-    pub fn new(series: u64) -> Result<Arc<Core>, Refused> {
+    pub fn new(series: usize) -> Result<Arc<Core>, Refused> {
         let books = series.div_ceil(SERIES_OF_A_BOOK).max(1);
         let (readers, book) = (Mutex::default(), Mutex::new(Book::new(books)?));
         Ok(Arc::new(Core { books, readers, book }))
     }
 
     /// How many books of the library it has.
-    pub fn books(&self) -> u64 {
+    pub fn books(&self) -> usize {
         self.books
     }
 
@@ -137,11 +139,11 @@ impl Drop for Read {
 }
 
 impl Book {
-    fn new(books: u64) -> Result<Book, Refused> {
+    fn new(books: usize) -> Result<Book, Refused> {
         Ok(Book {
             desk: Desk::new(books).ok_or(Refused::NoMemory)?,
             books,
-            posts: 0,
+            entries: 0,
             points: 0,
             rounds_closed: 0,
         })
@@ -154,14 +156,14 @@ impl Book {
         }
         let reader = read.reader.as_mut().ok_or(Refused::Nothing)?;
         let mut admitted = check(self.desk.admit(reader));
-        if self.posts > 0 && admitted.is_err_and(|refused| refused.may_be_cured_by_a_round()) {
+        if self.entries > 0 && admitted.is_err_and(|refused| refused.may_be_cured_by_a_round()) {
             self.close_rounds();
             admitted = read.again().and_then(|reader| check(self.desk.admit(reader)));
         }
         admitted?;
-        self.posts += 1;
+        self.entries += 1;
         self.points += read.points;
-        if self.posts >= POSTS_OF_A_ROUND || self.points >= POINTS_OF_A_ROUND {
+        if self.entries >= ENTRIES_OF_A_ROUND || self.points >= POINTS_OF_A_ROUND {
             self.close_rounds();
         }
         Ok(())
@@ -170,14 +172,14 @@ impl Book {
     /// What is over is forgotten, and sums begin at what they are.
     fn close_rounds(&mut self) {
         self.rounds_closed += self.desk.close_rounds(1);
-        (self.posts, self.points) = (0, 0);
+        (self.entries, self.points) = (0, 0);
     }
 
     /// Takes all that may be forwarded, or nothing. Until it is settled or given back no round can be closed.
     pub fn take_all(&mut self) -> Result<Flushed, Refused> {
         let mut taken = Flushed { parts: Vec::new() };
         loop {
-            match self.take() {
+            match self.take(MOST_TAKEN) {
                 Ok(part) => taken.parts.push(part),
                 Err(Refused::Nothing) => break,
                 Err(refused) => {
@@ -190,10 +192,33 @@ impl Book {
         Ok(taken)
     }
 
-    fn take(&mut self) -> Result<(Flushes, u64), Refused> {
+    fn take(&mut self, most: usize) -> Result<(Flushes, usize), Refused> {
         let mut flushes = Flushes::new().ok_or(Refused::NoMemory)?;
-        let came = check(self.desk.take(&mut flushes))?;
-        Ok((flushes, came.number))
+        let came = check(self.desk.take(&mut flushes, most))?;
+        Ok((flushes, usize::try_from(came.number).unwrap_or(usize::MAX)))
+    }
+
+    /// Takes all and writes its requests, in small parts, each settled before the next is taken: that needs little memory,
+    /// and the lock for long. Behind a fault `texts` has what was settled, and the book the rest.
+    pub fn write_all(&mut self, texts: &mut Vec<Vec<u8>>) -> Result<(), Refused> {
+        loop {
+            let part = match self.take(SMALL) {
+                Ok(part) => part,
+                Err(Refused::Nothing) => return Ok(()),
+                Err(refused) => return Err(refused),
+            };
+            let mut taken = Flushed { parts: vec![part] };
+            match taken.texts() {
+                Ok(written) => {
+                    self.settle(taken)?;
+                    texts.extend(written);
+                }
+                Err(refused) => {
+                    self.give_back(taken)?;
+                    return Err(refused);
+                }
+            }
+        }
     }
 
     /// It was forwarded, or will be.
@@ -212,7 +237,9 @@ impl Book {
             let status = end(&mut self.desk, &mut flushes);
             check(Answer::of_status(status)).map(drop)
         });
-        ended.fold(Ok(()), Result::and)
+        let ended = ended.fold(Ok(()), Result::and);
+        self.entries += 1;
+        ended
     }
 
     pub fn quarantine(&mut self, sender: &str) -> Result<(), Refused> {
@@ -230,12 +257,12 @@ impl Book {
     }
 
     /// How many series it has.
-    pub fn series(&mut self) -> u64 {
+    pub fn series(&mut self) -> usize {
         self.desk.series()
     }
 
     /// How many rounds were closed since this was asked last.
-    pub fn rounds_closed(&mut self) -> u64 {
+    pub fn rounds_closed(&mut self) -> usize {
         std::mem::take(&mut self.rounds_closed)
     }
 
@@ -258,12 +285,12 @@ const END: &[u8] = b"end\n";
 
 impl Flushed {
     /// How many requests there are.
-    pub fn count(&self) -> u64 {
+    pub fn count(&self) -> usize {
         self.parts.iter().map(|(_, count)| count).sum()
     }
 
     /// Writes one of them, which takes no lock.
-    pub fn text(&mut self, number: u64) -> Result<Vec<u8>, Refused> {
+    pub fn text(&mut self, number: usize) -> Result<Vec<u8>, Refused> {
         let mut before = number;
         for (flushes, count) in &mut self.parts {
             if before < *count {

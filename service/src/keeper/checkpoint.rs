@@ -3,11 +3,12 @@
 //! Under the lock of the book all is taken of it, and the journal turns to a new segment. So a group is exactly the
 //! posts of the segments before its commit. The rest is done while posts go on: the requests are written, and what was
 //! taken is settled; the group is committed once all its posts are on the disk, whatever was asked for them, and then the
-//! segments before are deleted. Where there is no memory for a request all is given back, and tried again later.
+//! segments before are deleted. Where there is no memory for that all is given back, and written in small parts under the
+//! lock; and where there is none for that either it is tried again later.
 
 use super::owners::find_owners;
 use super::{Keeper, Trouble};
-use crate::core::{Book, Flushed, Refused};
+use crate::core::{Book, Refused};
 use crate::files::{Fault, Ticket};
 use crate::slot::Slot;
 use crate::work::blocking;
@@ -18,9 +19,8 @@ use std::time::{Duration, Instant};
 const BETWEEN_TRIES: Duration = Duration::from_secs(1);
 const TRIES: u32 = 10;
 
-/// What was taken: all posts of the segments before `next` that are in no group yet.
-pub(super) struct Taken {
-    pub flushed: Flushed,
+/// What was taken is all posts of the segments before `next` that are in no group yet.
+pub(super) struct Group {
     posts: u64,
     next: u64,
     /// For all before the turn.
@@ -65,78 +65,67 @@ impl Keeper {
 }
 
 fn checkpoint(slot: &Slot, carried: Vec<Vec<u8>>) -> Result<Checkpointed, Trouble> {
+    let mut bodies = carried;
+    let flushed = match flush(slot, &mut bodies)? {
+        Err(Refused::NoMemory) => flush_in_parts(slot, &mut slot.core.lock(), &mut bodies),
+        flushed => flushed,
+    };
+    match flushed {
+        Ok(group) => Ok((Vec::new(), Ok(commit(slot, &bodies, group)?))),
+        Err(refused) => Ok((bodies, Err(refused))),
+    }
+}
+
+/// Takes all at once: its requests are written without the lock.
+fn flush(slot: &Slot, bodies: &mut Vec<Vec<u8>>) -> Result<Result<Group, Refused>, Trouble> {
     let began = Instant::now();
-    let taken = take(slot, &mut slot.core.lock());
+    let mut book = slot.core.lock();
+    let taken = book.take_all().map(|flushed| (flushed, turn(slot)));
+    drop(book);
     let pause = &slot.metrics.checkpoint_pause_seconds;
     pause.observe(began.elapsed().as_secs_f64());
-    let mut taken = match taken {
-        Ok(taken) => taken,
-        Err(refused) => return Ok((carried, Err(refused))),
+    let (mut flushed, group) = match taken {
+        Ok(both) => both,
+        Err(refused) => return Ok(Err(refused)),
     };
-    match taken.flushed.texts() {
-        Ok(bodies) => {
-            let (flushed, group) = taken.grouped(carried, bodies);
-            slot.core.lock().settle(flushed).map_err(Trouble::Broken)?;
-            Ok((Vec::new(), Ok(commit(slot, group)?)))
+    let texts = flushed.texts();
+    let mut book = slot.core.lock();
+    match texts {
+        Ok(texts) => {
+            book.settle(flushed).map_err(Trouble::Broken)?;
+            bodies.extend(texts);
+            Ok(Ok(group))
         }
         Err(refused) => {
-            slot.core
-                .lock()
-                .give_back(taken.flushed)
-                .map_err(Trouble::Broken)?;
-            Ok((carried, Err(refused)))
+            book.give_back(flushed).map_err(Trouble::Broken)?;
+            Ok(Err(refused))
         }
     }
 }
 
-/// What is done under the lock.
-pub(super) fn take(slot: &Slot, book: &mut Book) -> Result<Taken, Refused> {
-    let flushed = book.take_all()?;
+/// The same with less memory, under the lock.
+pub(super) fn flush_in_parts(
+    slot: &Slot,
+    book: &mut Book,
+    bodies: &mut Vec<Vec<u8>>,
+) -> Result<Group, Refused> {
+    book.write_all(bodies)?;
+    Ok(turn(slot))
+}
+
+/// Under the lock that took all of the book.
+fn turn(slot: &Slot) -> Group {
     let (next, turned) = slot.journal.turn();
-    Ok(Taken {
-        flushed,
+    Group {
         posts: slot.ungrouped(),
         next,
         turned,
-    })
-}
-
-/// A group that is not committed yet.
-pub(super) struct Group {
-    bodies: Vec<Vec<u8>>,
-    posts: u64,
-    next: u64,
-    turned: Ticket,
-}
-
-impl Taken {
-    /// With what belongs to it from before.
-    pub fn grouped(self, mut carried: Vec<Vec<u8>>, bodies: Vec<Vec<u8>>) -> (Flushed, Group) {
-        carried.extend(bodies);
-        let Taken {
-            flushed,
-            posts,
-            next,
-            turned,
-        } = self;
-        let group = Group {
-            bodies: carried,
-            posts,
-            next,
-            turned,
-        };
-        (flushed, group)
     }
 }
 
 /// Journal first, then outbox: a group is committed once all its posts are on the disk.
-pub(super) fn commit(slot: &Slot, group: Group) -> Result<u64, Fault> {
-    let Group {
-        bodies,
-        posts,
-        next,
-        turned,
-    } = group;
+pub(super) fn commit(slot: &Slot, bodies: &[Vec<u8>], group: Group) -> Result<u64, Fault> {
+    let Group { posts, next, turned } = group;
     let first = slot.outbox.journal();
     slot.journal.settle(turned);
     let held = slot.outbox.quarantined();
@@ -144,7 +133,7 @@ pub(super) fn commit(slot: &Slot, group: Group) -> Result<u64, Fault> {
         copy_posts_of(slot, &held, first, next)?;
     }
     let requests = bodies.len() as u64;
-    slot.outbox.commit(&bodies, next)?;
+    slot.outbox.commit(bodies, next)?;
     slot.count_grouped(posts);
     slot.metrics.forwarded_requests.inc_by(requests);
     find_owners(slot, first, next)?;

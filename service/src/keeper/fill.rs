@@ -129,9 +129,7 @@ impl<S: Fn() -> bool> Filling<'_, S> {
 
     /// A fresh book has a point more of each series than the one before, so a limit may be met a little sooner.
     fn make_room(&mut self) -> Result<(), Trouble> {
-        let mut taken = self.book.take_all().map_err(not_taken)?;
-        self.filled.carried.extend(taken.texts().map_err(not_taken)?);
-        self.book.settle(taken).map_err(not_taken)
+        self.book.write_all(&mut self.filled.carried).map_err(not_taken)
     }
 
     fn quarantine(&mut self, held: &BTreeSet<String>) -> Result<(), Trouble> {

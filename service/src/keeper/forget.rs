@@ -3,14 +3,14 @@
 //! All of it is done under the lock of the book: what it has goes to the outbox first, so the fresh one needs what the
 //! files say alone, as at a start. Posts wait meanwhile.
 
-use super::checkpoint::{commit, take};
+use super::checkpoint::{commit, flush_in_parts};
 use super::fill::fill;
 use super::{Keeper, Trouble};
-use crate::core::Refused;
 use crate::files::Fault;
 use crate::slot::Slot;
 use crate::work::blocking;
 use std::collections::HashSet;
+use std::fmt::Display;
 use std::sync::Arc;
 use std::time::{Duration, Instant};
 
@@ -22,47 +22,37 @@ impl Keeper {
             return Ok(());
         }
         let slot = self.slot.clone();
-        match blocking(move || forget(&slot, age)).await? {
-            Ok(carried) => self.carried.extend(carried),
-            Err(refused) => tracing::error!(
-                "slot {}: no series are forgotten, since there is no fresh book: {refused}",
-                self.slot.number()
-            ),
-        }
+        let carried = blocking(move || forget(&slot, age)).await?;
+        self.carried.extend(carried);
         Ok(())
     }
 }
 
-fn forget(slot: &Arc<Slot>, age: Duration) -> Result<Result<Vec<Vec<u8>>, Refused>, Trouble> {
+/// What belongs to the next group.
+fn forget(slot: &Arc<Slot>, age: Duration) -> Result<Vec<Vec<u8>>, Trouble> {
     let began = Instant::now();
     let mut book = slot.core.lock();
+    let mut bodies = Vec::new();
     // Before anything is changed: there has to be memory for two.
-    let mut fresh = match slot.core.fresh() {
-        Ok(fresh) => fresh,
-        Err(refused) => return Ok(Err(refused)),
-    };
-    let mut taken = match take(slot, &mut book) {
-        Ok(taken) => taken,
-        Err(refused) => return Ok(Err(refused)),
-    };
-    let bodies = match taken.flushed.texts() {
-        Ok(bodies) => bodies,
+    let fresh = slot.core.fresh();
+    let flushed = fresh.and_then(|fresh| Ok((fresh, flush_in_parts(slot, &mut book, &mut bodies)?)));
+    let (mut fresh, group) = match flushed {
+        Ok(both) => both,
         Err(refused) => {
-            book.give_back(taken.flushed).map_err(Trouble::Broken)?;
-            return Ok(Err(refused));
+            stays(slot, &refused);
+            return Ok(bodies);
         }
     };
-    let (flushed, group) = taken.grouped(Vec::new(), bodies);
-    book.settle(flushed).map_err(Trouble::Broken)?;
-    commit(slot, group)?;
+    commit(slot, &bodies, group)?;
     let forgotten = forget_series(slot, age)?;
+    slot.metrics.forgotten_series.inc_by(forgotten);
     let filled = match fill(slot, &mut fresh, || false) {
         Ok(filled) => filled.unwrap_or_default(),
         Err(Trouble::File(fault)) => return Err(fault.into()),
+        // It knows more series than the files have, which is no fault.
         Err(why) => {
-            // It goes on as it was: it knows more series than the files have, which is no fault.
-            tracing::error!("slot {}: the book stays as it is: {why}", slot.number());
-            return Ok(Ok(Vec::new()));
+            stays(slot, &why);
+            return Ok(Vec::new());
         }
     };
     let old = std::mem::replace(&mut *book, fresh);
@@ -71,12 +61,18 @@ fn forget(slot: &Arc<Slot>, age: Duration) -> Result<Result<Vec<Vec<u8>>, Refuse
     drop(old); // without the lock: it has much to give back
     let pause = &slot.metrics.checkpoint_pause_seconds;
     pause.observe(began.elapsed().as_secs_f64());
-    slot.metrics.forgotten_series.inc_by(forgotten);
     tracing::info!(
         "slot {}: {forgotten} series are forgotten for their age",
         slot.number()
     );
-    Ok(Ok(filled.carried))
+    Ok(filled.carried)
+}
+
+fn stays(slot: &Slot, why: &dyn Display) {
+    tracing::error!(
+        "slot {}: series were to be forgotten, and the book stays as it is: {why}",
+        slot.number()
+    );
 }
 
 /// How many. By the clock, not by their points' times. A series with points in the journal that are in no group stays.

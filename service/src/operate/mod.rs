@@ -45,7 +45,7 @@ pub struct Desk {
     pub listen: String,
     pub data: String,
     /// So many fit.
-    pub most_series: u64,
+    pub most_series: usize,
     pub begun: Instant,
     /// One letter is sent again at a time.
     pub resending: tokio::sync::Mutex<()>,

@@ -128,8 +128,8 @@ impl Desk {
     fn books_status(&self) -> BooksStatus {
         let (memory_bytes, most_memory_bytes) = crate::core::memory_used();
         BooksStatus {
-            count: self.slot.core().books(),
-            most_series: self.most_series,
+            count: self.slot.core().books() as u64,
+            most_series: self.most_series as u64,
             memory_bytes,
             most_memory_bytes,
         }

@@ -41,7 +41,7 @@ pub(crate) fn leave_others(outbox: &Outbox, number: u16, slots: u16) -> Result<(
 /// fault is told; and what is not done is as a kill leaves it.
 pub(super) async fn slots(
     folder: &Arc<Folder>,
-    most_series: u64,
+    most_series: usize,
     settings: &Settings,
     ending: impl Future<Output = ()>,
 ) -> Result<bool, Ended> {
@@ -60,7 +60,7 @@ pub(super) async fn slots(
 
 async fn adopt(
     folder: &Arc<Folder>,
-    most_series: u64,
+    most_series: usize,
     settings: &Settings,
     stop: watch::Receiver<bool>,
 ) -> Result<(), Ended> {
@@ -102,7 +102,7 @@ async fn rest(
     folder: &Arc<Folder>,
     number: u16,
     slots: u16,
-    most_series: u64,
+    most_series: usize,
     settings: &Settings,
     stop: &watch::Receiver<bool>,
 ) -> Result<(), Ended> {
@@ -120,7 +120,7 @@ async fn rest(
 }
 
 /// Slot 0 adopts the others' series: how many. One without an owner stays: no book is primed with it.
-fn move_series(folder: &Folder, slots: u16, most_series: u64) -> Result<usize, Ended> {
+fn move_series(folder: &Folder, slots: u16, most_series: usize) -> Result<usize, Ended> {
     let first = folder.outbox(0)?;
     leave_others(&first, 0, slots)?;
     let mut moving = Vec::new();
@@ -134,7 +134,7 @@ fn move_series(folder: &Folder, slots: u16, most_series: u64) -> Result<usize, E
         moving.extend(owned);
     }
     let all = first.series_count() + moving.len();
-    if all as u64 > most_series {
+    if all > most_series {
         return Err(refused(format!(
             "the folder's {slots} slots have {all} series, and --most-series is {most_series}: give a greater one"
         )));

@@ -45,7 +45,7 @@ pub struct Settings {
     /// How many serve senders.
     pub threads: usize,
     /// So many fit.
-    pub most_series: u64,
+    pub most_series: usize,
     pub metrics: Arc<Metrics>,
 }
 

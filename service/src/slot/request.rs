@@ -53,7 +53,7 @@ impl Slot {
             return Err(self.unavailable().unwrap_or("recovering"));
         }
         let admitted = book.admit(&mut read);
-        self.metrics.rounds_closed.inc_by(book.rounds_closed());
+        self.metrics.rounds_closed.inc_by(book.rounds_closed() as u64);
         if let Err(refused) = admitted {
             drop(book);
             if refused == Refused::TooManySeries {

@@ -4,7 +4,6 @@ use crate::support::{all, message, point, sums, Place, Run};
 use bytes::Bytes;
 use std::sync::atomic::{AtomicBool, Ordering};
 use std::sync::Arc;
-use std::time::Duration;
 use totxegun::keeper::{Done, Order};
 use totxegun::otlp::Outcome;
 
@@ -169,52 +168,48 @@ async fn a_replay_that_meets_a_limit_makes_room_and_goes_on() {
     assert_eq!(sums(&run.stop().await), [("a", i64::MAX - 2)]);
 }
 
-/// Senders that repeat until they are answered, until the posts are used up; checkpoints come meanwhile.
-async fn load(run: &Arc<Run>, senders: usize, posts: std::ops::RangeInclusive<u64>) {
+/// Senders that post one behind the other until it ends: how many posts each has now, behind those that it had.
+async fn load(run: &Arc<Run>, had: &[u64], ends: &Arc<AtomicBool>) -> Vec<u64> {
     let mut tasks = tokio::task::JoinSet::new();
-    for sender in 0..senders {
-        let (run, posts) = (run.clone(), posts.clone());
+    for (sender, had) in had.iter().copied().enumerate() {
+        let (run, ends) = (run.clone(), ends.clone());
         tasks.spawn(async move {
-            let name = format!("s{sender}");
-            for number in posts {
+            let (name, mut number) = (format!("s{sender}"), had);
+            while !ends.load(Ordering::SeqCst) {
+                number += 1;
                 let body = point(&name, number * 10, number * 10 + 10, number as i64);
-                assert_eq!(
-                    run.post_until_answered(&name, body).await,
-                    all(),
-                    "{name}, {number}"
-                );
+                assert_eq!(run.post(&name, body).await, all(), "{name}, {number}");
             }
+            (sender, number)
         });
     }
+    let mut have = had.to_vec();
     while let Some(ended) = tasks.join_next().await {
-        ended.unwrap();
+        let (sender, number) = ended.unwrap();
+        have[sender] = number;
     }
+    have
 }
 
 #[tokio::test(flavor = "multi_thread")]
 async fn a_checkpoint_under_load_splits_no_post_and_loses_none() {
     let place = Place::new();
-    let mut settings = place.settings();
-    settings.every = Duration::from_millis(10);
+    let mut posts = vec![0; 6];
     let mut sums_of_all = std::collections::BTreeMap::<String, i64>::new();
     for part in 0..3 {
-        let run = Arc::new(place.run_with(settings.clone()).await);
+        let run = Arc::new(place.run().await);
         let ends = Arc::new(AtomicBool::new(false));
         let flushing = tokio::spawn({
             let (run, ends) = (run.clone(), ends.clone());
             async move {
-                let mut checkpoints = 0;
-                while !ends.load(Ordering::SeqCst) {
+                for _ in 0..12 {
                     run.checkpoint().await;
-                    checkpoints += 1;
                 }
-                checkpoints
+                ends.store(true, Ordering::SeqCst);
             }
         });
-        load(&run, 6, part * 200 + 1..=(part + 1) * 200).await;
-        ends.store(true, Ordering::SeqCst);
-        let checkpoints = flushing.await.unwrap();
-        assert!(checkpoints > 3, "{checkpoints}");
+        posts = load(&run, &posts, &ends).await;
+        flushing.await.unwrap();
         has_no_fault(&run);
         let Ok(run) = Arc::try_unwrap(run) else {
             panic!("it is in use")
@@ -229,8 +224,8 @@ async fn a_checkpoint_under_load_splits_no_post_and_loses_none() {
         }
     }
     assert_eq!(sums_of_all.len(), 6);
-    for (name, sum) in sums_of_all {
-        assert_eq!(sum, 600 * 601 / 2, "{name}");
+    for ((name, sum), posts) in sums_of_all.into_iter().zip(posts) {
+        assert_eq!(sum as u64, posts * (posts + 1) / 2, "{name}");
     }
 }
 
@@ -302,7 +297,7 @@ async fn a_series_of_4_mib_is_taken_and_primed() {
     let longest = Bytes::from(body((4 << 20) - body(0).len()));
     assert_eq!(run.post("A", longest.clone()).await, all());
     assert_eq!(run.post("A", point("a", 10, 20, 5)).await, all());
-    assert_eq!(run.checkpoint().await, 1);
+    assert!((1..=2).contains(&run.checkpoint().await), "of one book or two");
     run.abort().await;
     let run = place.run().await;
     for repeat in [longest, point("a", 10, 20, 5)] {

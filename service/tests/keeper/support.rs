@@ -20,7 +20,7 @@ const PATIENCE: Duration = Duration::from_secs(120);
 pub struct Place {
     pub folder: tempfile::TempDir,
     /// How many fit: it may be others at each start.
-    pub most_series: u64,
+    pub most_series: usize,
 }
 
 impl Place {
@@ -86,19 +86,6 @@ impl Run {
 
     pub async fn post(&self, sender: &str, body: Bytes) -> Outcome {
         self.slot.post(sender.into(), body).await
-    }
-
-    /// Repeats what is answered 503, as a sender does.
-    pub async fn post_until_answered(&self, sender: &str, body: Bytes) -> Outcome {
-        let begun = Instant::now();
-        loop {
-            let outcome = self.post(sender, body.clone()).await;
-            if outcome.status() != 503 {
-                return outcome;
-            }
-            assert!(begun.elapsed() < PATIENCE, "{outcome:?}");
-            tokio::time::sleep(Duration::from_millis(5)).await;
-        }
     }
 
     pub async fn order(&self, order: Order) -> Done {

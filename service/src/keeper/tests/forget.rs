@@ -35,24 +35,23 @@ async fn until_taken(run: &Run, sender: &str, names: &[String], start: u64) {
 async fn series_are_forgotten_where_there_are_too_many() {
     let place = tempfile::tempdir().unwrap();
     let folder = || Folder::open(&place.path().join("data"), Durability::Process).unwrap();
-    let forget = Some(Duration::from_millis(1_500));
-    let run = Run::begin_in(folder(), Settings { forget, ..settings() }).await;
+    let run = Run::begin_in(folder(), settings()).await;
     for part in names(0..MOST - 1).chunks(1_000) {
         assert_eq!(post(&run, "A", part, 10).await, Outcome::taken(0));
     }
-    // B's point stays in the journal, in no group: so its series is not forgotten.
     assert_eq!(post(&run, "B", &["held".into()], 10).await, Outcome::taken(0));
-    assert_eq!(run.flush().await, 10);
+    run.end().await;
+    tokio::time::sleep(Duration::from_millis(4_100)).await;
+    let forget = Some(Duration::from_secs(3));
+    let run = Run::begin_in(folder(), Settings { forget, ..settings() }).await;
+    // B's point stays in the journal, in no group: so its series is not forgotten.
     assert_eq!(post(&run, "B", &["held".into()], 20).await, Outcome::taken(0));
     let quarantined = run.orders.order(Order::Quarantine("B".into())).await;
     assert_eq!(quarantined, Some(Done::Answered(Outcome::taken(0))));
-    let new = names(MOST..MOST + 1);
-    assert_eq!(refused(&post(&run, "A", &new, 10).await), "too many series");
-    assert_eq!(run.slot.outbox.series_count(), MOST, "they were just seen");
-    tokio::time::sleep(Duration::from_millis(2_600)).await;
-    // One is in use: what was seen meanwhile stays.
-    let used = names(7..8);
+    // What was seen meanwhile stays.
+    let (used, new) = (names(7..8), names(MOST..MOST + 1));
     assert_eq!(post(&run, "A", &used, 20).await, Outcome::taken(0));
+    assert_eq!(refused(&post(&run, "A", &new, 10).await), "too many series");
     until_taken(&run, "C", &new, 10).await;
     assert_eq!(run.slot.metrics.forgotten_series.get(), MOST as u64 - 2);
     assert_eq!(
