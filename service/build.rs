@@ -1,18 +1,20 @@
-//! Compares the version that Cargo.toml has with the one that holds for all, the file VERSION at the top; and builds the
-//! library that gives a gateway its sockets.
+//! Compares the version that Cargo.toml has with the one that holds for all, the file VERSION at the top; and links the
+//! proved book, the library that `tools/build.py` has built.
 
+use sha2::{Digest, Sha256};
 use std::path::{Path, PathBuf};
 
-const SOCKETS: &str = "src/gateway/sockets.c";
-/// From the file that has the library, to this folder.
-const UP: &str = "../..";
+/// Where the library is, beside what was written of it when it was proved. `$TOTXEGUN_BOOK` is another folder.
+const FOLDER: &str = "../crates/book_c/out";
+const LIBRARY: &str = "libbook_c.a";
+const PROVED: &str = "libbook_c.a.proved";
 
 fn main() {
     println!("cargo:rerun-if-changed=../VERSION");
     println!("cargo:rerun-if-changed=build.rs");
-    println!("cargo:rerun-if-changed={SOCKETS}");
+    println!("cargo:rerun-if-env-changed=TOTXEGUN_BOOK");
     compare_versions();
-    build_sockets();
+    link_book();
 }
 
 fn compare_versions() {
@@ -27,36 +29,39 @@ fn compare_versions() {
     }
 }
 
-fn build_sockets() {
-    let made = folder("OUT_DIR").join("sockets.so");
-    let compiler = cc::Build::new()
-        .opt_level(2)
-        .debug(false)
-        .pic(true)
-        .warnings(true)
-        .extra_warnings(true)
-        .warnings_into_errors(true)
-        .get_compiler();
-    let built = compiler
-        .to_command()
-        .args(["-shared", "-s", SOCKETS, "-o"])
-        .arg(&made)
-        .status();
-    match built {
-        Ok(status) if status.success() => println!("cargo:rustc-env=SOCKETS={}", named(&made).display()),
-        Ok(status) => panic!("{SOCKETS} can't be compiled: {status}"),
-        Err(error) => panic!("no C compiler can be run: {error}"),
+fn link_book() {
+    let folder = std::env::var_os("TOTXEGUN_BOOK").map_or_else(|| FOLDER.into(), PathBuf::from);
+    let folder = std::path::absolute(folder).expect("it has a name");
+    let library = folder.join(LIBRARY);
+    println!("cargo:rerun-if-changed={}", library.display());
+    println!("cargo:rerun-if-changed={}", folder.join(PROVED).display());
+    println!("cargo:rustc-link-search=native={}", folder.display());
+    println!("cargo:rustc-link-lib=static=book_c");
+    match proved(&library, &folder.join(PROVED)) {
+        Some((revision, toolchain)) => {
+            println!("cargo:rustc-env=BOOK_REVISION={revision}");
+            println!("cargo:rustc-env=BOOK_TOOLCHAIN={toolchain}");
+        }
+        // What only checks links nothing; what links fails behind this.
+        None if !library.is_file() => {
+            println!(
+                "cargo:warning=there is no {}: tools/build.py book_c builds it",
+                library.display()
+            );
+        }
+        None => {}
     }
 }
 
-/// By a path without the folder in which all is built, where it is in that: two folders make the same program.
-fn named(made: &Path) -> PathBuf {
-    match made.strip_prefix(folder("CARGO_MANIFEST_DIR")) {
-        Ok(within) => Path::new(UP).join(within),
-        Err(_) => made.into(),
-    }
-}
-
-fn folder(name: &str) -> PathBuf {
-    std::env::var_os(name).expect("cargo tells it").into()
+/// Of which revision the library was proved, and by which toolchain: where that was written of this very library.
+fn proved(library: &Path, written: &Path) -> Option<(String, String)> {
+    let text = std::fs::read_to_string(written).ok()?;
+    let value = |key: &str| {
+        let mut lines = text.lines().filter_map(|line| line.split_once(' '));
+        let (_, value) = lines.find(|(word, _)| *word == key)?;
+        Some(value.trim().to_string())
+    };
+    let digest = Sha256::digest(std::fs::read(library).ok()?);
+    let sum: String = digest.iter().map(|byte| format!("{byte:02x}")).collect();
+    (value("sha256")? == sum).then_some((value("revision")?, value("toolchain")?))
 }

@@ -1,13 +1,15 @@
-//! The parts of `totxegun`: one program on both sides of the gateway.
+//! The parts of `totxegun`: one program around its proved book.
 //!
-//! Senders post to `intake`, or call `grpc`, which read their request by `otlp` and give it to a `slot`: one gateway with its
-//! journal and outbox (`files`). A `keeper` starts, flushes, replaces and restores the `gateway`. What was flushed
+//! Senders post to `intake`, or call `grpc`, which read their request by `otlp` and give it to the `slot`: the book (`core`)
+//! with its journal and outbox (`files`). A `keeper` fills the book at the start, and flushes it. What was flushed
 //! is delivered to one of the `sinks`. `remarks` tells in the log what an operator may want to know of posts.
 //! `operate` is the operator's address, `command` the command line, `service` all of it as one process, `log` what it says;
 //! `switch` tells a part of it to stop, `work` is done beside the runtime.
 
 // What may be missing is handled; in a test these two are the check. `print!` and `eprint!` panic where nobody reads: see
 // `command` and `log`.
+// The one file that may is `core/book`.
+#![deny(unsafe_code)]
 #![cfg_attr(
     not(test),
     deny(
@@ -19,8 +21,8 @@
 )]
 
 pub mod command;
+pub mod core;
 pub mod files;
-pub mod gateway;
 pub mod grpc;
 pub mod intake;
 pub mod keeper;

@@ -28,8 +28,3 @@ pub async fn within<T>(time: Duration, future: impl Future<Output = T>) -> Optio
         Poll::Pending => Box::pin(tokio::time::timeout(time, future)).await.ok(),
     }
 }
-
-/// Waits, where that is seldom.
-pub async fn pause(time: Duration) {
-    Box::pin(tokio::time::sleep(time)).await;
-}

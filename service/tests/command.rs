@@ -57,7 +57,6 @@ fn help_names_each_command_and_option() {
         "totals",
         "flush",
         "checkpoint",
-        "renew",
         "quarantine",
         "lift",
         "dead",
@@ -74,16 +73,10 @@ fn help_names_each_command_and_option() {
         "sink",
         "flush-every",
         "durable",
-        "gateway",
         "forget-series",
         "drop-attribute",
-        "memory",
-        "allocator",
-        "receivers",
-        "flushers",
-        "connections",
-        "round",
-        "slots",
+        "most-series",
+        "book-memory",
         "most-bytes",
         "most-connections",
         "threads",
@@ -106,7 +99,7 @@ fn help_names_each_command_and_option() {
 fn a_faulty_line_has_status_2() {
     refused(&[], 2, "Usage");
     refused(&["serve"], 2, "--data");
-    refused(&["serve", "--data", "d", "--slots", "65"], 2, "1..=64");
+    refused(&["serve", "--data", "d", "--most-series", "0"], 2, "1..=1000000");
     refused(&["serve", "--data", "d", "--flush-every", "10"], 2, "10s");
     refused(
         &["serve", "--data", "d", "--sink", "localhost:4318"],
@@ -114,7 +107,7 @@ fn a_faulty_line_has_status_2() {
         "no sink is known for `localhost:`",
     );
     refused(&["quarantine", "no name"], 2, "1 to 64");
-    let serve = ["serve", "--data", "d", "--gateway", "/bin/true"];
+    let serve = ["serve", "--data", "d"];
     for (words, part) in [
         (&[&serve[..], &["--sink-gzip"]].concat()[..], "for a sink of OTLP"),
         (&[&serve[..], &["--listen", "4318"]].concat(), "write HOST:PORT"),
@@ -196,22 +189,18 @@ fn a_flush_is_done_once_somebody_says_so() {
     }
 }
 
-/// Connections on which nobody posts would else take the files that a journal and a gateway need.
+/// Connections on which nobody posts would else take the files that the journal needs.
 #[test]
 fn few_open_files_are_few_connections() {
     let folder = tempfile::tempdir().unwrap();
     let taken = std::net::TcpListener::bind("127.0.0.1:0").unwrap();
     let line = format!(
-        "ulimit -n 1000; exec {} serve --data {} --gateway /bin/true --listen {}",
+        "ulimit -n 1000; exec {} serve --data {} --listen {}",
         env!("CARGO_BIN_EXE_totxegun"),
         folder.path().display(),
         taken.local_addr().unwrap()
     );
-    for (more, connections) in [
-        ("", 712),
-        (" --listen-grpc 127.0.0.1:0", 356),
-        (" --slots 4", 232),
-    ] {
+    for (more, connections) in [("", 808), (" --listen-grpc 127.0.0.1:0", 404)] {
         let output = Command::new("sh").args(["-c", &format!("{line}{more}")]).output();
         let text = String::from_utf8_lossy(&output.unwrap().stderr).into_owned();
         let told =
@@ -253,14 +242,9 @@ fn an_interrupt_leaves_no_copy_of_a_folder() {
 fn what_is_not_possible_has_status_1_and_is_named() {
     let folder = tempfile::tempdir().unwrap();
     let data = folder.path().to_str().unwrap();
-    refused(
-        &["serve", "--data", data, "--gateway", "/nowhere/gateway"],
-        1,
-        "--gateway /nowhere/gateway",
-    );
     let taken = std::net::TcpListener::bind("127.0.0.1:0").unwrap();
     let address = taken.local_addr().unwrap().to_string();
-    let serve = ["serve", "--data", data, "--gateway", "/bin/true"];
+    let serve = ["serve", "--data", data];
     refused(
         &[&serve[..], &["--listen", &address]].concat(),
         1,
@@ -271,10 +255,25 @@ fn what_is_not_possible_has_status_1_and_is_named() {
         1,
         &format!("--operate {address}"),
     );
+    let other = tempfile::tempdir().unwrap();
+    let place = [
+        "--data",
+        other.path().to_str().unwrap(),
+        "--listen",
+        "127.0.0.1:0",
+    ];
+    let short = [
+        "--operate",
+        "127.0.0.1:0",
+        "--book-memory",
+        "64MiB",
+        "--most-series",
+        "1000000",
+    ];
     refused(
-        &[&serve[..], &["--allocator", "/nowhere.so"]].concat(),
+        &[&["serve"][..], &place, &short].concat(),
         1,
-        "--allocator /nowhere.so",
+        "give a greater --book-memory, or a smaller --most-series",
     );
     drop(taken);
     for words in [
@@ -298,12 +297,12 @@ fn an_option_may_come_by_the_environment() {
     let output = command
         .arg("serve")
         .env("TOTXEGUN_DATA", "d")
-        .env("TOTXEGUN_GATEWAY", "/nowhere/gateway")
+        .env("TOTXEGUN_MOST_SERIES", "none")
         .output()
         .unwrap();
     let text = String::from_utf8_lossy(&output.stderr).into_owned();
     assert!(
-        output.status.code() == Some(1) && text.contains("/nowhere/gateway"),
+        output.status.code() == Some(2) && text.contains("--most-series"),
         "{text}"
     );
 }

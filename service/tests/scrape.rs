@@ -1,12 +1,12 @@
-//! `/totals` of the program itself has what `totxegun totals` shows, over a renewal, a kill and a restart.
+//! `/totals` of the program itself has what `totxegun totals` shows, over a kill and a restart.
 
 use std::io::{Read, Write};
 use std::net::{TcpListener, TcpStream};
-use std::path::{Path, PathBuf};
+use std::path::Path;
 use std::process::{Child, Command, Stdio};
 use std::time::{Duration, Instant};
 
-/// Past what a float holds, and little enough that a gateway takes it.
+/// Past what a float holds, and little enough that the book takes it.
 const LARGE: i64 = (1 << 62) + 1;
 
 struct Service {
@@ -22,29 +22,16 @@ impl Drop for Service {
     }
 }
 
-fn gateway() -> Option<PathBuf> {
-    let top = Path::new(env!("CARGO_MANIFEST_DIR")).parent().unwrap();
-    let named = std::env::var_os("TOTXEGUN_GATEWAY").map(PathBuf::from);
-    let built = ["bin/gateway", "crates/gateway/out/gateway"].map(|path| top.join(path));
-    let found = named.into_iter().chain(built).find(|path| path.is_file());
-    if found.is_none() {
-        eprintln!("skipped: no gateway in $TOTXEGUN_GATEWAY, bin/gateway or crates/gateway/out/gateway");
-    }
-    found
-}
-
 fn free_address() -> String {
     let listener = TcpListener::bind("127.0.0.1:0").unwrap();
     listener.local_addr().unwrap().to_string()
 }
 
-fn serve(gateway: &Path, data: &Path, sink: &[&str]) -> Service {
+fn serve(data: &Path, sink: &[&str]) -> Service {
     let (listen, operate) = (free_address(), free_address());
     let child = Command::new(env!("CARGO_BIN_EXE_totxegun"))
         .args(["serve", "--flush-every", "3600s", "--data"])
         .arg(data)
-        .arg("--gateway")
-        .arg(gateway)
         .args(["--listen", &listen, "--operate", &operate])
         .args(sink)
         .stderr(Stdio::null())
@@ -123,21 +110,19 @@ impl Service {
 }
 
 #[test]
-fn a_scrape_has_the_totals_over_renewal_kill_and_restart() {
-    let Some(gateway) = gateway() else { return };
+fn a_scrape_has_the_totals_over_a_kill_and_a_restart() {
     let folder = tempfile::tempdir().unwrap();
     let data = folder.path().join("data");
-    let service = serve(&gateway, &data, &[]);
+    let service = serve(&data, &[]);
     service.post(20, LARGE);
     service.order("/flush");
     assert_eq!(service.total(), "4611686018427387905");
-    service.order("/renew");
     service.post(30, LARGE);
     service.order("/flush");
     assert_eq!(service.total(), "9223372036854775810");
     service.post(40, 5);
     drop(service); // killed: the journal has the last post
-    let service = serve(&gateway, &data, &[]);
+    let service = serve(&data, &[]);
     assert_eq!(service.total(), "9223372036854775810");
     service.order("/flush");
     assert_eq!(service.total(), "9223372036854775815");
@@ -145,10 +130,9 @@ fn a_scrape_has_the_totals_over_renewal_kill_and_restart() {
 
 #[test]
 fn another_sink_has_no_page() {
-    let Some(gateway) = gateway() else { return };
     let folder = tempfile::tempdir().unwrap();
     let sink = ["--sink", "http://127.0.0.1:1/v1/metrics"];
-    let service = serve(&gateway, &folder.path().join("data"), &sink);
+    let service = serve(&folder.path().join("data"), &sink);
     let (status, text) = asked(&service.operate, "GET", "/totals", "").unwrap();
     assert_eq!(status, 404);
     assert!(
@@ -160,9 +144,8 @@ fn another_sink_has_no_page() {
 /// As who watches an address asks.
 #[test]
 fn a_head_is_that_of_its_page() {
-    let Some(gateway) = gateway() else { return };
     let folder = tempfile::tempdir().unwrap();
-    let service = serve(&gateway, &folder.path().join("data"), &[]);
+    let service = serve(&folder.path().join("data"), &[]);
     for path in ["/ready", "/health", "/status", "/metrics", "/totals"] {
         let head = asked(&service.operate, "HEAD", path, "");
         assert_eq!(head, Some((200, String::new())), "{path}");

@@ -1,4 +1,4 @@
-//! Orders to the running service: flush, renew, quarantine, lift.
+//! Orders to the running service: flush, quarantine, lift.
 
 use super::values::{counted, place};
 use super::{client, line, Form};

@@ -5,7 +5,7 @@
 use super::table::Table;
 use super::{json, values, Failure, Form};
 use crate::files::{Durability, Fault, Folder, FolderFault, Journal, Outbox};
-use crate::slot::slot_of;
+use crate::service::slot_of;
 use anyhow::{anyhow, bail, Context};
 use clap::Args;
 use nix::fcntl::{flock, FlockArg};
@@ -296,7 +296,7 @@ fn text(found: &Found, data: &Path) -> String {
     row("refused for good", counted(found.dead, "request"));
     row("faults", "none".into());
     let posts = found.posts;
-    format!("{table}\nA start tells each slot's gateway its series, gives it its posts ({posts} in all), and delivers the requests in order.\n")
+    format!("{table}\nA start tells the book its series, gives it the posts ({posts} in all), and delivers the requests in order.\n")
 }
 
 #[cfg(test)]

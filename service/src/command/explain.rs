@@ -84,10 +84,7 @@ fn found(body: Vec<u8>, reading: &Reading) -> anyhow::Result<Found> {
     };
     let sender = otlp::sender(otlp::NO_NAME.into(), encoding, &body, reading).map_err(refused)?;
     let prepared = otlp::prepare(encoding, body.into(), reading).map_err(refused)?;
-    let mut points = Vec::new();
-    for body in &prepared.bodies {
-        points.extend(otlp::explained(body).context("refused with 400: wrong shape")?);
-    }
+    let points = otlp::explained(&prepared.body).context("refused with 400: wrong shape")?;
     let foreign = points.iter().filter(|point| point.foreign.is_some()).count();
     let rounded = prepared.rounded.by_rule.into_iter();
     Ok(Found {
@@ -108,11 +105,7 @@ fn found(body: Vec<u8>, reading: &Reading) -> anyhow::Result<Found> {
 }
 
 fn refused(refused: Refused) -> anyhow::Error {
-    let status = match refused {
-        Refused::Unreadable(_) => 400,
-        Refused::TooLong => 413,
-    };
-    anyhow!("refused with {status}: {refused}")
+    anyhow!("refused with 400: {refused}")
 }
 
 fn not_too_long(body: Vec<u8>) -> anyhow::Result<Vec<u8>> {

@@ -1,6 +1,6 @@
 //! The command line: what `totxegun` can be told, and the status that it ends with.
 //!
-//! 0: done. 1: refused, or not possible. 2: a faulty command line. 70: the disk, or what is on it.
+//! 0: done. 1: refused, or not possible. 2: a faulty command line. 70: the disk, or what is on it. 71: no memory to go on.
 
 mod ask;
 mod check;
@@ -29,8 +29,9 @@ use std::process::ExitCode;
 const REFUSED: u8 = 1;
 const FAULTY: u8 = 2;
 const DISK: u8 = 70;
+const MEMORY: u8 = 71;
 
-/// Takes OTLP delta metrics, adds them up by a gateway, keeps them on disk, and delivers the totals to a sink.
+/// Takes OTLP delta metrics, adds them up, keeps them on disk, and delivers the totals to a sink.
 #[derive(Parser)]
 #[command(name = "totxegun", version, max_term_width = 100)]
 struct Line {
@@ -49,8 +50,6 @@ enum Command {
     /// Puts all that was taken into the outbox now
     #[command(visible_alias = "checkpoint")]
     Flush(ask::Address),
-    /// Flushes, and goes on with a fresh gateway
-    Renew(ask::Address),
     /// Keeps a sender's points back, and refuses its posts
     Quarantine(ask::OfSender),
     /// Releases a quarantined sender
@@ -62,8 +61,8 @@ enum Command {
     Check(check::Options),
     /// Says of each point of a captured request whether it is taken, and why not
     Explain(explain::Options),
-    /// Prints the version, and whether the gateway was proved
-    Version(version::Options),
+    /// Prints the version, and whether the book was proved
+    Version,
     /// Prints what a package is made with
     #[command(hide = true)]
     Print {
@@ -83,12 +82,15 @@ enum Failure {
     Line(anyhow::Error),
     #[error("{0}")]
     Disk(#[from] Fault),
+    #[error("{0}")]
+    Memory(String),
 }
 
 impl From<Ended> for Failure {
     fn from(ended: Ended) -> Failure {
         match ended {
             Ended::Disk(fault) => Failure::Disk(fault),
+            Ended::NoMemory(why) => Failure::Memory(why),
             Ended::Other(error) => Failure::Refused(error),
         }
     }
@@ -112,6 +114,7 @@ pub fn run() -> ExitCode {
                 Failure::Refused(_) => REFUSED,
                 Failure::Line(_) => FAULTY,
                 Failure::Disk(_) => DISK,
+                Failure::Memory(_) => MEMORY,
             })
         }
     }
@@ -137,13 +140,12 @@ impl Command {
             Command::Status(shown) => Ok(status::run(&shown)?),
             Command::Totals(options) => Ok(totals::run(&options)?),
             Command::Flush(at) => Ok(ask::flush(&at, "/flush")?),
-            Command::Renew(at) => Ok(ask::flush(&at, "/renew")?),
             Command::Quarantine(of) => Ok(ask::order(&of.at, &format!("/quarantine/{}", of.sender))?),
             Command::Lift(of) => Ok(ask::order(&of.at, &format!("/lift/{}", of.sender))?),
             Command::Dead(command) => Ok(command.run()?),
             Command::Check(options) => options.run(),
             Command::Explain(options) => options.run(),
-            Command::Version(options) => Ok(options.run()),
+            Command::Version => Ok(line(version::Versions)),
             Command::Print { what } => Ok(print::run(what)?),
         }
     }
@@ -202,10 +204,10 @@ mod tests {
         for (command, option, wanted) in [
             ("serve", "flush-every", None),
             ("serve", "log-foreign", None),
-            ("serve", "slots", None),
+            ("serve", "threads", None),
             ("serve", "sink-gzip", Some("Options of an OTLP sink")),
             ("serve", "whole", Some("Options of reading")),
-            ("serve", "round", Some("Options of the gateway")),
+            ("serve", "most-series", Some("Options of the book")),
             ("explain", "json", None),
             ("explain", "whole", Some("Options of reading")),
         ] {
@@ -220,15 +222,14 @@ mod tests {
     #[test]
     fn faulty_lines_are_refused_by_name() {
         for (words, part) in [
-            ("serve --data d --slots 0", "--slots"),
-            ("serve --data d --slots 65", "--slots"),
+            ("serve --data d --slots 1", "--slots"),
+            ("serve --data d --most-series 0", "--most-series"),
+            ("serve --data d --most-series 1000001", "--most-series"),
             ("serve --data d --flush-every 0s", "--flush-every"),
             ("serve --data d --flush-every ten", "--flush-every"),
-            ("serve --data d --receivers 9", "--receivers"),
-            ("serve --data d --flushers 0", "--flushers"),
             ("serve --data d --durable never", "--durable"),
-            ("serve --data d --memory 1X", "--memory"),
-            ("serve --data d --memory 127MiB", "128MiB"),
+            ("serve --data d --book-memory 1X", "--book-memory"),
+            ("serve --data d --book-memory 63MiB", "64MiB"),
             ("serve --data d --most-bytes 256", "1MiB"),
             ("serve --data d --sink nats://h", "--sink"),
             ("serve --data d --sink https://127.0.0.1/", "certificate"),

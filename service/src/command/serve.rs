@@ -1,11 +1,11 @@
 //! `totxegun serve`: its options, and its run.
 
 use super::reading::OfReading;
-use super::values::{place, size, time, time_or_never, MayBeNever};
+use super::values::{bytes_shown, place, size, time, time_or_never, MayBeNever};
 use super::version::Versions;
 use super::Failure;
-use crate::files::{Durability, MOST_SLOTS};
-use crate::gateway;
+use crate::core;
+use crate::files::Durability;
 use crate::log;
 use crate::metrics::Metrics;
 use crate::service::{self, init, Settings};
@@ -20,19 +20,17 @@ use tracing_subscriber::{filter::Targets, prelude::*};
 
 /// Threads of all that no sender waits for: checkpoints, the delivery, operators.
 const BACKGROUND: usize = 2;
-/// Threads for calls of files that wait for a disk, and more for each further slot.
+/// Threads for calls of files that wait for a disk.
 const LONG_WORK: usize = 16;
-const LONG_WORK_OF_A_SLOT: usize = 4;
 
-/// Open files: of the service's own, with the operators' connections; of a slot, its files and its gateway.
-const OWN_FILES: u64 = 128;
-const FILES_OF_A_SLOT: u64 = 32 + gateway::MOST_LINES;
+/// Open files of the service's own, with the operators' connections.
+const OWN_FILES: u64 = 192;
 
 /// With less than this most posts would be refused as too long for good, and lost.
 const LEAST_BYTES: u64 = 1 << 20;
 
-/// With less than some 100 MiB no gateway starts, or it never has room for a request of 4 MiB.
-const LEAST_MEMORY: u64 = 128 << 20;
+/// With less there is hardly room for a request of 4 MiB while it is read.
+const LEAST_MEMORY: u64 = 64 << 20;
 
 #[derive(Args)]
 pub struct Options {
@@ -75,10 +73,7 @@ pub struct Options {
         value_enum
     )]
     durable: Durability,
-    /// The gateway program [default: totxegun-gateway or gateway, beside this program or in PATH]
-    #[arg(long, env = "TOTXEGUN_GATEWAY", value_name = "PATH")]
-    gateway: Option<PathBuf>,
-    /// How long a series is known that nobody posts to, or `never` to forget none
+    /// How long a series is kept that nobody posts to where there are too many, or `never` to forget none
     #[arg(long, env = "TOTXEGUN_FORGET_SERIES", value_name = "TIME", default_value = "7d", value_parser = time_or_never)]
     forget_series: MayBeNever,
     /// Writes the first N reasons why points are foreign to the log, for each sender
@@ -93,16 +88,13 @@ pub struct Options {
     /// How many threads serve senders
     #[arg(long, env = "TOTXEGUN_THREADS", value_name = "N", default_value_t = 2, value_parser = value_parser!(u16).range(1..=64))]
     threads: u16,
-    /// How many gateways share the senders, each with files of its own
-    #[arg(long, env = "TOTXEGUN_SLOTS", value_name = "N", default_value_t = 1, value_parser = value_parser!(u16).range(1..=i64::from(MOST_SLOTS)))]
-    slots: u16,
     // What is behind a group stands under its heading: so the groups come last.
     #[command(flatten)]
     of_sink: OfSink,
     #[command(flatten)]
     of_reading: OfReading,
     #[command(flatten)]
-    of_gateway: OfGateway,
+    of_book: OfBook,
 }
 
 #[derive(Args)]
@@ -155,7 +147,7 @@ fn memory(text: &str) -> Result<u64, String> {
     let bytes = size(text)?;
     match bytes >= LEAST_MEMORY {
         true => Ok(bytes),
-        false => Err("with less than 128MiB no gateway starts, or takes a long request".to_string()),
+        false => Err("with less than 64MiB there is no room for a long request".to_string()),
     }
 }
 
@@ -167,26 +159,35 @@ fn header(text: &str) -> Result<(String, String), String> {
 }
 
 #[derive(Args)]
-#[command(next_help_heading = "Options of the gateway")]
-struct OfGateway {
-    /// The most address space of each gateway, as by `ulimit -v`
-    #[arg(long, env = "TOTXEGUN_MEMORY", value_name = "BYTES", value_parser = memory)]
-    memory: Option<u64>,
-    /// An allocator's library, preloaded; `none` is the C library's own [default: tcmalloc, where it is installed]
-    #[arg(long, env = "TOTXEGUN_ALLOCATOR", value_name = "LIB")]
-    allocator: Option<PathBuf>,
-    /// Threads of a gateway that take posts
-    #[arg(long, env = "TOTXEGUN_RECEIVERS", value_name = "N", default_value_t = 4, value_parser = value_parser!(u16).range(1..=8))]
-    receivers: u16,
-    /// Threads of a gateway that flush
-    #[arg(long, env = "TOTXEGUN_FLUSHERS", value_name = "N", default_value_t = 4, value_parser = value_parser!(u16).range(1..=4))]
-    flushers: u16,
-    /// Connections that a gateway serves before a fresh one takes its place
-    #[arg(long, env = "TOTXEGUN_CONNECTIONS", value_name = "N", default_value_t = 1_000_000, value_parser = value_parser!(u64).range(100..=1_000_000))]
-    connections: u64,
-    /// Connections of one round of a gateway
-    #[arg(long, env = "TOTXEGUN_ROUND", value_name = "N", default_value_t = 32_000, value_parser = value_parser!(u32).range(1..=32_000))]
-    round: u32,
+#[command(next_help_heading = "Options of the book")]
+struct OfBook {
+    /// How many series fit for sure
+    #[arg(long, env = "TOTXEGUN_MOST_SERIES", value_name = "N", default_value_t = 100_000, value_parser = value_parser!(u64).range(1..=core::MOST_SERIES as u64))]
+    most_series: u64,
+    /// The most memory of the book: posts get 503 before it is used up [default: half of what this process may have]
+    #[arg(long, env = "TOTXEGUN_BOOK_MEMORY", value_name = "BYTES", value_parser = memory)]
+    book_memory: Option<u64>,
+}
+
+impl OfBook {
+    fn memory(&self) -> u64 {
+        let most = self
+            .book_memory
+            .unwrap_or_else(|| (machine_memory() / 2).max(LEAST_MEMORY));
+        tracing::info!("the book has {} of memory at most", bytes_shown(most));
+        most
+    }
+}
+
+/// What the machine has, or what this process' group may have where that is less.
+fn machine_memory() -> u64 {
+    let total = nix::sys::sysinfo::sysinfo().map_or(LEAST_MEMORY, |machine| machine.ram_total());
+    let read = |path: &str| std::fs::read_to_string(path).unwrap_or_default();
+    let own = read("/proc/self/cgroup");
+    let group = own.lines().find_map(|line| line.strip_prefix("0::"));
+    let most = group.map(|group| read(&format!("/sys/fs/cgroup{group}/memory.max")));
+    let most = most.and_then(|most| most.trim().parse().ok());
+    total.min(most.unwrap_or(u64::MAX))
 }
 
 /// What gets into the log. Libraries warn of single frames and headers that a sender may send at any rate.
@@ -210,11 +211,11 @@ impl Options {
             .with(told())
             .init();
         let most_files = raise_open_files();
-        tracing::info!("{}", Versions::of(self.gateway.as_deref()));
+        tracing::info!("{Versions}");
         let mut building = tokio::runtime::Builder::new_multi_thread();
         building
             .worker_threads(BACKGROUND)
-            .max_blocking_threads(LONG_WORK + LONG_WORK_OF_A_SLOT * (usize::from(self.slots) - 1))
+            .max_blocking_threads(LONG_WORK)
             .enable_all();
         let runtime = building.build().context("no threads could be started")?;
         let ended = runtime.block_on(service::run(self.settings(most_files, metrics)?));
@@ -225,11 +226,10 @@ impl Options {
     }
 
     /// How many connections senders may have, where this process may have so many open files. One that nobody posts on
-    /// would else take the file that a journal or a gateway needs.
+    /// would else take the file that the journal needs.
     fn connections(&self, most_files: u64) -> usize {
-        let own = OWN_FILES + FILES_OF_A_SLOT * u64::from(self.slots);
         let addresses = 1 + u64::from(self.listen_grpc.is_some());
-        let most = (most_files.saturating_sub(own) / addresses).max(1);
+        let most = (most_files.saturating_sub(OWN_FILES) / addresses).max(1);
         let wanted = u64::from(self.most_connections);
         if most < wanted {
             tracing::warn!(
@@ -242,13 +242,8 @@ impl Options {
 
     fn settings(self, most_files: u64, metrics: Arc<Metrics>) -> Result<Settings, Failure> {
         let most_connections = self.connections(most_files);
-        let program = gateway::find_program(self.gateway.as_deref()).map_err(anyhow::Error::from)?;
-        let allocator = gateway::allocator::library(self.of_gateway.allocator.as_deref());
-        let allocator = allocator.map_err(anyhow::Error::from)?;
-        match &allocator {
-            Some(library) => tracing::info!("the gateway's allocator is {}", library.display()),
-            None => tracing::info!("the gateway's allocator is the C library's"),
-        }
+        core::bound_memory(self.of_book.memory());
+        metrics.most_series(self.of_book.most_series);
         let data = absolute(&self.data)?;
         let sink = self
             .sink
@@ -261,15 +256,6 @@ impl Options {
             operate: self.operate,
             sink,
             durability: self.durable,
-            gateway: gateway::Options {
-                program,
-                connections: self.of_gateway.connections,
-                receivers: self.of_gateway.receivers,
-                flushers: self.of_gateway.flushers,
-                round: self.of_gateway.round,
-                memory: self.of_gateway.memory,
-                allocator,
-            },
             every: self.flush_every,
             forget: self.forget_series.0,
             reading: self.of_reading.reading().map_err(Failure::Line)?,
@@ -277,7 +263,7 @@ impl Options {
             most_bytes: usize::try_from(self.most_bytes).unwrap_or(usize::MAX),
             most_connections,
             threads: usize::from(self.threads),
-            slots: self.slots,
+            most_series: self.of_book.most_series as usize,
             metrics,
         })
     }

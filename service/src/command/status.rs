@@ -27,6 +27,7 @@ fn text(status: &Status) -> String {
     lines.row(&["senders post to", status.listen.as_str()]);
     lines.row(&["data", status.data.as_str()]);
     lines.row(&["sink", status.sink.as_str()]);
+    lines.row(&["books", &books(status)]);
     let dead = values::counted(status.dead, "request");
     match status.dead {
         0 => lines.row(&["refused for good", &dead]),
@@ -35,16 +36,7 @@ fn text(status: &Status) -> String {
     for rounded in &status.rounded {
         lines.row(&["rounded", &rounding(rounded)]);
     }
-    let mut slots = Table::new(&[
-        "slot",
-        "gateway",
-        "memory",
-        "series",
-        "journal",
-        "waiting",
-        "outbox",
-        "quarantined",
-    ]);
+    let mut slots = Table::new(&["slot", "series", "journal", "waiting", "outbox", "quarantined"]);
     for slot in &status.slots {
         slots.row(&row(slot));
     }
@@ -53,23 +45,24 @@ fn text(status: &Status) -> String {
     format!("{lines}\n{slots}{rounded}{troubles}")
 }
 
-/// Why posts are answered 503, and of which slots where not of all.
+/// Why posts are answered 503.
 fn unavailable(status: &Status) -> Option<String> {
-    let why = |slot: &SlotStatus| {
-        let why = slot.unavailable.as_deref()?;
-        Some(match why {
-            NO_ROOM => format!("{why}: make room on the disk of {}", status.data),
-            why => why.to_string(),
-        })
-    };
-    let of_each: Vec<Option<String>> = status.slots.iter().map(why).collect();
-    let one = of_each.iter().flatten().next()?;
-    if of_each.iter().all(|why| why.as_ref() == Some(one)) {
-        return Some(one.clone());
-    }
-    let named = status.slots.iter().zip(&of_each);
-    let named = named.filter_map(|(slot, why)| Some(format!("slot {}: {}", slot.slot, why.as_ref()?)));
-    Some(named.collect::<Vec<_>>().join("; "))
+    let why = status.slots.iter().find_map(|slot| slot.unavailable.as_deref())?;
+    Some(match why {
+        NO_ROOM => format!("{why}: make room on the disk of {}", status.data),
+        why => why.to_string(),
+    })
+}
+
+fn books(status: &Status) -> String {
+    let books = &status.books;
+    format!(
+        "{} for {} series, {} of {}",
+        books.count,
+        books.most_series,
+        values::bytes_shown(books.memory_bytes),
+        values::bytes_shown(books.most_memory_bytes)
+    )
 }
 
 fn rounding(of: &RoundedStatus) -> String {
@@ -114,18 +107,9 @@ fn units(of: &RoundedStatus, bound: f64) -> String {
     shown.trim_end().to_string()
 }
 
-fn row(slot: &SlotStatus) -> [String; 8] {
-    let gateway = slot.gateway.as_ref();
-    let memory = gateway
-        .and_then(|gateway| gateway.resident_bytes)
-        .map(values::bytes_shown);
+fn row(slot: &SlotStatus) -> [String; 6] {
     [
         slot.slot.to_string(),
-        gateway.map_or_else(
-            || "none".to_string(),
-            |gateway| format!("process {}", gateway.pid),
-        ),
-        memory.unwrap_or_else(|| "-".to_string()),
         slot.series.to_string(),
         stock(&slot.journal),
         values::counted(slot.waiting, "request"),
@@ -154,7 +138,7 @@ fn trouble(slot: &SlotStatus) -> Option<String> {
 #[cfg(test)]
 mod tests {
     use super::*;
-    use crate::operate::RoundedSeriesStatus;
+    use crate::operate::{BooksStatus, RoundedSeriesStatus};
 
     fn status(quarantined: &[&str]) -> Status {
         let stock = || Stock {
@@ -166,7 +150,6 @@ mod tests {
             unavailable: None,
             series: 0,
             quarantined: quarantined.iter().map(ToString::to_string).collect(),
-            gateway: None,
             journal: stock(),
             waiting: 0,
             outbox: stock(),
@@ -182,6 +165,12 @@ mod tests {
             data: "/data".into(),
             sink: "/data/metrics.db".into(),
             dead: 0,
+            books: BooksStatus {
+                count: 13,
+                most_series: 100_000,
+                memory_bytes: 1 << 20,
+                most_memory_bytes: 1 << 30,
+            },
             slots: vec![slot],
             rounded: Vec::new(),
         }
@@ -205,19 +194,15 @@ mod tests {
             "totxegun 0        not ready, up 2 s, process 1\n\
              posts get 503     no room for the journal: make room on the disk of /data\n",
         );
-        told.slots.extend(status(&[]).slots);
-        told.slots[1].slot = 1;
-        told.slots[0].unavailable = Some("recovering".into());
-        begins(
-            &told,
-            "totxegun 0        not ready, up 2 s, process 1\nposts get 503     slot 0: recovering\n",
-        );
+        let text = text(&told);
+        let books = "books             13 for 100000 series, 1.0 MiB of 1.0 GiB";
+        assert!(text.lines().any(|line| line.trim_end() == books), "{text}");
     }
 
     #[test]
     fn who_is_quarantined_is_shown() {
         let line = |quarantined: &[&str]| text(&status(quarantined)).lines().last().map(str::to_string);
-        let slot = "0     none     -       0       0 B      0 requests  0 B     ";
+        let slot = "0     0       0 B      0 requests  0 B     ";
         assert_eq!(line(&[]).unwrap(), format!("{slot}none"));
         assert_eq!(
             line(&["-"]).unwrap(),

@@ -139,9 +139,11 @@ impl Journal {
         }
     }
 
-    /// Returns once all before a ticket is on the disk, whatever was asked for posts.
-    pub async fn settled(&self, ticket: Ticket) {
-        self.shared.synced(ticket.0).await;
+    /// Makes sure that all before a ticket is on the disk, whatever was asked for posts.
+    pub fn settle(&self, ticket: Ticket) {
+        if self.shared.durable.load(SeqCst) < ticket.0 {
+            self.shared.sync();
+        }
     }
 
     /// Gives the posts of the segments from `first` to before `end` that count, in order, until `each` is false.
@@ -176,9 +178,7 @@ impl Journal {
     /// Makes the last copies durable, whatever was asked for posts: what they are copies of may be so for long.
     pub fn settle_copies(&self) {
         let kept = lock(&self.shared.place).kept;
-        if self.shared.durable.load(SeqCst) < kept {
-            self.shared.sync();
-        }
+        self.settle(Ticket(kept));
     }
 
     /// Deletes the segments before this, once what was copied out of them is durable.

@@ -16,7 +16,7 @@ pub use connections::connection;
 use crate::intake::head::{Head, Packing};
 use crate::intake::{Intake, Taker};
 use crate::otlp::{Encoding, Outcome, NO_NAME};
-use crate::slot::{is_sender, Whole};
+use crate::slot::is_sender;
 use hyper::body::HttpBody;
 use hyper::header::{HeaderMap, HeaderName, CONTENT_TYPE};
 use hyper::http::request::Parts;
@@ -48,7 +48,7 @@ async fn answer<T: Taker>(intake: Arc<Intake<T>>, request: Request<Body>) -> Res
             let taking = take(&intake, head, &mut body);
             match tokio::time::timeout(limit, taking).await {
                 Ok(outcome) => outcome,
-                // What was given to a slot goes on; the sender's repeat is refused where it was taken.
+                // What was taken stays; the sender's repeat is refused where it was taken.
                 Err(_) => refused(LATE, "the deadline has passed"),
             }
         }
@@ -114,9 +114,8 @@ async fn take<T: Taker>(intake: &Arc<Intake<T>>, mut head: Head, body: &mut Body
             if !message.is_packed {
                 head.packing = Packing::Plain;
             }
-            // A call may be given up at any time; a post is whole, and its memory held until it is.
-            let intake = intake.clone();
-            Whole::new(async move { intake.put(head, message.bytes, hold).await }).await
+            // A call may be given up at any time: nothing of its post was taken then, or all of it.
+            intake.put(head, message.bytes, hold).await
         }
     }
 }

@@ -22,13 +22,13 @@ mod frames;
 
 /// Keeps what it is given, and answers as it was told, or never.
 struct Kept {
-    posts: Mutex<Vec<(String, Vec<Bytes>)>>,
+    posts: Mutex<Vec<(String, Bytes)>>,
     outcome: Option<Outcome>,
 }
 
 impl Taker for Kept {
-    fn post(self: &Arc<Self>, sender: String, bodies: Vec<Bytes>) -> impl Future<Output = Outcome> + Send {
-        self.posts.lock().unwrap().push((sender, bodies));
+    fn post(self: &Arc<Self>, sender: String, body: Bytes) -> impl Future<Output = Outcome> + Send {
+        self.posts.lock().unwrap().push((sender, body));
         let outcome = self.outcome.clone();
         async move {
             match outcome {
@@ -173,7 +173,7 @@ async fn a_call_goes_the_way_of_a_post() {
     }
     let posts = served.kept.posts.lock().unwrap().clone();
     let wanted = crate::otlp::prepare(Encoding::Protobuf, request.into(), &Reading::default());
-    let wanted = wanted.unwrap().bodies;
+    let wanted = wanted.unwrap().body;
     assert!(posts.len() == 4 && posts.iter().all(|post| post.1 == wanted));
     assert_eq!((posts[0].0.as_str(), posts[1].0.as_str()), ("shop-1", "-"));
     served.nothing_is_held().await;

@@ -1,8 +1,8 @@
 //! Where senders post: OTLP/HTTP in protobuf or JSON, packed or not, on kept connections, and nothing else.
 //!
 //! `front` serves the connections on `threads` of their own, `wire` reads them, `head` and `body` say what came, `answer`
-//! is what goes back. A request is refused here before any gateway is asked, or read whole, put into the gateway's form by `otlp`, and
-//! given to a slot. Whoever can post can't operate: every path but `/v1/metrics` is 404.
+//! is what goes back. A request is refused here before the book is asked, or read whole, put into the book's form by `otlp`, and
+//! given to the slot. Whoever can post can't operate: every path but `/v1/metrics` is 404.
 
 mod answer;
 mod body;
@@ -23,7 +23,7 @@ pub(crate) use weight::Hold;
 
 use crate::metrics::Metrics;
 use crate::otlp::{self, Encoding, Outcome, Reading, Rounded};
-use crate::slot::Slots;
+use crate::slot::Slot;
 use bytes::Bytes;
 use head::{Head, Packing};
 use refusal::Refusal;
@@ -54,17 +54,17 @@ const WHILE_READ_PROTOBUF: usize = 24;
 
 /// What takes posts. Each is whole even where the caller goes away.
 pub trait Taker: Send + Sync + 'static {
-    fn post(self: &Arc<Self>, sender: String, bodies: Vec<Bytes>) -> impl Future<Output = Outcome> + Send;
+    fn post(self: &Arc<Self>, sender: String, body: Bytes) -> impl Future<Output = Outcome> + Send;
 }
 
-impl Taker for Slots {
-    fn post(self: &Arc<Self>, sender: String, bodies: Vec<Bytes>) -> impl Future<Output = Outcome> + Send {
-        let slots = self.clone();
-        async move { Slots::post(&slots, sender, bodies).await }
+impl Taker for Slot {
+    fn post(self: &Arc<Self>, sender: String, body: Bytes) -> impl Future<Output = Outcome> + Send {
+        let slot = self.clone();
+        async move { Slot::post(&slot, sender, body).await }
     }
 }
 
-/// What reads requests and gives posts to a slot.
+/// What reads requests and gives posts to the slot.
 pub struct Intake<T> {
     taker: Arc<T>,
     reading: Arc<Reading>,
@@ -74,10 +74,10 @@ pub struct Intake<T> {
     patience: Duration,
 }
 
-/// A request that was read whole, in the gateway's form.
+/// A request that was read whole, in the book's form.
 struct Post {
     sender: String,
-    bodies: Vec<Bytes>,
+    body: Bytes,
     rounded: Rounded,
     /// Of memory, until the post is answered.
     hold: Hold,
@@ -178,7 +178,7 @@ impl<T: Taker> Intake<T> {
 
     /// The memory is held until the post is answered: a connection looks for its sender only then.
     async fn take(&self, post: Post) -> Outcome {
-        let outcome = self.taker.post(post.sender, post.bodies).await;
+        let outcome = self.taker.post(post.sender, post.body).await;
         drop(post.hold);
         if let Outcome::Taken { .. } = outcome {
             self.metrics.rounded(&post.rounded);
@@ -198,7 +198,7 @@ fn is_short(head: &mut Head, body: &mut Bytes, hold: &mut Hold) -> Result<bool, 
     Ok(head.packing == Packing::Plain && body.len() <= SHORT)
 }
 
-/// Unpacks a body and puts it into the gateway's form. The budget has room for both forms while both are there.
+/// Unpacks a body and puts it into the book's form. The budget has room for both forms while both are there.
 fn prepare(
     head: Head,
     packed: Bytes,
@@ -219,7 +219,7 @@ fn prepare(
     hold.set(prepared.bytes())?;
     Ok(Post {
         sender,
-        bodies: prepared.bodies,
+        body: prepared.body,
         rounded: prepared.rounded,
         hold,
     })

@@ -75,7 +75,6 @@ impl From<Refused> for Refusal {
     fn from(refused: Refused) -> Refusal {
         match refused {
             Refused::Unreadable(why) => Refusal::Unreadable(why),
-            Refused::TooLong => Refusal::TooLong,
         }
     }
 }

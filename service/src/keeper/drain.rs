@@ -1,29 +1,21 @@
-//! Brings a slot to rest without serving: all that was taken is in groups then, and the journal has nothing more.
+//! Brings all to rest without serving: all that was taken is in groups then, and the journal has nothing more.
 
-use super::recovery::Recovered;
-use super::Keeper;
+use super::{Keeper, Trouble};
 use crate::files::Fault;
 use crate::work::blocking;
 use tokio::sync::watch;
 
 impl Keeper {
-    /// Whether all that was taken is in the outbox. No gateway is started where it is already.
-    pub async fn drain(mut self, mut stop: watch::Receiver<bool>) -> Result<bool, Fault> {
-        let drained = self.try_drain(&mut stop).await;
-        self.end().await;
-        drained
-    }
-
-    async fn try_drain(&mut self, stop: &mut watch::Receiver<bool>) -> Result<bool, Fault> {
+    /// Whether all that was taken is in the outbox. No book is filled where it is already.
+    pub async fn drain(mut self, stop: watch::Receiver<bool>) -> Result<bool, Trouble> {
         self.begin().await?;
         if !self.has_posts().await? {
             return Ok(true);
         }
-        if self.recover(stop).await? == Recovered::Stopped {
+        if !self.start(&stop).await? {
             return Ok(false);
         }
-        let (_, requests) = self.checkpoint(stop).await?;
-        Ok(requests.is_some() && !self.has_posts().await?)
+        Ok(self.checkpoint().await?.is_ok() && !self.has_posts().await?)
     }
 
     /// Whether the journal has a post that is in no group.

@@ -1,19 +1,19 @@
-//! Keeps a slot's gateway: checkpoints, renewals, quarantines, and recovery after a kill.
+//! Keeps the book: checkpoints, quarantines, what is forgotten, and its start.
 //!
-//! One task per slot does all of this, one after the other: `run` waits for what is to be done, `checkpoint` moves
-//! what the gateway stored to the outbox, `recovery` replaces a gateway, `refill` gives a fresh one what the files say.
+//! One task does all of this, one after the other: `run` waits for what is to be done, `checkpoint` moves what the book
+//! has to the outbox, `forget` leaves out series, `fill` gives a fresh book what the files say, `owners` finds whose
+//! series these are, `drain` brings all to rest. What takes long is done on threads beside the runtime's.
 
 mod checkpoint;
 mod drain;
+mod fill;
+mod forget;
 mod orders;
 mod owners;
-mod recovery;
-mod refill;
-mod replay;
 mod run;
 
+use crate::core::Refused;
 use crate::files::Fault;
-use crate::gateway::{Doubt, Gateway, Options, Starter};
 use crate::otlp::Outcome;
 use crate::slot::Slot;
 use std::sync::Arc;
@@ -23,12 +23,11 @@ use tokio::sync::{mpsc, oneshot};
 /// Orders that wait for their turn. Who gives one more waits for a place.
 const WAITING_ORDERS: usize = 16;
 
-#[derive(Clone)]
+#[derive(Clone, Debug)]
 pub struct Settings {
-    pub gateway: Options,
     /// How long between two checkpoints.
     pub every: Duration,
-    /// A series that nobody has posted to for so long is forgotten at a renewal.
+    /// A series that nobody has posted to for so long is forgotten where there are too many.
     pub forget: Option<Duration>,
 }
 
@@ -36,7 +35,6 @@ pub struct Settings {
 #[derive(Clone, Debug, PartialEq, Eq)]
 pub enum Order {
     Checkpoint,
-    Renew,
     Quarantine(String),
     Lift(String),
 }
@@ -46,8 +44,25 @@ pub enum Order {
 pub enum Done {
     /// So many requests went into the outbox.
     Flushed { requests: u64 },
-    /// The gateway's answer.
+    /// The book's answer.
     Answered(Outcome),
+}
+
+/// Why a keeper ended, or what it did not do.
+#[derive(Debug, thiserror::Error)]
+pub enum Trouble {
+    /// Only a new start knows what is on the disk.
+    #[error("{0}")]
+    File(#[from] Fault),
+    /// It was tried often enough. The journal has all.
+    #[error("there is no memory to flush the book: nothing is lost, since the journal has all that was taken; give a greater --book-memory")]
+    NoMemory,
+    /// No book answers so.
+    #[error("the book does not end what was taken of it ({0}): this is a fault of totxegun")]
+    Broken(Refused),
+    /// A fresh book does not take what the files have.
+    #[error("{0}")]
+    NotFilled(String),
 }
 
 /// Gives orders to a keeper.
@@ -63,61 +78,41 @@ impl Orders {
     }
 }
 
-/// Keeps the slot's gateway until it is told to stop; then all that was taken is in the outbox.
+/// Keeps the book until it is told to stop; then all that was taken is in the outbox.
 pub struct Keeper {
     slot: Arc<Slot>,
-    starter: Starter,
     settings: Settings,
     orders: mpsc::Receiver<(Order, oneshot::Sender<Done>)>,
-    /// The one behind the gate.
-    gateway: Option<Arc<Gateway>>,
-    /// What was flushed while the gateway was refilled. It belongs to the next group.
+    /// What was taken while the book was filled. It belongs to the next group.
     carried: Vec<Vec<u8>>,
     /// A sender was released, so that there is something to flush.
     released: bool,
-    last_checkpoint: Instant,
-    last_renewal: Instant,
-    last_look_at_ages: Instant,
+    next_checkpoint: Instant,
+    /// How many checkpoints were put off, one behind the other.
+    put_off: u32,
+    next_look_at_ages: Instant,
 }
 
 impl Keeper {
-    pub fn new(slot: Arc<Slot>, starter: Starter, settings: Settings) -> (Keeper, Orders) {
+    pub fn new(slot: Arc<Slot>, settings: Settings) -> (Keeper, Orders) {
         let (to, orders) = mpsc::channel(WAITING_ORDERS);
-        let now = Instant::now();
         let keeper = Keeper {
             slot,
-            starter,
-            settings,
             orders,
-            gateway: None,
             carried: Vec::new(),
             released: false,
-            last_checkpoint: now,
-            last_renewal: now,
-            last_look_at_ages: now,
+            next_checkpoint: Instant::now() + settings.every,
+            put_off: 0,
+            next_look_at_ages: Instant::now(),
+            settings,
         };
         (keeper, Orders(to))
     }
 }
 
-/// Why a step did not come to its end.
-enum Trouble {
-    /// Only a new start knows what is on the disk.
-    File(Fault),
-    /// A fresh gateway cures it.
-    Gateway(Doubt),
-}
-
-impl From<Fault> for Trouble {
-    fn from(fault: Fault) -> Trouble {
-        Trouble::File(fault)
-    }
-}
-
-impl From<Doubt> for Trouble {
-    fn from(doubt: Doubt) -> Trouble {
-        Trouble::Gateway(doubt)
-    }
+/// What the book did not do now. It may do it later.
+fn not_now(refused: Refused) -> Done {
+    Done::Answered(refused.into())
 }
 
 #[cfg(test)]

@@ -1,35 +1,28 @@
 //! Who owns the series of a group: the senders of the posts that it is of.
 //!
-//! A post is read for this alone. The gateway's own count of foreign points shows whether it was read as the gateway
-//! reads it.
+//! A post is read for this alone. The book's own count of foreign points shows whether it was read as the book reads it.
 
-use super::Keeper;
 use crate::files::{Fault, Post};
 use crate::otlp::series::{posted, SeriesKey};
 use crate::slot::Slot;
-use crate::work::blocking;
 use std::collections::{HashMap, HashSet};
 
 /// How many segments before the first that is replayed are looked through at the start. There is one, as a rule.
 const LEFT_SEGMENTS: u64 = 100;
 
-impl Keeper {
-    /// Finds the owners that the outbox does not know, by the posts of these segments, and makes them durable.
-    pub(super) async fn find_owners(&self, first: u64, end: u64) -> Result<(), Fault> {
-        let slot = self.slot.clone();
-        blocking(move || find_owners(&slot, std::iter::once((first, end)))).await
-    }
-
-    /// The same where the last commit came without the owners: the segments before `end` are there still. Each is
-    /// read as the first one, in which copies count too.
-    pub(super) async fn find_owners_left(&self, end: u64) -> Result<(), Fault> {
-        let slot = self.slot.clone();
-        let segments = (end.saturating_sub(LEFT_SEGMENTS)..end).rev();
-        blocking(move || find_owners(&slot, segments.map(|segment| (segment, segment + 1)))).await
-    }
+/// Finds the owners that the outbox does not know, by the posts of these segments, and makes them durable.
+pub(super) fn find_owners(slot: &Slot, first: u64, end: u64) -> Result<(), Fault> {
+    find_in(slot, std::iter::once((first, end)))
 }
 
-fn find_owners(slot: &Slot, ranges: impl Iterator<Item = (u64, u64)>) -> Result<(), Fault> {
+/// The same where the last commit came without the owners: the segments before `end` are there still. Each is read as
+/// the first one, in which copies count too.
+pub(super) fn find_owners_left(slot: &Slot, end: u64) -> Result<(), Fault> {
+    let segments = (end.saturating_sub(LEFT_SEGMENTS)..end).rev();
+    find_in(slot, segments.map(|segment| (segment, segment + 1)))
+}
+
+fn find_in(slot: &Slot, ranges: impl Iterator<Item = (u64, u64)>) -> Result<(), Fault> {
     let series = slot.outbox.series();
     let unknown = series.into_iter().filter(|(_, about)| about.owner.is_none());
     let mut search = Search {
@@ -51,13 +44,13 @@ fn find_owners(slot: &Slot, ranges: impl Iterator<Item = (u64, u64)>) -> Result<
     Ok(())
 }
 
-/// These are faults of this program, and a late repeat to such a series may be taken behind a recovery.
+/// These are faults of this program, and a late repeat to such a series may be taken behind a start.
 fn report(slot: &Slot, misread: u64, unknown: &HashSet<SeriesKey>) {
     let faults = &slot.metrics.faults;
     if misread > 0 {
         faults.with_label_values(&["reading"]).inc_by(misread);
         tracing::error!(
-            "slot {}: {misread} posts are read otherwise than by the gateway",
+            "slot {}: {misread} posts are read otherwise than by the book",
             slot.number()
         );
     }

@@ -1,79 +1,92 @@
-//! Waits for what is to be done, and does one thing after the other.
+//! Starts, waits for what is to be done, and does one thing after the other.
 
-use super::recovery::Recovered;
-use super::{Done, Keeper, Order};
-use crate::files::Fault;
+use super::fill::{fill, Filled};
+use super::{Done, Keeper, Order, Trouble};
 use crate::switch::Switch;
-use std::sync::Arc;
+use crate::work::blocking;
 use std::time::{Duration, Instant};
 use tokio::sync::{oneshot, watch};
 use tokio::time::MissedTickBehavior;
 
-/// How often it is looked whether the gateway is there, and whether a checkpoint is due.
+/// How often it is looked whether a checkpoint is due.
 const LOOK: Duration = Duration::from_millis(50);
-/// No gateway is renewed by itself sooner than so long after another.
-const BETWEEN_RENEWALS: Duration = Duration::from_secs(10);
-/// How often it is looked whether there are series to forget, where the gateway has too many.
+/// A checkpoint comes early behind so many posts: a start puts in again what is in no group.
+const MANY_POSTS: u64 = 300_000;
+/// How often it is looked whether there are series to forget where there are too many, and how often some are.
 const BETWEEN_LOOKS_AT_AGES: Duration = Duration::from_secs(1);
-/// A renewal for the connections may be more urgent.
-const BETWEEN_URGENT_RENEWALS: Duration = Duration::from_secs(1);
+const BETWEEN_FORGETTING: Duration = Duration::from_secs(10);
 
 /// What is to be done.
 enum Event {
     Look,
-    Doubted,
     Crowded,
-    Overfull,
     Ordered(Order, oneshot::Sender<Done>),
     Stop,
 }
 
-/// Whether to go on.
-#[derive(Clone, Copy, Debug, PartialEq, Eq)]
-pub(super) enum Next {
-    GoOn,
-    Stopped,
-}
-
 impl Keeper {
-    /// Returns once all that was taken is in the outbox behind `stop`, or where a file failed. A stop that comes
-    /// while a gateway is replaced may leave posts in the journal alone: the next start puts them in.
-    pub async fn run(mut self, mut stop: watch::Receiver<bool>) -> Result<(), Fault> {
+    /// Returns once all that was taken is in the outbox behind `stop`, or where it can't go on. A stop that comes
+    /// during the start leaves posts in the journal alone: the next start puts them in.
+    pub async fn run(mut self, mut stop: watch::Receiver<bool>) -> Result<(), Trouble> {
         let ended = self.serve(&mut stop).await;
-        self.end().await;
+        self.slot.stop();
         ended
     }
 
-    pub(super) async fn end(&mut self) {
-        self.slot.gate.stop();
-        if let Some(gateway) = self.gateway.take() {
-            gateway.kill();
-        }
-        self.slot.gate.shut().await.put(None);
-    }
-
-    async fn serve(&mut self, stop: &mut watch::Receiver<bool>) -> Result<(), Fault> {
+    async fn serve(&mut self, stop: &mut watch::Receiver<bool>) -> Result<(), Trouble> {
         self.begin().await?;
-        if self.recover(stop).await? == Recovered::Stopped {
+        if !self.start(stop).await? {
             return Ok(());
         }
+        self.slot.open();
         let mut looks = tokio::time::interval(LOOK);
         looks.set_missed_tick_behavior(MissedTickBehavior::Delay);
         loop {
-            let event = self.next_event(&mut looks, stop).await;
-            if self.act(event, stop).await? == Next::Stopped {
-                return Ok(());
+            match self.next_event(&mut looks, stop).await {
+                Event::Look => self.look().await?,
+                Event::Crowded => self.forget_if_it_helps().await?,
+                Event::Ordered(order, to) => {
+                    // Who ordered it may not wait any more.
+                    let _ = to.send(self.carry_out(order).await?);
+                }
+                Event::Stop => return self.finish().await,
             }
         }
     }
 
     /// Brings the files to where the last commit left them.
-    pub(super) async fn begin(&mut self) -> Result<(), Fault> {
-        let first = self.slot.outbox.journal();
-        self.slot.journal.reach(first);
-        // A commit may have come without the owners of its series.
-        self.find_owners_left(first).await?;
-        self.forget_segments(first).await
+    pub(super) async fn begin(&mut self) -> Result<(), Trouble> {
+        let slot = self.slot.clone();
+        blocking(move || {
+            let first = slot.outbox.journal();
+            slot.journal.reach(first);
+            // A commit may have come without the owners of its series.
+            super::owners::find_owners_left(&slot, first)?;
+            Ok(slot.journal.forget(first)?)
+        })
+        .await
+    }
+
+    /// Fills the book: false where it was told to stop before.
+    pub(super) async fn start(&mut self, stop: &watch::Receiver<bool>) -> Result<bool, Trouble> {
+        let began = Instant::now();
+        // What is read of the journal has to be there.
+        self.slot.journal.durable(self.slot.journal.now()).await;
+        let (slot, stop) = (self.slot.clone(), stop.clone());
+        let filled = blocking(move || fill(&slot, &mut slot.core.lock(), || *stop.borrow())).await?;
+        let Some(Filled { posts, carried }) = filled else {
+            return Ok(false);
+        };
+        self.carried = carried;
+        self.slot.set_ungrouped(posts);
+        let took = began.elapsed();
+        self.slot.metrics.recovery_seconds.observe(took.as_secs_f64());
+        tracing::info!(
+            "slot {} goes on after {took:?}; series: {}, posts of the journal: {posts}",
+            self.slot.number(),
+            self.slot.outbox.series_count()
+        );
+        Ok(true)
     }
 
     async fn next_event(
@@ -81,108 +94,52 @@ impl Keeper {
         looks: &mut tokio::time::Interval,
         stop: &mut watch::Receiver<bool>,
     ) -> Event {
-        let slot = &self.slot;
         tokio::select! {
             biased;
             () = stop.wait_true() => Event::Stop,
-            () = slot.trouble.notified() => Event::Doubted,
             Some((order, to)) = self.orders.recv() => Event::Ordered(order, to),
-            () = slot.crowded.notified() => Event::Crowded,
-            () = slot.overfull.notified() => Event::Overfull,
+            () = self.slot.crowded.notified() => Event::Crowded,
             _ = looks.tick() => Event::Look,
         }
     }
 
-    async fn act(&mut self, event: Event, stop: &mut watch::Receiver<bool>) -> Result<Next, Fault> {
-        match event {
-            Event::Look => self.look(stop).await,
-            Event::Doubted => self.recover_if_doubted(stop).await,
-            Event::Crowded if self.forgetting_helps() => self.renew(stop).await.map(|(next, _)| next),
-            Event::Overfull if self.may_renew() => self.renew(stop).await.map(|(next, _)| next),
-            Event::Crowded | Event::Overfull => Ok(Next::GoOn),
-            Event::Ordered(order, to) => {
-                let (next, done) = self.carry_out(order, stop).await?;
-                if let Some(done) = done {
-                    // Who ordered it may not wait any more.
-                    let _ = to.send(done);
-                }
-                Ok(next)
-            }
-            Event::Stop => self.finish(stop).await,
-        }
-    }
-
-    async fn look(&mut self, stop: &mut watch::Receiver<bool>) -> Result<Next, Fault> {
-        let Some(gateway) = self.gateway.clone() else {
-            return self.recover_if_doubted(stop).await;
-        };
-        self.slot.show_gateway(&gateway);
-        if let Some(how) = gateway.ended() {
-            tracing::warn!("slot {}: the gateway ended: {how}", self.slot.number());
-            gateway.kill();
-            return self.recover_if_doubted(stop).await;
-        }
-        let connections = self.settings.gateway.connections;
+    async fn look(&mut self) -> Result<(), Trouble> {
         let ungrouped = self.slot.ungrouped();
-        // Before the connections run out: behind the last one the gateway ends, and what it stored with it.
-        let nearly_used = gateway.used() > connections - connections / 10;
-        // What is in no group has to fit into a fresh gateway, whose connections are as many.
-        let much = ungrouped > connections / 3;
-        let due = self.last_checkpoint.elapsed() >= self.settings.every;
-        if nearly_used && self.last_renewal.elapsed() > BETWEEN_URGENT_RENEWALS {
-            return self.renew(stop).await.map(|(next, _)| next);
+        let due = Instant::now() >= self.next_checkpoint;
+        let has_some = ungrouped > 0 || self.released || !self.carried.is_empty();
+        if ungrouped > MANY_POSTS || due && has_some {
+            let _put_off = self.checkpoint().await?;
         }
-        if much || due && (ungrouped > 0 || self.released) {
-            return self.checkpoint(stop).await.map(|(next, _)| next);
-        }
-        Ok(Next::GoOn)
+        Ok(())
     }
 
-    async fn recover_if_doubted(&mut self, stop: &mut watch::Receiver<bool>) -> Result<Next, Fault> {
-        if self.gateway.as_ref().is_some_and(|gateway| !gateway.is_doubted()) {
-            return Ok(Next::GoOn);
-        }
-        self.recover(stop).await.map(Next::from)
-    }
-
-    /// Whether a renewal would leave out series.
-    fn forgetting_helps(&mut self) -> bool {
+    /// A fresh book without the series that nobody posts to, where there are some.
+    async fn forget_if_it_helps(&mut self) -> Result<(), Trouble> {
         let Some(age) = self.settings.forget else {
-            return false;
+            return Ok(());
         };
-        if self.last_look_at_ages.elapsed() < BETWEEN_LOOKS_AT_AGES {
-            return false;
+        if Instant::now() < self.next_look_at_ages {
+            return Ok(());
         }
-        self.last_look_at_ages = Instant::now();
-        self.may_renew() && self.slot.outbox.has_any_of(age)
-    }
-
-    fn may_renew(&self) -> bool {
-        self.last_renewal.elapsed() > BETWEEN_RENEWALS
+        self.next_look_at_ages = Instant::now() + BETWEEN_LOOKS_AT_AGES;
+        if self.slot.outbox.has_any_of(age) {
+            self.forget(age).await?;
+            self.next_look_at_ages = Instant::now() + BETWEEN_FORGETTING;
+        }
+        Ok(())
     }
 
     /// Refuses posts from now on, and makes a last checkpoint.
-    async fn finish(&mut self, stop: &mut watch::Receiver<bool>) -> Result<Next, Fault> {
-        self.slot.gate.stop();
-        match self.checkpoint(stop).await? {
-            (_, Some(_)) => tracing::info!(
-                "slot {}: all that was taken is in the outbox",
-                self.slot.number()
-            ),
-            (_, None) => tracing::warn!(
-                "slot {}: the last flush did not come to its end. Nothing is lost: the next start puts in what the \
-                 journal has",
-                self.slot.number()
+    async fn finish(&mut self) -> Result<(), Trouble> {
+        self.slot.stop();
+        let number = self.slot.number();
+        match self.checkpoint().await? {
+            Ok(_) => tracing::info!("slot {number}: all that was taken is in the outbox"),
+            Err(refused) => tracing::warn!(
+                "slot {number}: the last flush did not come to its end: {refused}. Nothing is lost: the next start puts in \
+                 what the journal has"
             ),
         }
-        Ok(Next::Stopped)
-    }
-
-    pub(super) fn note_renewal(&mut self) {
-        self.last_renewal = Instant::now();
-    }
-
-    pub(super) fn gateway(&self) -> Option<Arc<crate::gateway::Gateway>> {
-        self.gateway.clone()
+        Ok(())
     }
 }

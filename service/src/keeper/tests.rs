@@ -1,40 +1,37 @@
-//! What a keeper does while a disk is slow, and in which order. What it does with a gateway is tried in `tests/keeper`.
+//! What a keeper does over files: in which order, while a disk is slow, over restarts, and where series are forgotten.
+
+mod forget;
 
 use super::*;
+use crate::core::Core;
 use crate::files::{Call, Disk, Durability, Folder};
 use crate::metrics::Metrics;
-use crate::otlp::Outcome;
 use std::path::{Path, PathBuf};
 use std::sync::atomic::{AtomicBool, Ordering::SeqCst};
 use std::sync::Mutex;
 use tokio::sync::watch;
 use tokio::task::{JoinHandle, JoinSet};
 
-const CONNECTIONS: u64 = 100;
-
 struct Run {
     slot: Arc<Slot>,
     orders: Orders,
     stop: watch::Sender<bool>,
-    running: JoinHandle<Result<(), Fault>>,
+    running: JoinHandle<Result<(), Trouble>>,
 }
 
 impl Run {
     /// A slot that takes posts, in a folder of its own.
     async fn begin(place: &Path, disk: Disk) -> Run {
         let folder = Folder::open_on(disk, &place.join("data"), Durability::Process).unwrap();
-        Run::begin_in(place, folder).await
+        Run::begin_in(folder, settings()).await
     }
 
-    async fn begin_in(place: &Path, folder: Folder) -> Run {
+    async fn begin_in(folder: Folder, settings: Settings) -> Run {
         let (journal, outbox) = folder.slot(0).unwrap();
         let metrics = Arc::new(Metrics::new().unwrap());
-        let slot = Slot::new(0, Arc::new(folder), journal, Arc::new(outbox), metrics);
-        let (keeper, orders) = Keeper::new(
-            slot.clone(),
-            Starter::new().unwrap(),
-            settings(fake_gateway(place)),
-        );
+        let core = Core::new(1).unwrap();
+        let slot = Slot::new(0, Arc::new(folder), journal, Arc::new(outbox), metrics, core);
+        let (keeper, orders) = Keeper::new(slot.clone(), settings);
         let (stop, stopped) = watch::channel(false);
         let running = tokio::spawn(keeper.run(stopped));
         while !slot.is_ready() {
@@ -50,7 +47,14 @@ impl Run {
 
     /// A point of a series behind those before.
     async fn post(&self, number: u64) -> Outcome {
-        self.slot.post("A".into(), vec![point("a", number).into()]).await
+        self.slot.post("A".into(), point("a", number).into()).await
+    }
+
+    async fn flush(&self) -> u64 {
+        match self.orders.order(Order::Checkpoint).await {
+            Some(Done::Flushed { requests }) => requests,
+            other => panic!("{other:?}"),
+        }
     }
 
     async fn end(self) {
@@ -68,29 +72,12 @@ fn point(name: &str, number: u64) -> String {
     )
 }
 
-/// A keeper whose gateway is this program, and that orders nothing by itself.
-pub(crate) fn settings(program: PathBuf) -> Settings {
+/// A keeper that orders nothing by itself.
+pub(crate) fn settings() -> Settings {
     Settings {
-        gateway: Options {
-            program,
-            connections: CONNECTIONS,
-            receivers: 1,
-            flushers: 1,
-            round: 100,
-            memory: None,
-            allocator: None,
-        },
         every: Duration::from_secs(3600),
         forget: None,
     }
-}
-
-/// The gateway that fails as it is told, in a folder.
-pub(crate) fn fake_gateway(place: &Path) -> PathBuf {
-    let program = place.join("gateway");
-    let fake = Path::new(env!("CARGO_MANIFEST_DIR")).join("tests/keeper/fake_gateway.py");
-    std::fs::copy(fake, &program).unwrap();
-    program
 }
 
 fn is_in(part: &str, path: &Path) -> bool {
@@ -122,9 +109,9 @@ async fn a_group_is_committed_once_its_posts_are_on_the_disk_also_where_posts_ar
     run.end().await;
 }
 
-/// A service that is killed before the commit puts all of them into a gateway, which has as many connections.
+/// Nobody who posts waits for the disk of a group, and what comes meanwhile is in the next one.
 #[tokio::test(flavor = "multi_thread")]
-async fn posts_are_in_no_group_until_it_is_committed() {
+async fn posts_go_on_while_a_group_is_committed() {
     let place = tempfile::tempdir().unwrap();
     let (is_held, waits) = (Arc::new(AtomicBool::new(false)), Arc::new(AtomicBool::new(false)));
     let (holding, waiting) = (is_held.clone(), waits.clone());
@@ -136,7 +123,7 @@ async fn posts_are_in_no_group_until_it_is_committed() {
         Ok(())
     });
     let run = Run::begin(place.path(), disk).await;
-    for number in 1..=CONNECTIONS / 3 {
+    for number in 1..=30 {
         assert_eq!(run.post(number).await, Outcome::taken(0));
     }
     is_held.store(true, SeqCst);
@@ -145,15 +132,62 @@ async fn posts_are_in_no_group_until_it_is_committed() {
     while !waits.load(SeqCst) {
         tokio::time::sleep(Duration::from_millis(1)).await;
     }
-    let mut taken = CONNECTIONS / 3;
-    while run.post(taken + 1).await == Outcome::taken(0) && taken < CONNECTIONS {
-        taken += 1;
+    for number in 31..=50 {
+        assert_eq!(run.post(number).await, Outcome::taken(0));
     }
+    assert_eq!(run.slot.ungrouped(), 50, "none is in a group yet");
     is_held.store(false, SeqCst);
     assert_eq!(checkpoint.await.unwrap(), Some(Done::Flushed { requests: 1 }));
-    assert_eq!(taken, CONNECTIONS / 2);
-    assert_eq!(run.post(taken + 1).await, Outcome::taken(0));
+    assert_eq!(run.slot.ungrouped(), 20);
+    assert_eq!(run.flush().await, 1);
+    assert_eq!(run.slot.ungrouped(), 0);
     run.end().await;
+}
+
+/// Else its points are in a group whose commit says that it is in none: a start would put it in again.
+#[tokio::test(flavor = "multi_thread")]
+async fn a_checkpoint_waits_for_a_post_that_is_written() {
+    let place = tempfile::tempdir().unwrap();
+    let (is_held, waits) = (Arc::new(AtomicBool::new(false)), Arc::new(AtomicBool::new(false)));
+    let (holding, waiting) = (is_held.clone(), waits.clone());
+    let disk = Disk::failing(move |call, path| {
+        while call == Call::Write && is_in("journal", path) && holding.load(SeqCst) {
+            waiting.store(true, SeqCst);
+            std::thread::sleep(Duration::from_millis(1));
+        }
+        Ok(())
+    });
+    let run = Run::begin(place.path(), disk).await;
+    is_held.store(true, SeqCst);
+    let (slot, core) = (run.slot.clone(), run.slot.core.clone());
+    let post = tokio::spawn(async move { slot.post("A".into(), point("a", 1).into()).await });
+    while !waits.load(SeqCst) {
+        tokio::time::sleep(Duration::from_millis(1)).await;
+    }
+    // The book has it, and who wants to take it out waits.
+    let taking = tokio::task::spawn_blocking(move || core.lock().series());
+    tokio::time::sleep(Duration::from_millis(100)).await;
+    let is_taken = taking.is_finished();
+    is_held.store(false, SeqCst);
+    assert!(!is_taken, "the lock was free while the post was in no journal");
+    assert_eq!(post.await.unwrap(), Outcome::taken(0));
+    assert_eq!((taking.await.unwrap(), run.flush().await), (1, 1));
+    assert_eq!(run.slot.ungrouped(), 0);
+    run.end().await;
+}
+
+/// The door is looked at again under the lock: what is taken behind the last checkpoint would be in no group.
+#[tokio::test(flavor = "multi_thread")]
+async fn nothing_is_taken_behind_the_last_checkpoint() {
+    let place = tempfile::tempdir().unwrap();
+    let run = Run::begin(place.path(), Disk::default()).await;
+    assert_eq!(run.post(1).await, Outcome::taken(0));
+    let slot = run.slot.clone();
+    let read = slot.core.read("A".into(), point("a", 2).into()).unwrap();
+    run.end().await;
+    let late = slot.put_of_test(read);
+    assert_eq!(late, Err("stopping"));
+    assert_eq!(slot.ungrouped(), 0);
 }
 
 /// Else they use up what is kept back, and no start has room for its own files until somebody makes some.
@@ -168,12 +202,12 @@ async fn posts_that_come_at_once_leave_the_room_that_is_kept_for_commits() {
     let path = journal.clone();
     let written = move || std::fs::metadata(&path).map_or(0, |file| file.len());
     let free = move || KEPT + FIT * LENGTH as u64 - written();
-    let run = Run::begin_in(place.path(), folder.in_room(free)).await;
+    let run = Run::begin_in(folder.in_room(free), settings()).await;
     let mut posts = JoinSet::new();
     for number in 0..40 {
         let slot = run.slot.clone();
         let body = point(&format!("n{number}"), 1) + &" ".repeat(LENGTH);
-        posts.spawn(async move { slot.post(format!("S{number}"), vec![body.into()]).await });
+        posts.spawn(async move { slot.post(format!("S{number}"), body.into()).await });
     }
     let mut taken = 0;
     while let Some(outcome) = posts.join_next().await {

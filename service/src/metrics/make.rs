@@ -48,16 +48,7 @@ pub fn metrics() -> Result<Metrics> {
             "outcome",
             &["done", "failed"],
         )?,
-        renewals: maker.counter(
-            "renewals_total",
-            "Gateways replaced before their connections ran out",
-        )?,
-        recoveries: maker.counters(
-            "recoveries_total",
-            "Gateways started because one was lost, and at the start",
-            "slot",
-            &[],
-        )?,
+        rounds_closed: maker.counter("rounds_closed_total", "Rounds of a book that were closed")?,
         forwarded_requests: maker.counter("forwarded_requests_total", "Requests put into the outbox")?,
         deliveries: maker.counters(
             "deliveries_total",
@@ -67,7 +58,7 @@ pub fn metrics() -> Result<Metrics> {
         )?,
         forgotten_series: maker.counter(
             "forgotten_series_total",
-            "Series left out of a fresh gateway for their age",
+            "Series that were forgotten for their age",
         )?,
         log_lines_lost: maker.counter(
             "log_lines_lost_total",
@@ -83,13 +74,7 @@ pub fn metrics() -> Result<Metrics> {
             .seconds("checkpoint_pause_seconds", "How long a checkpoint held the posts")?,
         recovery_seconds: maker.seconds(
             "recovery_seconds",
-            "How long it took to start, prime and refill a gateway",
-        )?,
-        series: maker.gauges("series", "Series that are known", "slot")?,
-        gateway_connections: maker.gauges(
-            "gateway_connections",
-            "Connections that the gateway has had",
-            "slot",
+            "How long it took to prime the book and to put in the posts of the journal",
         )?,
         levels: levels(&maker)?,
         senders: Mutex::new(HashSet::new()),
@@ -99,10 +84,7 @@ pub fn metrics() -> Result<Metrics> {
 
 fn levels(maker: &Maker) -> Result<Levels> {
     Ok(Levels {
-        ready: maker.gauge(
-            "ready",
-            "1 while each slot takes posts, 0 while one answers them 503",
-        )?,
+        ready: maker.gauge("ready", "1 while posts are taken, 0 while they are answered 503")?,
         post_bytes_in_flight: maker.gauge(
             "post_bytes_in_flight",
             "Memory that posts hold until they are answered",
@@ -133,10 +115,10 @@ fn levels(maker: &Maker) -> Result<Levels> {
             "disk_free_bytes",
             "Bytes that are free on the file system of the folder",
         )?,
-        gateway_resident_memory_bytes: maker.gauge(
-            "gateway_resident_memory_bytes",
-            "Memory of the gateways' processes",
-        )?,
+        series: maker.gauge("series", "Series that are known")?,
+        most_series: maker.gauge("most_series", "So many series fit for sure")?,
+        book_memory_bytes: maker.gauge("book_memory_bytes", "Memory that the book has")?,
+        book_memory_most_bytes: maker.gauge("book_memory_most_bytes", "Memory that the book may have")?,
     })
 }
 
@@ -176,12 +158,6 @@ impl Maker {
 
     fn gauge(&self, name: &str, help: &str) -> Result<IntGauge> {
         let made = IntGauge::new(format!("totxegun_{name}"), help)?;
-        self.0.register(Box::new(made.clone()))?;
-        Ok(made)
-    }
-
-    fn gauges(&self, name: &str, help: &str, label: &str) -> Result<IntGaugeVec> {
-        let made = IntGaugeVec::new(Opts::new(format!("totxegun_{name}"), help), &[label])?;
         self.0.register(Box::new(made.clone()))?;
         Ok(made)
     }

@@ -7,9 +7,7 @@ pub use rounding::{RoundedSeries, SeriesOfRule};
 
 use crate::otlp::{Rounded, Rounding};
 use prometheus::core::Collector;
-use prometheus::{
-    CounterVec, Encoder, GaugeVec, IntCounter, IntCounterVec, IntGauge, IntGaugeVec, Registry, TextEncoder,
-};
+use prometheus::{CounterVec, Encoder, GaugeVec, IntCounter, IntCounterVec, IntGauge, Registry, TextEncoder};
 use rounding::RoundingBySeries;
 use std::collections::HashSet;
 use std::sync::{Mutex, PoisonError};
@@ -17,7 +15,7 @@ use std::sync::{Mutex, PoisonError};
 /// How many senders have a label of their own; further ones share `other`.
 const SENDERS: usize = 64;
 
-/// One for the process. Counters go on over renewals and recoveries.
+/// One for the process. Counters begin with it.
 pub struct Metrics {
     pub registry: Registry,
     /// By `status`.
@@ -33,9 +31,7 @@ pub struct Metrics {
     greatest_rounding: GaugeVec,
     /// By `outcome`: `done`, `failed`.
     pub checkpoints: IntCounterVec,
-    pub renewals: IntCounter,
-    /// By `slot`, as the gauges of a gateway are: an alert is of one gateway.
-    pub recoveries: IntCounterVec,
+    pub rounds_closed: IntCounter,
     pub forwarded_requests: IntCounter,
     /// By `outcome`: `taken`, `partial`, `again`, `refused`.
     pub deliveries: IntCounterVec,
@@ -45,20 +41,11 @@ pub struct Metrics {
     pub faults: IntCounterVec,
     pub checkpoint_pause_seconds: prometheus::Histogram,
     pub recovery_seconds: prometheus::Histogram,
-    pub series: IntGaugeVec,
-    pub gateway_connections: IntGaugeVec,
     /// Set where the page is made.
     pub levels: Levels,
     /// Most answers are 200: their counter needs no look-up.
     taken_posts: IntCounter,
     senders: Mutex<HashSet<String>>,
-}
-
-/// What is counted of each slot.
-pub struct OfSlot {
-    pub recoveries: IntCounter,
-    pub series: IntGauge,
-    pub gateway_connections: IntGauge,
 }
 
 /// Gauges of what is elsewhere: read when someone asks, and then only.
@@ -73,7 +60,10 @@ pub struct Levels {
     pub dead_requests: IntGauge,
     pub quarantined_senders: IntGauge,
     pub disk_free_bytes: IntGauge,
-    pub gateway_resident_memory_bytes: IntGauge,
+    pub series: IntGauge,
+    pub most_series: IntGauge,
+    pub book_memory_bytes: IntGauge,
+    pub book_memory_most_bytes: IntGauge,
 }
 
 impl Metrics {
@@ -81,15 +71,10 @@ impl Metrics {
         make::metrics()
     }
 
-    /// Those of a slot, which are on the page from then on.
-    pub fn of_slot(&self, slot: u16) -> OfSlot {
-        let label = &[&*slot.to_string()];
-        self.by_series.has_slot(slot);
-        OfSlot {
-            recoveries: self.recoveries.with_label_values(label),
-            series: self.series.with_label_values(label),
-            gateway_connections: self.gateway_connections.with_label_values(label),
-        }
+    /// So many series may be there.
+    pub fn most_series(&self, most: u64) {
+        self.levels.most_series.set(most as i64);
+        self.by_series.has_room_for(most as usize);
     }
 
     /// Counts an answer to a sender.

@@ -1,7 +1,7 @@
 //! What `--whole` has rounded since the start, by series: which series' total may be off, and by how much at most.
 //!
-//! It has as many series as the slots may have. Of more, those are left out that were rounded longest ago, as a slot
-//! forgets series that nobody posts to.
+//! It has as many series as there may be. Of more, those are left out that were rounded longest ago, as series that
+//! nobody posts to are forgotten.
 
 use crate::otlp::{Rounded, Rounding};
 use std::cmp::Ordering;
@@ -9,8 +9,8 @@ use std::collections::{BTreeMap, HashMap};
 use std::sync::atomic::{AtomicUsize, Ordering::Relaxed};
 use std::sync::{Arc, Mutex, MutexGuard, PoisonError};
 
-/// As a gateway has.
-const SERIES_OF_A_SLOT: usize = 10_000;
+/// Until it is told how many there may be.
+const SERIES: usize = 10_000;
 
 /// How many series of a rule are shown: those that were rounded by most.
 pub const SHOWN: usize = 10;
@@ -50,15 +50,14 @@ struct Table {
 impl RoundingBySeries {
     pub fn new() -> RoundingBySeries {
         RoundingBySeries {
-            most: AtomicUsize::new(SERIES_OF_A_SLOT),
+            most: AtomicUsize::new(SERIES),
             table: Mutex::new(Table::default()),
         }
     }
 
-    /// There is room for the series of this slot, and of those before it.
-    pub fn has_slot(&self, slot: u16) {
-        let slots = usize::from(slot) + 1;
-        self.most.fetch_max(slots * SERIES_OF_A_SLOT, Relaxed);
+    /// There is room for so many series.
+    pub fn has_room_for(&self, series: usize) {
+        self.most.store(series, Relaxed);
     }
 
     /// Counts the points of a post that was taken.
@@ -249,14 +248,11 @@ mod tests {
     }
 
     #[test]
-    fn more_slots_have_more_series() {
+    fn there_may_be_room_for_more_series() {
         let table = RoundingBySeries::new();
-        for slot in [2, 0, 1] {
-            table.has_slot(slot);
-        }
+        table.has_room_for(30_000);
         let points: Vec<_> = (0..10_001).map(|one| (format!("n{one}"), "0.0005")).collect();
         table.add(&post(&points));
         assert_eq!(table.of_rule("s=1000:ms").count, 10_001);
-        assert_eq!(table.most.load(Relaxed), 30_000);
     }
 }

@@ -3,12 +3,12 @@
 //! It is another address than the senders', loopback by default: who can post can't operate.
 
 mod letters;
-mod slots;
+mod orders;
 mod status;
 mod totals;
 
 pub use letters::Resent;
-pub use status::{RoundedSeriesStatus, RoundedStatus, SlotStatus, Status, Stock};
+pub use status::{BooksStatus, RoundedSeriesStatus, RoundedStatus, SlotStatus, Status, Stock};
 pub use totals::Totals;
 
 use crate::files::{Dead, Outbox};
@@ -30,9 +30,10 @@ const PROMETHEUS: &str = "text/plain; version=0.0.4";
 
 /// All that an operator may ask.
 pub struct Desk {
-    /// In the order of their numbers, from 0.
-    pub slots: Vec<OfSlot>,
-    /// Slots that there are no more, with what the sink has not taken.
+    pub slot: Arc<Slot>,
+    pub orders: Orders,
+    pub left: Left,
+    /// Of slots that an earlier totxegun had: what the sink has not taken.
     pub former: Vec<Left>,
     pub dead: Arc<Dead>,
     pub sink: Arc<dyn Sink>,
@@ -43,16 +44,11 @@ pub struct Desk {
     /// Where senders post.
     pub listen: String,
     pub data: String,
+    /// So many fit.
+    pub most_series: usize,
     pub begun: Instant,
     /// One letter is sent again at a time.
     pub resending: tokio::sync::Mutex<()>,
-}
-
-/// A slot at work.
-pub struct OfSlot {
-    pub slot: Arc<Slot>,
-    pub orders: Orders,
-    pub left: Left,
 }
 
 /// What a slot has for the sink.
@@ -83,7 +79,6 @@ impl Route {
         let parts: Vec<&str> = path.strip_prefix('/')?.split('/').collect();
         Some(match parts[..] {
             ["flush" | "checkpoint"] => (Method::POST, Route::Order(Order::Checkpoint)),
-            ["renew"] => (Method::POST, Route::Order(Order::Renew)),
             ["quarantine", sender] => (Method::POST, Route::Order(Order::Quarantine(sender.into()))),
             ["lift", sender] => (Method::POST, Route::Order(Order::Lift(sender.into()))),
             ["report"] => (Method::GET, Route::Report),
@@ -131,10 +126,7 @@ impl Desk {
     async fn go(&self, route: Route) -> Response<Body> {
         match route {
             Route::Order(order) => self.order(order).await,
-            Route::Report => match self.report().await {
-                Some(report) => reply(200, TEXT, report),
-                None => message(503, "recovering"),
-            },
+            Route::Report => self.report().await,
             Route::Metrics => {
                 self.read_levels();
                 reply(200, PROMETHEUS, self.metrics.page())
@@ -183,7 +175,6 @@ mod tests {
         for (path, method) in [
             ("/flush", Method::POST),
             ("/checkpoint", Method::POST),
-            ("/renew", Method::POST),
             ("/quarantine/A", Method::POST),
             ("/lift/A", Method::POST),
             ("/report", Method::GET),
@@ -208,6 +199,7 @@ mod tests {
             "/",
             "/v1/metrics",
             "/flush/",
+            "/renew",
             "/quarantine",
             "/quarantine/A/B",
             "/dead/0-a-1/send",

@@ -2,7 +2,6 @@
 
 use super::{Desk, Left};
 use crate::metrics::RoundedSeries;
-use crate::slot::Slot;
 use serde::{Deserialize, Serialize};
 use std::sync::PoisonError;
 use std::time::{SystemTime, UNIX_EPOCH};
@@ -13,17 +12,28 @@ pub struct Status {
     pub version: String,
     pub pid: u32,
     pub uptime_seconds: u64,
-    /// Whether each slot takes posts.
+    /// Whether posts are taken.
     pub ready: bool,
     pub listen: String,
     pub data: String,
     pub sink: String,
     /// Requests that the sink refused for good.
     pub dead: u64,
+    #[serde(default)]
+    pub books: BooksStatus,
     pub slots: Vec<SlotStatus>,
     /// What `--whole` has rounded since the start.
     #[serde(default)]
     pub rounded: Vec<RoundedStatus>,
+}
+
+/// How many books there are, and what they may have.
+#[derive(Debug, Default, Serialize, Deserialize)]
+pub struct BooksStatus {
+    pub count: u64,
+    pub most_series: u64,
+    pub memory_bytes: u64,
+    pub most_memory_bytes: u64,
 }
 
 /// Values that were not whole, and what they were rounded by together, in the finer unit of the rule.
@@ -71,7 +81,6 @@ pub struct SlotStatus {
     pub unavailable: Option<String>,
     pub series: usize,
     pub quarantined: Vec<String>,
-    pub gateway: Option<GatewayStatus>,
     pub journal: Stock,
     /// Requests that the sink does not have.
     pub waiting: u64,
@@ -80,13 +89,6 @@ pub struct SlotStatus {
     pub tries: u64,
     /// Why the last try was not taken.
     pub trouble: Option<String>,
-}
-
-#[derive(Debug, Serialize, Deserialize)]
-pub struct GatewayStatus {
-    pub pid: u32,
-    pub connections: u64,
-    pub resident_bytes: Option<u64>,
 }
 
 /// Bytes on disk, and how old the oldest part is.
@@ -117,8 +119,19 @@ impl Desk {
             data: self.data.clone(),
             sink: self.sink.name(),
             dead: self.dead.count(),
+            books: self.books_status(),
             slots,
             rounded: self.rounded_status(),
+        }
+    }
+
+    fn books_status(&self) -> BooksStatus {
+        let (memory_bytes, most_memory_bytes) = crate::core::memory_used();
+        BooksStatus {
+            count: self.slot.core().books() as u64,
+            most_series: self.most_series as u64,
+            memory_bytes,
+            most_memory_bytes,
         }
     }
 
@@ -141,16 +154,13 @@ impl Desk {
         .collect()
     }
 
-    /// Of a slot that there is no more, as long as it has something.
+    /// The slot, and former ones, as long as they have something.
     fn slot_statuses(&self) -> Vec<SlotStatus> {
-        let at_work = self.slots.iter().map(|of| {
-            let (journal, since) = of.slot.journal_size();
-            SlotStatus {
-                unavailable: of.slot.unavailable().map(String::from),
-                gateway: gateway_status(&of.slot),
-                journal: Stock::new(journal, since),
-                ..SlotStatus::of(&of.left)
-            }
+        let (journal, since) = self.slot.journal_size();
+        let at_work = std::iter::once(SlotStatus {
+            unavailable: self.unavailable().map(String::from),
+            journal: Stock::new(journal, since),
+            ..SlotStatus::of(&self.left)
         });
         let former = self.former.iter().map(SlotStatus::of);
         at_work.chain(former.filter(|slot| slot.waiting > 0)).collect()
@@ -178,17 +188,15 @@ impl Desk {
         if let Some(free) = free_bytes(&self.data) {
             levels.disk_free_bytes.set(free as i64);
         }
-        for (of, slot) in self.slots.iter().zip(&slots) {
-            of.slot.own.series.set(slot.series as i64);
-        }
-        let resident = |slot: &SlotStatus| slot.gateway.as_ref().and_then(|it| it.resident_bytes);
-        let resident: u64 = slots.iter().filter_map(resident).sum();
-        levels.gateway_resident_memory_bytes.set(resident as i64);
+        levels.series.set(sum(|slot| slot.series as u64));
+        let (used, most) = crate::core::memory_used();
+        levels.book_memory_bytes.set(used as i64);
+        levels.book_memory_most_bytes.set(most as i64);
     }
 }
 
 impl SlotStatus {
-    /// Without a gateway and a journal.
+    /// Without a journal.
     fn of(left: &Left) -> SlotStatus {
         let outbox = &left.outbox;
         let (waiting, bytes, first) = outbox.waiting();
@@ -202,7 +210,6 @@ impl SlotStatus {
             unavailable: None,
             series: outbox.series_count(),
             quarantined: outbox.quarantined().into_iter().collect(),
-            gateway: None,
             journal: Stock::new(0, None),
             waiting,
             outbox: Stock::new(bytes, first.map(|first| first.since)),
@@ -210,23 +217,6 @@ impl SlotStatus {
             trouble: delivery.trouble,
         }
     }
-}
-
-fn gateway_status(slot: &Slot) -> Option<GatewayStatus> {
-    let pid = slot.gateway()?;
-    Some(GatewayStatus {
-        pid,
-        connections: slot.connections(),
-        resident_bytes: resident_bytes(pid),
-    })
-}
-
-/// `VmRSS` of a process, by the kernel: a file without a disk behind it.
-fn resident_bytes(pid: u32) -> Option<u64> {
-    let status = std::fs::read_to_string(format!("/proc/{pid}/status")).ok()?;
-    let line = status.lines().find_map(|line| line.strip_prefix("VmRSS:"))?;
-    let kibibytes: u64 = line.trim().strip_suffix("kB")?.trim().parse().ok()?;
-    Some(kibibytes * 1024)
 }
 
 /// What a file system has left for this process. It is asked as `files` asks before each post: some microseconds.
@@ -244,12 +234,6 @@ fn now() -> u64 {
 #[cfg(test)]
 mod tests {
     use super::*;
-
-    #[test]
-    fn a_process_has_memory() {
-        assert!(resident_bytes(std::process::id()).unwrap() > 100_000);
-        assert_eq!(resident_bytes(u32::MAX), None);
-    }
 
     #[test]
     fn a_folder_is_on_a_disk() {

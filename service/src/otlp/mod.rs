@@ -2,7 +2,7 @@
 //!
 //! `prepare` writes a request of either encoding as the gateway reads it: `from_protobuf` and `from_json` go
 //! by the tables of `schema`, over the readers `wire` and `json`; `usual` sees at once most JSON that goes on as it came;
-//! `whole` takes fractions as whole numbers of a finer unit, `split` cuts what is too long. `series` reads bodies as the gateway does, and what it forwards.
+//! `whole` takes fractions as whole numbers of a finer unit. `series` reads bodies as the gateway does, and what it forwards.
 //! `answers` is what senders are answered.
 
 mod answers;
@@ -16,7 +16,6 @@ mod output;
 mod schema;
 mod sender;
 pub mod series;
-mod split;
 mod usual;
 mod whole;
 mod wire;
@@ -49,13 +48,11 @@ impl Encoding {
     }
 }
 
-/// Why a request is not given to the gateway. Its text is the answer's message.
+/// Why a request is not given to the book. Its text is the answer's message.
 #[derive(Debug, thiserror::Error)]
 pub enum Refused {
     #[error("{0}")]
     Unreadable(String),
-    #[error("body too long")]
-    TooLong,
 }
 
 impl From<json::NotJson> for Refused {
@@ -75,34 +72,34 @@ pub struct Reading {
     pub sender_from: Option<String>,
 }
 
-/// A request in the gateway's form.
+/// A request in the book's form.
 #[derive(Debug, Default, PartialEq)]
 pub struct Prepared {
-    /// JSON of at most 4 MiB each, one or more, to be taken in this order.
-    pub bodies: Vec<Bytes>,
+    /// JSON.
+    pub body: Bytes,
     pub rounded: Rounded,
 }
 
 impl Prepared {
     /// Of memory, until its post is answered.
     pub fn bytes(&self) -> usize {
-        self.bodies.iter().map(Bytes::len).sum::<usize>() + self.rounded.bytes()
+        self.body.len() + self.rounded.bytes()
     }
 
     fn as_it_is(body: Bytes) -> Prepared {
         Prepared {
-            bodies: vec![body],
+            body,
             rounded: Rounded::default(),
         }
     }
 }
 
-/// Puts a request into the gateway's form. Nothing of a request is lost in silence: it is read whole or refused whole.
+/// Puts a request into the book's form. Nothing of a request is lost in silence: it is read whole or refused whole.
 pub fn prepare(encoding: Encoding, body: Bytes, reading: &Reading) -> Result<Prepared, Refused> {
     let written = match encoding {
         Encoding::Protobuf => from_protobuf::written(&body, reading)?,
         Encoding::Json => {
-            let may_go_on = reading.dropped.is_empty() && body.len() <= split::LIMIT;
+            let may_go_on = reading.dropped.is_empty();
             if may_go_on && usual::is_usual(&body, reading) {
                 return Ok(Prepared::as_it_is(body));
             }
@@ -120,8 +117,8 @@ pub fn prepare(encoding: Encoding, body: Bytes, reading: &Reading) -> Result<Pre
         }
         false => (written.text, Rounded::default()),
     };
-    let bodies = split::bodies(text, split::LIMIT)?;
-    Ok(Prepared { bodies, rounded })
+    let body = Bytes::from(text);
+    Ok(Prepared { body, rounded })
 }
 
 /// What a sender is answered.

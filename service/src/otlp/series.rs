@@ -9,7 +9,7 @@ mod zeros;
 
 pub use forwarded::forwarded;
 pub(super) use forwarded::protobuf_of_forwarded;
-pub use posted::{first_places, posted};
+pub use posted::posted;
 pub(super) use posted::{visit, Seen};
 pub use zeros::zeros;
 

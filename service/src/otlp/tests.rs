@@ -16,16 +16,16 @@ mod speed;
 
 pub(super) use random::requests;
 
-fn prepared(encoding: Encoding, body: impl Into<Bytes>) -> Result<Vec<Bytes>, String> {
+fn prepared(encoding: Encoding, body: impl Into<Bytes>) -> Result<Bytes, String> {
     prepare(encoding, body.into(), &Reading::default())
-        .map(|prepared| prepared.bodies)
+        .map(|prepared| prepared.body)
         .map_err(|refused| refused.to_string())
 }
 
 fn json(body: &str) -> serde_json::Value {
-    let bodies =
+    let prepared =
         prepared(Encoding::Json, body.to_string()).unwrap_or_else(|refused| panic!("{refused}: {body}"));
-    serde_json::from_slice(&bodies[0]).unwrap()
+    serde_json::from_slice(&prepared).unwrap()
 }
 
 /// A request of one metric.
@@ -80,10 +80,7 @@ fn json_that_the_gateway_reads_goes_on_as_it_came() {
         request(r#"{"name":5,"unit":null}"#),
     ];
     for body in as_they_are {
-        assert_eq!(
-            prepared(Encoding::Json, body.clone()),
-            Ok(vec![Bytes::from(body)])
-        );
+        assert_eq!(prepared(Encoding::Json, body.clone()), Ok(Bytes::from(body)));
     }
 }
 
@@ -219,14 +216,14 @@ fn protobuf_is_written_as_the_gateway_reads_it() {
         ),
     ];
     for (metric, expected) in cases {
-        let bodies = prepared(Encoding::Protobuf, within_request(&metric)).unwrap();
+        let written = prepared(Encoding::Protobuf, within_request(&metric)).unwrap();
         let expected: serde_json::Value = serde_json::from_str(&request(&expected)).unwrap();
         assert_eq!(
-            serde_json::from_slice::<serde_json::Value>(&bodies[0]).unwrap(),
+            serde_json::from_slice::<serde_json::Value>(&written).unwrap(),
             expected
         );
     }
-    assert_eq!(prepared(Encoding::Protobuf, ""), Ok(vec![Bytes::from("{}")]));
+    assert_eq!(prepared(Encoding::Protobuf, ""), Ok(Bytes::from("{}")));
 }
 
 /// Most attributes have a key and a value, one of each and in this order; others mean as much.
@@ -234,8 +231,8 @@ fn protobuf_is_written_as_the_gateway_reads_it() {
 fn attributes_in_protobuf_may_come_in_any_form() {
     let written = |attribute: &[u8]| {
         let metric = bytes(7, &bytes(1, &bytes(7, attribute)));
-        let bodies = prepared(Encoding::Protobuf, within_request(&metric)).unwrap();
-        let text = std::str::from_utf8(&bodies[0]).unwrap().to_string();
+        let written = prepared(Encoding::Protobuf, within_request(&metric)).unwrap();
+        let text = std::str::from_utf8(&written).unwrap().to_string();
         let attributes = text.split_once("\"attributes\":").unwrap().1;
         attributes.strip_suffix("}]}}]}]}]}").unwrap().to_string()
     };
@@ -279,16 +276,16 @@ fn resource_attributes_are_dropped() {
     let body = r#"{"resourceMetrics":[{"resource":{"attributes":[{"key":"service.instance.id","value":{"stringValue":"1"}},{"key":"a"},{"value":{},"key":"\u00e9"},{"key":"b"}]},"scopeMetrics":[{"scope":{"attributes":[{"key":"é"}]}}]}]}"#;
     let expected = r#"{"resourceMetrics":[{"resource":{"attributes":[{"key":"a"},{"key":"b"}]},"scopeMetrics":[{"scope":{"attributes":[{"key":"é"}]}}]}]}"#;
     assert_eq!(
-        prepare(Encoding::Json, body.into(), &reading).unwrap().bodies,
-        [expected]
+        prepare(Encoding::Json, body.into(), &reading).unwrap().body,
+        expected
     );
     let pairs = ["é", "a", "service.instance.id"]
         .map(|key| bytes(1, &bytes(1, key.as_bytes())))
         .concat();
-    let bodies = prepare(Encoding::Protobuf, bytes(1, &bytes(1, &pairs)).into(), &reading).unwrap();
+    let written = prepare(Encoding::Protobuf, bytes(1, &bytes(1, &pairs)).into(), &reading).unwrap();
     assert_eq!(
-        bodies.bodies,
-        [r#"{"resourceMetrics":[{"resource":{"attributes":[{"key":"a"}]}}]}"#]
+        written.body,
+        r#"{"resourceMetrics":[{"resource":{"attributes":[{"key":"a"}]}}]}"#
     );
 }
 

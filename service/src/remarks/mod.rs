@@ -37,11 +37,10 @@ pub trait Owners: Send + Sync + 'static {
     fn owner(&self, series: &SeriesKey) -> Option<String>;
 }
 
-/// Of all slots.
-impl Owners for Vec<Arc<Outbox>> {
+impl Owners for Arc<Outbox> {
     /// Known once the series was forwarded.
     fn owner(&self, series: &SeriesKey) -> Option<String> {
-        self.iter().find_map(|outbox| outbox.owner(series))
+        Outbox::owner(self, series)
     }
 }
 
@@ -103,32 +102,28 @@ impl<T: Taker> Remarks<T> {
         }
     }
 
-    fn tell(&self, remark: Remark, sender: &str, bodies: &[Bytes]) {
+    fn tell(&self, remark: Remark, sender: &str, body: &Bytes) {
         match remark {
-            Remark::Foreign => self.tell_reasons(sender, bodies),
+            Remark::Foreign => self.tell_reasons(sender, body),
             Remark::OtherWriter(place) => {
-                // Where a request was split, the message is of the first body that was refused.
-                let body = bodies.first().filter(|_| bodies.len() == 1);
-                if let Some(series) = body.and_then(|body| series_of_point(body, place)) {
+                if let Some(series) = series_of_point(body, place) {
                     self.tell_owner(sender, series);
                 }
             }
         }
     }
 
-    /// Nobody who posts waits while bodies are read: one at a time is.
-    fn tell_reasons(&self, sender: &str, bodies: &[Bytes]) {
+    /// Nobody who posts waits while a body is read: one at a time is.
+    fn tell_reasons(&self, sender: &str, body: &Bytes) {
         let known = |told: &Told| told.foreign.get(sender).map(|of| of.reasons.clone());
         let mut reasons = known(&self.told()).unwrap_or_default();
-        for body in bodies {
-            foreign_points(body, |point| {
-                let reason = reason(&point);
-                if reasons.insert(reason.clone()) {
-                    tracing::warn!("points of {sender} are not taken: {reason}");
-                }
-                reasons.len() >= self.log_foreign
-            });
-        }
+        foreign_points(body, |point| {
+            let reason = reason(&point);
+            if reasons.insert(reason.clone()) {
+                tracing::warn!("points of {sender} are not taken: {reason}");
+            }
+            reasons.len() >= self.log_foreign
+        });
         let mut told = self.told();
         let of = told.foreign.entry(sender.to_string()).or_default();
         of.read += 1;
@@ -174,14 +169,14 @@ fn cut(text: &str, most: usize) -> &str {
 }
 
 impl<T: Taker> Taker for Remarks<T> {
-    fn post(self: &Arc<Self>, sender: String, bodies: Vec<Bytes>) -> impl Future<Output = Outcome> + Send {
+    fn post(self: &Arc<Self>, sender: String, body: Bytes) -> impl Future<Output = Outcome> + Send {
         let remarks = self.clone();
         async move {
-            let outcome = remarks.taker.post(sender.clone(), bodies.clone()).await;
+            let outcome = remarks.taker.post(sender.clone(), body.clone()).await;
             if let Some(remark) = remarks.remark(&sender, &outcome) {
                 if !remarks.is_reading.swap(true, Relaxed) {
                     tokio::task::spawn_blocking(move || {
-                        remarks.tell(remark, &sender, &bodies);
+                        remarks.tell(remark, &sender, &body);
                         remarks.is_reading.store(false, Relaxed);
                     });
                 }

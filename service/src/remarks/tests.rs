@@ -7,7 +7,7 @@ use std::time::Duration;
 struct Answering(Outcome);
 
 impl Taker for Answering {
-    fn post(self: &Arc<Self>, _: String, _: Vec<Bytes>) -> impl Future<Output = Outcome> + Send {
+    fn post(self: &Arc<Self>, _: String, _: Bytes) -> impl Future<Output = Outcome> + Send {
         std::future::ready(self.0.clone())
     }
 }
@@ -21,8 +21,8 @@ impl Owners for Owned {
     }
 }
 
-fn body(metrics: &str) -> Vec<Bytes> {
-    vec![format!(r#"{{"resourceMetrics":[{{"scopeMetrics":[{{"metrics":[{metrics}]}}]}}]}}"#).into()]
+fn body(metrics: &str) -> Bytes {
+    format!(r#"{{"resourceMetrics":[{{"scopeMetrics":[{{"metrics":[{metrics}]}}]}}]}}"#).into()
 }
 
 /// What is told behind these posts of `a`, and how many posts of it were read.
@@ -30,11 +30,11 @@ async fn told(
     outcome: Outcome,
     owner: Option<&'static str>,
     log_foreign: usize,
-    posts: &[Vec<Bytes>],
+    posts: &[Bytes],
 ) -> (Vec<String>, usize, usize) {
     let remarks = Remarks::new(Arc::new(Answering(outcome.clone())), Owned(owner), log_foreign);
-    for bodies in posts {
-        assert_eq!(remarks.post("a".into(), bodies.clone()).await, outcome);
+    for body in posts {
+        assert_eq!(remarks.post("a".into(), body.clone()).await, outcome);
         while remarks.is_reading.load(Relaxed) {
             tokio::time::sleep(Duration::from_millis(1)).await;
         }

@@ -2,20 +2,21 @@
 //!
 //! Any part that ends ends all, with its cause: what is on disk is whole at any time, and the next start reads it.
 
-mod change;
+mod adopt;
 pub mod init;
 mod parts;
 mod running;
 mod senders;
 mod supervisor;
 
+pub(crate) use adopt::slot_of;
+
 use crate::files::{Durability, Fault, Folder, FolderFault};
-use crate::gateway::Options;
-use crate::keeper::Settings as Keeping;
+use crate::keeper::{Settings as Keeping, Trouble};
 use crate::metrics::Metrics;
 use crate::otlp::Reading;
 use crate::sinks::Address;
-use crate::slot::Slots;
+use crate::slot::Slot;
 use anyhow::{anyhow, Context};
 use parts::Parts;
 use senders::{bind, local, Senders};
@@ -34,7 +35,6 @@ pub struct Settings {
     pub operate: String,
     pub sink: Address,
     pub durability: Durability,
-    pub gateway: Options,
     pub every: Duration,
     pub forget: Option<Duration>,
     pub reading: Reading,
@@ -44,15 +44,14 @@ pub struct Settings {
     pub most_connections: usize,
     /// How many serve senders.
     pub threads: usize,
-    /// How many gateways share the senders.
-    pub slots: u16,
+    /// So many fit.
+    pub most_series: usize,
     pub metrics: Arc<Metrics>,
 }
 
 impl Settings {
     fn keeping(&self) -> Keeping {
         Keeping {
-            gateway: self.gateway.clone(),
             every: self.every,
             forget: self.forget,
         }
@@ -65,8 +64,21 @@ pub enum Ended {
     /// The disk, or what is on it.
     #[error("{0}")]
     Disk(#[from] Fault),
+    /// What was taken of the book can't be written.
+    #[error("{0}")]
+    NoMemory(String),
     #[error("{0:#}")]
     Other(#[from] anyhow::Error),
+}
+
+impl From<Trouble> for Ended {
+    fn from(trouble: Trouble) -> Ended {
+        match trouble {
+            Trouble::File(fault) => Ended::Disk(fault),
+            Trouble::NoMemory => Ended::NoMemory(trouble.to_string()),
+            Trouble::Broken(_) | Trouble::NotFilled(_) => Ended::Other(anyhow!("{trouble}")),
+        }
+    }
 }
 
 impl From<FolderFault> for Ended {
@@ -88,24 +100,19 @@ pub async fn run(settings: Settings) -> Result<(), Ended> {
         None => None,
     };
     let operators = bind("--operate", &settings.operate).await?;
-    let slots = Arc::new(OnceLock::<Arc<Slots>>::new());
-    let begun = slots.clone();
+    let slot = Arc::new(OnceLock::<Arc<Slot>>::new());
+    let begun = slot.clone();
     // Before the files are opened: that may take longer than a supervisor waits.
-    let is_ready = move || begun.get().is_some_and(|slots| slots.are_ready());
+    let is_ready = move || begun.get().is_some_and(|slot| slot.is_ready());
     let watched = tokio::spawn(supervisor.clone().watch(is_ready));
     let folder = Arc::new(Folder::open(&settings.data, settings.durability)?);
     let keeping = settings.keeping();
     let ending = async { tracing::info!("{}: ending", signals.received().await) };
-    if !change::slots(&folder, settings.slots, &keeping, ending).await? {
+    if !adopt::slots(&folder, settings.most_series, &keeping, ending).await? {
         return Ok(());
     }
     let parts = Parts::open(folder, &settings)?;
-    tracing::info!(
-        "data in {}, sink {}, gateway {}",
-        settings.data.display(),
-        parts.sink.name(),
-        settings.gateway.program.display()
-    );
+    tracing::info!("data in {}, sink {}", settings.data.display(), parts.sink.name());
     let senders = Senders { senders, callers };
     tracing::info!(
         "senders post to {}, operators ask {}",
@@ -113,7 +120,7 @@ pub async fn run(settings: Settings) -> Result<(), Ended> {
         local(&operators)
     );
     let mut running = parts.start(&settings, senders, operators);
-    slots.get_or_init(|| running.slots.clone());
+    slot.get_or_init(|| running.slot.clone());
     let ended = tokio::select! {
         cause = running.ended() => Err(cause),
         name = signals.received() => {

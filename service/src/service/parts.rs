@@ -1,19 +1,19 @@
 //! Opens all parts.
 
-use super::change::leave_others;
+use super::adopt::leave_others;
 use super::running::Running;
 use super::senders::Senders;
 use super::{Ended, Settings};
-use crate::files::{Dead, Folder, Journal, Outbox};
-use crate::gateway::Starter;
+use crate::core::Core;
+use crate::files::{Dead, Folder, Outbox};
 use crate::intake::connections::{serve, Limits};
 use crate::intake::{Budget, Intake, Threads};
 use crate::keeper::{Keeper, Orders};
 use crate::metrics::Metrics;
-use crate::operate::{Desk, Left, OfSlot, Totals};
+use crate::operate::{Desk, Left, Totals};
 use crate::remarks::Remarks;
 use crate::sinks::{self, Delivery, Sink};
-use crate::slot::{Claims, Slot, Slots};
+use crate::slot::Slot;
 use anyhow::Context;
 use std::sync::{Arc, Mutex};
 use std::time::{Duration, Instant};
@@ -30,8 +30,10 @@ const OPERATORS: usize = 64;
 
 /// All parts, open and not running yet.
 pub(super) struct Parts {
-    slots: Vec<Part>,
-    /// Of slots that there are no more: what the sink has not taken.
+    slot: Arc<Slot>,
+    keeper: Keeper,
+    orders: Orders,
+    /// Of slots that an earlier totxegun had: what the sink has not taken.
     former: Vec<(u16, Arc<Outbox>)>,
     dead: Arc<Dead>,
     pub sink: Arc<dyn Sink>,
@@ -40,35 +42,29 @@ pub(super) struct Parts {
     threads: Arc<Threads>,
 }
 
-/// A slot.
-struct Part {
-    slot: Arc<Slot>,
-    keeper: Keeper,
-    orders: Orders,
-}
-
 impl Parts {
-    /// Opens the files in place: nothing else runs yet.
+    /// Opens the files in place: nothing else runs yet. The folder has one slot.
     pub fn open(folder: Arc<Folder>, settings: &Settings) -> Result<Parts, Ended> {
         let metrics = settings.metrics.clone();
-        let files = Files::open(&folder)?;
+        let (journal, outbox) = folder.slot(0)?;
+        let former = former_slots(&folder)?;
         let dead = Arc::new(folder.dead()?);
         let sink = sinks::open(&settings.sink).context("the sink can't be opened")?;
-        let claims = files.claims(&metrics)?;
-        let mut slots = Vec::new();
-        for (number, (journal, outbox)) in (0..).zip(files.slots) {
-            let (folder, metrics) = (folder.clone(), metrics.clone());
-            let slot = Slot::beside_others(number, folder, journal, outbox, metrics, claims.clone());
-            // One each: a port that a gateway of one slot had must not be the next one of another's.
-            let starter = Starter::new().context("no gateway can be started")?;
-            let (keeper, orders) = Keeper::new(slot.clone(), starter, settings.keeping());
-            slots.push(Part { slot, keeper, orders });
-        }
+        let core = Core::new(settings.most_series).with_context(|| {
+            format!(
+                "a book for --most-series {} can't be made: give a greater --book-memory, or a smaller --most-series",
+                settings.most_series
+            )
+        })?;
+        let slot = Slot::new(0, folder, journal, Arc::new(outbox), metrics.clone(), core);
+        let (keeper, orders) = Keeper::new(slot.clone(), settings.keeping());
         let budget = Budget::new(settings.most_bytes);
         let threads = Threads::new(settings.threads).context("no threads could be started")?;
         Ok(Parts {
-            slots,
-            former: files.former,
+            slot,
+            keeper,
+            orders,
+            former,
             dead,
             sink,
             metrics,
@@ -79,7 +75,7 @@ impl Parts {
 
     pub fn start(self, settings: &Settings, senders: Senders, operators: TcpListener) -> Running {
         let (stop_intake, intake_stopped) = watch::channel(false);
-        let (stop_keepers, keepers_stopped) = watch::channel(false);
+        let (stop_keeper, keeper_stopped) = watch::channel(false);
         let (stop_deliveries, deliveries_stopped) = watch::channel(false);
         let mut deliveries = JoinSet::new();
         let mut deliver = |number: u16, outbox: Arc<Outbox>| {
@@ -99,16 +95,12 @@ impl Parts {
                 delivery,
             }
         };
-        let mut keepers = JoinSet::new();
-        let mut of_slots = Vec::new();
-        for Part { slot, keeper, orders } in self.slots {
-            let left = deliver(slot.number(), slot.outbox.clone());
-            keepers.spawn(keeper.run(keepers_stopped.clone()));
-            of_slots.push(OfSlot { slot, orders, left });
-        }
+        let slot = self.slot;
+        let left = deliver(slot.number(), slot.outbox.clone());
         let former = self.former.into_iter();
         let former = former.map(|(number, outbox)| deliver(number, outbox)).collect();
-        let slots = Slots::new(of_slots.iter().map(|of| of.slot.clone()).collect());
+        let mut keeper = JoinSet::new();
+        keeper.spawn(self.keeper.run(keeper_stopped.clone()));
         let limits = Limits {
             connections: settings.most_connections,
             head: HEAD,
@@ -118,15 +110,16 @@ impl Parts {
             connections: OPERATORS,
             ..limits.clone()
         };
-        let outboxes: Vec<Arc<Outbox>> = of_slots.iter().map(|of| of.slot.outbox.clone()).collect();
         let intake = Intake::new(
-            Remarks::new(slots.clone(), outboxes, settings.log_foreign),
+            Remarks::new(slot.clone(), slot.outbox.clone(), settings.log_foreign),
             settings.reading.clone(),
             self.budget.clone(),
             self.metrics.clone(),
         );
         let desk = Desk {
-            slots: of_slots,
+            slot: slot.clone(),
+            orders: self.orders,
+            left,
             former,
             dead: self.dead,
             sink: self.sink,
@@ -135,61 +128,35 @@ impl Parts {
             budget: self.budget,
             listen: senders.shown(),
             data: settings.data.display().to_string(),
+            most_series: settings.most_series,
             begun: Instant::now(),
             resending: tokio::sync::Mutex::new(()),
         };
         Running {
             intake: tokio::spawn(senders.serve(limits, intake, self.threads.clone(), intake_stopped)),
-            keepers,
+            keeper,
             deliveries,
-            operate: tokio::spawn(serve(operators, of_operators, Arc::new(desk), keepers_stopped)),
+            operate: tokio::spawn(serve(operators, of_operators, Arc::new(desk), keeper_stopped)),
             stop_intake,
-            stop_keepers,
+            stop_keeper,
             stop_deliveries,
-            slots,
+            slot,
             _threads: self.threads,
         }
     }
 }
 
-/// The files of all slots.
-struct Files {
-    slots: Vec<(Arc<Journal>, Arc<Outbox>)>,
-    former: Vec<(u16, Arc<Outbox>)>,
-}
-
-impl Files {
-    fn open(folder: &Folder) -> Result<Files, Ended> {
-        let count = folder.slots();
-        let mut slots = Vec::new();
-        for number in 0..count {
-            let (journal, outbox) = folder.slot(number)?;
-            leave_others(&outbox, number, count)?;
-            slots.push((Arc::new(journal), Arc::new(outbox)));
-        }
-        let mut former = Vec::new();
-        let numbers = folder.slots_with_files()?.into_iter();
-        for number in numbers.filter(|number| *number >= count) {
-            let outbox = folder.outbox(number)?;
-            leave_others(&outbox, number, count)?;
-            former.push((number, Arc::new(outbox)));
-        }
-        Ok(Files { slots, former })
+/// What the sink has not taken of slots that an earlier totxegun had. What they knew of series is slot 0's.
+fn former_slots(folder: &Folder) -> Result<Vec<(u16, Arc<Outbox>)>, Ended> {
+    let mut former = Vec::new();
+    for number in folder
+        .slots_with_files()?
+        .into_iter()
+        .filter(|number| *number > 0)
+    {
+        let outbox = folder.outbox(number)?;
+        leave_others(&outbox, number, 1)?;
+        former.push((number, Arc::new(outbox)));
     }
-
-    /// Where there are several slots: with what each of them has.
-    fn claims(&self, metrics: &Metrics) -> Result<Option<Arc<Claims>>, Ended> {
-        if self.slots.len() < 2 {
-            return Ok(None);
-        }
-        let claims = Claims::new(self.slots.iter().map(|(journal, _)| journal.clone()).collect());
-        for (number, (journal, outbox)) in (0..).zip(&self.slots) {
-            let wrong = claims.claim_files(number, journal, outbox)?;
-            if wrong > 0 {
-                metrics.faults.with_label_values(&["owner"]).inc_by(wrong as u64);
-                tracing::error!("slot {number}: another slot has {wrong} of its series");
-            }
-        }
-        Ok(Some(claims))
-    }
+    Ok(former)
 }

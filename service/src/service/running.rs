@@ -3,7 +3,8 @@
 use super::Ended;
 use crate::files::Fault;
 use crate::intake::Threads;
-use crate::slot::Slots;
+use crate::keeper::Trouble;
+use crate::slot::Slot;
 use anyhow::anyhow;
 use std::sync::Arc;
 use std::time::Duration;
@@ -11,26 +12,26 @@ use tokio::sync::watch;
 use tokio::task::{JoinError, JoinHandle, JoinSet};
 use tokio::time::Instant;
 
-/// How long posts that are under way are waited for at the end, and then the last checkpoints. The journals have what
+/// How long posts that are under way are waited for at the end, and then the last checkpoint. The journal has what
 /// was taken, so what takes longer is left to the next start.
 const LAST_POSTS: Duration = Duration::from_secs(2);
 const LAST_CHECKPOINT: Duration = Duration::from_secs(5);
 /// How long what is changing a file is waited for: a fault there is told by the exit status.
 pub(super) const LAST_CHANGES: Duration = Duration::from_secs(2);
 
-/// The parts at work. The intake ends first, then the keepers; the others have nothing to end. All end where this is
+/// The parts at work. The intake ends first, then the keeper; the others have nothing to end. All end where this is
 /// dropped, in this order.
 pub(super) struct Running {
     pub intake: JoinHandle<()>,
-    pub keepers: JoinSet<Result<(), Fault>>,
+    /// One.
+    pub keeper: JoinSet<Result<(), Trouble>>,
     pub deliveries: JoinSet<Result<(), Fault>>,
     pub operate: JoinHandle<()>,
     pub stop_intake: watch::Sender<bool>,
-    pub stop_keepers: watch::Sender<bool>,
+    pub stop_keeper: watch::Sender<bool>,
     pub stop_deliveries: watch::Sender<bool>,
-    pub slots: Arc<Slots>,
-    /// A post that goes on without its sender has its thread until the keepers have ended: a last flush waits for it, and
-    /// would have what is in no journal where it were dropped.
+    pub slot: Arc<Slot>,
+    /// A post that is under way has its thread until the keeper has ended: who is answered 200 by then is told so.
     pub _threads: Arc<Threads>,
 }
 
@@ -38,28 +39,28 @@ impl Running {
     /// Returns once a part has ended that nobody told to end.
     pub async fn ended(&mut self) -> Ended {
         tokio::select! {
-            Some(end) = self.keepers.join_next() => cause("a keeper", end),
+            Some(end) = self.keeper.join_next() => cause("the keeper", end),
             Some(end) = self.deliveries.join_next() => cause("a delivery", end),
-            end = &mut self.intake => cause("the intake", end.map(Ok)),
-            end = &mut self.operate => cause("the operator's address", end.map(Ok)),
+            end = &mut self.intake => cause("the intake", end.map(Ok::<(), Fault>)),
+            end = &mut self.operate => cause("the operator's address", end.map(Ok::<(), Fault>)),
         }
     }
 
-    /// Nothing more is accepted, what was taken goes into the outboxes.
+    /// Nothing more is accepted, what was taken goes into the outbox.
     pub async fn stop(mut self) -> Result<(), Ended> {
         self.stop_intake.send_replace(true);
         let _ = tokio::time::timeout(LAST_POSTS, &mut self.intake).await; // who is slower was not answered
-        self.stop_keepers.send_replace(true);
-        let in_time = last(&mut self.keepers, "a keeper", Instant::now() + LAST_CHECKPOINT).await;
+        self.stop_keeper.send_replace(true);
+        let in_time = last(&mut self.keeper, "the keeper", Instant::now() + LAST_CHECKPOINT).await;
         // What is sent meanwhile is sent again by the next start. A keeper that is late may be changing a file too.
         self.stop_deliveries.send_replace(true);
         let until = Instant::now() + LAST_CHANGES;
         let (late, deliveries) = tokio::join!(
-            last(&mut self.keepers, "a keeper", until),
+            last(&mut self.keeper, "the keeper", until),
             last(&mut self.deliveries, "a delivery", until)
         );
         let ended = in_time.and(late).and(deliveries);
-        match self.keepers.is_empty() {
+        match self.keeper.is_empty() {
             true if ended.is_ok() => tracing::info!("ended"),
             true => {}
             false => tracing::warn!(
@@ -71,7 +72,11 @@ impl Running {
 }
 
 /// Waits so long for parts that were told to end: a fault of one of them.
-async fn last(parts: &mut JoinSet<Result<(), Fault>>, part: &str, until: Instant) -> Result<(), Ended> {
+async fn last<E: Into<Ended> + 'static>(
+    parts: &mut JoinSet<Result<(), E>>,
+    part: &str,
+    until: Instant,
+) -> Result<(), Ended> {
     let mut ended = Ok(());
     while let Ok(Some(end)) = tokio::time::timeout_at(until, parts.join_next()).await {
         if !matches!(end, Ok(Ok(()))) {
@@ -89,9 +94,9 @@ impl Drop for Running {
     }
 }
 
-fn cause(part: &str, end: Result<Result<(), Fault>, JoinError>) -> Ended {
+fn cause<E: Into<Ended>>(part: &str, end: Result<Result<(), E>, JoinError>) -> Ended {
     match end {
-        Ok(Err(fault)) => Ended::Disk(fault),
+        Ok(Err(why)) => why.into(),
         Ok(Ok(())) => Ended::Other(anyhow!("{part} has ended by itself: this is a fault of totxegun")),
         Err(error) => Ended::Other(anyhow!("{part} failed ({error}): this is a fault of totxegun")),
     }
@@ -100,8 +105,12 @@ fn cause(part: &str, end: Result<Result<(), Fault>, JoinError>) -> Ended {
 #[cfg(test)]
 mod tests {
     use super::*;
+    use crate::core::Core;
+    use crate::files::{Durability, Folder};
+    use crate::metrics::Metrics;
     use crate::switch::Switch;
     use std::future::Future;
+    use std::path::Path;
 
     fn no_disk() -> Fault {
         Fault::Io {
@@ -110,25 +119,29 @@ mod tests {
         }
     }
 
-    /// Parts of which a keeper ends so behind being told to.
-    fn running(end: impl Future<Output = Result<(), Fault>> + Send + 'static) -> Running {
+    /// Parts of which the keeper ends so behind being told to.
+    fn running(place: &Path, end: impl Future<Output = Result<(), Fault>> + Send + 'static) -> Running {
         let (stop_intake, _) = watch::channel(false);
-        let (stop_keepers, mut stopped) = watch::channel(false);
+        let (stop_keeper, mut stopped) = watch::channel(false);
         let (stop_deliveries, _) = watch::channel(false);
-        let mut keepers = JoinSet::new();
-        keepers.spawn(async move {
+        let folder = Folder::open(place, Durability::Process).unwrap();
+        let (journal, outbox) = folder.slot(0).unwrap();
+        let (metrics, core) = (Metrics::new().unwrap(), Core::new(1).unwrap());
+        let slot = Slot::new(0, folder.into(), journal, outbox.into(), metrics.into(), core);
+        let mut keeper = JoinSet::new();
+        keeper.spawn(async move {
             stopped.wait_true().await;
-            end.await
+            end.await.map_err(Trouble::from)
         });
         Running {
             intake: tokio::spawn(async {}),
-            keepers,
+            keeper,
             deliveries: JoinSet::new(),
             operate: tokio::spawn(async {}),
             stop_intake,
-            stop_keepers,
+            stop_keeper,
             stop_deliveries,
-            slots: Slots::new(Vec::new()),
+            slot,
             _threads: Arc::new(Threads::new(1).unwrap()),
         }
     }
@@ -136,19 +149,21 @@ mod tests {
     /// It is in the middle of a change of its files, as a rule of a commit.
     #[tokio::test]
     async fn a_fault_of_a_keeper_that_is_late_is_told() {
+        let place = tempfile::tempdir().unwrap();
         let late = async {
             tokio::time::sleep(LAST_CHECKPOINT + Duration::from_millis(200)).await;
             Err(no_disk())
         };
-        let ended = running(late).stop().await;
+        let ended = running(place.path(), late).stop().await;
         assert!(matches!(ended, Err(Ended::Disk(_))), "{ended:?}");
     }
 
-    /// As that of a call whose deadline has passed: no connection waits for it, and a keeper does.
+    /// As that of a call whose deadline has passed: no connection waits for it.
     #[tokio::test]
-    async fn a_post_without_its_sender_goes_on_until_the_keepers_have_ended() {
+    async fn a_post_without_its_sender_goes_on_until_the_keeper_has_ended() {
+        let place = tempfile::tempdir().unwrap();
         let (done, post) = tokio::sync::oneshot::channel();
-        let mut running = running(async { post.await.map_err(|_| no_disk()) });
+        let mut running = running(place.path(), async { post.await.map_err(|_| no_disk()) });
         let threads = running._threads.clone();
         threads.place().0.spawn(async {
             tokio::time::sleep(Duration::from_millis(200)).await;

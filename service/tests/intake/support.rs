@@ -22,13 +22,13 @@ const PATIENCE: Duration = Duration::from_secs(30);
 
 /// Keeps what it is given, and answers as it was told.
 pub struct Kept {
-    pub posts: Mutex<Vec<(String, Vec<Bytes>)>>,
+    pub posts: Mutex<Vec<(String, Bytes)>>,
     pub outcome: Outcome,
 }
 
 impl Taker for Kept {
-    fn post(self: &Arc<Self>, sender: String, bodies: Vec<Bytes>) -> impl Future<Output = Outcome> + Send {
-        self.posts.lock().unwrap().push((sender, bodies));
+    fn post(self: &Arc<Self>, sender: String, body: Bytes) -> impl Future<Output = Outcome> + Send {
+        self.posts.lock().unwrap().push((sender, body));
         std::future::ready(self.outcome.clone())
     }
 }
@@ -112,7 +112,7 @@ impl Served {
             .lock()
             .unwrap()
             .iter()
-            .flat_map(|(_, bodies)| bodies.clone())
+            .map(|(_, body)| body.clone())
             .collect()
     }
 }

@@ -5,8 +5,7 @@ use super::point::{histogram_point, sum_kind, sum_point};
 use super::why::{What, Why};
 use super::{Posted, SeriesKey};
 use crate::otlp::json::{write_text, Document, Elements, Value};
-use std::collections::{HashMap, HashSet};
-use std::hash::Hash;
+use std::collections::HashMap;
 use std::sync::Arc;
 
 /// A point where it is in its body.
@@ -33,27 +32,6 @@ pub fn posted(body: &[u8]) -> Option<Posted> {
         Ok(end) => posted.add(seen.key, end),
     })?;
     Some(posted)
-}
-
-/// Each series that a body has points of the profile of, as `told` tells its key, with the place of the first among all of
-/// these. None where the gateway refuses the body whole.
-pub fn first_places<S: Copy + Eq + Hash>(
-    body: &[u8],
-    mut told: impl FnMut(&str) -> S,
-) -> Option<Vec<(S, u64)>> {
-    let document = Document::parse(body).ok()?;
-    let (mut known, mut places, mut place) = (HashSet::new(), Vec::new(), 0);
-    visit(&document, |seen| {
-        if seen.found.is_err() {
-            return;
-        }
-        let series = told(seen.key);
-        if known.insert(series) {
-            places.push((series, place));
-        }
-        place += 1;
-    })?;
-    Some(places)
 }
 
 impl Posted {

@@ -360,7 +360,7 @@ fn a_forwarded_request_in_protobuf() {
     let again =
         crate::otlp::prepare(crate::otlp::Encoding::Protobuf, bytes.into(), &Default::default()).unwrap();
     assert_eq!(
-        posted(&again.bodies[0]).unwrap().series,
+        posted(&again.body).unwrap().series,
         posted(FORWARDED.as_bytes()).unwrap().series
     );
 }
@@ -376,9 +376,7 @@ fn zeros_are_points_of_each_series_at_its_frontier() {
         )
     });
     series.extend(many.map(|key| (SeriesKey(key.into()), u64::MAX)));
-    let told = zeros(&series).unwrap();
-    let bodies = told.bodies;
-    assert_eq!(told.left_out, 0);
+    let bodies = zeros(&series).unwrap();
     assert!(bodies.iter().all(|body| body.len() <= 3 << 20));
     let mut found = HashMap::new();
     for body in &bodies {
@@ -387,10 +385,10 @@ fn zeros_are_points_of_each_series_at_its_frontier() {
         found.extend(body.series);
     }
     assert_eq!(found, series.iter().cloned().collect());
-    assert_eq!(zeros(&[]).unwrap().bodies, Vec::<Vec<u8>>::new());
+    assert_eq!(zeros(&[]).unwrap(), Vec::<Vec<u8>>::new());
     let long = format!(r#"[[],"","",[],"{}","","sum",[]]"#, "x".repeat(4 << 20));
-    let told = zeros(&[(SeriesKey(long.into()), 9), series[0].clone()]).unwrap();
-    assert_eq!((told.bodies.len(), told.left_out), (1, 1));
+    let bodies = zeros(&[(SeriesKey(long.into()), 9), series[0].clone()]).unwrap();
+    assert_eq!(bodies.len(), 2);
     for frontier in [0, 1] {
         assert!(zeros(&[(series[0].0.clone(), frontier)]).is_err());
     }

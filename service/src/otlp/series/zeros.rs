@@ -1,44 +1,30 @@
-//! Points of value zero, which tell a fresh gateway whom each series belongs to and where its points begin.
+//! Points of value zero, which tell a fresh book whom each series belongs to and where its points begin.
 
 use super::{Kind, NotForwarded, SeriesKey};
 use crate::otlp::json::Document;
-use crate::otlp::split::LIMIT;
 
-/// Under the gateway's limit, so that a primed gateway takes each at once.
+/// A body is not much longer, so that none takes long to read.
 const MOST: usize = 3 << 20;
 const OPEN: &str = "{\"resourceMetrics\":[";
 const CLOSE: &str = "]}";
 
-/// What tells a gateway of series.
-#[derive(Debug, Default, PartialEq, Eq)]
-pub struct Zeros {
-    pub bodies: Vec<Vec<u8>>,
-    /// Series that no body can tell: an earlier totxegun took a post that left out what is empty. None is taken any more
-    /// whose identity is as long.
-    pub left_out: usize,
-}
-
 /// Bodies that prime: for each series with frontier F a point of value zero over (F-1, F]. At most 3 MiB
 /// each, but that of a series which is longer itself.
-pub fn zeros(series: &[(SeriesKey, u64)]) -> Result<Zeros, NotForwarded> {
-    let mut all = Zeros::default();
+pub fn zeros(series: &[(SeriesKey, u64)]) -> Result<Vec<Vec<u8>>, NotForwarded> {
+    let mut bodies = Vec::new();
     let mut body = String::new();
     for (key, frontier) in series {
         let zero = zero(key, *frontier)?;
-        if OPEN.len() + zero.len() + CLOSE.len() > LIMIT {
-            all.left_out += 1;
-            continue;
-        }
         if body.len() + zero.len() + 1 + CLOSE.len() > MOST && !body.is_empty() {
-            all.bodies.push(finished(&mut body));
+            bodies.push(finished(&mut body));
         }
         body.push_str(if body.is_empty() { OPEN } else { "," });
         body.push_str(&zero);
     }
     if !body.is_empty() {
-        all.bodies.push(finished(&mut body));
+        bodies.push(finished(&mut body));
     }
-    Ok(all)
+    Ok(bodies)
 }
 
 fn finished(body: &mut String) -> Vec<u8> {

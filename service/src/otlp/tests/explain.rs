@@ -6,12 +6,12 @@ const SPAN: &str = r#""startTimeUnixNano":"1","timeUnixNano":"2""#;
 
 /// Why the one point of a request is foreign.
 fn why(body: String) -> String {
-    let bodies = prepared(Encoding::Json, body.clone()).unwrap();
-    let points = explained(&bodies[0]).unwrap();
+    let written = prepared(Encoding::Json, body.clone()).unwrap();
+    let points = explained(&written).unwrap();
     let [point] = &points[..] else {
         panic!("{body}: {points:?}")
     };
-    assert_eq!(posted(&bodies[0]).unwrap().foreign, 1, "{body}");
+    assert_eq!(posted(&written).unwrap().foreign, 1, "{body}");
     point.foreign.clone().unwrap_or_else(|| panic!("{body} is taken"))
 }
 

@@ -81,7 +81,7 @@ fn request(
 fn bodies(request: &ExportMetricsServiceRequest) -> [bytes::Bytes; 2] {
     let json = prepared(Encoding::Json, in_json(request)).unwrap();
     let protobuf = prepared(Encoding::Protobuf, request.encode_to_vec()).unwrap();
-    [json, protobuf].map(|mut bodies| bodies.remove(0))
+    [json, protobuf]
 }
 
 #[test]

@@ -7,8 +7,8 @@ use crate::otlp::Encoding;
 /// What is written of a sum's point of these fields.
 fn written(fields: &[Vec<u8>]) -> String {
     let metric = bytes(7, &bytes(1, &fields.concat()));
-    let bodies = prepared(Encoding::Protobuf, within_request(&metric)).unwrap();
-    let text = std::str::from_utf8(&bodies[0]).unwrap();
+    let written = prepared(Encoding::Protobuf, within_request(&metric)).unwrap();
+    let text = std::str::from_utf8(&written).unwrap();
     let points = text.split_once("\"dataPoints\":[").unwrap().1;
     points.strip_suffix("]}}]}]}]}").unwrap().to_string()
 }
@@ -107,7 +107,7 @@ fn a_point_of_a_histogram_is_written_alike_with_other_fields() {
         prepared(Encoding::Protobuf, within_request(&metric)).unwrap()
     };
     let expected = written(&fields);
-    let text = std::str::from_utf8(&expected[0]).unwrap();
+    let text = std::str::from_utf8(&expected).unwrap();
     let values =
         r#""count":3,"sum":"0.5","bucketCounts":[1,2],"explicitBounds":[10],"attributes":[{"key":"k""#;
     assert!(text.contains(values), "{text}");

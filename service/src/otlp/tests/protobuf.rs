@@ -22,8 +22,8 @@ fn attribute(value: &[u8]) -> Vec<u8> {
 
 /// What the gateway has of a request.
 fn read(body: Vec<u8>) -> Posted {
-    let bodies = prepared(Encoding::Protobuf, body).unwrap();
-    posted(&bodies[0]).unwrap_or_else(|| panic!("{}", String::from_utf8_lossy(&bodies[0])))
+    let written = prepared(Encoding::Protobuf, body).unwrap();
+    posted(&written).unwrap_or_else(|| panic!("{}", String::from_utf8_lossy(&written)))
 }
 
 /// Its point is foreign, however deep it is: what is written of it is no deeper than the gateway reads.
@@ -64,8 +64,8 @@ fn of_fields_of_which_a_message_has_one_the_last_counts() {
     let (text, map, list) = (bytes(1, b"t"), bytes(6, b""), bytes(5, b""));
     let written = |value: Vec<Vec<u8>>| {
         let body = sum(&[point(&attribute(&value.concat()))]);
-        let bodies = prepared(Encoding::Protobuf, body).unwrap();
-        let text = String::from_utf8_lossy(&bodies[0]).into_owned();
+        let written = prepared(Encoding::Protobuf, body).unwrap();
+        let text = String::from_utf8_lossy(&written).into_owned();
         let value = text.split_once(r#""value":"#).unwrap().1;
         value.split_once("}]").unwrap().0.to_string()
     };

@@ -17,7 +17,7 @@ fn reading(rules: &[&str]) -> Reading {
 fn prepared(metric: &str, rules: &[&str]) -> (serde_json::Value, Prepared) {
     let body = format!(r#"{{"resourceMetrics":[{{"scopeMetrics":[{{"metrics":[{metric}]}}]}}]}}"#);
     let prepared = prepare(Encoding::Json, body.into(), &reading(rules)).unwrap();
-    let read: serde_json::Value = serde_json::from_slice(&prepared.bodies[0]).unwrap();
+    let read: serde_json::Value = serde_json::from_slice(&prepared.body).unwrap();
     (
         read["resourceMetrics"][0]["scopeMetrics"][0]["metrics"][0].clone(),
         prepared,
@@ -37,7 +37,7 @@ fn sum(point: &str) -> String {
 }
 
 fn foreign(prepared: &Prepared) -> u64 {
-    posted(&prepared.bodies[0]).unwrap().foreign
+    posted(&prepared.body).unwrap().foreign
 }
 
 #[test]
@@ -247,7 +247,7 @@ fn other_units_stay_as_they_are() {
     let body = format!(r#"{{"resourceMetrics":[{{"scopeMetrics":[{{"metrics":[{metric}]}}]}}]}}"#);
     for rules in [&[][..], &["ms=us"][..]] {
         let prepared = prepare(Encoding::Json, body.clone().into(), &reading(rules)).unwrap();
-        assert_eq!(prepared.bodies, [body.as_bytes()]);
+        assert_eq!(prepared.body, body.as_bytes());
     }
     let (metric, _) = prepared(&metric.replace(r#""unit":"s""#, r#""unit":5"#), &["s=us"]);
     assert_eq!(metric["unit"], 5);

@@ -95,7 +95,7 @@ fn what_can_not_be_taken_makes_no_total_less_exact() {
     assert!(found.points.is_empty());
 }
 
-/// Until its post is answered, as its bodies are.
+/// Until its post is answered, as its body is.
 #[test]
 fn what_was_rounded_is_weighed() {
     let name = "n".repeat(100);
@@ -105,7 +105,7 @@ fn what_was_rounded_is_weighed() {
     let beside = |value: &str| {
         let body = request(&vec![point(value); 100]);
         let prepared = prepare(Encoding::Json, body.into(), &reading(&["s=us"])).unwrap();
-        prepared.bytes() - prepared.bodies[0].len()
+        prepared.bytes() - prepared.body.len()
     };
     assert_eq!(beside("1"), 0);
     assert!(beside("0.00000125") > 100 * name.len());

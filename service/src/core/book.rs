@@ -1,0 +1,277 @@
+//! The proved book, linked into this program. All `unsafe` code of the service is in this file.
+//!
+//! What the library was proved to do holds while its caller does what stands here beside each call: one call of a
+//! handle at a time (`&mut self`), and only of one that was made and not freed yet (`Drop`); slices as they are; numbers
+//! in the ranges that the contracts have; declarations as `crates/book_c/src/lib.rt` and `shapes.rt` have them; and
+//! memory that nobody else writes to, which it gets by the three functions at the end.
+
+use super::memory;
+use std::ptr::null_mut;
+
+/// The most series of each book that one flush takes.
+pub(super) const MOST_TAKEN: usize = 1000;
+
+/// One word, that of the library's own value.
+#[repr(C)]
+struct Handle {
+    at: *mut u8,
+}
+
+/// What a call says. Which number means what stands beside each call.
+#[repr(C)]
+#[derive(Clone, Copy, Debug, Default, PartialEq, Eq)]
+pub(super) struct Answer {
+    pub status: u32,
+    pub number: u64,
+    pub at: u64,
+    pub frontier: u64,
+}
+
+extern "C" {
+    fn reader_new(out: *mut Handle) -> bool;
+    fn reader_free(reader: *mut Handle);
+    fn reader_read(
+        reader: *mut Handle,
+        sender: *const u8,
+        sender_length: usize,
+        body: *const u8,
+        body_length: usize,
+        books: usize,
+        out: *mut Answer,
+    );
+    fn desk_new(books: usize, out: *mut Handle) -> bool;
+    fn desk_free(desk: *mut Handle);
+    fn desk_admit(desk: *mut Handle, reader: *mut Handle, out: *mut Answer);
+    fn desk_take(desk: *mut Handle, flushes: *mut Handle, most: usize, out: *mut Answer);
+    fn desk_settle(desk: *mut Handle, flushes: *mut Handle) -> u32;
+    fn desk_give_back(desk: *mut Handle, flushes: *mut Handle) -> u32;
+    fn desk_quarantine(desk: *mut Handle, sender: *const u8, length: usize) -> u32;
+    fn desk_lift(desk: *mut Handle, sender: *const u8, length: usize) -> u32;
+    fn desk_close_rounds(desk: *mut Handle, entries: usize) -> usize;
+    fn desk_series(desk: *mut Handle) -> usize;
+    fn desk_report(desk: *mut Handle, flushes: *mut Handle, book: usize, out: *mut Answer);
+    fn flushes_new(out: *mut Handle) -> bool;
+    fn flushes_free(flushes: *mut Handle);
+    fn flushes_text(flushes: *mut Handle, number: usize, out: *mut Answer);
+    fn flushes_copy(flushes: *mut Handle, out: *mut u8, length: usize) -> bool;
+}
+
+/// Reads posts: it has the one that was read last, split into a part for each book.
+pub(super) struct Reader(Handle);
+/// Books, each with the series that belong to it.
+pub(super) struct Desk(Handle);
+/// What was taken of all books, and the text that was written last.
+pub(super) struct Flushes(Handle);
+
+// SAFETY: the library was proved to be usable from any thread (`may_cross`), by one call at a time: each takes `&mut self`.
+unsafe impl Send for Reader {}
+// SAFETY: as above.
+unsafe impl Send for Desk {}
+// SAFETY: as above.
+unsafe impl Send for Flushes {}
+
+impl Reader {
+    /// None where there is no memory.
+    pub fn new() -> Option<Reader> {
+        let mut handle = Handle { at: null_mut() };
+        // SAFETY: `handle` is there through the call, which makes it live where it returns true.
+        unsafe { reader_new(&mut handle) }.then(|| Reader(handle))
+    }
+
+    pub fn read(&mut self, sender: &[u8], body: &[u8], books: usize) -> Answer {
+        let mut answer = Answer::default();
+        let (sender_at, body_at) = (sender.as_ptr(), body.as_ptr());
+        // SAFETY: the handle is live and lent for this call alone; both slices and the answer are there through it.
+        unsafe {
+            reader_read(
+                &mut self.0,
+                sender_at,
+                sender.len(),
+                body_at,
+                body.len(),
+                books.max(1),
+                &mut answer,
+            )
+        };
+        answer
+    }
+}
+
+impl Drop for Reader {
+    fn drop(&mut self) {
+        // SAFETY: the handle is live, and nobody has it behind this.
+        unsafe { reader_free(&mut self.0) };
+    }
+}
+
+impl Desk {
+    /// None where there is no memory.
+    pub fn new(books: usize) -> Option<Desk> {
+        let mut handle = Handle { at: null_mut() };
+        // SAFETY: as of a reader; there is one book at least.
+        unsafe { desk_new(books.max(1), &mut handle) }.then(|| Desk(handle))
+    }
+
+    /// Of what the reader has read for so many books as there are.
+    pub fn admit(&mut self, reader: &mut Reader) -> Answer {
+        let mut answer = Answer::default();
+        // SAFETY: both handles are live and lent for this call alone.
+        unsafe { desk_admit(&mut self.0, &mut reader.0, &mut answer) };
+        answer
+    }
+
+    /// Takes a flush of each book that has something, of at most so many series.
+    pub fn take(&mut self, flushes: &mut Flushes, most: usize) -> Answer {
+        let most = most.clamp(1, MOST_TAKEN);
+        let mut answer = Answer::default();
+        // SAFETY: both handles are live and lent for this call alone; the number is from 1 to 1,000.
+        memory::forwarding(|| unsafe { desk_take(&mut self.0, &mut flushes.0, most, &mut answer) });
+        answer
+    }
+
+    pub fn settle(&mut self, flushes: &mut Flushes) -> u32 {
+        // SAFETY: both handles are live and lent for this call alone.
+        memory::forwarding(|| unsafe { desk_settle(&mut self.0, &mut flushes.0) })
+    }
+
+    pub fn give_back(&mut self, flushes: &mut Flushes) -> u32 {
+        // SAFETY: both handles are live and lent for this call alone.
+        memory::forwarding(|| unsafe { desk_give_back(&mut self.0, &mut flushes.0) })
+    }
+
+    pub fn quarantine(&mut self, sender: &[u8]) -> u32 {
+        // SAFETY: the handle is live and lent for this call alone, the slice is there through it.
+        unsafe { desk_quarantine(&mut self.0, sender.as_ptr(), sender.len()) }
+    }
+
+    pub fn lift(&mut self, sender: &[u8]) -> u32 {
+        // SAFETY: the handle is live and lent for this call alone, the slice is there through it.
+        memory::forwarding(|| unsafe { desk_lift(&mut self.0, sender.as_ptr(), sender.len()) })
+    }
+
+    pub fn close_rounds(&mut self, entries: usize) -> usize {
+        // SAFETY: the handle is live and lent for this call alone.
+        memory::forwarding(|| unsafe { desk_close_rounds(&mut self.0, entries) })
+    }
+
+    pub fn series(&mut self) -> usize {
+        // SAFETY: the handle is live and lent for this call alone.
+        unsafe { desk_series(&mut self.0) }
+    }
+
+    pub fn report(&mut self, flushes: &mut Flushes, book: usize) -> Answer {
+        let mut answer = Answer::default();
+        // SAFETY: both handles are live and lent for this call alone.
+        unsafe { desk_report(&mut self.0, &mut flushes.0, book, &mut answer) };
+        answer
+    }
+}
+
+impl Drop for Desk {
+    fn drop(&mut self) {
+        // SAFETY: the handle is live, and nobody has it behind this.
+        unsafe { desk_free(&mut self.0) };
+    }
+}
+
+impl Flushes {
+    /// None where there is no memory.
+    pub fn new() -> Option<Flushes> {
+        let mut handle = Handle { at: null_mut() };
+        // SAFETY: as of a reader.
+        memory::forwarding(|| unsafe { flushes_new(&mut handle) }).then(|| Flushes(handle))
+    }
+
+    /// Writes the request of one of them: its bytes can be copied then.
+    pub fn text(&mut self, number: usize) -> Answer {
+        let mut answer = Answer::default();
+        // SAFETY: the handle is live and lent for this call alone.
+        memory::forwarding(|| unsafe { flushes_text(&mut self.0, number, &mut answer) });
+        answer
+    }
+
+    /// Copies the text that was written last: whether it has exactly so many bytes.
+    pub fn copy(&mut self, out: &mut [u8]) -> bool {
+        // SAFETY: the handle is live and lent for this call alone, and so is all that is written to.
+        unsafe { flushes_copy(&mut self.0, out.as_mut_ptr(), out.len()) }
+    }
+}
+
+impl Drop for Flushes {
+    fn drop(&mut self) {
+        // SAFETY: the handle is live, and nobody has it behind this.
+        unsafe { flushes_free(&mut self.0) };
+    }
+}
+
+/// Whether there is a block, and where. Where there is none the address is that of a byte which is always there.
+#[repr(C)]
+struct Tried {
+    ok: bool,
+    at: *mut u8,
+}
+
+static NO_BLOCK: u8 = 0;
+
+impl Tried {
+    fn of(at: *mut libc::c_void) -> Tried {
+        let at = at.cast();
+        Tried { ok: true, at }
+    }
+
+    fn not() -> Tried {
+        Tried {
+            ok: false,
+            at: (&raw const NO_BLOCK).cast_mut(),
+        }
+    }
+}
+
+/// The length that the allocator gave a block, which counts.
+fn length_of(at: *mut libc::c_void) -> usize {
+    // SAFETY: `at` came from malloc or realloc and was not freed.
+    unsafe { libc::malloc_usable_size(at) }
+}
+
+/// A block of so many bytes, aligned to at most 16, as malloc aligns all. One of no bytes has an address of its own.
+#[no_mangle]
+extern "C" fn rattle_alloc(bytes: usize, align: usize) -> Tried {
+    // SAFETY: any number may be asked for.
+    let at = unsafe { libc::malloc(if bytes == 0 { align } else { bytes }) };
+    if at.is_null() {
+        return Tried::not();
+    }
+    if memory::take(length_of(at)) {
+        return Tried::of(at);
+    }
+    // SAFETY: it came from malloc just now, and nobody has it.
+    unsafe { libc::free(at) };
+    Tried::not()
+}
+
+/// Another length for a block, whose first bytes stay. Where that fails the block is as it was.
+#[no_mangle]
+extern "C" fn rattle_realloc(at: *mut u8, _kept: usize, bytes: usize, align: usize) -> Tried {
+    let (at, bytes) = (at.cast(), if bytes == 0 { align } else { bytes });
+    let before = length_of(at);
+    let more = bytes.saturating_sub(before);
+    if more > 0 && !memory::take(more) {
+        return Tried::not();
+    }
+    // SAFETY: the library gives what it has from these functions, and not freed.
+    let moved = unsafe { libc::realloc(at, bytes) };
+    if moved.is_null() {
+        memory::give(more);
+        return Tried::not();
+    }
+    memory::correct(before + more, length_of(moved));
+    Tried::of(moved)
+}
+
+#[no_mangle]
+extern "C" fn rattle_dealloc(at: *mut u8) {
+    let at = at.cast();
+    memory::give(length_of(at));
+    // SAFETY: the library gives what it has from these functions, once.
+    unsafe { libc::free(at) };
+}

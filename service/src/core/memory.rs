@@ -1,0 +1,171 @@
+//! How much memory the book has: what the library asks for is counted, and refused over a bound.
+//!
+//! Posts are read and admitted below a lower bound than what was taken is forwarded by: what lies between the two is a
+//! reserve for that. So posts are refused, and nothing of them is kept, before a flush would find too little.
+
+use std::cell::Cell;
+use std::sync::atomic::{AtomicI64, AtomicU64, Ordering::Relaxed};
+
+/// What a thread counts by itself before it counts with the others: the sum of all is off by as much for each.
+const DRIFT: i64 = 128 << 10;
+
+/// A reserve has so many bytes at least, more for each series, and for so many texts.
+const LEAST_RESERVE: u64 = 8 << 20;
+const RESERVE_OF_A_SERIES: u64 = 1 << 10;
+const TEXTS: u64 = 3;
+
+static USED: AtomicI64 = AtomicI64::new(0);
+static MOST: AtomicI64 = AtomicI64::new(i64::MAX);
+static MOST_OF_POSTS: AtomicI64 = AtomicI64::new(i64::MAX);
+/// Until one was written it may be as long.
+static LONGEST_TEXT: AtomicU64 = AtomicU64::new(4 << 20);
+
+thread_local! {
+    static OWN: Own = const { Own::new() };
+}
+
+/// What a thread knows.
+struct Own {
+    /// Not in the sum of all yet.
+    drift: Cell<i64>,
+    /// Whether the call that is under way forwards what was taken.
+    forwards: Cell<bool>,
+    /// So many more are given; then one is refused.
+    #[cfg(test)]
+    left: Cell<Option<u64>>,
+}
+
+impl Own {
+    const fn new() -> Own {
+        Own {
+            drift: Cell::new(0),
+            forwards: Cell::new(false),
+            #[cfg(test)]
+            left: Cell::new(None),
+        }
+    }
+
+    fn take(&self, bytes: i64) -> bool {
+        if self.is_told_to_fail() {
+            return false;
+        }
+        let drift = self.drift.get().saturating_add(bytes);
+        if drift < DRIFT {
+            self.drift.set(drift);
+            return true;
+        }
+        let most = match self.forwards.get() {
+            true => &MOST,
+            false => &MOST_OF_POSTS,
+        };
+        let fits = fits(drift, most);
+        if fits {
+            self.drift.set(0);
+        }
+        fits
+    }
+
+    fn give(&self, bytes: i64) {
+        let drift = self.drift.get().saturating_sub(bytes);
+        if drift > -DRIFT {
+            return self.drift.set(drift);
+        }
+        USED.fetch_add(drift, Relaxed);
+        self.drift.set(0);
+    }
+
+    #[cfg(not(test))]
+    fn is_told_to_fail(&self) -> bool {
+        false
+    }
+
+    #[cfg(test)]
+    fn is_told_to_fail(&self) -> bool {
+        let left = self.left.get();
+        self.left.set(left.and_then(|left| left.checked_sub(1)));
+        left == Some(0)
+    }
+}
+
+impl Drop for Own {
+    fn drop(&mut self) {
+        USED.fetch_add(self.drift.get(), Relaxed);
+    }
+}
+
+/// Counts so many bytes where they fit.
+fn fits(bytes: i64, most: &AtomicI64) -> bool {
+    let most = most.load(Relaxed);
+    let next = |used: i64| used.checked_add(bytes).filter(|sum| *sum <= most);
+    USED.fetch_update(Relaxed, Relaxed, next).is_ok()
+}
+
+/// Whether there are so many bytes: they count then.
+pub(super) fn take(bytes: usize) -> bool {
+    let bytes = i64::try_from(bytes).unwrap_or(i64::MAX);
+    // A thread that ends has none of its own any more.
+    OWN.try_with(|own| own.take(bytes))
+        .unwrap_or_else(|_| fits(bytes, &MOST))
+}
+
+pub(super) fn give(bytes: usize) {
+    let bytes = i64::try_from(bytes).unwrap_or(i64::MAX);
+    if OWN.try_with(|own| own.give(bytes)).is_err() {
+        USED.fetch_sub(bytes, Relaxed);
+    }
+}
+
+/// What counts as so many bytes has so many: an allocator may give some more than it was asked for.
+pub(super) fn correct(counted: usize, has: usize) {
+    let bytes = counted as i64 - has as i64;
+    if OWN.try_with(|own| own.give(bytes)).is_err() {
+        USED.fetch_sub(bytes, Relaxed);
+    }
+}
+
+/// A call that may use up the reserve.
+pub(super) fn forwarding<T>(call: impl FnOnce() -> T) -> T {
+    let before = OWN.with(|own| own.forwards.replace(true));
+    let done = call();
+    OWN.with(|own| own.forwards.set(before));
+    done
+}
+
+/// From now on the book has at most so many bytes.
+pub(super) fn bound(most: u64) {
+    MOST.store(i64::try_from(most).unwrap_or(i64::MAX), Relaxed);
+    reserve(0);
+}
+
+/// A text has so many bytes: the next one may have as many.
+pub(super) fn note_text(bytes: u64) {
+    LONGEST_TEXT.fetch_max(bytes, Relaxed);
+}
+
+/// Keeps back what it takes to forward so many series by texts as long as those before, up to half of all.
+pub(super) fn reserve(series: usize) {
+    let most = MOST.load(Relaxed);
+    let wanted = LEAST_RESERVE + RESERVE_OF_A_SERIES * series as u64 + TEXTS * LONGEST_TEXT.load(Relaxed);
+    let reserve = i64::try_from(wanted).unwrap_or(i64::MAX).min(most / 2);
+    MOST_OF_POSTS.store(most - reserve, Relaxed);
+}
+
+/// How many bytes it has, and may have.
+pub fn used() -> (u64, u64) {
+    (
+        USED.load(Relaxed).max(0).unsigned_abs(),
+        MOST.load(Relaxed).unsigned_abs(),
+    )
+}
+
+/// From now on this thread gets so many more blocks, and then one is refused.
+#[cfg(test)]
+pub(crate) fn fail_after(blocks: Option<u64>) {
+    OWN.with(|own| own.left.set(blocks));
+}
+
+/// Whether that one is still to come.
+#[cfg(test)]
+pub(crate) fn is_to_fail() -> bool {
+    OWN.with(|own| own.left.get().is_some())
+}

@@ -1,0 +1,335 @@
+//! The book: proved, linked in, and asked by calls. `book` is the wrapper over its library, with all `unsafe` code of
+//! the service, `refusal` what it says no by, `memory` what it may have.
+//!
+//! A post is read by a reader, which needs no lock. All else is asked of the one `Book` under the lock of `Core`: so
+//! there is one order of all that changes it, and what is put into the journal under that lock has the same.
+
+#[allow(unsafe_code)]
+mod book;
+mod memory;
+mod refusal;
+
+pub use memory::used as memory_used;
+pub use refusal::Refused;
+
+use book::{Answer, Desk, Flushes, Reader, MOST_TAKEN};
+use bytes::Bytes;
+use refusal::check;
+use std::ops::{Deref, DerefMut};
+use std::sync::{Arc, Mutex, MutexGuard, PoisonError};
+
+/// A book takes 10,000 series, and a series goes to one by a hash: so many on average leave room for the uneven.
+const SERIES_OF_A_BOOK: usize = 8_000;
+/// How many series of each book are taken at once where memory is short.
+const SMALL: usize = 10;
+/// What may be asked for.
+pub const MOST_SERIES: usize = 1_000_000;
+
+/// A round is closed behind so many posts or points: what ended is forgotten then, which takes some milliseconds.
+const ENTRIES_OF_A_ROUND: u64 = 2_000;
+const POINTS_OF_A_ROUND: u64 = 50_000;
+
+/// The book with its lock, and what reads posts.
+pub struct Core {
+    books: usize,
+    readers: Mutex<Vec<Reader>>,
+    book: Mutex<Book>,
+}
+
+/// All series, in as many books of the library as they need.
+pub struct Book {
+    desk: Desk,
+    books: usize,
+    /// Since rounds were closed last: posts, and ends of what was taken.
+    entries: u64,
+    points: u64,
+    rounds_closed: usize,
+}
+
+/// A post that was read, and is in no book yet. Its reader is another's once this is dropped.
+pub struct Read {
+    core: Arc<Core>,
+    reader: Option<Reader>,
+    pub sender: String,
+    pub body: Bytes,
+    points: u64,
+    /// How many points are outside the profile.
+    pub foreign: u64,
+}
+
+/// What was taken of the book: a request for each of these numbers, from 0. It is to be settled, or given back.
+#[must_use = "what was taken has to be settled or given back"]
+pub struct Flushed {
+    /// Each with how many requests it has.
+    parts: Vec<(Flushes, usize)>,
+}
+
+/// The book, for who has its lock.
+pub struct Locked<'a>(MutexGuard<'a, Book>);
+
+/// The most bytes that the book has from now on, of the whole process.
+pub fn bound_memory(most: u64) {
+    memory::bound(most);
+}
+
+impl Core {
+    /// A book with room for so many series.
+    pub fn new(series: usize) -> Result<Arc<Core>, Refused> {
+        let books = series.div_ceil(SERIES_OF_A_BOOK).max(1);
+        let (readers, book) = (Mutex::default(), Mutex::new(Book::new(books)?));
+        Ok(Arc::new(Core { books, readers, book }))
+    }
+
+    /// How many books of the library it has.
+    pub fn books(&self) -> usize {
+        self.books
+    }
+
+    /// A book that has nothing yet, to be put in the place of this one.
+    pub fn fresh(&self) -> Result<Book, Refused> {
+        Book::new(self.books)
+    }
+
+    /// Reads a post. JSON may nest to 127: the thread has 2 MiB of stack, as those of the runtimes have.
+    pub fn read(self: &Arc<Core>, sender: String, body: Bytes) -> Result<Read, Refused> {
+        let mut read = Read {
+            reader: Some(self.reader()?),
+            core: self.clone(),
+            sender,
+            body,
+            points: 0,
+            foreign: 0,
+        };
+        read.again()?;
+        Ok(read)
+    }
+
+    fn reader(&self) -> Result<Reader, Refused> {
+        let kept = self.readers().pop();
+        kept.or_else(Reader::new).ok_or(Refused::NoMemory)
+    }
+
+    fn readers(&self) -> MutexGuard<'_, Vec<Reader>> {
+        self.readers.lock().unwrap_or_else(PoisonError::into_inner) // a list is sound at any time
+    }
+
+    /// Waits for the lock: nothing is waited for while it is held but a write of the journal's.
+    pub fn lock(&self) -> Locked<'_> {
+        // A call of the library is whole or ends the process.
+        Locked(self.book.lock().unwrap_or_else(PoisonError::into_inner))
+    }
+}
+
+impl Read {
+    /// A reader has a post until the book was asked to take it, whatever that says.
+    fn again(&mut self) -> Result<&mut Reader, Refused> {
+        let reader = self.reader.as_mut().ok_or(Refused::NoMemory)?;
+        let answer = check(reader.read(self.sender.as_bytes(), &self.body, self.core.books))?;
+        (self.points, self.foreign) = (answer.number, answer.at);
+        Ok(reader)
+    }
+}
+
+impl Drop for Read {
+    fn drop(&mut self) {
+        if let Some(reader) = self.reader.take() {
+            self.core.readers().push(reader);
+        }
+    }
+}
+
+impl Book {
+    fn new(books: usize) -> Result<Book, Refused> {
+        Ok(Book {
+            desk: Desk::new(books).ok_or(Refused::NoMemory)?,
+            books,
+            entries: 0,
+            points: 0,
+            rounds_closed: 0,
+        })
+    }
+
+    /// Puts a post into all of its books, or into none: what is refused changed nothing.
+    pub fn admit(&mut self, read: &mut Read) -> Result<(), Refused> {
+        if read.points == 0 {
+            return Ok(());
+        }
+        let reader = read.reader.as_mut().ok_or(Refused::Nothing)?;
+        let mut admitted = check(self.desk.admit(reader));
+        if self.entries > 0 && admitted.is_err_and(|refused| refused.may_be_cured_by_a_round()) {
+            self.close_rounds();
+            admitted = read.again().and_then(|reader| check(self.desk.admit(reader)));
+        }
+        admitted?;
+        self.entries += 1;
+        self.points += read.points;
+        if self.entries >= ENTRIES_OF_A_ROUND || self.points >= POINTS_OF_A_ROUND {
+            self.close_rounds();
+        }
+        Ok(())
+    }
+
+    /// What is over is forgotten, and sums begin at what they are.
+    fn close_rounds(&mut self) {
+        self.rounds_closed += self.desk.close_rounds(1);
+        (self.entries, self.points) = (0, 0);
+    }
+
+    /// Takes all that may be forwarded, or nothing. Until it is settled or given back no round can be closed.
+    pub fn take_all(&mut self) -> Result<Flushed, Refused> {
+        let mut taken = Flushed { parts: Vec::new() };
+        loop {
+            match self.take(MOST_TAKEN) {
+                Ok(part) => taken.parts.push(part),
+                Err(Refused::Nothing) => break,
+                Err(refused) => {
+                    self.give_back(taken)?;
+                    return Err(refused);
+                }
+            }
+        }
+        memory::reserve(self.desk.series());
+        Ok(taken)
+    }
+
+    fn take(&mut self, most: usize) -> Result<(Flushes, usize), Refused> {
+        let mut flushes = Flushes::new().ok_or(Refused::NoMemory)?;
+        let came = check(self.desk.take(&mut flushes, most))?;
+        Ok((flushes, usize::try_from(came.number).unwrap_or(usize::MAX)))
+    }
+
+    /// Takes all and writes its requests, in small parts, each settled before the next is taken: that needs little memory,
+    /// and the lock for long. Behind a fault `texts` has what was settled, and the book the rest.
+    pub fn write_all(&mut self, texts: &mut Vec<Vec<u8>>) -> Result<(), Refused> {
+        loop {
+            let part = match self.take(SMALL) {
+                Ok(part) => part,
+                Err(Refused::Nothing) => return Ok(()),
+                Err(refused) => return Err(refused),
+            };
+            let mut taken = Flushed { parts: vec![part] };
+            match taken.texts() {
+                Ok(written) => {
+                    self.settle(taken)?;
+                    texts.extend(written);
+                }
+                Err(refused) => {
+                    self.give_back(taken)?;
+                    return Err(refused);
+                }
+            }
+        }
+    }
+
+    /// It was forwarded, or will be.
+    pub fn settle(&mut self, taken: Flushed) -> Result<(), Refused> {
+        self.end(taken, Desk::settle)
+    }
+
+    /// It is as if it had never been taken.
+    pub fn give_back(&mut self, taken: Flushed) -> Result<(), Refused> {
+        self.end(taken, Desk::give_back)
+    }
+
+    fn end(&mut self, taken: Flushed, end: fn(&mut Desk, &mut Flushes) -> u32) -> Result<(), Refused> {
+        // Each is ended, also behind one that says no, which none does.
+        let ended = taken.parts.into_iter().map(|(mut flushes, _)| {
+            let status = end(&mut self.desk, &mut flushes);
+            check(Answer::of_status(status)).map(drop)
+        });
+        let ended = ended.fold(Ok(()), Result::and);
+        self.entries += 1;
+        ended
+    }
+
+    pub fn quarantine(&mut self, sender: &str) -> Result<(), Refused> {
+        let sender = sender.as_bytes();
+        let mut done = check(Answer::of_status(self.desk.quarantine(sender)));
+        if done.is_err_and(|refused| refused.may_be_cured_by_a_round()) {
+            self.close_rounds();
+            done = check(Answer::of_status(self.desk.quarantine(sender)));
+        }
+        done.map(drop)
+    }
+
+    pub fn lift(&mut self, sender: &str) -> Result<(), Refused> {
+        check(Answer::of_status(self.desk.lift(sender.as_bytes()))).map(drop)
+    }
+
+    /// How many series it has.
+    pub fn series(&mut self) -> usize {
+        self.desk.series()
+    }
+
+    /// How many rounds were closed since this was asked last.
+    pub fn rounds_closed(&mut self) -> usize {
+        std::mem::take(&mut self.rounds_closed)
+    }
+
+    /// What each of its books has, one behind the other.
+    pub fn report(&mut self) -> Result<Vec<u8>, Refused> {
+        let mut flushes = Flushes::new().ok_or(Refused::NoMemory)?;
+        let mut all = Vec::new();
+        for book in 0..self.books {
+            let text = check(self.desk.report(&mut flushes, book))?;
+            let report = copied(&mut flushes, text.number)?;
+            all.extend_from_slice(report.strip_suffix(END).unwrap_or(&report));
+        }
+        all.extend_from_slice(END);
+        Ok(all)
+    }
+}
+
+/// The last line of a report.
+const END: &[u8] = b"end\n";
+
+impl Flushed {
+    /// How many requests there are.
+    pub fn count(&self) -> usize {
+        self.parts.iter().map(|(_, count)| count).sum()
+    }
+
+    /// Writes one of them, which takes no lock.
+    pub fn text(&mut self, number: usize) -> Result<Vec<u8>, Refused> {
+        let mut before = number;
+        for (flushes, count) in &mut self.parts {
+            if before < *count {
+                let text = check(flushes.text(before))?;
+                memory::note_text(text.number);
+                return copied(flushes, text.number);
+            }
+            before -= *count;
+        }
+        Err(Refused::NoSuch)
+    }
+
+    /// Writes all of them.
+    pub fn texts(&mut self) -> Result<Vec<Vec<u8>>, Refused> {
+        (0..self.count()).map(|number| self.text(number)).collect()
+    }
+}
+
+fn copied(flushes: &mut Flushes, length: u64) -> Result<Vec<u8>, Refused> {
+    let mut out = vec![0; usize::try_from(length).map_err(|_| Refused::NoMemory)?];
+    match flushes.copy(&mut out) {
+        true => Ok(out),
+        false => Err(Refused::Unknown(u32::MAX)),
+    }
+}
+
+impl Deref for Locked<'_> {
+    type Target = Book;
+
+    fn deref(&self) -> &Book {
+        &self.0
+    }
+}
+
+impl DerefMut for Locked<'_> {
+    fn deref_mut(&mut self) -> &mut Book {
+        &mut self.0
+    }
+}
+
+#[cfg(test)]
+pub(crate) mod tests;

@@ -1,0 +1,148 @@
+//! What the book says no by: the numbers of the library, each with its text and the HTTP status of its answer.
+
+use super::book::Answer;
+use thiserror::Error;
+
+/// Why the book did not do what it was asked. Nothing has changed then.
+#[derive(Clone, Copy, Debug, Error, PartialEq, Eq)]
+pub enum Refused {
+    #[error("quarantined")]
+    Quarantined,
+    #[error("full")]
+    Full,
+    #[error("other writer: point {point}")]
+    OtherWriter { point: u64 },
+    #[error("out of order: point {point}, frontier {frontier}")]
+    OutOfOrder { point: u64, frontier: u64 },
+    #[error("too many series")]
+    TooManySeries,
+    #[error("too large")]
+    TooLarge,
+    #[error("no memory")]
+    NoMemory,
+    #[error("bad sender")]
+    BadSender,
+    #[error("not JSON")]
+    NotJson,
+    #[error("wrong shape")]
+    WrongShape,
+    #[error("nothing")]
+    Nothing,
+    #[error("no such flush")]
+    NoSuch,
+    #[error("already quarantined")]
+    AlreadyQuarantined,
+    #[error("not quarantined")]
+    NotQuarantined,
+    #[error("not ended")]
+    NotEnded,
+    /// Of a library that is another than this was written for.
+    #[error("the book answered {0}, which is no answer")]
+    Unknown(u32),
+}
+
+/// By their numbers: what has no place or frontier stands here with none.
+const BY_NUMBER: [Option<Refused>; 16] = [
+    None,
+    Some(Refused::Quarantined),
+    Some(Refused::Full),
+    Some(Refused::OtherWriter { point: 0 }),
+    Some(Refused::OutOfOrder {
+        point: 0,
+        frontier: 0,
+    }),
+    Some(Refused::TooManySeries),
+    Some(Refused::TooLarge),
+    Some(Refused::NoMemory),
+    Some(Refused::BadSender),
+    Some(Refused::NotJson),
+    Some(Refused::WrongShape),
+    Some(Refused::Nothing),
+    Some(Refused::NoSuch),
+    Some(Refused::AlreadyQuarantined),
+    Some(Refused::NotQuarantined),
+    Some(Refused::NotEnded),
+];
+
+impl Answer {
+    /// Of a call that says no more.
+    pub(super) fn of_status(status: u32) -> Answer {
+        Answer {
+            status,
+            ..Answer::default()
+        }
+    }
+}
+
+/// What a call says where it did what it was asked.
+pub(super) fn check(answer: Answer) -> Result<Answer, Refused> {
+    let (point, frontier) = (answer.at, answer.frontier);
+    match BY_NUMBER.get(answer.status as usize) {
+        Some(None) => Ok(answer),
+        Some(Some(Refused::OtherWriter { .. })) => Err(Refused::OtherWriter { point }),
+        Some(Some(Refused::OutOfOrder { .. })) => Err(Refused::OutOfOrder { point, frontier }),
+        Some(Some(refused)) => Err(*refused),
+        None => Err(Refused::Unknown(answer.status)),
+    }
+}
+
+impl Refused {
+    /// Of the answer to a sender.
+    pub fn status(self) -> u16 {
+        match self {
+            Refused::Quarantined => 403,
+            Refused::Full | Refused::TooManySeries | Refused::TooLarge | Refused::NoMemory => 503,
+            Refused::Unknown(_) | Refused::Nothing | Refused::NoSuch | Refused::NotEnded => 503,
+            Refused::OtherWriter { .. } | Refused::OutOfOrder { .. } => 400,
+            Refused::BadSender | Refused::NotJson | Refused::WrongShape => 400,
+            Refused::AlreadyQuarantined | Refused::NotQuarantined => 400,
+        }
+    }
+
+    /// Whether the same may be taken once a round is closed: its entries are gone then, and sums begin anew.
+    pub(super) fn may_be_cured_by_a_round(self) -> bool {
+        matches!(self, Refused::Full | Refused::TooLarge | Refused::NoMemory)
+    }
+}
+
+#[cfg(test)]
+mod tests {
+    use super::*;
+
+    #[test]
+    fn each_number_has_its_text_and_status() {
+        let said = |status| {
+            let answer = Answer {
+                status,
+                number: 7,
+                at: 2,
+                frontier: 50,
+            };
+            check(answer)
+                .map(|it| it.number)
+                .map_err(|it| (it.status(), it.to_string()))
+        };
+        assert_eq!(said(0), Ok(7));
+        let wanted = [
+            (403, "quarantined"),
+            (503, "full"),
+            (400, "other writer: point 2"),
+            (400, "out of order: point 2, frontier 50"),
+            (503, "too many series"),
+            (503, "too large"),
+            (503, "no memory"),
+            (400, "bad sender"),
+            (400, "not JSON"),
+            (400, "wrong shape"),
+            (503, "nothing"),
+            (503, "no such flush"),
+            (400, "already quarantined"),
+            (400, "not quarantined"),
+            (503, "not ended"),
+            (503, "the book answered 16, which is no answer"),
+        ];
+        for (status, (http, text)) in (1..).zip(wanted) {
+            assert_eq!(said(status), Err((http, text.to_string())), "{status}");
+        }
+    }
+}

@@ -1,0 +1,333 @@
+//! The library by its calls: what it says, and that each refused block of memory changes nothing.
+
+use super::*;
+use crate::otlp::series::{forwarded, Value};
+use std::collections::BTreeMap;
+
+/// A body with a point of each of these series.
+pub(crate) fn points(names: &[String], start: u64, value: i64) -> String {
+    let end = start + 10;
+    let metric = |name: &String| {
+        format!(
+            "{{\"name\":\"{name}\",\"sum\":{{\"aggregationTemporality\":1,\"dataPoints\":[{{\"asInt\":\"{value}\",\
+             \"startTimeUnixNano\":\"{start}\",\"timeUnixNano\":\"{end}\"}}]}}}}"
+        )
+    };
+    let metrics: Vec<String> = names.iter().map(metric).collect();
+    format!(
+        "{{\"resourceMetrics\":[{{\"scopeMetrics\":[{{\"metrics\":[{}]}}]}}]}}",
+        metrics.join(",")
+    )
+}
+
+fn names(prefix: &str, count: usize) -> Vec<String> {
+    (0..count).map(|number| format!("{prefix}{number}")).collect()
+}
+
+fn post(core: &Arc<Core>, sender: &str, body: &str) -> Result<u64, Refused> {
+    let mut read = core.read(sender.into(), body.to_string().into())?;
+    core.lock().admit(&mut read)?;
+    Ok(read.foreign)
+}
+
+/// By series what was taken, and in which spans.
+fn taken(core: &Arc<Core>) -> BTreeMap<String, (i64, u64)> {
+    let mut flushed = core.lock().take_all().unwrap();
+    let mut all = BTreeMap::new();
+    for number in 0..flushed.count() {
+        for point in forwarded(&flushed.text(number).unwrap()).unwrap() {
+            let Value::Sum(value) = point.value else {
+                panic!("{point:?}")
+            };
+            let name = point.series.parts().unwrap().name;
+            assert!(all.insert(name, (value, point.end)).is_none(), "it came twice");
+        }
+    }
+    assert_eq!(flushed.text(flushed.count()), Err(Refused::NoSuch));
+    assert_eq!(core.lock().settle(flushed), Ok(()));
+    all
+}
+
+#[test]
+fn what_is_taken_is_forwarded_once_and_refusals_have_their_places() {
+    for series in [1, 80_000] {
+        let core = Core::new(series).unwrap();
+        assert_eq!(core.books(), series.div_ceil(8_000));
+        let ab = names("s", 30);
+        assert_eq!(post(&core, "A", &points(&ab, 10, 5)), Ok(0));
+        assert_eq!(post(&core, "A", &points(&ab, 20, 6)), Ok(0));
+        let late = Err(Refused::OutOfOrder {
+            point: 0,
+            frontier: 30,
+        });
+        assert_eq!(post(&core, "A", &points(&ab, 20, 6)), late);
+        let other = Err(Refused::OtherWriter { point: 2 });
+        let mixed = [&names("n", 2)[..], &names("s", 2)[..]].concat();
+        assert_eq!(post(&core, "B", &points(&mixed, 20, 6)), other);
+        assert_eq!(post(&core, "A", "x"), Err(Refused::NotJson));
+        assert_eq!(post(&core, "A", "[]"), Err(Refused::WrongShape));
+        assert_eq!(post(&core, "a b", "{}"), Err(Refused::BadSender));
+        assert_eq!(post(&core, "A", "{}"), Ok(0));
+        let gauge = "{\"resourceMetrics\":[{\"scopeMetrics\":[{\"metrics\":[{\"gauge\":{\"dataPoints\":[{},{}]}}]}]}]}";
+        assert_eq!(post(&core, "A", gauge), Ok(2));
+        assert_eq!(core.lock().series(), 30, "of what was refused nothing is kept");
+        let all = taken(&core);
+        assert_eq!(all.len(), 30);
+        assert!(all.values().all(|one| *one == (11, 30)), "{all:?}");
+        assert!(taken(&core).is_empty());
+        let report = String::from_utf8(core.lock().report().unwrap()).unwrap();
+        assert_eq!(report.matches("series s").count(), 30, "{report}");
+        assert!(report.ends_with("end\n") && report.matches("end\n").count() == 1);
+    }
+}
+
+#[test]
+fn a_quarantine_is_in_all_books_or_in_none() {
+    let core = Core::new(40_000).unwrap();
+    assert_eq!(post(&core, "A", &points(&names("a", 20), 10, 1)), Ok(0));
+    assert_eq!(post(&core, "B", &points(&names("b", 20), 10, 1)), Ok(0));
+    assert_eq!(core.lock().lift("A"), Err(Refused::NotQuarantined));
+    assert_eq!(core.lock().quarantine("A"), Ok(()));
+    assert_eq!(core.lock().quarantine("A"), Err(Refused::AlreadyQuarantined));
+    assert_eq!(core.lock().quarantine("a b"), Err(Refused::BadSender));
+    let more = points(&names("a", 20), 20, 1);
+    assert_eq!(post(&core, "A", &more), Err(Refused::Quarantined));
+    assert!(taken(&core).keys().all(|name| name.starts_with('b')));
+    assert_eq!(core.lock().lift("A"), Ok(()));
+    assert_eq!(post(&core, "A", &more), Ok(0));
+    let all = taken(&core);
+    assert!(
+        all.len() == 20 && all.values().all(|one| *one == (2, 30)),
+        "{all:?}"
+    );
+}
+
+#[test]
+fn too_many_series_are_refused_and_nothing_is_kept_of_them() {
+    let core = Core::new(1).unwrap();
+    let all = names("s", 10_000);
+    for part in all.chunks(1_000) {
+        assert_eq!(post(&core, "A", &points(part, 10, 1)), Ok(0));
+    }
+    let one_more = [&all[..1], &names("t", 1)[..]].concat();
+    assert_eq!(
+        post(&core, "A", &points(&one_more, 20, 1)),
+        Err(Refused::TooManySeries)
+    );
+    assert_eq!(post(&core, "A", &points(&all[..1], 20, 1)), Ok(0));
+    assert_eq!(core.lock().series(), 10_000);
+    assert_eq!(taken(&core).len(), 10_000);
+}
+
+/// Else its sender would be told 503 for ever: what a series adds up in a round has a bound.
+#[test]
+fn a_sum_that_has_all_of_a_round_goes_on_in_the_next() {
+    let core = Core::new(1).unwrap();
+    let a = names("a", 1);
+    for (start, value) in [(10, i64::MAX), (20, -9)] {
+        assert_eq!(post(&core, "A", &points(&a, start, value)), Ok(0));
+    }
+    let pending = post(&core, "A", &points(&a, 30, 10));
+    assert_eq!(pending, Err(Refused::TooLarge), "no flush can take so much");
+    assert_eq!(taken(&core), [("a0".into(), (i64::MAX - 9, 30))].into());
+    assert_eq!(post(&core, "A", &points(&a, 30, 10)), Ok(0));
+    assert_eq!(taken(&core), [("a0".into(), (10, 40))].into());
+}
+
+/// Rounds are closed under way, and nothing is heard of it.
+#[test]
+fn more_posts_than_a_journal_has_entries_are_taken() {
+    let core = Core::new(1).unwrap();
+    let a = names("a", 1);
+    for number in 1..=40_000 {
+        assert_eq!(post(&core, "A", &points(&a, number * 10, 1)), Ok(0), "{number}");
+    }
+    assert!(core.lock().rounds_closed() >= 19);
+    assert_eq!(taken(&core), [("a0".into(), (40_000, 400_010))].into());
+}
+
+/// The deepest that is read, and what is refused, on a thread as the runtimes have.
+#[test]
+fn a_thread_has_the_stack_for_what_nests_to_127() {
+    let nested = |depth: usize| {
+        let (open, close) = ("{\"arrayValue\":{\"values\":[".repeat(depth), "]}}".repeat(depth));
+        let list = format!("[{{\"key\":\"k\",\"value\":{open}{{}}{close}}}]");
+        points(&names("a", 1), 10, 1).replace("\"asInt\"", &format!("\"attributes\":{list},\"asInt\""))
+    };
+    let run = move || {
+        let core = Core::new(1).unwrap();
+        let deepest = (1..60)
+            .rev()
+            .find(|depth| post(&core, "A", &nested(*depth)).is_ok());
+        assert_eq!(deepest, Some(38), "of 127 levels 13 are around it");
+        let brackets = |depth: usize| format!("{}{}", "[".repeat(depth), "]".repeat(depth));
+        assert_eq!(post(&core, "A", &brackets(127)), Err(Refused::WrongShape));
+        assert_eq!(post(&core, "A", &brackets(1 << 20)), Err(Refused::NotJson));
+    };
+    let thread = std::thread::Builder::new().stack_size(2 << 20);
+    thread.spawn(run).unwrap().join().unwrap();
+}
+
+/// Lets each block that a call asks for fail in turn, until it needs no more: how many failed. It is tried again then.
+fn each_block_fails<T>(does_without: bool, mut call: impl FnMut() -> Result<T, Refused>) -> (u64, T) {
+    for blocks in 0.. {
+        memory::fail_after(Some(blocks));
+        let done = call();
+        let all_were_given = memory::is_to_fail();
+        memory::fail_after(None);
+        match done {
+            Ok(done) if all_were_given => return (blocks, done),
+            // A reader keeps what it has room for.
+            Ok(_) => assert!(does_without, "a block was refused, and it was done all the same"),
+            Err(refused) => assert_eq!(refused, Refused::NoMemory, "behind {blocks} blocks"),
+        }
+    }
+    unreachable!()
+}
+
+#[test]
+fn a_block_that_is_refused_changes_nothing() {
+    let core = Core::new(24_000).unwrap();
+    let (known, new) = (names("s", 6), names("n", 6));
+    assert_eq!(post(&core, "A", &points(&known, 10, 5)), Ok(0));
+    let body = points(&[known.clone(), new.clone()].concat(), 20, 6);
+    let read = || core.read("A".into(), body.clone().into());
+    let (blocks, _) = each_block_fails(true, read);
+    assert!(blocks > 10, "{blocks} blocks to read");
+    let admit = |fails: u64| {
+        let mut read = read().unwrap();
+        memory::fail_after(Some(fails));
+        let admitted = check(core.lock().desk.admit(read.reader.as_mut().unwrap()));
+        let all_were_given = memory::is_to_fail();
+        memory::fail_after(None);
+        (admitted.map(drop), all_were_given)
+    };
+    let blocks = (0..).find(|blocks| match admit(*blocks) {
+        (Ok(()), all_were_given) => all_were_given,
+        (Err(refused), _) => {
+            assert_eq!((refused, core.lock().series()), (Refused::NoMemory, 6));
+            false
+        }
+    });
+    assert!(blocks > Some(5), "{blocks:?} blocks to admit");
+    let (blocks, mut flushed) = each_block_fails(false, || core.lock().take_all());
+    assert!(blocks > 5, "{blocks} blocks to take");
+    let mut all = BTreeMap::new();
+    for number in 0..flushed.count() {
+        let (_, text) = each_block_fails(false, || flushed.text(number));
+        for point in forwarded(&text).unwrap() {
+            all.insert(point.series.parts().unwrap().name, point.value);
+        }
+    }
+    assert_eq!(core.lock().settle(flushed), Ok(()));
+    let wanted = known.iter().map(|name| (name.clone(), Value::Sum(11)));
+    let wanted = wanted.chain(new.iter().map(|name| (name.clone(), Value::Sum(6))));
+    assert_eq!(all, wanted.collect());
+    let (blocks, ()) = each_block_fails(false, || check_quarantine(&core));
+    assert!(blocks > 0, "{blocks} blocks to quarantine");
+    assert_eq!(core.lock().lift("B"), Ok(()));
+    let (blocks, _) = each_block_fails(false, || core.lock().report());
+    assert!(blocks > 5, "{blocks} blocks to report");
+    assert_eq!(post(&core, "A", &points(&known, 30, 1)), Ok(0));
+    let all = taken(&core);
+    assert!(
+        all.len() == 6 && all.values().all(|one| *one == (1, 40)),
+        "{all:?}"
+    );
+}
+
+/// Without a second try.
+fn check_quarantine(core: &Core) -> Result<(), Refused> {
+    let status = core.lock().desk.quarantine(b"B");
+    check(Answer::of_status(status)).map(drop)
+}
+
+/// Where memory is short: what was written stays written, and the rest is in the book.
+#[test]
+fn what_is_written_in_parts_is_there_once_also_behind_faults() {
+    let core = Core::new(24_000).unwrap();
+    let known = names("s", 120);
+    assert_eq!(post(&core, "A", &points(&known, 10, 5)), Ok(0));
+    let mut texts = Vec::new();
+    let (blocks, ()) = each_block_fails(false, || core.lock().write_all(&mut texts));
+    assert!(texts.len() >= 12 && blocks > 50, "{} texts, {blocks} blocks", texts.len());
+    let points: Vec<_> = texts.iter().flat_map(|text| forwarded(text).unwrap()).collect();
+    let series: std::collections::HashSet<_> = points.iter().map(|point| &point.series).collect();
+    assert_eq!((points.len(), series.len()), (120, 120));
+    assert!(taken(&core).is_empty());
+}
+
+/// What was given back is taken again, with what came meanwhile; also where rounds were to be closed.
+#[test]
+fn what_is_given_back_was_never_taken() {
+    let core = Core::new(24_000).unwrap();
+    let known = names("s", 2_500);
+    assert_eq!(post(&core, "A", &points(&known, 10, 5)), Ok(0));
+    let mut flushed = core.lock().take_all().unwrap();
+    assert_eq!(flushed.texts().unwrap().len(), flushed.count());
+    for number in 2..40 {
+        assert_eq!(post(&core, "A", &points(&known, number * 10, 1)), Ok(0));
+    }
+    assert_eq!(core.lock().give_back(flushed), Ok(()));
+    let all = taken(&core);
+    assert!(all.len() == 2_500 && all.values().all(|one| *one == (43, 400)));
+}
+
+/// As `otlp::series` reads them, by which owners are found.
+#[test]
+fn posts_are_read_alike_on_both_sides() {
+    let core = Core::new(8_000).unwrap();
+    for (number, bodies) in crate::otlp::requests_of_test(300).into_iter().enumerate() {
+        for body in bodies {
+            let read = core.read("A".into(), body.clone()).unwrap();
+            let posted = crate::otlp::series::posted(&body).unwrap();
+            assert_eq!(read.foreign, posted.foreign, "{number}");
+            let fresh = Core::new(8_000).unwrap();
+            let mut read = fresh.read("A".into(), body).unwrap();
+            // Random points are out of order, or too large, as a rule.
+            if fresh.lock().admit(&mut read).is_ok() {
+                let mut flushed = fresh.lock().take_all().unwrap();
+                let texts = flushed.texts().unwrap();
+                let points = texts.iter().flat_map(|text| forwarded(text).unwrap());
+                let ends = points.map(|point| (point.series, point.end));
+                assert_eq!(
+                    ends.collect::<std::collections::HashMap<_, _>>(),
+                    posted.series,
+                    "{number}"
+                );
+                fresh.lock().settle(flushed).unwrap();
+            }
+        }
+    }
+}
+
+/// By several threads at once, beside flushes: each point is in one flush.
+#[test]
+fn posts_at_once_are_all_taken_once() {
+    let core = Core::new(30_000).unwrap();
+    let mut sums = BTreeMap::<String, i64>::new();
+    std::thread::scope(|scope| {
+        let posting: Vec<_> = (0..4)
+            .map(|sender| {
+                let core = &core;
+                scope.spawn(move || {
+                    let own = names(&format!("t{sender}-"), 10);
+                    for number in 1..=300 {
+                        let body = points(&own, number * 10, number as i64);
+                        assert_eq!(post(core, &format!("S{sender}"), &body), Ok(0));
+                    }
+                })
+            })
+            .collect();
+        while !posting.iter().all(|thread| thread.is_finished()) {
+            for (name, (value, _)) in taken(&core) {
+                *sums.entry(name).or_default() += value;
+            }
+        }
+    });
+    for (name, (value, _)) in taken(&core) {
+        *sums.entry(name).or_default() += value;
+    }
+    assert_eq!(sums.len(), 40);
+    assert!(sums.values().all(|sum| *sum == 300 * 301 / 2), "{sums:?}");
+}

@@ -1,0 +1,191 @@
+//! Gives a fresh book what the files say: each series' owner and frontier, the posts that are in no group, the
+//! quarantines.
+//!
+//! To prime it, each series with frontier F gets a point of value zero over (F-1, F], as its owner's. That is taken, and
+//! thrown away. The book then knows every owner and frontier and has nothing to forward, so a late repeat is refused as
+//! before. Then it gets the posts in the journal's order, which was the order of the book that is gone, but for those of
+//! quarantined senders, which come last.
+
+use super::Trouble;
+use crate::core::{Book, Refused};
+use crate::files::{Outbox, Post};
+use crate::otlp::series::{zeros, NotForwarded, SeriesKey};
+use crate::slot::Slot;
+use std::collections::{BTreeMap, BTreeSet};
+use std::sync::Arc;
+use std::time::{Duration, Instant};
+
+/// So that no post takes long.
+const SERIES_OF_A_POST: usize = 250;
+/// How often it is said how far it is.
+const PROGRESS: Duration = Duration::from_secs(1);
+
+/// What came of it.
+#[derive(Default)]
+pub(super) struct Filled {
+    /// How many posts of the journal went in.
+    pub posts: u64,
+    /// What had to be taken meanwhile: it belongs to the next group.
+    pub carried: Vec<Vec<u8>>,
+}
+
+/// None where it was told to stop.
+pub(super) fn fill(
+    slot: &Arc<Slot>,
+    book: &mut Book,
+    stops: impl Fn() -> bool,
+) -> Result<Option<Filled>, Trouble> {
+    let mut filling = Filling {
+        slot,
+        book,
+        filled: Filled::default(),
+        shown: Instant::now(),
+        stops,
+    };
+    filling.prime()?;
+    let held = slot.outbox.quarantined();
+    filling.replay(|post| !held.contains(&post.sender))?;
+    if !held.is_empty() {
+        // Behind the others: what is taken to make room for these must not be of a quarantined sender.
+        if !filling.filled.carried.is_empty() {
+            filling.make_room()?;
+        }
+        filling.replay(|post| held.contains(&post.sender))?;
+    }
+    filling.quarantine(&held)?;
+    let stopped = (filling.stops)();
+    Ok((!stopped).then_some(filling.filled))
+}
+
+struct Filling<'a, S> {
+    slot: &'a Arc<Slot>,
+    book: &'a mut Book,
+    filled: Filled,
+    shown: Instant,
+    /// Whether it was told to stop.
+    stops: S,
+}
+
+impl<S: Fn() -> bool> Filling<'_, S> {
+    fn prime(&mut self) -> Result<(), Trouble> {
+        let posts = priming_posts(&self.slot.outbox).map_err(|why| {
+            Trouble::NotFilled(format!("the outbox has a series that can't be primed: {why}"))
+        })?;
+        for post in &posts {
+            if (self.stops)() {
+                return Ok(());
+            }
+            self.put(post).map_err(|refused| self.not_filled(post, refused))?;
+        }
+        let taken = self.book.take_all().map_err(not_taken)?;
+        self.book.settle(taken).map_err(not_taken)
+    }
+
+    /// Puts the posts of the journal that are wanted, in its order.
+    fn replay(&mut self, is_wanted: impl Fn(&Post) -> bool) -> Result<(), Trouble> {
+        let journal = self.slot.journal.clone();
+        let mut ended = Ok(());
+        journal.posts(self.slot.outbox.journal(), u64::MAX, |post| {
+            if is_wanted(&post) {
+                ended = self.replay_one(&post);
+            }
+            ended.is_ok() && !(self.stops)()
+        })?;
+        ended
+    }
+
+    /// A post that is refused for good now was in a group before: that is a fault, and nothing would be better for a
+    /// service that stops there. One that a limit refuses is put behind a flush.
+    fn replay_one(&mut self, post: &Post) -> Result<(), Trouble> {
+        self.say_progress();
+        let mut put = self.put(post);
+        if matches!(put, Err(refused) if refused.status() == 503) {
+            self.make_room()?;
+            put = self.put(post);
+        }
+        match put {
+            Ok(foreign) if foreign == post.foreign => {}
+            Err(refused) if refused.status() == 503 => return Err(self.not_filled(post, refused)),
+            other => {
+                tracing::error!(
+                    "slot {}: a post of {} with {} foreign points was taken before, and comes to {other:?} now",
+                    self.slot.number(),
+                    post.sender,
+                    post.foreign
+                );
+                self.slot.metrics.faults.with_label_values(&["replay"]).inc();
+            }
+        }
+        self.filled.posts += 1;
+        Ok(())
+    }
+
+    /// How many points are foreign.
+    fn put(&mut self, post: &Post) -> Result<u64, Refused> {
+        let mut read = self.slot.core.read(post.sender.clone(), post.body.clone())?;
+        self.book.admit(&mut read)?;
+        Ok(read.foreign)
+    }
+
+    /// A fresh book has a point more of each series than the one before, so a limit may be met a little sooner.
+    fn make_room(&mut self) -> Result<(), Trouble> {
+        self.book.write_all(&mut self.filled.carried).map_err(not_taken)
+    }
+
+    fn quarantine(&mut self, held: &BTreeSet<String>) -> Result<(), Trouble> {
+        for sender in held {
+            let done = self.book.quarantine(sender);
+            done.map_err(|refused| Trouble::NotFilled(format!("{sender} can't be quarantined: {refused}")))?;
+        }
+        Ok(())
+    }
+
+    fn not_filled(&self, post: &Post, refused: Refused) -> Trouble {
+        let series = self.slot.outbox.series_count();
+        let help = match refused {
+            Refused::TooManySeries => "give a greater --most-series",
+            Refused::NoMemory => "give a greater --book-memory",
+            _ => "the log of the run before may say more",
+        };
+        let sender = &post.sender;
+        Trouble::NotFilled(format!(
+            "the book does not take what the folder has, {series} series and the posts of its journal: {refused}, at a post of \
+             {sender}. Nothing is changed or lost: {help}"
+        ))
+    }
+
+    fn say_progress(&mut self) {
+        if self.shown.elapsed() >= PROGRESS {
+            self.shown = Instant::now();
+            let (number, posts) = (self.slot.number(), self.filled.posts);
+            tracing::info!("slot {number}: the book has {posts} posts of the journal so far");
+        }
+    }
+}
+
+fn not_taken(refused: Refused) -> Trouble {
+    Trouble::NotFilled(format!(
+        "what the book has can't be taken of it: {refused}. Nothing is lost: give a greater --book-memory"
+    ))
+}
+
+/// The posts that prime, each as the owner of its series.
+fn priming_posts(outbox: &Outbox) -> Result<Vec<Post>, NotForwarded> {
+    let mut owned: BTreeMap<String, Vec<(SeriesKey, u64)>> = BTreeMap::new();
+    for (key, series) in outbox.series() {
+        if let Some(owner) = series.owner {
+            owned.entry(owner).or_default().push((key, series.frontier));
+        }
+    }
+    let mut posts = Vec::new();
+    for (sender, series) in owned {
+        for part in series.chunks(SERIES_OF_A_POST) {
+            posts.extend(zeros(part)?.into_iter().map(|body| Post {
+                sender: sender.clone(),
+                foreign: 0,
+                body: body.into(),
+            }));
+        }
+    }
+    Ok(posts)
+}

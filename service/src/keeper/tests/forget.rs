@@ -1,0 +1,100 @@
+//! Series are forgotten where there are too many, and for their age alone.
+
+use super::*;
+use crate::core::tests::points;
+use crate::otlp::Outcome;
+
+const MOST: usize = 10_000;
+
+fn names(range: std::ops::Range<usize>) -> Vec<String> {
+    range.map(|number| format!("s{number}")).collect()
+}
+
+fn refused(outcome: &Outcome) -> &str {
+    match outcome {
+        Outcome::Taken { .. } => "",
+        Outcome::Refused { message, .. } => message,
+    }
+}
+
+async fn post(run: &Run, sender: &str, names: &[String], start: u64) -> Outcome {
+    run.slot.post(sender.into(), points(names, start, 1).into()).await
+}
+
+async fn until_taken(run: &Run, sender: &str, names: &[String], start: u64) {
+    for _ in 0..2_000 {
+        if post(run, sender, names, start).await == Outcome::taken(0) {
+            return;
+        }
+        tokio::time::sleep(Duration::from_millis(10)).await;
+    }
+    panic!("it was never taken");
+}
+
+#[tokio::test(flavor = "multi_thread")]
+async fn series_are_forgotten_where_there_are_too_many() {
+    let place = tempfile::tempdir().unwrap();
+    let folder = || Folder::open(&place.path().join("data"), Durability::Process).unwrap();
+    let run = Run::begin_in(folder(), settings()).await;
+    for part in names(0..MOST - 1).chunks(1_000) {
+        assert_eq!(post(&run, "A", part, 10).await, Outcome::taken(0));
+    }
+    assert_eq!(post(&run, "B", &["held".into()], 10).await, Outcome::taken(0));
+    run.end().await;
+    tokio::time::sleep(Duration::from_millis(4_100)).await;
+    let forget = Some(Duration::from_secs(3));
+    let run = Run::begin_in(folder(), Settings { forget, ..settings() }).await;
+    // B's point stays in the journal, in no group: so its series is not forgotten.
+    assert_eq!(post(&run, "B", &["held".into()], 20).await, Outcome::taken(0));
+    let quarantined = run.orders.order(Order::Quarantine("B".into())).await;
+    assert_eq!(quarantined, Some(Done::Answered(Outcome::taken(0))));
+    // What was seen meanwhile stays.
+    let (used, new) = (names(7..8), names(MOST..MOST + 1));
+    assert_eq!(post(&run, "A", &used, 20).await, Outcome::taken(0));
+    assert_eq!(refused(&post(&run, "A", &new, 10).await), "too many series");
+    until_taken(&run, "C", &new, 10).await;
+    assert_eq!(run.slot.metrics.forgotten_series.get(), MOST as u64 - 2);
+    assert_eq!(
+        refused(&post(&run, "A", &used, 20).await),
+        "out of order: point 0, frontier 30"
+    );
+    assert_eq!(
+        refused(&post(&run, "C", &used, 30).await),
+        "other writer: point 0"
+    );
+    assert_eq!(
+        refused(&post(&run, "B", &["held".into()], 30).await),
+        "quarantined"
+    );
+    assert_eq!(
+        refused(&post(&run, "C", &["held".into()], 30).await),
+        "other writer: point 0"
+    );
+    // Nobody is the owner of what was forgotten.
+    assert_eq!(post(&run, "C", &names(8..9), 30).await, Outcome::taken(0));
+    for kind in ["reading", "replay", "owner"] {
+        let faults = run.slot.metrics.faults.with_label_values(&[kind]).get();
+        assert_eq!(faults, 0, "{kind}");
+    }
+    run.end().await;
+}
+
+#[tokio::test(flavor = "multi_thread")]
+async fn none_is_forgotten_where_none_is_old_enough() {
+    let place = tempfile::tempdir().unwrap();
+    let folder = Folder::open(&place.path().join("data"), Durability::Process).unwrap();
+    let forget = Some(Duration::from_secs(3_600));
+    let run = Run::begin_in(folder, Settings { forget, ..settings() }).await;
+    for part in names(0..MOST).chunks(1_000) {
+        assert_eq!(post(&run, "A", part, 10).await, Outcome::taken(0));
+    }
+    assert_eq!(run.flush().await, 10);
+    assert_eq!(
+        refused(&post(&run, "A", &names(MOST..MOST + 1), 10).await),
+        "too many series"
+    );
+    tokio::time::sleep(Duration::from_millis(200)).await;
+    assert_eq!(run.slot.outbox.series_count(), MOST);
+    assert_eq!(run.slot.metrics.forgotten_series.get(), 0);
+    run.end().await;
+}

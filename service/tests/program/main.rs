@@ -1,0 +1,167 @@
+//! The program itself: who has a series, kills, how many series fit, what an operator is told.
+
+mod log;
+mod memory;
+mod support;
+mod told;
+
+use std::time::Duration;
+use support::{points, until, Load, Place, NO_SINK};
+
+fn refused(why: &str) -> (u16, String) {
+    (400, format!("{{\"code\":3,\"message\":\"{why}\"}}"))
+}
+
+/// With one book and with many: nothing on disk depends on their number.
+#[test]
+fn owners_and_frontiers_outlive_kills_and_other_numbers_of_books() {
+    let place = Place::new();
+    let senders: Vec<String> = (0..12).map(|number| format!("s{number}")).collect();
+    let runs = ["8000", "100000", "1", "1000000", "20000"];
+    for (run, most_series) in (0..).zip(runs) {
+        let sink = format!("sqlite:{}", place.folder.path().join("sink.db").display());
+        let mut service = place.serve_with(&["--most-series", most_series, "--sink", &sink]);
+        let end = 110 + run * 10;
+        for sender in &senders {
+            if run > 0 {
+                let late = service.post(sender, &points(&[sender], end - 10, 1)).unwrap();
+                assert_eq!(
+                    late,
+                    refused(&format!("out of order: point 0, frontier {}", end - 10))
+                );
+            }
+            let taken = service.post(sender, &points(&[sender], end, 1)).unwrap();
+            assert_eq!(taken, (200, "{}".into()), "{sender}");
+            let other = service
+                .post("other", &points(&["free", sender], end + 10, 1))
+                .unwrap();
+            assert_eq!(other, refused("other writer: point 1"));
+        }
+        if run % 2 == 0 {
+            service.drain();
+            assert_eq!(service.series(), 12);
+        }
+        let page = service.metrics();
+        let line = format!("totxegun_most_series {most_series}");
+        assert!(page.lines().any(|it| it == line), "{line} in\n{page}");
+        service.has_no_fault();
+        // Every other one leaves its posts in the journal alone.
+        match run % 2 {
+            1 => service.kill(),
+            _ => assert_eq!(service.end(), Some(0)),
+        }
+    }
+    let totals = place.totals();
+    assert_eq!(totals.len(), 12);
+    assert!(
+        totals.values().all(|total| *total == runs.len() as i64),
+        "{totals:?}"
+    );
+}
+
+#[test]
+fn nothing_is_lost_or_doubled_by_kills() {
+    let place = Place::new();
+    let mut service = place.serve();
+    let load = Load::begin(9, 1000);
+    load.goes_to(&service);
+    for round in 0..8 {
+        std::thread::sleep(Duration::from_millis(150 + 70 * (round % 3)));
+        service.kill();
+        service = place.serve();
+        load.goes_to(&service);
+    }
+    let wanted = load.end();
+    service.drain();
+    service.has_no_fault();
+    assert_eq!(service.end(), Some(0));
+    assert_eq!(place.totals(), wanted);
+}
+
+#[test]
+fn two_senders_at_once_never_share_a_series() {
+    let place = Place::new();
+    let service = place.serve();
+    let mut wanted = std::collections::BTreeMap::new();
+    for round in 0..40 {
+        let name = format!("n{round}");
+        let body = points(&[&name], 100, 1);
+        let (service, body) = (&service, &body);
+        let answers = std::thread::scope(|scope| {
+            let tries =
+                ["one", "other"].map(|sender| scope.spawn(move || service.post(sender, body).unwrap()));
+            tries.map(|it| it.join().unwrap())
+        });
+        let mut statuses = answers.map(|(status, _)| status);
+        statuses.sort_unstable();
+        assert_eq!(statuses, [200, 400]);
+        wanted.insert(name, 1);
+    }
+    service.drain();
+    service.has_no_fault();
+    assert_eq!(service.end(), Some(0));
+    assert_eq!(place.totals(), wanted);
+}
+
+/// A smaller number than the folder has series is refused by name, and changes nothing.
+#[test]
+fn a_folder_with_more_series_than_fit_is_refused_by_name() {
+    let place = Place::new();
+    let service = place.serve_with(&["--sink", NO_SINK]);
+    let names: Vec<String> = (0..10_500).map(|number| format!("n{number}")).collect();
+    let names: Vec<&str> = names.iter().map(String::as_str).collect();
+    for part in names.chunks(1_000) {
+        assert_eq!(service.post("A", &points(part, 100, 1)).unwrap().0, 200);
+    }
+    assert_eq!(service.order("/flush").0, 200);
+    assert_eq!(service.end(), Some(0));
+    let mut small = place.begin(&["--sink", NO_SINK, "--most-series", "8000"]);
+    assert_eq!(small.status_of_end(), Some(1));
+    let log = place.log();
+    assert!(
+        log.contains("too many series") && log.contains("--most-series"),
+        "{log}"
+    );
+    let service = place.serve();
+    assert_eq!(service.post("A", &points(&names[..1], 110, 1)).unwrap().0, 200);
+    service.drain();
+    assert_eq!(service.end(), Some(0));
+    let totals = place.totals();
+    assert_eq!((totals.len(), totals["n0"], totals["n1"]), (10_500, 2, 1));
+}
+
+/// Posts get 503 before it is used up, what was taken is forwarded, and a start with more goes on.
+#[test]
+fn a_book_without_memory_takes_no_posts_and_forwards_all_that_it_took() {
+    let place = Place::new();
+    let sink = format!("sqlite:{}", place.folder.path().join("sink.db").display());
+    let words = ["--sink", &sink, "--most-series", "8000", "--book-memory", "64MiB"];
+    let service = place.serve_with(&words);
+    let long = "x".repeat(30_000);
+    let mut taken = Vec::new();
+    until("there is no memory", || {
+        let name = format!("n{}{long}", taken.len());
+        let body = points(&[&name], 100, 1);
+        match service.post("A", &body).unwrap() {
+            (200, _) => taken.push(name),
+            (503, text) => {
+                assert!(text.contains("no memory"), "{text}");
+                return true;
+            }
+            other => panic!("{other:?}"),
+        }
+        false
+    });
+    assert!(taken.len() > 100, "{}", taken.len());
+    service.drain();
+    service.has_no_fault();
+    assert_eq!(service.end(), Some(0));
+    let service = place.serve();
+    for name in &taken {
+        let late = service.post("A", &points(&[name], 100, 1)).unwrap();
+        assert_eq!(late.0, 400, "{late:?}");
+    }
+    assert_eq!(service.end(), Some(0));
+    let totals = place.totals();
+    assert_eq!(totals, taken.into_iter().map(|name| (name, 1)).collect());
+}

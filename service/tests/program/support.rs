@@ -1,0 +1,329 @@
+//! The program on a folder, its senders, and what its SQLite file has.
+
+use std::collections::BTreeMap;
+use std::io::{Read, Write};
+use std::net::{TcpListener, TcpStream};
+use std::path::PathBuf;
+use std::process::{Child, Command, Stdio};
+use std::sync::atomic::{AtomicBool, Ordering::Relaxed};
+use std::sync::{Arc, RwLock};
+use std::time::{Duration, Instant};
+
+pub const PROGRAM: &str = env!("CARGO_BIN_EXE_totxegun");
+const PATIENCE: Duration = Duration::from_secs(120);
+/// Nobody listens there.
+pub const NO_SINK: &str = "http://127.0.0.1:9/v1/metrics";
+
+/// A folder for all.
+pub struct Place {
+    pub folder: tempfile::TempDir,
+}
+
+impl Place {
+    pub fn new() -> Place {
+        let folder = tempfile::tempdir().unwrap();
+        Place { folder }
+    }
+
+    pub fn data(&self) -> PathBuf {
+        self.folder.path().join("data")
+    }
+
+    fn sink(&self) -> String {
+        format!("sqlite:{}", self.folder.path().join("sink.db").display())
+    }
+
+    /// A service that may not be ready yet.
+    pub fn begin(&self, words: &[&str]) -> Service {
+        self.begin_by(Command::new(PROGRAM), words)
+    }
+
+    /// By a command that starts the program in its own place.
+    pub fn begin_by(&self, mut command: Command, words: &[&str]) -> Service {
+        let (listen, operate) = (free_address(), free_address());
+        let log = std::fs::File::options()
+            .create(true)
+            .append(true)
+            .open(self.folder.path().join("log.txt"))
+            .unwrap();
+        let child = command
+            .args([
+                "serve",
+                "--flush-every",
+                "200ms",
+                "--durable",
+                "process",
+                "--data",
+            ])
+            .arg(self.data())
+            .args(["--listen", &listen, "--operate", &operate])
+            .args(words)
+            .stderr(log)
+            .stdout(Stdio::null())
+            .spawn()
+            .unwrap();
+        Service {
+            child,
+            listen,
+            operate,
+        }
+    }
+
+    /// One that is ready, with a SQLite file as its sink.
+    pub fn serve(&self) -> Service {
+        self.serve_with(&["--sink", &self.sink()])
+    }
+
+    pub fn serve_with(&self, words: &[&str]) -> Service {
+        let service = self.begin(words);
+        until("it is ready", || service.is_ready());
+        service
+    }
+
+    /// By the metric's name, its total, as the program's own command shows it.
+    pub fn totals(&self) -> BTreeMap<String, i64> {
+        let output = Command::new(PROGRAM)
+            .args(["totals", "--json", "--sink", &self.sink()])
+            .output()
+            .unwrap();
+        assert!(output.status.success(), "{output:?}");
+        let rows: Vec<serde_json::Value> = serde_json::from_slice(&output.stdout).unwrap();
+        let row = |row: &serde_json::Value| {
+            let total = row["total"]
+                .as_str()
+                .map_or(row["total"].as_i64(), |text| text.parse().ok());
+            let name = row["name"].as_str().unwrap().to_string();
+            (name, total.unwrap_or_else(|| panic!("{row}")))
+        };
+        rows.iter().map(row).collect()
+    }
+
+    pub fn log(&self) -> String {
+        std::fs::read_to_string(self.folder.path().join("log.txt")).unwrap()
+    }
+}
+
+pub fn until(what: &str, mut is_so: impl FnMut() -> bool) {
+    let begun = Instant::now();
+    while !is_so() {
+        assert!(begun.elapsed() < PATIENCE, "{what}: it never was");
+        std::thread::sleep(Duration::from_millis(10));
+    }
+}
+
+fn free_address() -> String {
+    let listener = TcpListener::bind("127.0.0.1:0").unwrap();
+    listener.local_addr().unwrap().to_string()
+}
+
+pub struct Service {
+    child: Child,
+    pub listen: String,
+    pub operate: String,
+}
+
+impl Drop for Service {
+    fn drop(&mut self) {
+        self.kill();
+    }
+}
+
+impl Service {
+    /// As `kill -9`.
+    pub fn kill(&mut self) {
+        let _ = self.child.kill();
+        let _ = self.child.wait();
+    }
+
+    /// By SIGTERM; the status.
+    pub fn end(mut self) -> Option<i32> {
+        signal(self.child.id(), "TERM");
+        self.child.wait().unwrap().code()
+    }
+
+    pub fn pid(&self) -> u32 {
+        self.child.id()
+    }
+
+    pub fn status_of_end(&mut self) -> Option<i32> {
+        self.child.wait().unwrap().code()
+    }
+
+    pub fn is_ready(&self) -> bool {
+        matches!(self.asked_for("/ready"), Some((200, _)))
+    }
+
+    pub fn asked_for(&self, path: &str) -> Option<(u16, String)> {
+        asked(&self.operate, "GET", path, "-", "")
+    }
+
+    /// What a command of the program says, on either stream.
+    pub fn said(&self, words: &[&str]) -> String {
+        let output = Command::new(PROGRAM)
+            .args(words)
+            .args(["--operate", &self.operate])
+            .output()
+            .unwrap();
+        String::from_utf8([output.stdout, output.stderr].concat()).unwrap()
+    }
+
+    /// The root of its files.
+    pub fn root(&self) -> PathBuf {
+        format!("/proc/{}/root", self.child.id()).into()
+    }
+
+    pub fn status(&self) -> serde_json::Value {
+        let (status, body) = asked(&self.operate, "GET", "/status", "-", "").unwrap();
+        assert_eq!(status, 200, "{body}");
+        serde_json::from_str(&body).unwrap()
+    }
+
+    /// How many series are known.
+    pub fn series(&self) -> u64 {
+        self.status()["slots"][0]["series"].as_u64().unwrap()
+    }
+
+    pub fn order(&self, path: &str) -> (u16, String) {
+        asked(&self.operate, "POST", path, "-", "").unwrap()
+    }
+
+    pub fn metrics(&self) -> String {
+        asked(&self.operate, "GET", "/metrics", "-", "").unwrap().1
+    }
+
+    pub fn post(&self, sender: &str, body: &str) -> Option<(u16, String)> {
+        asked(&self.listen, "POST", "/v1/metrics", sender, body)
+    }
+
+    /// Repeats what is answered 503.
+    pub fn post_until_answered(&self, sender: &str, body: &str) -> (u16, String) {
+        let mut answer = (0, String::new());
+        until("an answer", || {
+            answer = self.post(sender, body).unwrap_or((0, String::new()));
+            ![0, 503].contains(&answer.0)
+        });
+        answer
+    }
+
+    /// Flushes, and waits until the sink has all.
+    pub fn drain(&self) {
+        until("a flush", || self.order("/flush").0 == 200);
+        until("an empty outbox", || {
+            let status = self.status();
+            let slots = status["slots"].as_array().unwrap();
+            slots.iter().all(|slot| slot["waiting"] == 0)
+        });
+    }
+
+    pub fn has_no_fault(&self) {
+        let page = self.metrics();
+        let faults = page
+            .lines()
+            .filter(|line| line.starts_with("totxegun_faults_total"));
+        let wrong: Vec<&str> = faults.filter(|line| !line.ends_with(" 0")).collect();
+        assert!(wrong.is_empty(), "{wrong:?}");
+    }
+}
+
+pub fn signal(pid: u32, name: &str) {
+    let _ = Command::new("kill")
+        .args([format!("-{name}"), pid.to_string()])
+        .stderr(Stdio::null())
+        .status();
+}
+
+fn asked(address: &str, method: &str, path: &str, sender: &str, body: &str) -> Option<(u16, String)> {
+    let mut stream = TcpStream::connect(address).ok()?;
+    stream.set_read_timeout(Some(Duration::from_secs(20))).ok()?;
+    let length = body.len();
+    write!(
+        stream,
+        "{method} {path} HTTP/1.1\r\nHost: x\r\nx-sender: {sender}\r\nContent-Type: application/json\r\n\
+         Content-Length: {length}\r\nConnection: close\r\n\r\n{body}"
+    )
+    .ok()?;
+    let mut answer = String::new();
+    stream.read_to_string(&mut answer).ok()?;
+    let (head, body) = answer.split_once("\r\n\r\n")?;
+    Some((head.get(9..12)?.parse().ok()?, body.to_string()))
+}
+
+/// A body with a point of each of these series.
+pub fn points(names: &[&str], end: u64, value: i64) -> String {
+    let start = end - 10;
+    let metric = |name: &&str| {
+        format!(
+            "{{\"name\":\"{name}\",\"sum\":{{\"aggregationTemporality\":1,\"dataPoints\":[{{\"asInt\":\"{value}\",\
+             \"startTimeUnixNano\":\"{start}\",\"timeUnixNano\":\"{end}\"}}]}}}}"
+        )
+    };
+    let metrics: Vec<String> = names.iter().map(metric).collect();
+    format!(
+        "{{\"resourceMetrics\":[{{\"scopeMetrics\":[{{\"metrics\":[{}]}}]}}]}}",
+        metrics.join(",")
+    )
+}
+
+/// Senders that repeat each post until it is answered, at whatever address the service has meanwhile.
+pub struct Load {
+    pub address: Arc<RwLock<String>>,
+    ends: Arc<AtomicBool>,
+    threads: Vec<std::thread::JoinHandle<(String, i64)>>,
+}
+
+impl Load {
+    pub fn begin(senders: usize, first: u64) -> Load {
+        let (address, ends) = (
+            Arc::new(RwLock::new(String::new())),
+            Arc::new(AtomicBool::new(false)),
+        );
+        let mut threads = Vec::new();
+        for sender in 0..senders {
+            let (address, ends) = (address.clone(), ends.clone());
+            threads.push(std::thread::spawn(move || {
+                post_all(&format!("s{sender}"), first, &address, &ends)
+            }));
+        }
+        Load {
+            address,
+            ends,
+            threads,
+        }
+    }
+
+    pub fn goes_to(&self, service: &Service) {
+        *self.address.write().unwrap() = service.listen.clone();
+    }
+
+    /// By series, what was answered as taken.
+    pub fn end(self) -> BTreeMap<String, i64> {
+        self.ends.store(true, Relaxed);
+        self.threads
+            .into_iter()
+            .map(|thread| thread.join().unwrap())
+            .collect()
+    }
+}
+
+fn post_all(sender: &str, first: u64, address: &RwLock<String>, ends: &AtomicBool) -> (String, i64) {
+    let (mut end, mut total) = (first, 0);
+    while !ends.load(Relaxed) {
+        end += 10;
+        let value = (end % 97) as i64;
+        let body = points(&[sender], end, value);
+        let begun = Instant::now();
+        for attempt in 0.. {
+            let to = address.read().unwrap().clone();
+            match asked(&to, "POST", "/v1/metrics", sender, &body) {
+                Some((200, text)) if text == "{}" => break,
+                Some((400, text)) if text.contains("out of order") && attempt > 0 => break,
+                Some((503, _)) | None => {}
+                Some(other) => panic!("{sender}, {end}, attempt {attempt}: {other:?}"),
+            }
+            assert!(begun.elapsed() < PATIENCE, "{sender}: no answer");
+            std::thread::sleep(Duration::from_millis(5));
+        }
+        total += value;
+    }
+    (sender.to_string(), total)
+}

@@ -1,0 +1,151 @@
+//! What an operator is told.
+
+use crate::support::{points, until, Place, NO_SINK, PROGRAM};
+use nix::fcntl::{flock, FlockArg};
+use std::os::fd::AsRawFd;
+use std::os::unix::fs::OpenOptionsExt;
+use std::os::unix::net::UnixDatagram;
+use std::process::Command;
+use std::time::Duration;
+
+#[test]
+fn a_quarantined_sender_that_names_none_is_shown() {
+    let place = Place::new();
+    let service = place.serve();
+    let shown = || service.said(&["status"]).lines().last().unwrap().to_string();
+    assert!(shown().ends_with("none"), "{}", shown());
+    assert_eq!(service.order("/quarantine/-").0, 200);
+    assert!(shown().ends_with("1 sender: - (who names none)"), "{}", shown());
+    assert_eq!(service.end(), Some(0));
+    let checked = Command::new(PROGRAM)
+        .arg("check")
+        .arg(place.data())
+        .output()
+        .unwrap();
+    let text = String::from_utf8(checked.stdout).unwrap();
+    assert!(text.contains("1 sender: - (who names none)"), "{text}");
+}
+
+#[test]
+fn a_wrong_key_is_that_of_no_request() {
+    let place = Place::new();
+    let service = place.serve();
+    for what in ["show", "resend", "drop"] {
+        let said = service.said(&["dead", what, "0-a-1"]);
+        assert!(said.contains("no such request"), "{what}: {said}");
+    }
+}
+
+/// Else checkpoints and deliveries stand still meanwhile, and a supervisor takes the service for dead.
+#[test]
+fn letters_that_take_long_hold_up_nothing_else() {
+    let place = Place::new();
+    let service = place.serve();
+    // It is read once somebody writes to it.
+    let letter = place.data().join("dead/0-a-1.json");
+    let made = Command::new("mkfifo").arg(&letter).status();
+    assert!(made.unwrap().success());
+    std::thread::scope(|scope| {
+        let lists: Vec<_> = (0..4)
+            .map(|_| scope.spawn(|| service.asked_for("/dead")))
+            .collect();
+        std::thread::sleep(Duration::from_millis(300));
+        let (answered, answer) = std::sync::mpsc::channel();
+        let asked = &service;
+        scope.spawn(move || answered.send(asked.asked_for("/health")));
+        let health = answer.recv_timeout(Duration::from_secs(3));
+        let mut write = std::fs::OpenOptions::new();
+        write.write(true).custom_flags(nix::libc::O_NONBLOCK); // it fails where nobody reads
+        while !lists.iter().all(|list| list.is_finished()) {
+            drop(write.open(&letter));
+            std::thread::sleep(Duration::from_millis(5));
+        }
+        assert_eq!(health.ok().flatten().map(|(status, _)| status), Some(200));
+    });
+}
+
+/// A supervisor that hears of it only then ends a start that takes long, again and again.
+#[test]
+fn a_start_asks_for_time_before_its_files_are_open() {
+    let place = Place::new();
+    std::fs::create_dir(place.data()).unwrap();
+    let lock = std::fs::File::create(place.data().join("lock")).unwrap();
+    flock(lock.as_raw_fd(), FlockArg::LockExclusive).unwrap();
+    let path = place.folder.path().join("notify");
+    let supervisor = UnixDatagram::bind(&path).unwrap();
+    supervisor.set_read_timeout(Some(Duration::from_secs(5))).unwrap();
+    let mut command = Command::new(PROGRAM);
+    command.env("NOTIFY_SOCKET", &path);
+    let mut service = place.begin_by(command, &["--sink", NO_SINK]);
+    assert_eq!(service.status_of_end(), Some(1), "another has its files");
+    let mut told = [0; 100];
+    let length = supervisor.recv(&mut told).expect("it was told nothing");
+    assert!(told[..length].starts_with(b"EXTEND_TIMEOUT_USEC="));
+}
+
+/// A start of the program with a small disk of its own in the place of the folder.
+fn on_a_small_disk(place: &Place) -> Command {
+    std::fs::create_dir(place.data()).unwrap();
+    let mut command = Command::new("unshare");
+    let script = "mount -t tmpfs -o size=80m tmpfs \"$1\" && shift && exec \"$@\"";
+    command
+        .args(["--mount", "sh", "-c", script, "sh"])
+        .arg(place.data())
+        .arg(PROGRAM);
+    command
+}
+
+fn may_mount() -> bool {
+    let tried = Command::new("unshare")
+        .args(["--mount", "mount", "-t", "tmpfs", "tmpfs", "/mnt"])
+        .status();
+    tried.is_ok_and(|status| status.success())
+}
+
+#[test]
+fn a_disk_without_room_is_told() {
+    if !may_mount() {
+        eprintln!("skipped: no right to mount");
+        return;
+    }
+    let place = Place::new();
+    let sink = format!("sqlite:{}", place.folder.path().join("sink.db").display());
+    let service = place.begin_by(on_a_small_disk(&place), &["--sink", &sink]);
+    until("it is ready", || service.is_ready());
+    assert_eq!(service.post("A", &points(&["a"], 100, 5)).unwrap().0, 200);
+    assert!(service.metrics().contains("totxegun_ready 1"));
+    let disk = place.data();
+    let filling = service
+        .root()
+        .join(disk.strip_prefix("/").unwrap())
+        .join("filling");
+    std::fs::write(&filling, vec![0; 20 << 20]).unwrap();
+    until("posts are refused", || {
+        service.post("A", &points(&["a"], 110, 5)).unwrap().0 == 503
+    });
+    let (status, text) = service.asked_for("/ready").unwrap();
+    assert!(
+        status == 503 && text.contains("no room for the journal"),
+        "{text}"
+    );
+    assert!(service.metrics().contains("totxegun_ready 0"));
+    let said = service.said(&["status"]);
+    let lines: Vec<&str> = said.lines().collect();
+    assert!(lines[0].contains("not ready"), "{said}");
+    let why = format!(
+        "no room for the journal: make room on the disk of {}",
+        disk.display()
+    );
+    assert!(
+        lines[1].starts_with("posts get 503") && lines[1].ends_with(&why),
+        "{said}"
+    );
+    let log = place.log();
+    assert!(log.contains("so posts get 503 until there is more"), "{log}");
+    std::fs::remove_file(&filling).unwrap();
+    until("it is ready again", || service.is_ready());
+    let answer = service.post_until_answered("A", &points(&["a"], 120, 5));
+    assert_eq!(answer.0, 200, "{answer:?}");
+    service.drain();
+    assert_eq!(service.end(), Some(0));
+}
