@@ -4,9 +4,9 @@
     tools/gate.py [--without-prover]
 
 `rt ci` proves every crate from nothing, tries the edits of must-fail/ and runs the tests and the
-programs; STEPS below are run behind it, and alone where --without-prover is given. The last line counts
-the crates, edits and steps that passed and failed, and the status is 0 where none failed. The logs are
-in out/logs.
+programs; STEPS below are run after it, and alone where --without-prover is given. The service is linked
+with the library of book_c that it has built. The last line counts the crates, edits and steps that passed
+and failed, and the status is 0 where none failed. The logs are in out/logs.
 """
 import re
 import subprocess
@@ -27,7 +27,7 @@ STEPS = (
     ("slow_parties.py", GATEWAY, 70, False),
     ("gateway_serves.py", GATEWAY, 5, False),
     ("alloc_failures_play.py", PLAY, 20, False),
-    ("protobuf_bodies.py", GATEWAY, 10, False),
+    ("protobuf_bodies.py", f"{GATEWAY} gateway", 10, False),
     ("alloc_failures_gateway.py", GATEWAY, 10, False),
     ("play_model.py", PLAY, 10, False),
     ("alloc_failures_libraries.py", ALLOC_FAILURES, 5, False),
@@ -50,10 +50,11 @@ CARGO_STEPS = (
     ("service_is_linted", ["clippy", "--all-targets", "--", "-D", "warnings"]),
     ("service_tests", ["test"]),
 )
-# Behind the program's name: further words, and about how many seconds it takes.
+# After the program's name: further words, and about how many seconds it takes.
 SERVICE_STEPS = (
     ("service_load.py", ["60"], 120),
     ("service_interrupted.py", ["9"], 300),
+    ("same_answers.py", [GATEWAY], 100),
     ("behind_proxies.py", [], 60),
     ("two_services.py", ["0", "1", "--sink", "one"], 40),
     ("demo.py", ["25"], 60),
@@ -64,7 +65,7 @@ SERVICE_STEPS = (
     ("grpc_calls.py", [], 30),
     ("clients.py", [], 30),
     ("unit_tasks.py", [], 5),
-    ("package_installs.py", [PLAY], 15),
+    ("package_installs.py", [], 15),
 )
 STEP_LIMIT = 600
 # A network of its own for each step, so that none takes another's port.
@@ -72,7 +73,7 @@ OWN_NETWORK = "tools/own_network.py"
 # The status of a script that lacks a program that it needs; its last line says which.
 LEFT_OUT = 77
 
-# A line of `cargo test` behind the tests of one file.
+# A line of `cargo test` after the tests of one file.
 TESTED = re.compile(r"test result: ok\. (\d+) passed")
 COUNTS = re.compile(r"(\d+) passed, (\d+) failed$")
 # Lines of `rt ci` as it goes: what a reader waits for, and what is wrong.
@@ -137,7 +138,7 @@ def has_tests(crate):
 
 
 def step_of(script, program, seconds, is_timed, before, of=""):
-    """The step that runs a script of tests/ on a program, behind these words. With none, steps run in turn."""
+    """The step that runs a script of tests/ on a program, after these words. With none, steps run in turn."""
     command = [f"tests/{script}", *program.split()]
 
     def work(step):
@@ -166,7 +167,7 @@ def tool_step(name, command, seconds):
 
 
 def cargo_steps():
-    """The steps of service/ that need no gateway, in order."""
+    """The steps of service/ that run no script, in order."""
     steps = []
     for name, words in CARGO_STEPS:
         command = ["tools/cargo", *words]
@@ -183,10 +184,10 @@ def cargo_steps():
 
 
 def service_steps(before):
-    """The steps that run the service around the gateway, behind the one that builds it."""
+    """The steps that run the service, after the one that builds it."""
     steps = [step_of("service_model.py", "", 60, False, [])]
     for script, words, seconds in SERVICE_STEPS:
-        step = step_of(script, " ".join([SERVICE_MADE, GATEWAY, *words]), seconds, False, before, "service_")
+        step = step_of(script, " ".join([SERVICE_MADE, *words]), seconds, False, before, "service_")
         step.after = ["service_is_built"]
         steps.append(step)
     return steps
