@@ -60,7 +60,7 @@ class Rules:
     segments_are_numbered_after_the_outbox: bool = True
     # A start gives fresh books each series' owner and frontier.
     fresh_books_are_primed: bool = True
-    # Then the posts that no group has, in the order of the journal.
+    # Then the posts that no group has, in the order of the journal, those of quarantined senders last.
     replay_has_the_journals_order: bool = True
     # At a checkpoint the posts of quarantined senders, which no flush takes, are copied into the new segment.
     quarantined_posts_are_copied: bool = True
@@ -435,6 +435,14 @@ def commit(rules, state):
         yield "the group can't be written", after
 
 
+def give_back(rules, state):
+    """There is no memory to write what was taken: it is pending again, and the journal stays as it turned."""
+    left = spend(state, "faults")
+    if left and state.checkpoint and state.checkpoint.step == Step.TURNED:
+        books = state.books._replace(pending=state.books.pending | sum(state.checkpoint.group))
+        yield "what was taken is given back", state._replace(books=books, checkpoint=None, left=left)
+
+
 def sync_outbox(rules, state):
     if state.checkpoint and state.checkpoint.step == Step.COMMITTED:
         yield "the group is synced", state._replace(
@@ -531,7 +539,7 @@ def fresh_books(rules, outbox, journal):
     known = tuple((owner, frontier(outbox, series)) if owner and frontier(outbox, series) is not None else None
                   for series, owner in enumerate(outbox.owners))
     books = EMPTY_BOOKS._replace(series=known) if rules.fresh_books_are_primed else EMPTY_BOOKS
-    records = replayed(outbox, journal)
+    records = sorted(replayed(outbox, journal), key=lambda record: outbox.is_quarantined and POSTS[record.post].sender == QUARANTINED)
     for record in records if rules.replay_has_the_journals_order else reversed(records):
         if answer_of(books, record.post) == Told.TAKEN:
             books = taken(books, record.post)
@@ -574,7 +582,7 @@ def start_service(rules, state):
                                                books=fresh_books(rules, outbox, journal))
 
 
-ACTIONS = (post, stop_waiting, place_late, write_journal, sync_journal, begin_checkpoint, turn_late, commit, sync_outbox,
+ACTIONS = (post, stop_waiting, place_late, write_journal, sync_journal, begin_checkpoint, turn_late, commit, give_back, sync_outbox,
            end_checkpoint, deliver, quarantine, lift, kill_service, lose_power, start_service)
 
 # --------------------------------------------------------------------------------------------------------------------
