@@ -48,7 +48,7 @@ PLACES = {
 EXPOSURE = 1.2
 LONG = re.compile(r"^ +(?:-\w, )?--([a-z-]+)", re.MULTILINE)
 VARIABLE = re.compile(r"\[env: (TOTXEGUN_\w+)")
-SETTING = re.compile(r"^#?(TOTXEGUN_\w+)=(.*)$", re.MULTILINE)
+SETTING = re.compile(r"^#(TOTXEGUN_\w+)=(.*)$", re.MULTILINE)
 POINT = ('{"resourceMetrics":[{"scopeMetrics":[{"metrics":[{"name":"a","sum":{"aggregationTemporality":1,"isMonotonic":true,'
          '"dataPoints":[{"asInt":"5","startTimeUnixNano":"%d","timeUnixNano":"%d"}]}}]}]}]}')
 
@@ -89,12 +89,13 @@ def look_at_files(checks, root):
 
 
 def shipped_settings(root):
-    """The lines that are set, and those with a default, as variables."""
-    text = content(f"{root}/etc/totxegun/totxegun.env")
-    lines = {name: (value, f"\n{name}=" in text) for name, value in SETTING.findall(text)}
-    chosen = {name: value for name, (value, is_set) in lines.items() if is_set}
-    defaults = {name: value for name, (value, is_set) in lines.items() if not is_set and not re.fullmatch(r"[A-Z:= ]+", value)}
-    return lines, chosen, defaults
+    """Each line of the settings as a variable, and those that have a default."""
+    lines = dict(SETTING.findall(content(f"{root}/etc/totxegun/totxegun.env")))
+    return lines, {name: value for name, value in lines.items() if not re.fullmatch(r"[A-Z:= ]+", value)}
+
+
+def set_by_unit(root):
+    return dict(re.findall(r"^Environment=(\w+)=(\S+)$", content(f"{root}/lib/systemd/system/totxegun.service"), re.MULTILINE))
 
 
 def serve(checks, what, root, folder, settings):
@@ -142,13 +143,14 @@ def version():
 
 
 def look_at_settings(checks, root, serve_help):
-    lines, _, _ = shipped_settings(root)
+    lines, _ = shipped_settings(root)
     wanted = VARIABLE.findall(serve_help)
     checks.true("the program has variables", len(wanted) > 15, serve_help)
     checks.same("the settings name every variable, in order", wanted, list(lines))
     text = content(f"{root}/etc/totxegun/totxegun.env")
-    bare = [name for name in wanted if not re.search(rf"^# \S.*\n#?{name}=", text, re.MULTILINE)]
+    bare = [name for name in wanted if not re.search(rf"^# \S.*\n#{name}=", text, re.MULTILINE)]
     checks.same("each with a line of text", [], bare)
+    checks.same("what the unit sets is a setting too", [], [it for it in set_by_unit(root) if it.startswith("TOTXEGUN_") and it not in wanted])
 
 
 def options_of(page):
@@ -272,7 +274,7 @@ def main(given):
         look_at_pages(checks, root, program)
         look_at_completion(checks, root, program, serve_help)
         look_at_unit(checks, root, folder)
-        _, chosen, defaults = shipped_settings(root)
+        chosen, (_, defaults) = set_by_unit(root), shipped_settings(root)
         serve(checks, "as shipped", root, folder, chosen)
         serve(checks, "with each default said", root, folder, {**defaults, **chosen})
         look_at_version(checks, program)

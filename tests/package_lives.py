@@ -219,6 +219,10 @@ def look_at_settings(checks, debian, what):
     pid = debian.said("systemctl", "show", "-P", "MainPID", "totxegun")[1].strip()
     status, said = debian.said("grep", "-z", "TOTXEGUN_FORGET_SERIES", f"/proc/{pid}/environ")
     checks.true(f"{what}: the service has them", FORGET in said, said)
+    # Which these settings do not say.
+    said = debian.said("totxegun", "status", "--json")[1]
+    most = re.search(r'"most_memory_bytes": ?(\d+)', said)
+    checks.same(f"{what}: the books may have as much memory as the unit says", str(2 << 30), most and most[1])
 
 
 def upgrade(checks, debian, deb):
