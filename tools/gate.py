@@ -4,10 +4,11 @@
     tools/gate.py [--without-prover]
 
 `rt ci` proves every crate from nothing, tries the edits of must-fail/ and runs the tests and the
-programs; STEPS below are run after it, and alone where --without-prover is given. The service is linked
-with the library of book_c that it has built. The last line counts the crates, edits and steps that passed
-and failed, and the status is 0 where none failed. The logs are in out/logs.
+programs; then the library that the service is linked with is built over what it has proved. STEPS below are
+run after both, and alone where --without-prover is given. The last line counts the crates, edits and steps
+that passed and failed, and the status is 0 where none failed. The logs are in out/logs.
 """
+import os
 import re
 import subprocess
 import sys
@@ -20,6 +21,9 @@ from steps import Failed, Step, Steps, end_of, end_of_lines, locked, shown
 PLAY = "crates/play/out/play"
 GATEWAY = "crates/gateway/out/gateway"
 ALLOC_FAILURES = "crates/alloc_failures/out/alloc_failures"
+# What the service is linked with. The prover's part proves it, and leaves no library.
+BOOK = "crates/book_c"
+LIBRARY = f"{BOOK}/out/libbook_c.a"
 
 # Each is a script of tests/, the program that it runs, about how many seconds it takes, and whether it
 # measures time, so that nothing may run beside it. Those that take longest come first.
@@ -137,6 +141,17 @@ def has_tests(crate):
     return any(IS_TEST.search(content(file)) for file in crate.files())
 
 
+def book_step():
+    """The step that builds the library of the book."""
+
+    def work(step):
+        if step.run(["rt", "lib"], f"{ROOT}/{BOOK}") != 0:
+            raise Failed((end_of(step.log) or ["it printed nothing"])[-1])
+        return LIBRARY
+
+    return Step("book_is_built", work, f"(cd {BOOK} && rt lib)")
+
+
 def step_of(script, program, seconds, is_timed, before, of=""):
     """The step that runs a script of tests/ on a program, after these words. With none, steps run in turn."""
     command = [f"tests/{script}", *program.split()]
@@ -215,6 +230,12 @@ def main(words):
         with locked(OUT):
             Steps([prover.step()]).run()
         passed, failed = prover.passed, prover.failed
+        if not failed:
+            steps = Steps([book_step()])
+            steps.run()
+            passed, failed = passed + len(steps.passed), len(steps.failed)
+    elif not os.path.exists(f"{ROOT}/{LIBRARY}"):
+        sys.exit(f"there is no {LIBRARY}: make build makes it")
     if not failed:
         before = [OWN_NETWORK] if has_networks() else []
         steps = Steps([
