@@ -12,7 +12,7 @@ run: ## runs the script program play, unproved
 	@cd crates/play && mkdir -p out && rt try < stdin 2> out/run.log || { cat out/run.log; exit 1; }
 	@echo 'This run proved nothing: make build proves what it builds, make test everything.'
 
-# Builds what is missing, the gateway with no proof where make build has not built it. Ctrl-C ends it.
+# Builds what is missing: the first time, for about as long as the proofs of the book take. Ctrl-C ends it.
 serve: ## serves on 127.0.0.1:4318 with a SQLite file as the sink
 	@tools/serve.py
 
@@ -21,7 +21,7 @@ demo: ## two programs on OpenTelemetry's SDK, the service, PostgreSQL and Promet
 	@demo/run.py $(or $(SEED),1) $(or $(SECONDS),60)
 
 # Crates side by side. What has not changed is not proved again.
-build: ## proves the programs and builds them into bin/, and the service
+build: ## proves the core, and builds totxegun, gateway and play into bin/
 	@tools/toolchain
 	@tools/build.py
 
@@ -46,13 +46,12 @@ edits: ## tries all wrong code
 
 # A minute or two each: a test has to find what is wrong with each.
 wrong: ## tries wrong copies of the service
-	@tools/wrong.py bin/gateway $(NAME)
+	@tools/wrong.py $(NAME)
 
-# With what make build has built, while all that it is made of is killed.
+# With what make build has built, while it is killed.
 soak: ## the service under load for an hour
-	@for it in totxegun gateway; do \
-		[ -x bin/$$it ] || { echo "there is no bin/$$it: make build makes it" >&2; exit 1; }; done
-	@tests/service_load.py bin/totxegun bin/gateway 3600
+	@[ -x bin/totxegun ] || { echo "there is no bin/totxegun: make build makes it" >&2; exit 1; }
+	@tests/service_load.py bin/totxegun 3600
 
 # DESTDIR, PREFIX (/usr/local), SYSCONFDIR (/etc) and UNITDIR (PREFIX/lib/systemd/system) say where.
 install: ## installs what make build has built: DESTDIR=, PREFIX=/usr/local
@@ -64,12 +63,12 @@ deb: ## a Debian package of what make build has built
 image: ## an image for containers of what make build has built
 	@tools/image
 
-# As root, behind make deb and make image; Debian's base is fetched once, into out/debian.
+# As root, after make deb and make image; Debian's base is fetched once, into out/debian.
 life: ## tries package and image: installed, upgraded under load, killed, purged, stopped
 	@tests/package_lives.py out/totxegun_$$(cat VERSION)_amd64.deb
 	@tests/package_image.py out/totxegun_$$(cat VERSION)_image.tar
 
-version: ## the version, and of which gateway bin/ is
+version: ## the version, and which book bin/totxegun has
 	@cat VERSION
 	@[ ! -x bin/totxegun ] || bin/totxegun version
 

@@ -1,11 +1,13 @@
 #!/bin/sh
-# What docs/MEASURED.md has of the gateway under load and of the service, with what `make build` has built, the most wanted
-# first: about a quarter of an hour on 4 idle cores. Call: bench/all.sh [GATEWAY [TOTXEGUN]]
+# What docs/MEASURED.md has of the service, beside an earlier one and the bare gateway, and of the gateway under load, with what
+# `make build` has built, the most wanted first: about a quarter of an hour on 4 idle cores.
+# Call: bench/all.sh [GATEWAY [TOTXEGUN [EARLIER]]], where EARLIER is a folder with totxegun and gateway of 1383c49c.
 #
 # Each output goes to out/bench/NAME.txt too. Status 0, also where a part was left out; its lines say why.
 top=$(cd "$(dirname "$0")/.." && pwd)
 gateway=${1:-$top/bin/gateway}
 totxegun=${2:-$top/bin/totxegun}
+earlier=${3:+--earlier $3}
 out=$top/out/bench
 mkdir -p "$out"
 
@@ -18,15 +20,19 @@ part() {
     { echo "bench/$script $*"; "$top/bench/$script" --gateway "$gateway" --totxegun "$totxegun" "$@" 2>&1; } | tee "$out/$name.txt"
 }
 
-part service service.py --runs 3 --seconds 0.7 --parties gateway,process,disk
-part plain gateway.py --beside plain,plain-tree,plain-answers,plain-fast --allocators service --receivers 4 --runs 7 --seconds 0.6
+# shellcheck disable=SC2086 # words, each an argument
+part service service.py --runs 3 --seconds 0.7 $earlier
+part plain gateway.py --beside plain,plain-tree,plain-answers,plain-fast --allocators tcmalloc --receivers 4 --runs 7 --seconds 0.6
 part instructions instructions.py
 part allocators gateway.py --allocators libc,mimalloc --seconds 0.7
-part kill service_times.py --times 5 kill
-part checkpoint service_times.py --times 5 checkpoint
-part replay service_times.py --posts 10000 replay
+# shellcheck disable=SC2086
+part kill service_times.py --times 5 $earlier kill
+# shellcheck disable=SC2086
+part checkpoint service_times.py --times 5 $earlier checkpoint
+# shellcheck disable=SC2086
+part replay service_times.py --posts 10000 $earlier replay
 part backlog service_times.py --times 3 backlog
 part bytes service_times.py bytes
-part threads gateway.py --points 20 --kinds sum --senders 1,8,64 --receivers 1,4,8 --allocators service --runs 5 --seconds 0.5
+part threads gateway.py --points 20 --kinds sum --senders 1,8,64 --receivers 1,4,8 --allocators tcmalloc --runs 5 --seconds 0.5
 part more gateway.py --allocators tuned,tcmalloc,jemalloc --seconds 0.7
-part kept gateway.py --allocators libc,service,mimalloc --beside plain --runs 1 --kept
+part kept gateway.py --allocators libc,tcmalloc,mimalloc --beside plain --runs 1 --kept

@@ -2,8 +2,8 @@
 import glob
 import os
 
-from running import ALLOCATORS, as_served
-
+# What of an environment an allocator reads.
+ALLOCATORS = ("MALLOC_", "GLIBC_TUNABLES", "LD_PRELOAD", "MIMALLOC_", "TCMALLOC_")
 # By name, the library that is preloaded and its Debian package.
 LIBRARIES = {"mimalloc": ("libmimalloc.so.2", "libmimalloc2.0"), "tcmalloc": ("libtcmalloc_minimal.so.4", "libtcmalloc-minimal4"),
              "jemalloc": ("libjemalloc.so.2", "libjemalloc2")}
@@ -29,15 +29,19 @@ def names_there(arguments):
     for name in names:
         if name in LIBRARIES and not library(name):
             print(f"left out: {name}; it needs the package {LIBRARIES[name][1]}")
-        elif name == "service" and not os.access(arguments.totxegun, os.X_OK):
-            print(f"left out: service; there is no {arguments.totxegun}")
-        elif name in ("libc", "tuned", "service", "own", *LIBRARIES):
+        elif name in ("libc", "tuned", "own", *LIBRARIES):
             yield name
         else:
-            raise SystemExit(f"{name} is no allocator: libc, tuned, {', '.join(LIBRARIES)}, service")
+            raise SystemExit(f"{name} is no allocator: libc, tuned, {', '.join(LIBRARIES)}")
 
 
-def environment(name, arguments):
+def shown(its_environment):
+    """What of an environment an allocator reads."""
+    found = [f"{name}={value}" for name, value in sorted(its_environment.items()) if name.startswith(ALLOCATORS)]
+    return " ".join(found) or "nothing for the allocator"
+
+
+def environment(name, arguments=None):
     """The whole environment in which a program has this allocator."""
     plain = {key: value for key, value in os.environ.items() if not key.startswith(ALLOCATORS)}
     if name == "tuned":
@@ -45,6 +49,4 @@ def environment(name, arguments):
     if name == "own":
         preload = {"LD_PRELOAD": arguments.preload} if arguments.preload else {}
         return plain | preload | dict(pair.split("=", 1) for pair in arguments.environment)
-    if name == "service":
-        return as_served(arguments)[1]
-    return plain | ({"LD_PRELOAD": library(name)} if name in LIBRARIES else {})
+    return plain | ({"LD_PRELOAD": library(name)} if name in LIBRARIES and library(name) else {})

@@ -1,7 +1,7 @@
 #!/usr/bin/env python3
 """Prints what the gateway takes for each point and request under load, beside plain programs of the same job.
 
-    bench/gateway.py [--gateway FILE] [--totxegun FILE] [--points N,..] [--kinds sum,histogram] [--series N,..]
+    bench/gateway.py [--gateway FILE] [--points N,..] [--kinds sum,histogram] [--series N,..]
                      [--senders N,..] [--receivers N,..] [--beside NAME,..] [--allocators NAME,..]
                      [--preload FILE] [--environment NAME=VALUE]* [--runs N] [--seconds N] [--kept] [--calls]
 
@@ -14,8 +14,7 @@ undoes anything, or keeps a journal. What can't be built is left out, and a line
 
 An allocator is given to all programs of a row alike: libc; tuned, which is libc with GLIBC_TUNABLES' tcache_count and
 MALLOC_TRIM_THRESHOLD_; mimalloc, tcmalloc, jemalloc, by Debian's packages libmimalloc2.0, libtcmalloc-minimal4 and
-libjemalloc2; and service, the environment that the service gives its gateway, read from one that bin/totxegun has started.
---preload names another library and --environment what it or the C library reads: these are a row `own`.
+libjemalloc2. --preload names another library and --environment what it or the C library reads: these are a row `own`.
 
 The programs run in turn, each run in a fresh process whose series are there already, and of about so many seconds. Figures
 are medians of the runs; a ratio is of the gateway's run to the plain program's beside it, its median, and the least and the
@@ -34,10 +33,10 @@ import tempfile
 
 import loading
 import plain
-from allocators import add_options, environment, names_there
+from allocators import add_options, environment, names_there, shown
 from loading import Posts, Senders, rounded
 from process import memory, numbers, processor_seconds, spread
-from running import bare, options, shown
+from running import bare, options
 
 DEFAULT_ROWS = [("sum", 1), ("sum", 20), ("sum", 1000), ("histogram", 20)]
 LEAST_POSTS = 10

@@ -1,7 +1,7 @@
 #!/usr/bin/env python3
 """A gateway whose address space is used up: what is answered, and whether all that was accepted is forwarded.
 
-    bench/memory_bound.py [--gateway FILE] [--totxegun FILE] [--bounds MB,..] [--allocators NAME,..] [--preload FILE]
+    bench/memory_bound.py [--gateway FILE] [--bounds MB,..] [--allocators NAME,..] [--preload FILE]
                           [--environment NAME=VALUE]* [--flush-each POSTS] [--posts N] [--points N] [--seconds N]
 
 1,200 posts of 1,000 points, in rounds of 600 connections, under a bound of 400, of 260 and of 200 MB. With --flush-each a
@@ -100,7 +100,7 @@ class Run:
 def main():
     parser = options(__doc__.split("\n", maxsplit=1)[0])
     parser.add_argument("--bounds", type=numbers, default=[400, 260, 200])
-    add_options(parser, ["libc", "service"])
+    add_options(parser, ["libc", "tcmalloc"])
     parser.add_argument("--flush-each", type=int, default=0)
     parser.add_argument("--posts", type=int, default=1200)
     parser.add_argument("--points", type=int, default=1000)

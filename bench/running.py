@@ -2,6 +2,7 @@
 import argparse
 import contextlib
 import os
+import re
 import subprocess
 import tempfile
 
@@ -9,12 +10,10 @@ from process import ROOT
 
 from loopback import free_port
 from service import Service
-from shipped import listens, wait_until
+from shipped import listens, shipped, wait_until
 
 NOBODY = "127.0.0.1:9"
-# What the service's own gateway has of options that a bare one may have too.
-SHARED = ("--receivers", "--flushers", "--round")
-ALLOCATORS = ("MALLOC_", "GLIBC_TUNABLES", "LD_PRELOAD", "MIMALLOC_", "TCMALLOC_")
+SET = re.compile(r"^Environment=(\w+=\S+)$", re.MULTILINE)
 
 
 def options(about):
@@ -24,24 +23,31 @@ def options(about):
     parser.add_argument("--gateway", type=os.path.abspath, default=f"{ROOT}/bin/gateway")
     parser.add_argument("--data", default=f"{ROOT}/out/bench")
     parser.add_argument("--options", type=str.split, default=[])
+    parser.add_argument("--earlier", type=os.path.abspath)
+    parser.add_argument("--set", type=lambda text: text.split("=", 1), action="append", default=[])
     return parser
 
 
 def start(one):
     """Starts the service, and waits until it is ready."""
-    one.start()
+    one.start(one.environment)
     if not one.wait_ready(300):
         raise SystemExit(f"the service is not ready: {one.last_lines()}")
 
 
 @contextlib.contextmanager
-def service(arguments, *words, sink=None):
-    """A service that is not started yet, on a folder of its own, with these options more."""
+def service(arguments, *words, sink=None, is_earlier=False):
+    """A service that is not started yet, on a folder of its own, with these options more, and what the shipped unit sets in its
+    environment. An earlier one has its gateway beside it, and its own options alone."""
     os.makedirs(arguments.data, exist_ok=True)
     with tempfile.TemporaryDirectory(prefix="service-", dir=arguments.data) as folder:
         data, sink = f"{folder}/data", sink or f"sqlite:{folder}/sink.db"
-        one = Service(arguments.totxegun, arguments.gateway, data, sink, *words, *arguments.options)
+        program, more = arguments.totxegun, arguments.options
+        if is_earlier:
+            program, more = f"{arguments.earlier}/totxegun", ["--gateway", f"{arguments.earlier}/gateway"]
+        one = Service(program, data, sink, *words, *more)
         one.folder = data
+        one.environment = dict([pair.split("=", 1) for pair in SET.findall(shipped("totxegun.service", {}))] + arguments.set)
         try:
             yield one
         finally:
@@ -49,39 +55,20 @@ def service(arguments, *words, sink=None):
 
 
 @contextlib.contextmanager
-def serving(arguments, *words, sink=None):
+def serving(arguments, *words, sink=None, is_earlier=False):
     """A service that is ready."""
-    with service(arguments, *words, sink=sink) as one:
+    with service(arguments, *words, sink=sink, is_earlier=is_earlier) as one:
         start(one)
         yield one
 
 
-def environment_of(pid):
-    with open(f"/proc/{pid}/environ", "rb") as file:
-        return dict(pair.decode().split("=", 1) for pair in file.read().split(b"\0") if b"=" in pair)
-
-
-def words_of(pid):
-    with open(f"/proc/{pid}/cmdline", "rb") as file:
-        return file.read().decode().split("\0")[:-1]
-
-
-def as_served(arguments):
-    """The options and the environment that the service gives its gateway, read from one that it has started, but for the
-    library by which that has Unix sockets: here it has TCP's."""
-    with serving(arguments) as one:
-        pid, = one.gateways()
-        words = words_of(pid)
-        shared = [word for name in SHARED if name in words for word in (name, words[words.index(name) + 1])]
-        environment = environment_of(pid)
-        preloaded = [it for it in environment.pop("LD_PRELOAD").split(":") if not it.startswith("/proc/self/fd/")]
-        return shared, environment | ({"LD_PRELOAD": preloaded[0]} if preloaded else {})
-
-
-def shown(environment):
-    """What of an environment an allocator reads."""
-    found = [f"{name}={value}" for name, value in sorted(environment.items()) if name.startswith(ALLOCATORS)]
-    return " ".join(found) or "nothing for the allocator"
+def processes(one):
+    """The process of a service, and those that an earlier one has started."""
+    found = []
+    for task in os.listdir(f"/proc/{one.process.pid}/task"):
+        with contextlib.suppress(FileNotFoundError), open(f"/proc/{one.process.pid}/task/{task}/children", encoding="ascii") as file:
+            found += file.read().split()
+    return [one.process.pid, *sorted({int(pid) for pid in found})]
 
 
 @contextlib.contextmanager

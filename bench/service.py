@@ -1,29 +1,31 @@
 #!/usr/bin/env python3
-"""Prints what the service takes for a post beside the bare gateway, in one run.
+"""Prints what the service takes for a post beside the bare gateway, and beside an earlier service, in one run.
 
-    bench/service.py [--totxegun FILE] [--gateway FILE] [--senders N,..] [--series N] [--rows NAME,..] [--parties NAME,..]
-                     [--runs N] [--seconds N] [--slots N] [--data DIR] [--options WORDS]
+    bench/service.py [--totxegun FILE] [--gateway FILE] [--earlier FOLDER] [--senders N,..] [--series N] [--rows NAME,..]
+                     [--parties NAME,..] [--runs N] [--seconds N] [--data DIR] [--options WORDS] [--set NAME=VALUE]*
 
 The programs are bin/totxegun and bin/gateway, as `make build` makes them, where none is named. Rows: json-1, json-20,
-protobuf-103, gzip-103, grpc-1, grpc-103, by the encoding and the points of a post, over 800 series. Parties: gateway, which is the bare
-one, process and disk, which are the service with this durability and a SQLite file as its sink; more options of it are
-in WORDS. With --slots the service has so many gateways, which share the senders; the bare one stays one. The bare gateway
-gets a connection a request, over TCP, and protobuf's points as JSON: it reads no other. The service gets kept connections,
-a sender each. The bare gateway has the options and the allocator that the service gives its own gateway. The folder of the
-service is made in DIR, which is out/bench where none is named: the disk that `disk` waits for.
+protobuf-103, gzip-103, grpc-1, grpc-103, by the encoding and the points of a post, over 800 series. Parties: gateway, which is
+the bare one, process and disk, which are the service with this durability and a SQLite file as its sink; more options of it
+are in WORDS, and --set sets more of its environment than the shipped unit does, such as LD_PRELOAD. FOLDER has totxegun and
+gateway of a revision whose service starts a gateway (1383c49c): it is measured as earlier-process and earlier-disk too. The bare
+gateway has four receivers, tcmalloc where that is installed, a connection a request, over TCP, and protobuf's points as JSON: it
+reads no other. The services get kept connections, a sender each. The folder of a service is made in DIR, which is out/bench
+where none is named: the disk that `disk` waits for.
 
 The parties run in turn, each run in fresh processes whose series are there already, and of about so many seconds.
 Figures are medians over the runs, with the least and the most in brackets; a ratio is one of a run of the service to the
-bare gateway's run beside it. Processor time is that of the service and of its gateways together, with what flushing,
-journal and outbox take meanwhile.
+run beside it. Processor time is all of a service's, an earlier one's gateway counted, with what flushing, journal and outbox
+take meanwhile.
 """
 import contextlib
 import os
 
 import loading
 from loading import Posts, Senders, rounded
+from allocators import environment, shown
 from process import file_system, numbers, processor_seconds, spread
-from running import as_served, bare, options, serving, shown
+from running import bare, options, processes, serving
 
 from loopback import free_port
 
@@ -32,57 +34,57 @@ ROWS = {"json-1": ("json", 1, 4000), "json-20": ("json", 20, 1000), "protobuf-10
         "grpc-1": ("grpc", 1, 4000), "grpc-103": ("grpc", 103, 300)}
 SERVICE = ["process", "disk"]
 PARTIES = ["gateway", *SERVICE]
+EARLIER = "earlier-"
+# Of the bare gateway.
+RECEIVERS = ["--receivers", "4"]
 # Of each sender, so that what a run begins with does not count.
 LEAST_POSTS = 50
 
 
 class Figures:
-    """Those of one run. A post's processor time in microseconds: of the service, and of the gateway."""
+    """Those of one run. A post's processor time in microseconds."""
 
-    def __init__(self, own, child, loaded):
-        self.own, self.child = own / loaded.requests * 1e6, child / loaded.requests * 1e6
+    def __init__(self, seconds, loaded):
+        self.processor = seconds / loaded.requests * 1e6
         self.a_second = loaded.requests / loaded.seconds
         self.median, self.last = loaded.median, loaded.last
         self.failed = loaded.failed
 
 
 def measured(port, pids, clients, posts, requests):
-    """The load, and the processor time of each process meanwhile."""
+    """The figures of a load on these processes."""
     senders = Senders(port, clients, posts)
     senders.make_series()
-    before = [processor_seconds(pid) for pid in pids]
+    before = sum(map(processor_seconds, pids))
     loaded = senders.load(rounded(requests, clients))
-    return loaded, [processor_seconds(pid) - least for pid, least in zip(pids, before)]
+    return Figures(sum(map(processor_seconds, pids)) - before, loaded)
 
 
-def run(party, arguments, served, row, clients, requests):
+def run(party, arguments, row, clients, requests):
     """The figures of one run."""
     encoding, points, _ = ROWS[row]
     connections = "kept"
     with contextlib.ExitStack() as stack:
-        if party in SERVICE:
-            grpc = free_port()
-            one = stack.enter_context(serving(arguments, "--durable", party, "--slots", str(arguments.slots), "--listen-grpc",
-                                              f"127.0.0.1:{grpc}"))
-            port, pids = grpc if encoding == "grpc" else one.listen, [one.process.pid, *one.gateways()]
-        else:
-            words = [arguments.gateway, "serve", "--connections", "1000000", *served[0]]
-            port, gateway = stack.enter_context(bare(words, served[1]))
+        if party == "gateway":
+            words = [arguments.gateway, "serve", "--connections", "1000000", *RECEIVERS]
+            port, gateway = stack.enter_context(bare(words, environment("tcmalloc")))
             pids, encoding, connections = [gateway.pid], "json", "each"
-        posts = Posts("sum", points, arguments.series, encoding, connections)
-        loaded, times = measured(port, pids, clients, posts, requests)
-        own = 0 if party == "gateway" else times.pop(0)
-        return Figures(own, sum(times), loaded)
+        else:
+            grpc = free_port()
+            words = ["--durable", party.removeprefix(EARLIER), "--listen-grpc", f"127.0.0.1:{grpc}"]
+            one = stack.enter_context(serving(arguments, *words, is_earlier=party.startswith(EARLIER)))
+            port, pids = grpc if encoding == "grpc" else one.listen, processes(one)
+        return measured(port, pids, clients, Posts("sum", points, arguments.series, encoding, connections), requests)
 
 
-def print_row(arguments, served, row, clients):
+def print_row(arguments, row, clients):
     """Runs the parties in turn, and prints a line for each."""
     runs = {party: [] for party in arguments.parties}
     requests = {party: int(ROWS[row][2] * arguments.seconds) for party in arguments.parties}
     for number in range(arguments.runs + 1):  # The first one finds how many requests take the time.
         for party in arguments.parties:
             count = requests[party] if number else requests[party] // 4
-            figures = run(party, arguments, served, row, clients, max(count, LEAST_POSTS * clients))
+            figures = run(party, arguments, row, clients, max(count, LEAST_POSTS * clients))
             if number:
                 runs[party].append(figures)
             else:
@@ -90,28 +92,27 @@ def print_row(arguments, served, row, clients):
     print(f"\n{row}, {clients} senders", flush=True)
     for party, all_of_it in runs.items():
         print_party(party, all_of_it)
-        if party != "gateway" and "gateway" in runs:
-            print_ratios(runs["gateway"], all_of_it)
+        for other in ("gateway", EARLIER + party):
+            if party != "gateway" and other in runs and not party.startswith(EARLIER):
+                print_ratios(other, runs[other], all_of_it)
 
 
 def print_party(party, runs):
     def of(name, form):
         return spread([getattr(it, name) for it in runs], form)
     failed = sum(it.failed for it in runs)
-    own = f"own {of('own', '.1f')}, gateway " if party != "gateway" else ""
-    print(f"  {party}: us a post {own}{of('child', '.1f')}; posts/s {of('a_second', ',.0f')}; us of a post: median"
+    print(f"  {party}: us a post {of('processor', '.1f')}; posts/s {of('a_second', ',.0f')}; us of a post: median"
           f" {of('median', ',.0f')}, 99th {of('last', ',.0f')}" + (f"; {failed} FAILED" if failed else ""), flush=True)
 
 
-def print_ratios(bare_runs, runs):
-    pairs = list(zip(bare_runs, runs))
-    own = [its.own / ours.child for ours, its in pairs]
-    child = [its.child / ours.child for ours, its in pairs]
+def print_ratios(name, others, runs):
+    pairs = list(zip(others, runs))
+    processor = [its.processor / ours.processor for ours, its in pairs]
     a_second = [its.a_second / ours.a_second for ours, its in pairs]
     median = [(its.median - ours.median) / 1e3 for ours, its in pairs]
     last = [(its.last - ours.last) / 1e3 for ours, its in pairs]
-    print(f"    to the bare gateway's: own processor time {spread(own, '.2f')}, its gateway's {spread(child, '.2f')}, posts/s"
-          f" {spread(a_second, '.2f')}; ms more: median {spread(median, '.2f')}, 99th {spread(last, '.2f')}", flush=True)
+    print(f"    to {name}: processor time {spread(processor, '.2f')}, posts/s {spread(a_second, '.2f')}; ms more: median"
+          f" {spread(median, '.2f')}, 99th {spread(last, '.2f')}", flush=True)
 
 
 def main():
@@ -122,16 +123,17 @@ def main():
     parser.add_argument("--parties", type=lambda text: text.split(","), default=PARTIES)
     parser.add_argument("--runs", type=int, default=5)
     parser.add_argument("--seconds", type=float, default=1)
-    parser.add_argument("--slots", type=int, default=1)
     arguments = parser.parse_args()
+    if arguments.earlier:
+        arguments.parties += [EARLIER + party for party in arguments.parties if party in SERVICE]
     loading.build()
-    served = as_served(arguments)
-    print(f"{arguments.totxegun}, {arguments.gateway}, {len(os.sched_getaffinity(0))} processors, {arguments.runs} runs in turn,"
-          f" {arguments.slots} slots, the folder on {file_system(arguments.data)}; a gateway has {' '.join(served[0])}, and"
-          f" {shown(served[1])}", flush=True)
+    os.makedirs(arguments.data, exist_ok=True)
+    print(f"{arguments.totxegun}, {arguments.gateway}, {len(os.sched_getaffinity(0))} processors, {arguments.runs} runs in turn, the"
+          f" folder on {file_system(arguments.data)}; the bare gateway has {' '.join(RECEIVERS)}, and {shown(environment('tcmalloc'))}",
+          flush=True)
     for row in arguments.rows:
         for clients in arguments.senders:
-            print_row(arguments, served, row, clients)
+            print_row(arguments, row, clients)
 
 
 if __name__ == "__main__":

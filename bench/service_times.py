@@ -1,27 +1,28 @@
 #!/usr/bin/env python3
 """Prints how long the service takes for what happens seldom, and what it writes.
 
-    bench/service_times.py checkpoint|kill|replay|backlog|bytes [--totxegun FILE] [--gateway FILE] [--series N,..] [--posts N,..]
+    bench/service_times.py checkpoint|kill|replay|backlog|bytes [--totxegun FILE] [--earlier FOLDER] [--series N,..] [--posts N,..]
                            [--points N,..] [--requests N] [--times N] [--durable WHAT] [--data DIR] [--options WORDS]
 
-  checkpoint  the pause of a checkpoint in which each series (1,000 and 10,000) has a new point, as the service counts it
-  kill        kill -9 of the gateway behind a checkpoint: until a fresh one is started and primed with so many series, as the
-              service counts it; and until a post is answered 200 again
-  replay      kill -9 of the gateway with so many posts (10,000 and 100,000) of so many points (1, 20 and 103, 800 series) in
-              no group: the same two times, and the posts that were replayed
+  checkpoint  the pause of a checkpoint in which each series (1,000, 10,000 and 100,000) has a new point, as the service counts it,
+              and how long the order takes
+  kill        kill -9 after a checkpoint, and a start: until the books are primed with so many series, as the service counts it;
+              and until a post is answered 200 again
+  replay      kill -9 with so many posts (10,000 and 100,000) of so many points (1, 20 and 103, 800 series) in no group, and a
+              start: the same two times, and the posts that were replayed
   backlog     a start with so many requests (1,000,000) in the outbox, which this script writes: until it is ready
-  bytes       bytes on disk for each point (10,000 posts of 20 points, 800 series, a flush behind each tenth of them): of the
+  bytes       bytes on disk for each point (10,000 posts of 20 points, 800 series, a flush after each tenth of them): of the
               journal, and of the outbox against the bytes that were forwarded
 
-The programs are bin/totxegun and bin/gateway where none is named, `--durable` is process. Each is done `--times` times
-(5; a replay and a backlog once): the median, and the least and the most in brackets. What is printed says what was
-measured here, and asserts nothing.
+The program is bin/totxegun where none is named, `--durable` is process. FOLDER has totxegun and gateway of a revision whose
+service starts a gateway (1383c49c): checkpoint, kill and replay are done to it too, in turn, with up to 10,000 series. Each is
+done `--times` times (5; a replay and a backlog once): the median, and the least and the most in brackets. What is printed says
+what was measured here, and asserts nothing.
 """
 import glob
 import json
 import os
 import re
-import signal
 import struct
 import time
 import zlib
@@ -38,6 +39,8 @@ from service import ask
 BY_ORDER = ("--flush-every", "1h")
 CLIENTS = 8
 SERIES = 800
+# So many series an earlier service takes.
+EARLIER_SERIES = 10_000
 # Of the outbox that is written.
 IN_GROUP, SEGMENT = 10, 16 << 20
 HEADER, END, SNAPSHOT, GROUP, ITEM, COMMIT = 1, 3, 16, 17, 18, 19
@@ -68,16 +71,30 @@ def of_each_series(one, series):
     return Senders(one.listen, CLIENTS, Posts("sum", series // CLIENTS, series, "json", "kept"))
 
 
+def parties(arguments, series):
+    """The service, and the earlier one where it is asked for and takes so many series: its name, and whether it is the earlier."""
+    yield "", False
+    if arguments.earlier and series <= EARLIER_SERIES:
+        yield "earlier: ", True
+
+
+def started(arguments, is_earlier):
+    return serving(arguments, *BY_ORDER, "--durable", arguments.durable, is_earlier=is_earlier)
+
+
 def checkpoint(arguments):
     for series in arguments.series:
-        with serving(arguments, *BY_ORDER, "--durable", arguments.durable) as one:
-            senders, pauses = of_each_series(one, series), []
-            for _ in range(arguments.times + 1):
-                posted_all(senders, CLIENTS)
-                before = metric(one, "checkpoint_pause_seconds_sum")
-                order(one, "/flush")
-                pauses.append((metric(one, "checkpoint_pause_seconds_sum") - before) * 1e3)
-            print(f"{series:,} series: a checkpoint holds posts for {spread(pauses[1:], '.1f')} ms", flush=True)
+        for name, is_earlier in parties(arguments, series):
+            with started(arguments, is_earlier) as one:
+                senders, pauses, orders = of_each_series(one, series), [], []
+                for _ in range(arguments.times + 1):
+                    posted_all(senders, CLIENTS)
+                    before, begun = metric(one, "checkpoint_pause_seconds_sum"), time.monotonic()
+                    order(one, "/flush")
+                    orders.append((time.monotonic() - begun) * 1e3)
+                    pauses.append((metric(one, "checkpoint_pause_seconds_sum") - before) * 1e3)
+                print(f"{name}{series:,} series: a checkpoint holds posts for {spread(pauses[1:], '.1f')} ms, and takes"
+                      f" {spread(orders[1:], '.1f')} ms", flush=True)
 
 
 def first_answer(one, number):
@@ -91,34 +108,37 @@ def first_answer(one, number):
 
 
 def killed(one, number):
-    """Kills the gateway: the seconds until a fresh one has all, as the service counts them, and until an answer."""
-    before, begun = metric(one, "recovery_seconds_sum"), time.monotonic()
-    one.signal_gateway(signal.SIGKILL)
+    """Kills it: the seconds until a start has all, as the service counts them, and until an answer."""
+    one.kill()
+    begun = time.monotonic()
+    one.start(one.environment)
     first_answer(one, number)
-    return metric(one, "recovery_seconds_sum") - before, time.monotonic() - begun
+    return metric(one, "recovery_seconds_sum"), time.monotonic() - begun
 
 
 def kill(arguments):
     for series in arguments.series:
-        with serving(arguments, *BY_ORDER, "--durable", arguments.durable) as one:
-            senders, found = of_each_series(one, series - CLIENTS), []
-            for number in range(arguments.times):
-                posted_all(senders, CLIENTS)
-                order(one, "/flush")
-                found.append(killed(one, number))
-            print(f"{series:,} series: a gateway is started and primed in {spread([it[0] * 1e3 for it in found], '.0f')} ms; a post is"
-                  f" answered {spread([it[1] * 1e3 for it in found], '.0f')} ms behind the kill", flush=True)
+        for name, is_earlier in parties(arguments, series):
+            with started(arguments, is_earlier) as one:
+                senders, found = of_each_series(one, series - CLIENTS), []
+                for number in range(arguments.times):
+                    posted_all(senders, CLIENTS)
+                    order(one, "/flush")
+                    found.append(killed(one, number))
+                print(f"{name}{series:,} series: it is primed in {spread([it[0] * 1e3 for it in found], '.0f')} ms; a post is answered"
+                      f" {spread([it[1] * 1e3 for it in found], '.0f')} ms after the start", flush=True)
 
 
 def replay(arguments):
     for posts in arguments.posts:
         for points in arguments.points:
-            with serving(arguments, *BY_ORDER, "--durable", arguments.durable) as one:
-                posted_all(Senders(one.listen, CLIENTS, Posts("sum", points, SERIES, "json", "kept")), posts)
-                counted, answered = killed(one, 0)
-                replayed = re.findall(r"posts of the journal: (\d+)", one.last_lines())[-1]
-                print(f"{posts:,} posts of {points} points: {int(replayed):,} replayed in {counted:.2f} s; a post is answered"
-                      f" {answered:.2f} s behind the kill", flush=True)
+            for name, is_earlier in parties(arguments, SERIES):
+                with started(arguments, is_earlier) as one:
+                    posted_all(Senders(one.listen, CLIENTS, Posts("sum", points, SERIES, "json", "kept")), posts)
+                    counted, answered = killed(one, 0)
+                    replayed = re.findall(r"posts of the journal: (\d+)", one.last_lines())[-1]
+                    print(f"{name}{posts:,} posts of {points} points: {int(replayed):,} replayed in {counted:.2f} s; a post is answered"
+                          f" {answered:.2f} s after the start", flush=True)
 
 
 def record(kind, *parts):
@@ -225,7 +245,7 @@ COMMANDS = {"checkpoint": checkpoint, "kill": kill, "replay": replay, "backlog":
 def main():
     parser = options(__doc__.split("\n", maxsplit=1)[0])
     parser.add_argument("command", choices=COMMANDS)
-    parser.add_argument("--series", type=numbers, default=[1000, 10_000])
+    parser.add_argument("--series", type=numbers, default=[1000, 10_000, 100_000])
     parser.add_argument("--posts", type=numbers, default=[10_000, 100_000])
     parser.add_argument("--points", type=numbers, default=[1, 20, 103])
     parser.add_argument("--requests", type=int, default=1_000_000)

@@ -7,8 +7,7 @@ from html import escape
 WIDTH, LEFT, RIGHT, TOP = 960, 70, 16, 64
 PANEL, GAP = 120, 44
 COLORS = ("#0b6e99", "#d9730d")
-KILLS = {"gateway": ("G", "the gateway"), "service": ("S", "the service"), "both": ("B", "both"),
-         "database": ("P", "PostgreSQL")}
+KILLS = {"service": ("T", "totxegun"), "database": ("P", "PostgreSQL")}
 STYLE = """<style>text{font:12px sans-serif;fill:#333}.head{font-size:15px;font-weight:bold}.name{font-weight:bold}
 .grid{stroke:#ddd}.kill{stroke:#b00020;stroke-dasharray:3 3;opacity:.6}.down{fill:#b00020;opacity:.1}.mark{fill:#b00020;
 font-weight:bold;text-anchor:middle}.right{text-anchor:end}.line{fill:none;stroke-width:1.8}</style>"""

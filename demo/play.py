@@ -3,7 +3,6 @@ import json
 import os
 import random
 import shutil
-import signal
 import threading
 import time
 
@@ -13,7 +12,7 @@ from service import Service, wait_until
 
 SHOPS = (("shop-1", "protobuf"), ("shop-2", "json"))
 # What is killed first, each of it once; then any of it.
-VICTIMS = ("gateway", "service", "both", "database")
+VICTIMS = ("service", "database")
 # Between two kills, and how long what was killed is down, in seconds.
 BETWEEN = (2.5, 5.5)
 DOWN = (0.2, 1.5)
@@ -28,7 +27,7 @@ ORDERED = "select coalesce(sum(total), 0) from totxegun.totals where name = 'sho
 class Play:
     """The stage and all that is on it."""
 
-    def __init__(self, totxegun, gateway, sender, folder, seconds, seed):
+    def __init__(self, totxegun, sender, folder, seconds, seed):
         shutil.rmtree(folder, ignore_errors=True)
         os.makedirs(folder)
         self.folder, self.seconds, self.seed = folder, seconds, seed
@@ -39,7 +38,7 @@ class Play:
         self.prometheus = None
         self.sender = sender
         self.database = Database()
-        self.service = Service(totxegun, gateway, f"{folder}/data", self.database.address, "--flush-every", "1s")
+        self.service = Service(totxegun, f"{folder}/data", self.database.address, "--flush-every", "1s")
 
     def begin(self):
         self.database.start()
@@ -83,10 +82,8 @@ class Play:
             self.kill(victim)
 
     def kill(self, victim):
-        """As by `kill -9`. Who is killed is started again, the gateway by the service."""
-        if victim in ("gateway", "both"):
-            self.service.signal_gateway(signal.SIGKILL)
-        if victim in ("service", "both"):
+        """As by `kill -9`. Who is killed is started again."""
+        if victim == "service":
             self.service.kill()
             time.sleep(self.chance.uniform(*DOWN))
             self.service.start()

@@ -5,7 +5,7 @@
 
 It needs what `tools/needs demo` installs, builds what is missing, and then runs for SECONDS (60): two programs that are
 measured by OpenTelemetry's SDK, one posting in protobuf and one in JSON; totxegun; PostgreSQL in a folder of its own;
-Prometheus. It kills the gateway, the service, both, and PostgreSQL, by the chances of SEED (1). At the end it prints what
+Prometheus. It kills totxegun and PostgreSQL, by the chances of SEED (1). At the end it prints what
 the programs have counted by themselves beside what PostgreSQL and Prometheus have, by series, and draws a picture of the
 run. The status is 0 where nothing differs. All files are in out/demo.
 """
@@ -22,12 +22,14 @@ sys.path[1:1] = [f"{ROOT}/tools", f"{ROOT}/tests"]
 from picture import draw  # noqa: E402
 from play import Play  # noqa: E402
 from scraped import torn  # noqa: E402
-from serve import gateway, totxegun  # noqa: E402
+from serve import totxegun  # noqa: E402
 from steps import interrupt  # noqa: E402
 
 OUT = f"{ROOT}/out/demo"
 LIBRARIES = "/usr/share/gocode"
-SHOWN = {"gateway": "the gateway", "service": "the service", "both": "both at once", "database": "PostgreSQL"}
+SHOWN = {"service": "totxegun", "database": "PostgreSQL"}
+# Of each word its name, what it is where it is not given, and its least: a shorter run has no kill.
+WORDS = (("SEED", 1, 0), ("SECONDS", 60, 10))
 
 
 def build_sender():
@@ -73,12 +75,11 @@ def run(seed, seconds):
     if subprocess.run([f"{ROOT}/tools/needs", "demo"], check=False).returncode:
         return 1
     program = totxegun()
-    gateway_program = program and gateway()
-    sender = gateway_program and build_sender()
+    sender = program and build_sender()
     if not sender:
         return 1
     begun = time.monotonic()
-    play = Play(program, gateway_program, sender, f"{OUT}/run", seconds, seed)
+    play = Play(program, sender, f"{OUT}/run", seconds, seed)
     try:
         print(f"running for {seconds} s, seed {seed}", flush=True)
         play.begin()
@@ -92,11 +93,22 @@ def run(seed, seconds):
         play.close()
 
 
+def read(words):
+    """The seed and the seconds, or ends this with a line that says what they have to be."""
+    if len(words) > len(WORDS):
+        sys.exit(f"usage: {sys.argv[0]} [SEED] [SECONDS]")
+    for (name, _, least), word in zip(WORDS, words):
+        if not word.isascii() or not word.isdecimal() or int(word) < least:
+            sys.exit(f"demo/run.py: {name} has to be a whole number from {least} on, and is `{word}`: make demo SEED=5 SECONDS=60")
+    return [*map(int, words), *(default for _, default, _ in WORDS[len(words):])]
+
+
 def main(words):
+    seed, seconds = read(words)
     for it in (signal.SIGTERM, signal.SIGHUP):
         signal.signal(it, interrupt)
     try:
-        return run(*[int(word) for word in words] + [1, 60][len(words):])
+        return run(seed, seconds)
     except KeyboardInterrupt:
         return 130
 

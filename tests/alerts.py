@@ -1,7 +1,7 @@
 #!/usr/bin/env python3
 """The alerts and the dashboard of operate/, with a real Prometheus.
 
-    tests/alerts.py TOTXEGUN GATEWAY
+    tests/alerts.py TOTXEGUN
 
 Prometheus scrapes three services, whose rules are those of operate/alerts.yml with minutes made seconds. What each alert is
 for is done to a service; the alert has to fire, and to clear once the cause is gone. Each query of operate/dashboard.json is
@@ -15,7 +15,6 @@ import json
 import os
 import re
 import shutil
-import signal
 import subprocess
 import sys
 import tempfile
@@ -35,9 +34,11 @@ FOLDERS = "/dev/shm" if os.access("/dev/shm", os.W_OK) else None
 # What a file of the test takes of the disk, and what is left when the alert fires.
 FILL, NEARLY_FULL = 96 << 20, 48 << 20
 SERIES = 20
-# A busy machine takes seconds to replace a gateway.
-SHORT = ((r"for: \d+[mh]", "for: 1s"), (r"\[30m\]\)\) > 3", "[20s])) > 1"), (r"\[\d+[mh]\]", "[6s]"),
-         (r"offset 1h", "offset 6s"), (r"> 300", "> 3"), (r"> 9000", f"> {SERIES}"))
+# The alert on series fires over so many of them; one book takes 10,000.
+MOST_SERIES, TAKES = 1_000, 10_000
+TOO_MANY = in_json([(f"more.{number}", 10, 20, 1) for number in range(TAKES + 1)])
+SHORT = ((r"for: \d+[mh]", "for: 1s"), (r"\[\d+[mh]\]", "[6s]"), (r"offset 1h", "offset 6s"), (r"> 300", "> 3"),
+         (r"> 0\.9", f"> {SERIES / MOST_SERIES}"))
 SCRAPES = """\
 global: {{scrape_interval: 500ms, scrape_timeout: 500ms, evaluation_interval: 500ms}}
 rule_files: [alerts.yml]
@@ -116,7 +117,7 @@ class Causes:
         return ask(self.service.listen, "POST", "/v1/metrics", body, {"Content-Type": JSON, "x-sender": sender})[0]
 
     def sees(self, alerts, cause, begin, end):
-        """Each of them fires behind the cause, and clears behind its end; and none fired before."""
+        """Each of them fires after the cause, and clears after its end; and none fired before."""
         alerts = [f"Totxegun{alert}" for alert in alerts.split()]
         fired = set()
 
@@ -181,9 +182,14 @@ class Causes:
         self.service.order("/flush")
 
     def forget(self):
-        """Series that nobody has posted to for a second are left out of a fresh gateway."""
+        """Series that nobody has posted to for a second are forgotten once a post finds no room for its own."""
         time.sleep(2)
-        self.service.order("/renew")
+        self.post_too_many()
+
+    def post_too_many(self):
+        """A post that is refused, since no book has room for its series."""
+        headers = {"Content-Type": JSON, "x-sender": "C"}
+        return ask(self.service.listen, "POST", "/v1/metrics", TOO_MANY, headers)
 
     def of_senders(self, fill):
         self.sees("NotFlushed", "nothing that flushes", self.post, lambda: self.service.order("/flush"))
@@ -197,19 +203,13 @@ class Causes:
         body = in_json([("a", self.time, self.time + 10, 1)]).replace(b'"asInt": "1"', b'"asDouble": 1.5')
         ask(self.service.listen, "POST", "/v1/metrics", body, {"Content-Type": JSON, "x-sender": "A"})
 
-    # Those of refusals and of the gateway
+    # Those of refusals
 
-    def of_gateway(self):
+    def of_refusals(self):
         self.post("A")
         self.sees_repeated("PostsRefused", "another sender of a series", lambda: self.post("B"))
         self.sees_repeated("PostsRefused", "a clock that went back", lambda: self.post("A", start=10**9))
-        self.sees_repeated("GatewayLost PostsTurnedAway", "a gateway that is killed", self.kill_and_post, 0.02)
-
-    def kill_and_post(self):
-        """Posts that come while a gateway is replaced are turned away."""
-        if self.service.is_ready():
-            self.service.signal_gateway(signal.SIGKILL)
-        self.post("C", names=["c"])
+        self.sees_repeated("PostsTurnedAway", "more series than there may be", self.post_too_many)
 
 
 def write(path, text):
@@ -245,13 +245,13 @@ def look_at_dashboard(checks, prometheus, page):
     checks.same("Prometheus takes each of them", [], wrong)
 
 
-def run(checks, program, gateway, folder):
+def run(checks, program, folder):
     sink = Sink()
-    every = ("--flush-every", "1s")
-    services = [Service(program, gateway, f"{folder}/sink", sink.address, *every),
-                Service(program, gateway, f"{folder}/senders", f"sqlite:{folder}/senders.db", "--flush-every", "1h",
-                        "--forget-series", "1s"),
-                Service(program, gateway, f"{folder}/gateway", f"sqlite:{folder}/gateway.db", *every)]
+    every, series = ("--flush-every", "1s"), ("--most-series", str(MOST_SERIES))
+    services = [Service(program, f"{folder}/sink", sink.address, *every),
+                Service(program, f"{folder}/senders", f"sqlite:{folder}/senders.db", "--flush-every", "1h",
+                        "--forget-series", "1s", *series),
+                Service(program, f"{folder}/refusals", f"sqlite:{folder}/refusals.db", *every, *series)]
     with contextlib.ExitStack() as closing:
         closing.callback(sink.close)
         for service in services:
@@ -262,7 +262,7 @@ def run(checks, program, gateway, folder):
         closing.callback(prometheus.close)
         checks.true("Prometheus scrapes them", wait_until(lambda: prometheus.is_up(len(services))), "it does not")
         first, second, third = [Causes(checks, prometheus, service, sink) for service in services]
-        threads = [threading.Thread(target=first.of_sink), threading.Thread(target=third.of_gateway),
+        threads = [threading.Thread(target=first.of_sink), threading.Thread(target=third.of_refusals),
                    threading.Thread(target=second.of_senders, args=(f"{folder}/fill",))]
         for thread in threads:
             thread.start()
@@ -273,18 +273,18 @@ def run(checks, program, gateway, folder):
         look_at_dashboard(checks, prometheus, page)
 
 
-def main(program, gateway):
+def main(program):
     checks = Checks()
     missing = [name for name in ("prometheus", "promtool") if not shutil.which(name)]
     if checks.has("alerts and dashboard", *missing):
         promtool(checks, "the rules are rules", "check", "rules", "alerts.yml")
         promtool(checks, "they fire and clear when they should", "test", "rules", f"{HERE}/alerts_by_time.yml")
         with tempfile.TemporaryDirectory(prefix="alerts-", dir=FOLDERS) as folder:
-            run(checks, program, gateway, folder)
+            run(checks, program, folder)
     return checks.end()
 
 
 if __name__ == "__main__":
-    if len(sys.argv) != 3:
-        sys.exit(f"usage: {sys.argv[0]} TOTXEGUN GATEWAY")
-    sys.exit(main(*map(os.path.abspath, sys.argv[1:])))
+    if len(sys.argv) != 2:
+        sys.exit(f"usage: {sys.argv[0]} TOTXEGUN")
+    sys.exit(main(os.path.abspath(sys.argv[1])))

@@ -1,12 +1,11 @@
 #!/usr/bin/env python3
 """The service behind a real haproxy and a real nginx, by the files of operate/.
 
-    tests/behind_proxies.py TOTXEGUN GATEWAY [haproxy|nginx ..]
+    tests/behind_proxies.py TOTXEGUN [haproxy|nginx ..]
 
 Names first: a sender has the name of its certificate or token, whatever name it gives itself, and without one it is
 refused. Then what is hidden, sizes, encodings, HTTP/2. Then senders, half of them by certificates, post on connections that
-they keep and repeat each post until it is answered, while the proxy, the gateway, both, and the service are killed by
-`kill -9`. At the end the SQLite sink has, series by series, what the senders were told is taken, and each series has the
+they keep and repeat each post until it is answered, while the proxy, the service, and both are killed by `kill -9`. At the end the SQLite sink has, series by series, what the senders were told is taken, and each series has the
 sender that the proxy named.
 
 It needs haproxy, nginx, curl and openssl. Where one is missing a line says so, and the status is 77. Each other line is one
@@ -17,7 +16,6 @@ import gzip
 import http.client
 import os
 import re
-import signal
 import ssl
 import subprocess
 import sys
@@ -167,7 +165,7 @@ class Client(Sender):
 
 
 def owners(service):
-    """The senders of all series, by the gateway's report."""
+    """The senders of all series, by the service's report."""
     with contextlib.closing(http.client.HTTPConnection("127.0.0.1", service.operate, timeout=SECONDS)) as client:
         client.request("GET", "/report")
         return dict(re.findall(r"^series (\S+) .* owner (\S+) ", client.getresponse().read().decode(), re.MULTILINE))
@@ -230,13 +228,10 @@ def kills(proxy, service):
         proxy.kill()
         proxy.start()
 
-    def kill_gateway():
-        service.signal_gateway(signal.SIGKILL)
-
     def kill_service():
         service.kill()
         service.start()
-    return [kill_proxy, kill_gateway, lambda: (kill_gateway(), kill_proxy()), kill_service, kill_proxy, kill_gateway]
+    return [kill_proxy, kill_service, lambda: (kill_service(), kill_proxy())] * 2
 
 
 def under_load(checks, proxy, service, sink):
@@ -266,12 +261,12 @@ def under_load(checks, proxy, service, sink):
     print(f"note: {kind}: {sum(it.posts for it in clients)} posts, {sum(it.repeats for it in clients)} repeats", flush=True)
 
 
-def behind(totxegun, gateway, checks, kind):
+def behind(totxegun, checks, kind):
     with contextlib.ExitStack() as stack:
         at = folder(stack)
         make_names(at)
         sink = SqliteSink(f"{at}/sink.db")
-        service = Service(totxegun, gateway, f"{at}/data", sink.address, "--flush-every", "1s")
+        service = Service(totxegun, f"{at}/data", sink.address, "--flush-every", "1s")
         stack.callback(service.kill)
         service.start()
         checks.true(f"{kind}: the service is ready", service.wait_ready(), service.last_lines())
@@ -285,11 +280,11 @@ def behind(totxegun, gateway, checks, kind):
         checks.same(f"{kind}: SIGTERM ends the service", 0, service.end()[0])
 
 
-def work(totxegun, gateway, checks, stack):
-    for kind in sys.argv[3:] or ["haproxy", "nginx"]:
+def work(totxegun, checks, stack):
+    for kind in sys.argv[2:] or ["haproxy", "nginx"]:
         if checks.has(kind, *missing([kind, "curl", "openssl"])):
-            behind(totxegun, gateway, checks, kind)
+            behind(totxegun, checks, kind)
 
 
 if __name__ == "__main__":
-    run_script(300, work, ("TOTXEGUN", "GATEWAY"))
+    run_script(300, work, ("TOTXEGUN",))

@@ -1,7 +1,7 @@
 #!/usr/bin/env python3
 """Clients of several languages post to the service, and each counts what it was told is taken.
 
-    tests/clients.py TOTXEGUN GATEWAY
+    tests/clients.py TOTXEGUN
 
 curl (JSON; protobuf packed by gzip; over 1 KiB behind `Expect: 100-continue`; HTTP/1.0; in chunks from its standard input),
 wrk on kept connections, Python (http.client on a kept connection, urllib), Node (http with an agent, fetch) and Java
@@ -9,11 +9,12 @@ wrk on kept connections, Python (http.client on a kept connection, urllib), Node
 Python's library has written. Each way has a series of its own, and repeats what is answered 503 after as many seconds as
 Retry-After says.
 
-First wrk is alone, and each answer has to be 200. Then all post at once, while the gateway is killed twice as by `kill -9`.
-The sink has to have what each has counted; of wrk, which breaks off a post at its end, what the service has counted. Two
-ways post fractions of a second: the service has to say of each of these series by how much it rounded.
+First wrk is alone, and each answer has to be 200. Then all post at once, while the disk of the service's folder, which is
+small, is full twice. The sink has to have what each has counted; of wrk, which breaks off a post at its end, what the
+service has counted. Two ways post fractions of a second: the service has to say of each of these series by how much it
+rounded.
 
-It needs curl, wrk and python3-protobuf; where one is missing a line says so, and the status is 77. Each other line is one
+It needs curl, wrk, python3-protobuf and root's right to mount; where one is missing a line says so, and the status is 77. Each other line is one
 check; the last one counts those that passed and failed and names the clients that are not installed, and the status is 1
 where one failed.
 """
@@ -22,7 +23,6 @@ import importlib.util
 import os
 import re
 import shutil
-import signal
 import subprocess
 import sys
 import tempfile
@@ -37,12 +37,15 @@ sys.path.append(os.path.join(os.path.dirname(os.path.abspath(__file__)), "client
 from checks import Checks
 from protobuf_bodies import descriptor_pb2, message_classes
 from service import Service, SqliteSink, add_points, ask, differences, overlaps, wait_until
+from shipped import own_disk
 from ways import BODIES, External, InSeconds, Programs, Wrk, own_ways
 
 RULE = "s=1000000:us"
 # A machine that is busy takes its time.
 PATIENCE = 180
 LEAST_POSTS = 200
+# Of the disk, and of the file that fills it: 64 MiB are kept back of any disk.
+DISK, FILL = 256 << 20, 200 << 20
 
 
 def metrics(service):
@@ -69,7 +72,7 @@ def is_settled(service):
 
 
 def totals(checks, what, service, sink):
-    """What the sink has of each series, behind a flush."""
+    """What the sink has of each series, after a flush."""
     checks.true(f"{what}: within {PATIENCE} s no post is under way", is_settled(service), service.last_lines())
     service.order("/flush")
     checks.true(f"{what}: all is delivered", wait_until(service.is_drained), service.last_lines())
@@ -80,7 +83,7 @@ def totals(checks, what, service, sink):
 
 
 def compare_wrk(checks, what, told, found, accepted):
-    """Each series has what was answered, and a post more where wrk broke it off behind its end; the service counted all."""
+    """Each series has what was answered, and a post more where wrk broke it off after its end; the service counted all."""
     found = {name: found.get(name, 0) for name in told}
     checks.true(f"{what}: of each series the sink has what was answered, or one post more",
                 all(found[name] - told[name] in (0, 1) for name in told), (told, found))
@@ -99,8 +102,8 @@ def alone(checks, service, sink, folder, stack):
     return wrk.taken
 
 
-def recoveries(service):
-    return metrics(service)['totxegun_recoveries_total{slot="0"}']
+def turned_away(service):
+    return metrics(service).get('totxegun_posts_total{status="503"}', 0)
 
 
 def read(ways):
@@ -117,24 +120,27 @@ def have_more(ways, than):
     return wait_until(lambda: all(has(way) for way in read(ways)), PATIENCE)
 
 
-def kill_gateway(checks, service, ways, which):
-    """Behind it each way goes on."""
-    service.signal_gateway(signal.SIGKILL)
-    is_there = wait_until(lambda: recoveries(service) > which, PATIENCE) and service.wait_ready(PATIENCE)
-    checks.true(f"behind kill {which} there is a gateway", is_there, service.last_lines())
+def fill_disk(checks, service, ways, folder, which):
+    """Posts are turned away; then there is room again, and each way goes on."""
+    before = turned_away(service)
+    with open(f"{folder}/fill", "wb") as file:
+        os.posix_fallocate(file.fileno(), 0, FILL)
+    is_full = wait_until(lambda: turned_away(service) > before + len(ways), PATIENCE)
+    os.remove(f"{folder}/fill")
+    checks.true(f"disk full, {which}: posts are turned away", is_full, service.last_lines())
     before = {way.series: way.taken for way in read(ways)}
-    checks.true(f"behind kill {which} each way goes on", have_more(ways, before),
+    checks.true(f"disk full, {which}: each way goes on", have_more(ways, before),
                 [(way.series, before[way.series], way.taken, way.surprise) for way in ways])
 
 
 def beside(checks, service, ways, folder, stack):
-    """All at once, over two kills."""
+    """All at once, over a disk that is full twice."""
     checks.true("each way posts", have_more(ways, {}), [(way.series, way.taken, way.surprise) for way in ways])
     wrk = Wrk(service.listen, folder, "wrk.beside")
     stack.callback(wrk.kill)
     for which in (1, 2):
         time.sleep(0.7)
-        kill_gateway(checks, service, ways, which)
+        fill_disk(checks, service, ways, folder, which)
     time.sleep(1.2)  # so long waits who is told so
     wrk.end(checks, "wrk beside the others")
     return wrk
@@ -158,10 +164,10 @@ def compare_rounding(checks, totxegun, service, ways, found):
     checks.true("totxegun status shows them", all(re.search(rf"(?m)^\d+\.\d{{3}} us +\d+ +{way.series}\b", text) for way in ways), text)
 
 
-def run(checks, totxegun, gateway, folder, stack):
+def run(checks, totxegun, folder, stack):
     """Which clients are not installed."""
     sink, stop = SqliteSink(f"{folder}/sink.db"), threading.Event()
-    service = Service(totxegun, gateway, f"{folder}/data", sink.address, "--flush-every", "1s", "--whole", "s=us")
+    service = Service(totxegun, f"{folder}/data", sink.address, "--flush-every", "1s", "--whole", "s=us")
     stack.callback(service.kill)
     service.start()
     checks.true("the service is ready", service.wait_ready(PATIENCE), service.last_lines())
@@ -204,22 +210,24 @@ def compare(checks, totxegun, service, sink, ways, of_wrk):
 
 
 def missing():
-    programs = [name for name in ("curl", "wrk") if not shutil.which(name)]
+    programs = [name for name in ("curl", "wrk", "mount") if not shutil.which(name)]
     return programs + ([] if descriptor_pb2 else ["python3-protobuf"])
 
 
-def main(totxegun, gateway):
+def main(totxegun):
     checks = Checks()
     if not checks.has("all clients", *missing()):
         return checks.end()
     with tempfile.TemporaryDirectory(prefix="clients-") as folder, contextlib.ExitStack() as stack:
-        left_out = run(checks, totxegun, gateway, folder, stack)
+        if not checks.has("all clients", *([] if own_disk(stack, folder, DISK) else ["the right to mount"])):
+            return checks.end()
+        left_out = run(checks, totxegun, folder, stack)
     names = "".join(f"; {name} left out" for name in left_out)
     print(f"{checks.passed} passed, {checks.failed} failed{names}", flush=True)
     return 1 if checks.failed else 0
 
 
 if __name__ == "__main__":
-    if len(sys.argv) != 3:
-        sys.exit(f"usage: {sys.argv[0]} TOTXEGUN GATEWAY")
-    sys.exit(main(*map(os.path.abspath, sys.argv[1:])))
+    if len(sys.argv) != 2:
+        sys.exit(f"usage: {sys.argv[0]} TOTXEGUN")
+    sys.exit(main(os.path.abspath(sys.argv[1])))

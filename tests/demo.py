@@ -1,7 +1,7 @@
 #!/usr/bin/env python3
 """The demo in short: programs on OpenTelemetry's SDK, PostgreSQL and Prometheus, and kills of all that is between them.
 
-    tests/demo.py TOTXEGUN GATEWAY [SECONDS] [SEED]
+    tests/demo.py TOTXEGUN [SECONDS] [SEED]
 
 At the end the programs' own counts, the database's and Prometheus' are the same, by series and bucket, and the picture of
 the run is drawn. What is missing is said, and left out with status 77.
@@ -61,7 +61,7 @@ def look(checks, play, folder):
     checks.true("the picture is drawn", len(drawn) >= 5, len(drawn))
 
 
-def main(program, gateway, seconds=SECONDS, seed=1):
+def main(program, seconds=SECONDS, seed=1):
     checks = Checks()
     if not checks.has("the demo", *missing()):
         return checks.end()
@@ -69,7 +69,7 @@ def main(program, gateway, seconds=SECONDS, seed=1):
     checks.true("the programs that post are built", sender, sender)
     print(f"note: seed {seed}", flush=True)
     with tempfile.TemporaryDirectory(prefix="demo-test-") as folder:
-        play = Play(program, gateway, sender, f"{folder}/run", float(seconds), int(seed))
+        play = Play(program, sender, f"{folder}/run", float(seconds), int(seed))
         try:
             play.begin()
             play.go()
@@ -80,6 +80,6 @@ def main(program, gateway, seconds=SECONDS, seed=1):
 
 
 if __name__ == "__main__":
-    if len(sys.argv) < 3:
-        sys.exit(f"usage: {sys.argv[0]} TOTXEGUN GATEWAY [SECONDS] [SEED]")
-    sys.exit(main(*map(os.path.abspath, sys.argv[1:3]), *sys.argv[3:5]))
+    if len(sys.argv) < 2:
+        sys.exit(f"usage: {sys.argv[0]} TOTXEGUN [SECONDS] [SEED]")
+    sys.exit(main(os.path.abspath(sys.argv[1]), *sys.argv[2:4]))

@@ -1,12 +1,12 @@
 #!/usr/bin/env python3
 """OTLP over gRPC, by gRPC's own client for Python.
 
-    tests/grpc_calls.py TOTXEGUN GATEWAY
+    tests/grpc_calls.py TOTXEGUN
 
 What a call brings is in the sink, packed or not; a repeat, another's series and a quarantined sender are refused as over
 HTTP, and the log names both senders of a series. What is too long, packed too far, of another method or packed otherwise is
 refused. A deadline that passes, a call that is cancelled, a client that goes away, bytes that are no HTTP/2, and kills of
-the service leave each point counted once; so does SIGTERM behind a deadline that has passed. Then SIGTERM ends the service
+the service leave each point counted once; so does SIGTERM after a deadline that has passed. Then SIGTERM ends the service
 while connections are open.
 
 It needs python3-grpcio; where that is missing a line says so, and the status is 77. Each other line is one check; the last
@@ -114,7 +114,7 @@ def broken_off(checks, service, client, grpc_port):
     """Calls that end before they are answered: each is repeated until it is."""
     bodies = {sender: in_protobuf(one_point(2, 1, name)) for sender, name in
               (("A", "calls"), ("C", "cancelled"), ("D", "gone"))}
-    service.signal_gateway(signal.SIGSTOP)
+    service.signal(signal.SIGSTOP)
     late = client.call(bodies["A"], seconds=0.5)
     cancelled = client.begin(bodies["C"], sender="C")
     gone = Client(grpc_port)
@@ -122,7 +122,7 @@ def broken_off(checks, service, client, grpc_port):
     time.sleep(0.3)
     cancelled.cancel()
     gone.close()
-    service.signal_gateway(signal.SIGCONT)
+    service.signal(signal.SIGCONT)
     checks.same("a deadline that passes", "DEADLINE_EXCEEDED", late[0])
     for sender, body in bodies.items():
         found = client.call(body, sender=sender)
@@ -160,10 +160,8 @@ def over_kills(checks, service, client):
     kills = 0
     while calling.is_alive() and kills < 4:
         time.sleep(0.5)
-        service.signal_gateway(signal.SIGKILL)
-        if kills % 2:
-            service.kill()
-            service.start()
+        service.kill()
+        service.start()
         service.wait_ready()
         kills += 1
     calling.join(120)
@@ -192,17 +190,14 @@ def timed(service, client, count=200):
 
 
 def given_up_at_the_end(checks, service, port):
-    """A deadline that has passed when SIGTERM comes, and a gateway that takes the call behind it: what a last flush has of
-    it is in the journal too, so the next run knows the repeat."""
-    service.end()
-    service.words += ["--receivers", "1"]  # so the call is taken before the flush that comes behind it
-    service.start()
-    service.wait_ready()
+    """A deadline that has passed when SIGTERM comes, and a service that finds both when it goes on: what a last flush has of
+    the call is in the journal too, so the next run knows the repeat."""
     client, body = Client(port), in_protobuf(one_point(0, 3, "last"))
-    service.signal_gateway(signal.SIGSTOP)
+    client.call(in_protobuf(one_point(0, 1, "timed.last")), sender="T")  # there is a connection
+    service.signal(signal.SIGSTOP)
     late = client.call(body, sender="L", seconds=0.3)
     client.close()
-    threading.Timer(0.5, service.signal_gateway, (signal.SIGCONT,)).start()
+    threading.Timer(0.5, service.signal, (signal.SIGCONT,)).start()
     status, seconds = service.end()
     checks.true("SIGTERM waits for a call that was given up", status == 0 and seconds < 10, (late, status, seconds))
     service.start()
@@ -219,14 +214,14 @@ def in_the_sink(checks, service, sink):
     points, found = sink.points(), {}
     add_points(found, points)
     checks.same("no spans overlap", [], overlaps(points))
-    # 5 and 7, the late one, the one behind the junk.
+    # 5 and 7, the late one, the one after the junk.
     checks.same("each point is counted once", {"calls": 14, "cancelled": 1, "gone": 1, "killed": CALLS, "last": 3},
                 {name: total for name, total in found.items() if not name.startswith("timed")})
 
 
-def run(checks, totxegun, gateway, folder):
+def run(checks, totxegun, folder):
     sink, port = SqliteSink(f"{folder}/sink.db"), free_port()
-    service = Service(totxegun, gateway, f"{folder}/data", sink.address, "--listen-grpc", f"127.0.0.1:{port}")
+    service = Service(totxegun, f"{folder}/data", sink.address, "--listen-grpc", f"127.0.0.1:{port}")
     try:
         service.start()
         checks.true("the service is ready", service.wait_ready(), service.last_lines())
@@ -247,15 +242,15 @@ def run(checks, totxegun, gateway, folder):
         service.kill()
 
 
-def main(totxegun, gateway):
+def main(totxegun):
     checks = Checks()
     if checks.has("calls of gRPC", *(() if grpc else ("python3-grpcio",))):
         with tempfile.TemporaryDirectory(prefix="grpc-") as folder:
-            run(checks, totxegun, gateway, folder)
+            run(checks, totxegun, folder)
     return checks.end()
 
 
 if __name__ == "__main__":
-    if len(sys.argv) != 3:
-        sys.exit(f"usage: {sys.argv[0]} TOTXEGUN GATEWAY")
-    sys.exit(main(*map(os.path.abspath, sys.argv[1:3])))
+    if len(sys.argv) != 2:
+        sys.exit(f"usage: {sys.argv[0]} TOTXEGUN")
+    sys.exit(main(os.path.abspath(sys.argv[1])))

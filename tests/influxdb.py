@@ -1,9 +1,9 @@
 #!/usr/bin/env python3
 """InfluxDB as a back end, by operate/influxdb.py.
 
-    tests/influxdb.py TOTXEGUN GATEWAY [SECONDS] [SEED]
+    tests/influxdb.py TOTXEGUN [SECONDS] [SEED]
 
-Senders post to totxegun, whose sink is the bridge, while totxegun, its gateway, the bridge and InfluxDB are killed. At the end
+Senders post to totxegun, whose sink is the bridge, while totxegun, the bridge and InfluxDB are killed. At the end
 InfluxDB has, series by series and bucket by bucket, what the senders were told is taken. Without InfluxDB all is left out,
 with status 77.
 
@@ -14,7 +14,6 @@ import json
 import os
 import random
 import shutil
-import signal
 import subprocess
 import sys
 import tempfile
@@ -142,10 +141,8 @@ def other_forms(checks, port):
 def trouble(service, bridge, influxdb, until, chance):
     while time.monotonic() < until:
         time.sleep(chance.uniform(0.5, 2))
-        victim = chance.choice(["gateway", "service", "bridge", "influxdb"])
-        if victim == "gateway":
-            service.signal_gateway(signal.SIGKILL)
-        elif victim == "service":
+        victim = chance.choice(["service", "bridge", "influxdb"])
+        if victim == "service":
             service.kill()
             service.start()
         else:
@@ -155,11 +152,11 @@ def trouble(service, bridge, influxdb, until, chance):
             program.start()
 
 
-def run(checks, program, gateway, folder, seconds, seed):
+def run(checks, program, folder, seconds, seed):
     influxdb = InfluxDb(f"{folder}/influxdb")
     port = free_port()
     bridge = Program([sys.executable, BRIDGE, str(port), f"127.0.0.1:{influxdb.port}", DATABASE], f"{folder}/bridge.log")
-    service = Service(program, gateway, f"{folder}/data", f"http://127.0.0.1:{port}/v1/metrics", "--flush-every", "1s")
+    service = Service(program, f"{folder}/data", f"http://127.0.0.1:{port}/v1/metrics", "--flush-every", "1s")
     try:
         influxdb.start()
         is_made = wait_until(lambda: influxdb.ask(f"create database {DATABASE}") is not None)
@@ -199,16 +196,16 @@ def run(checks, program, gateway, folder, seconds, seed):
                 one.kill()
 
 
-def main(program, gateway, seconds=SECONDS, seed=1):
+def main(program, seconds=SECONDS, seed=1):
     checks = Checks()
     if checks.has("InfluxDB", *[name for name in ("influxd",) if not shutil.which(name)]):
         print(f"note: seed {seed}", flush=True)
         with tempfile.TemporaryDirectory(prefix="influxdb-") as folder:
-            run(checks, program, gateway, folder, float(seconds), int(seed))
+            run(checks, program, folder, float(seconds), int(seed))
     return checks.end()
 
 
 if __name__ == "__main__":
-    if len(sys.argv) < 3:
-        sys.exit(f"usage: {sys.argv[0]} TOTXEGUN GATEWAY [SECONDS] [SEED]")
-    sys.exit(main(*map(os.path.abspath, sys.argv[1:3]), *sys.argv[3:5]))
+    if len(sys.argv) < 2:
+        sys.exit(f"usage: {sys.argv[0]} TOTXEGUN [SECONDS] [SEED]")
+    sys.exit(main(os.path.abspath(sys.argv[1]), *sys.argv[2:4]))

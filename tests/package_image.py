@@ -30,8 +30,7 @@ LISTEN = 4318
 NOBODY = 65534
 TIME_TO_END = 10
 PROGRAM = "/usr/bin/totxegun"
-PROGRAMS = {PROGRAM, "/usr/bin/totxegun-gateway", "/usr/bin/totxegun-play"}
-LIBRARY = re.compile(r"/(usr/)?lib(64)?/(x86_64-linux-gnu/)?[\w.-]+\.so\.\d+$|/usr/share/totxegun/totxegun-\w+\.proved$")
+LIBRARY = re.compile(r"/(usr/)?lib(64)?/(x86_64-linux-gnu/)?[\w.-]+\.so\.\d+$")
 
 # What a runtime gives: processes, and a few devices.
 MOUNTS = """\
@@ -117,9 +116,8 @@ def content(path):
 
 def look_at_files(checks, root, settings):
     files = {f"{at}/{name}"[len(root):] for at, _, names in os.walk(root) for name in names}
-    checks.same("it has the programs", set(), PROGRAMS - files)
-    more = sorted(path for path in files - PROGRAMS if not LIBRARY.match(path))
-    checks.same("and nothing else but what they load", [], more)
+    more = sorted(path for path in files if not LIBRARY.match(path))
+    checks.same("it has the program, and nothing else but what it loads", [PROGRAM], more)
     checks.same("the data's folder is its user's", NOBODY, os.stat(f"{root}/var/lib/totxegun").st_uid)
     wanted = {"Entrypoint": [PROGRAM], "Cmd": ["serve"], "User": f"{NOBODY}:{NOBODY}", "StopSignal": "SIGTERM",
               "ExposedPorts": {"4318/tcp": {}}, "Volumes": {"/var/lib/totxegun": {}}}
@@ -134,7 +132,7 @@ def run(checks, container):
     checks.true("it is process 1", re.search(r"^NSpid:.*\t1$", status, re.M) is not None, status)
     checks.true("of a user without rights", f"Uid:\t{NOBODY}\t" in status and "CapEff:\t0000000000000000" in status, status)
     version = container.said("version")
-    checks.true("its version names the gateway of the image", "gateway /usr/bin/totxegun-gateway" in version[1], version)
+    checks.true("its version says whether its book was proved", "; book: " in version[1], version)
     senders = [Sender(Service, number) for number in range(3)]
     for sender in senders:
         for _ in range(20):

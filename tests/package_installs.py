@@ -1,18 +1,17 @@
 #!/usr/bin/env python3
 """What `make install` installs into a folder, and a service that runs from there.
 
-    tests/package_installs.py TOTXEGUN GATEWAY PLAY
+    tests/package_installs.py TOTXEGUN
 
-The programs are put where `make build` would have made them, with a proof written for the gateway. Then: every file has
-its place and mode; the service started as the unit starts it, with the shipped settings, finds its gateway, takes a
-point, flushes and shows it; the settings name every option, and all their defaults together start it too; the pages
-name every option of the programs and mandoc finds nothing; the completion completes; the version says whether the
-gateway was proved; systemd finds nothing in the unit; what is missing is said in one line.
+The program is put where `make build` would have made it. Then: every file has its place and mode; the service started as
+the unit starts it, with the shipped settings, takes a point, flushes and shows it; the settings name every option, and all
+their defaults together start it too; settings that were there stay, with mode 600; the page names every option of the
+program and mandoc finds nothing; the completion completes; the version says whether the book inside was proved; systemd
+finds nothing in the unit; what is missing is said in one line.
 
 Each line is one check; the last line counts those that passed and failed, and the status is 0 where none failed, 77 where
 a part was left out for want of a program.
 """
-import hashlib
 import json
 import os
 import re
@@ -31,19 +30,13 @@ from service import ask, wait_until
 ROOT = os.path.dirname(os.path.dirname(os.path.abspath(__file__)))
 PLACES = {
     "usr/bin/totxegun": 0o755,
-    "usr/bin/totxegun-gateway": 0o755,
-    "usr/bin/totxegun-play": 0o755,
-    "usr/share/totxegun/totxegun-gateway.proved": 0o644,
     "usr/share/man/man1/totxegun.1": 0o644,
-    "usr/share/man/man1/totxegun-gateway.1": 0o644,
-    "usr/share/man/man1/totxegun-play.1": 0o644,
     "usr/share/bash-completion/completions/totxegun": 0o644,
     "lib/systemd/system/totxegun.service": 0o644,
     "etc/totxegun/totxegun.env": 0o600,
     "usr/share/doc/totxegun/README.md": 0o644,
     "usr/share/doc/totxegun/OPERATING.md": 0o644,
     "usr/share/doc/totxegun/BACK_ENDS.md": 0o644,
-    "usr/share/doc/totxegun/GATEWAY.md": 0o644,
     "usr/share/doc/totxegun/FORMATS.md": 0o644,
     "usr/share/doc/totxegun/SECURITY.md": 0o644,
     "usr/share/doc/totxegun/examples/haproxy.cfg": 0o644,
@@ -55,7 +48,7 @@ PLACES = {
 EXPOSURE = 1.2
 LONG = re.compile(r"^ +(?:-\w, )?--([a-z-]+)", re.MULTILINE)
 VARIABLE = re.compile(r"\[env: (TOTXEGUN_\w+)")
-SETTING = re.compile(r"^#?(TOTXEGUN_\w+)=(.*)$", re.MULTILINE)
+SETTING = re.compile(r"^#(TOTXEGUN_\w+)=(.*)$", re.MULTILINE)
 POINT = ('{"resourceMetrics":[{"scopeMetrics":[{"metrics":[{"name":"a","sum":{"aggregationTemporality":1,"isMonotonic":true,'
          '"dataPoints":[{"asInt":"5","startTimeUnixNano":"%d","timeUnixNano":"%d"}]}}]}]}]}')
 
@@ -76,16 +69,11 @@ def without_settings():
     return {name: value for name, value in os.environ.items() if not name.startswith("TOTXEGUN_")}
 
 
-def install(folder, programs, destination):
+def install(folder, program, destination):
     """`make install` as a package calls it."""
     made = f"{folder}/made"
     os.makedirs(made, exist_ok=True)
-    for name, program in zip(("totxegun", "gateway", "play"), programs):
-        shutil.copy2(program, f"{made}/{name}")
-    with open(f"{made}/gateway", "rb") as file:
-        digest = hashlib.sha256(file.read()).hexdigest()
-    with open(f"{made}/gateway.proved", "w", encoding="ascii") as file:
-        file.write(f"sha256 {digest}\nrevision 0123456789ab\ntoolchain kit logic 1\n")
+    shutil.copy2(program, f"{made}/totxegun")
     places = {"DESTDIR": destination, "PREFIX": "/usr", "SYSCONFDIR": "/etc", "UNITDIR": "/lib/systemd/system"}
     return ran([f"{ROOT}/tools/install", made], env={**without_settings(), **places})
 
@@ -101,12 +89,13 @@ def look_at_files(checks, root):
 
 
 def shipped_settings(root):
-    """The lines that are set, and those with a default, as variables."""
-    text = content(f"{root}/etc/totxegun/totxegun.env")
-    lines = {name: (value, f"\n{name}=" in text) for name, value in SETTING.findall(text)}
-    chosen = {name: value for name, (value, is_set) in lines.items() if is_set}
-    defaults = {name: value for name, (value, is_set) in lines.items() if not is_set and not re.fullmatch(r"[A-Z:= ]+", value)}
-    return lines, chosen, defaults
+    """Each line of the settings as a variable, and those that have a default."""
+    lines = dict(SETTING.findall(content(f"{root}/etc/totxegun/totxegun.env")))
+    return lines, {name: value for name, value in lines.items() if not re.fullmatch(r"[A-Z:= ]+", value)}
+
+
+def set_by_unit(root):
+    return dict(re.findall(r"^Environment=(\w+)=(\S+)$", content(f"{root}/lib/systemd/system/totxegun.service"), re.MULTILINE))
 
 
 def serve(checks, what, root, folder, settings):
@@ -137,8 +126,7 @@ def serve(checks, what, root, folder, settings):
         checks.true(f"{what}: the total is shown", is_there, ran([program, "totals", "--json", *at]))
         checks.same(f"{what}: it keeps its files where the unit says", True, os.path.isfile(f"{folder}/totxegun/metrics.db"))
         first = content(log).splitlines()[0]
-        gateway = f"gateway {root}/usr/bin/totxegun-gateway: revision 0123456789ab, proved by kit logic 1"
-        checks.true(f"{what}: the log's first line is the version", f"totxegun {version()}; {gateway}" in first, first)
+        checks.true(f"{what}: the log's first line is the version", ran([program, "version"])[1].strip() in first, first)
     finally:
         service.send_signal(signal.SIGTERM)
         try:
@@ -155,17 +143,32 @@ def version():
 
 
 def look_at_settings(checks, root, serve_help):
-    lines, _, _ = shipped_settings(root)
+    lines, _ = shipped_settings(root)
     wanted = VARIABLE.findall(serve_help)
     checks.true("the program has variables", len(wanted) > 15, serve_help)
     checks.same("the settings name every variable, in order", wanted, list(lines))
     text = content(f"{root}/etc/totxegun/totxegun.env")
-    bare = [name for name in wanted if not re.search(rf"^# \S.*\n#?{name}=", text, re.MULTILINE)]
+    bare = [name for name in wanted if not re.search(rf"^# \S.*\n#{name}=", text, re.MULTILINE)]
     checks.same("each with a line of text", [], bare)
+    checks.same("what the unit sets is a setting too", [], [it for it in set_by_unit(root) if it.startswith("TOTXEGUN_") and it not in wanted])
 
 
 def options_of(page):
     return sorted(set(re.findall(r"^\.It Fl -([a-z-]+)", page, re.MULTILINE)))
+
+
+def look_at_kept_settings(checks, folder, program):
+    """Settings that were there before."""
+    root = f"{folder}/before"
+    settings = f"{root}/etc/totxegun/totxegun.env"
+    os.makedirs(os.path.dirname(settings))
+    with open(settings, "w", encoding="utf-8") as file:
+        file.write("TOTXEGUN_FLUSH_EVERY=7s\n")
+    os.chmod(settings, 0o644)
+    status, said = install(folder, program, root)
+    checks.true("settings that were there stay, and it is said", status == 0 and "totxegun.env.new" in said, said)
+    checks.same("they are as they were, and nobody else may read them", ("TOTXEGUN_FLUSH_EVERY=7s\n", 0o600),
+                (content(settings), os.stat(settings).st_mode & 0o777))
 
 
 def look_at_pages(checks, root, program):
@@ -177,11 +180,6 @@ def look_at_pages(checks, root, program):
         wanted |= set(LONG.findall(ran([program, *words, "--help"])[1])) - {"help", "version"}
         checks.true(f"the page has `{' '.join(words)}`", f"\n.It Cm {' '.join(words)}" in page, "it is not there")
     checks.same("the page has every option of the program, and no other", sorted(wanted), options_of(page))
-    gateway = f"{root}/usr/bin/totxegun-gateway"
-    wanted = set()
-    for words in (["serve"], ["rehearse"]):
-        wanted |= set(LONG.findall(ran([gateway, *words, "--help"])[1])) - {"help"}
-    checks.same("so has the gateway's", sorted(wanted), options_of(content(f"{man}/totxegun-gateway.1")))
     checks.same("no place is left open", [], re.findall(r"@[A-Z]+@", page))
     if checks.has("the pages' form", *([] if shutil.which("mandoc") else ["mandoc"])):
         for name in sorted(os.listdir(man)):
@@ -207,22 +205,17 @@ def look_at_completion(checks, root, program, serve_help):
         script = f"source {file}; COMP_WORDS=({' '.join(words)}); COMP_CWORD={len(words) - 1}; " \
                  f"_totxegun totxegun {words[-1]!r} {words[-2]!r}; printf '%s\\n' \"${{COMPREPLY[@]}}\""
         return set(ran(["bash", "--norc", "-c", script])[1].split())
-    checks.same("it completes an option", {"--flush-every", "--flushers"}, completed("totxegun", "serve", "--flush"))
+    checks.same("it completes an option", {"--flush-every"}, completed("totxegun", "serve", "--flush"))
     checks.same("it completes a command", {"quarantine"}, completed("totxegun", "qu"))
     checks.same("what is hidden is not completed", set(), completed("totxegun", "pri"))
     options = {f"--{name}" for name in LONG.findall(serve_help)}
     checks.same("it has every option", set(), options - completed("totxegun", "serve", "--"))
 
 
-def look_at_version(checks, root):
-    program, gateway = f"{root}/usr/bin/totxegun", f"{root}/usr/bin/totxegun-gateway"
-    line = f"totxegun {version()}; gateway {gateway}: "
-    checks.same("the version tells the proof", (0, f"{line}revision 0123456789ab, proved by kit logic 1\n"),
-                ran([program, "version"], env=without_settings()))
-    with open(gateway, "ab") as file:
-        file.write(b"\n")
-    checks.same("of another program it tells none", (0, f"{line}nothing says that it was proved\n"),
-                ran([program, "version"], env=without_settings()))
+def look_at_version(checks, program):
+    status, said = ran([program, "version"], env=without_settings())
+    proof = re.match(rf"totxegun {re.escape(version())}; book: (revision \S+, proved by .+|nothing says that it was proved)\n$", said)
+    checks.true("the version says whether the book was proved", status == 0 and proof, (status, said))
 
 
 def look_at_unit(checks, root, folder):
@@ -266,11 +259,11 @@ def look_at_what_is_missing(checks, folder):
     checks.true("make alone prints what there is to make", status == 0 and len(targets) > 8 and not missing, said)
 
 
-def main(programs):
+def main(given):
     checks = Checks()
     with tempfile.TemporaryDirectory(prefix="package-") as folder:
         root = f"{folder}/root"
-        status, said = install(folder, programs, root)
+        status, said = install(folder, given, root)
         checks.same("it is installed", (0, ""), (status, said))
         if status:
             return checks.end()
@@ -281,20 +274,16 @@ def main(programs):
         look_at_pages(checks, root, program)
         look_at_completion(checks, root, program, serve_help)
         look_at_unit(checks, root, folder)
-        _, chosen, defaults = shipped_settings(root)
-        # A program with a sanitizer takes more address space than that.
-        bound = f"ulimit -v {3 << 20}; exec {root}/usr/bin/totxegun-gateway rehearse"
-        bears = ran(["sh", "-c", bound])[0] == 0
-        if not checks.has("the shipped bound of memory", *([] if bears else ["a gateway that bears it"])):
-            chosen.pop("TOTXEGUN_MEMORY")
+        chosen, (_, defaults) = set_by_unit(root), shipped_settings(root)
         serve(checks, "as shipped", root, folder, chosen)
         serve(checks, "with each default said", root, folder, {**defaults, **chosen})
-        look_at_version(checks, root)
+        look_at_version(checks, program)
+        look_at_kept_settings(checks, folder, given)
         look_at_what_is_missing(checks, folder)
     return checks.end()
 
 
 if __name__ == "__main__":
-    if len(sys.argv) != 4 or not all(os.access(word, os.X_OK) for word in sys.argv[1:]):
-        sys.exit(f"usage: {sys.argv[0]} TOTXEGUN GATEWAY PLAY")
-    sys.exit(main(sys.argv[1:]))
+    if len(sys.argv) != 2 or not os.access(sys.argv[1], os.X_OK):
+        sys.exit(f"usage: {sys.argv[0]} TOTXEGUN")
+    sys.exit(main(sys.argv[1]))

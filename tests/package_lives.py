@@ -4,9 +4,9 @@
     tests/package_lives.py DEB
 
 Debian's base is fetched once by debootstrap, into out/debian. A copy of it is booted by its own systemd in namespaces of
-its own, without the toolchain and without a network but loopback. There the package is installed as of an earlier version,
-serves as the README's first use shows, and is replaced by DEB while senders post; the programs are killed meanwhile. At
-the end the sink has, series by series, what the senders were told. A purge leaves what was taken, and says so.
+its own, without the toolchain and without a network but loopback. There settings are written, which anybody may read, and
+the package is installed as of an earlier version: it has these settings, which nobody else may read then. It serves as the
+README's first use shows, and is replaced by DEB while senders post; the program is killed meanwhile. At the end the sink has, series by series, what the senders were told. A purge leaves what was taken, and says so.
 
 Each line is one check; the last line counts those that passed and failed, and the status is 0 where none failed, 77 where
 the machine can't have it.
@@ -33,6 +33,8 @@ PACKAGES = "systemd,systemd-sysv,dbus,libsqlite3-0,ca-certificates"
 OPERATE, LISTEN = 4319, 4318
 SENDERS = 4
 EARLIER = "0.0.1"
+SETTINGS = "/etc/totxegun/totxegun.env"
+FORGET = "9d"
 # Where a purge may leave something: what was taken, the manager's own books, and what systemd notes of a unit.
 MAY_STAY = re.compile(r"/var/lib/(private/totxegun|totxegun$|dpkg/|systemd/|private$)|/var/(log|cache)/|/run/|/tmp/|/proc|/sys|/dev"
                       r"|/etc/(machine-id|hostname|\.pwd\.lock)")
@@ -115,7 +117,7 @@ class Debian:
             return
         self.boot.kill()
         self.boot.wait()
-        time.sleep(0.5)  # its processes end behind it
+        time.sleep(0.5)  # its processes end after it
         leave = LEAVE.format(root=self.root, group=self.group)
         subprocess.run(["unshare", "--mount", "sh", "-c", leave], check=False)
 
@@ -178,7 +180,7 @@ def is_ready():
 
 def install(checks, debian, what, deb):
     shutil.copy(deb, f"{debian.root}/tmp/package.deb")
-    status, said = debian.said("dpkg", "--install", "/tmp/package.deb")
+    status, said = debian.said("dpkg", "--install", "--force-confold", "/tmp/package.deb")
     checks.true(f"{what}: dpkg installs it", status == 0, said)
     if not wait_until(is_ready, 60):
         raise Stands(f"{what}: it does not serve: {debian.said('journalctl', '--no-pager', '-n', '30')[1]}")
@@ -197,12 +199,30 @@ def first_use(checks, debian):
     status, said = debian.said("totxegun", "status")
     checks.true("first use: totxegun status", status == 0, said)
     status, said = debian.said("totxegun", "version")
-    checks.true("first use: totxegun version names the packaged gateway", "; gateway /usr/bin/totxegun-gateway" in said, said)
+    checks.true("first use: totxegun version says whether its book was proved", "; book: " in said, said)
     print(f"note: {said.strip()}", flush=True)
-    script = r"printf 'admit A req 10 20 5\ntake 10\nok 1\nreport\n' | totxegun-play"
-    status, said = debian.said("sh", "-c", script)
-    checks.true("totxegun-play runs", status == 0 and said.endswith("end\n"), said)
     return sender
+
+
+def write_settings(debian):
+    """Before the first start, as docs/OPERATING.md has it."""
+    os.makedirs(f"{debian.root}/etc/totxegun")
+    with open(f"{debian.root}{SETTINGS}", "w", encoding="utf-8") as file:
+        file.write(f"TOTXEGUN_FORGET_SERIES={FORGET}\n")
+    os.chmod(f"{debian.root}{SETTINGS}", 0o644)
+
+
+def look_at_settings(checks, debian, what):
+    mode = os.stat(f"{debian.root}{SETTINGS}").st_mode & 0o777
+    checks.same(f"{what}: the settings that were written are there, and nobody else may read them",
+                (f"TOTXEGUN_FORGET_SERIES={FORGET}\n", 0o600), (read(f"{debian.root}{SETTINGS}"), mode))
+    pid = debian.said("systemctl", "show", "-P", "MainPID", "totxegun")[1].strip()
+    status, said = debian.said("grep", "-z", "TOTXEGUN_FORGET_SERIES", f"/proc/{pid}/environ")
+    checks.true(f"{what}: the service has them", FORGET in said, said)
+    # Which these settings do not say.
+    said = debian.said("totxegun", "status", "--json")[1]
+    most = re.search(r'"most_memory_bytes": ?(\d+)', said)
+    checks.same(f"{what}: the books may have as much memory as the unit says", str(2 << 30), most and most[1])
 
 
 def upgrade(checks, debian, deb):
@@ -234,7 +254,7 @@ def upgrade(checks, debian, deb):
     for thread in threads:
         thread.join(60)
     posts, repeats = sum(sender.posts for sender in senders), sum(sender.repeats for sender in senders)
-    print(f"note: {posts} posts, {posts - before} behind the upgrade's begin, {repeats} repeats", flush=True)
+    print(f"note: {posts} posts, {posts - before} after the upgrade's begin, {repeats} repeats", flush=True)
     checks.true("senders posted over the upgrade", posts - before > 10 and not any(it.is_alive() for it in threads), posts)
     checks.same("no post was answered otherwise", [], [it for sender in senders for it in sender.surprises][:3])
     return senders
@@ -255,7 +275,7 @@ def compare(checks, debian, senders):
 def purge(checks, debian, before):
     status, said = debian.said("dpkg", "--purge", "totxegun")
     checks.true("a purge says what stays", status == 0 and "/var/lib/private/totxegun stays" in said, said)
-    checks.true("nothing serves behind it", wait_until(lambda: ask(OPERATE, "GET", "/ready", seconds=2)[0] is None, 10), said)
+    checks.true("nothing serves after it", wait_until(lambda: ask(OPERATE, "GET", "/ready", seconds=2)[0] is None, 10), said)
     checks.same("it leaves nothing but the data", [], sorted(debian.files() - before))
     checks.true("and leaves that", os.path.isfile(f"{debian.root}/var/lib/private/totxegun/metrics.db"), said)
 
@@ -287,10 +307,13 @@ def main(deb):
 
 def live(checks, debian, deb, first):
     before = debian.files()
+    write_settings(debian)
     install(checks, debian, "a first install", first)
+    look_at_settings(checks, debian, "a first install")
     senders = [first_use(checks, debian)]
     unit(checks, debian)
     senders += upgrade(checks, debian, deb)
+    look_at_settings(checks, debian, "an upgrade")
     compare(checks, debian, senders)
     if checks.failed:
         print(debian.said("journalctl", "--no-pager", "-u", "totxegun", "-n", "30")[1], flush=True)

@@ -1,8 +1,8 @@
 #!/usr/bin/env python3
 """Bodies as protobuf's own library writes them, and what comes of them read by its reader.
 
-    tests/protobuf_bodies.py GATEWAY
-    tests/protobuf_bodies.py TOTXEGUN GATEWAY
+    tests/protobuf_bodies.py TOTXEGUN
+    tests/protobuf_bodies.py GATEWAY gateway
 
 Each round makes a few requests of random sums, histograms and points outside the profile, with the messages of the OTLP
 definitions, which are built here by their names and numbers. A gateway alone gets them in JSON as the writer writes it, or
@@ -297,18 +297,18 @@ class Alone:
         return [json_format.Parse(body, message(), ignore_unknown_fields=False) for body in self.back_end.bodies]
 
 
-class Around:
-    """The service around the gateway, and a sink that gets protobuf."""
+class Served:
+    """The service, and a sink that gets protobuf."""
 
     writings = ("protobuf", "JSON", "JSON with whole numbers", "JSON with the names of the definitions")
     packs = True
 
-    def __init__(self, stack, totxegun, gateway):
+    def __init__(self, stack, totxegun):
         self.sink = OtlpSink()
         stack.callback(self.sink.close)
         data = stack.enter_context(tempfile.TemporaryDirectory(prefix="bodies-"))
         # No flush but those that are ordered.
-        self.service = Service(totxegun, gateway, f"{data}/data", self.sink.address, "--sink-protobuf", "--flush-every", "1h")
+        self.service = Service(totxegun, f"{data}/data", self.sink.address, "--sink-protobuf", "--flush-every", "1h")
         stack.callback(self.service.kill)
         self.service.start()
         if not self.service.wait_ready():
@@ -377,16 +377,15 @@ def differences(wanted, found):
                  if wanted.get(series) != found.get(series)), "a series is forwarded twice")
 
 
-def work(checks, stack, *programs):
+def work(program, checks, stack):
     if not checks.has("all", *([] if descriptor_pb2 else ["python3-protobuf"])):
         return
     classes = message_classes()
-    party = Alone(stack, *programs) if len(programs) == 1 else Around(stack, *programs)
+    party = (Alone if sys.argv[2:] == ["gateway"] else Served)(stack, program)
     counts = [one_round(classes, checks, party, number) for number in range(ROUNDS)]
     checks.same("series and foreign points were there", (True, True),
                 (sum(count for count, _ in counts) > ROUNDS, sum(foreign for _, foreign in counts) > ROUNDS))
 
 
 if __name__ == "__main__":
-    names = ("GATEWAY",) if len(sys.argv) == 2 else ("TOTXEGUN", "GATEWAY")
-    run_script(240, lambda *given: work(*given[-2:], *given[:-2]), names)
+    run_script(240, work)

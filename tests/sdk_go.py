@@ -1,13 +1,13 @@
 #!/usr/bin/env python3
 """OpenTelemetry's SDK for Go, as Debian has it, over kills of the service: what its programs counted beside it is in the sink.
 
-    tests/sdk_go.py TOTXEGUN GATEWAY [SECONDS]
+    tests/sdk_go.py TOTXEGUN [SECONDS]
 
 Six programs count at once, each with the SDK's own instruments, aggregation and clock: two send JSON, two protobuf, two
 call gRPC by its own client for Go. One of each has whole numbers and the default bounds of histograms, the other durations
 in seconds, as the conventions have them, which the service takes by `--whole s=us`; these name no sender, and the service
-finds it in their resource. A batch is sent again as the specification says. Meanwhile service and gateway are killed for
-so many seconds (8). At the end the sink has, by program, series and bucket, what the programs counted.
+finds it in their resource. A batch is sent again as the specification says. Meanwhile the service is killed for so many
+seconds (8). At the end the sink has, by program, series and bucket, what the programs counted.
 
 The exporter is in tests/sdk_go: Debian's package of the SDK has none. It needs golang-go, golang-opentelemetry-otel-dev,
 golang-google-grpc-dev and python3-protobuf; where one is missing a line says so, and the status is 77. Each other line is
@@ -17,7 +17,6 @@ import glob
 import json
 import os
 import shutil
-import signal
 import sqlite3
 import subprocess
 import sys
@@ -38,7 +37,7 @@ SECONDS = 8
 # How each program sends: the encoding, whether packed, and whether it measures seconds.
 PROGRAMS = [(encoding, packed, in_seconds)
             for encoding, packed in (("json", False), ("protobuf", True), ("grpc", False)) for in_seconds in (False, True)]
-# What a sender may be answered while service and gateway are killed.
+# What a sender may be answered while the service is killed.
 EXPECTED = ("200", "503", "no answer", "no whole answer", "OK", "Unavailable", "Unavailable with RetryInfo", "Canceled",
             "DeadlineExceeded")
 
@@ -72,16 +71,13 @@ def start(program, folder, service, grpc, number, seconds):
 
 
 def trouble(service, seconds):
-    """Kills of the gateway, of the service, and of both, in turn."""
+    """Kills, of which every other one is soon after a start."""
     until, kills = time.monotonic() + seconds, 0
     while time.monotonic() < until:
-        time.sleep(0.7)
-        if kills % 3 != 1:
-            service.signal_gateway(signal.SIGKILL)
-        if kills % 3 != 0:
-            service.kill()
-            time.sleep(0.2)
-            service.start()
+        time.sleep(0.1 if kills % 2 else 0.7)
+        service.kill()
+        time.sleep(0.2)
+        service.start()
         kills += 1
         service.wait_ready()
     return kills
@@ -121,13 +117,13 @@ def compare(checks, what, sink, number, told):
     print(f"note: {what}: {told['answers']}", flush=True)
 
 
-def run(checks, totxegun, gateway, seconds, folder):
+def run(checks, totxegun, seconds, folder):
     program, fault = build(folder)
     checks.same("the program is built", "", fault)
     if fault:
         return
     sink, grpc = f"{folder}/sink.db", free_port()
-    service = Service(totxegun, gateway, f"{folder}/data", f"sqlite:{sink}", "--flush-every", "1s", "--listen-grpc",
+    service = Service(totxegun, f"{folder}/data", f"sqlite:{sink}", "--flush-every", "1s", "--listen-grpc",
                       f"127.0.0.1:{grpc}", "--whole", "s=us", "--sender-from", "service.instance.id", "--log-foreign", "2")
     try:
         service.start()
@@ -137,7 +133,7 @@ def run(checks, totxegun, gateway, seconds, folder):
         statuses = [one.wait(120) for one in programs]
         checks.same("the programs end", [0] * len(PROGRAMS), statuses)
         service.order("/flush")
-        checks.true(f"all is delivered behind {kills} kills", wait_until(service.is_drained), service.last_lines())
+        checks.true(f"all is delivered after {kills} kills", wait_until(service.is_drained), service.last_lines())
         for number, (encoding, packed, in_seconds) in enumerate(PROGRAMS):
             with open(f"{folder}/{number}.json", encoding="utf-8") as file:
                 told = json.load(file)
@@ -158,15 +154,15 @@ def run(checks, totxegun, gateway, seconds, folder):
         service.kill()
 
 
-def main(totxegun, gateway, seconds=SECONDS):
+def main(totxegun, seconds=SECONDS):
     checks = Checks()
     if checks.has("the SDK for Go", *missing()):
         with tempfile.TemporaryDirectory(prefix="sdk-") as folder:
-            run(checks, totxegun, gateway, float(seconds), folder)
+            run(checks, totxegun, float(seconds), folder)
     return checks.end()
 
 
 if __name__ == "__main__":
-    if len(sys.argv) < 3:
-        sys.exit(f"usage: {sys.argv[0]} TOTXEGUN GATEWAY [SECONDS]")
-    sys.exit(main(*map(os.path.abspath, sys.argv[1:3]), *sys.argv[3:4]))
+    if len(sys.argv) < 2:
+        sys.exit(f"usage: {sys.argv[0]} TOTXEGUN [SECONDS]")
+    sys.exit(main(os.path.abspath(sys.argv[1]), *sys.argv[2:3]))

@@ -22,7 +22,7 @@ SECONDS = 60
 BOUNDS = [1, 5, 25]
 JSON, PROTOBUF = "application/json", "application/x-protobuf"
 OUT_OF_ORDER = b"out of order"
-# Answers behind which a post is repeated.
+# Answers after which a post is repeated.
 AGAIN = (403, 429, 502, 503, 504)
 
 
@@ -67,11 +67,11 @@ class Service:
     """The service on a folder, which may be killed and started again; `before` are words that run it elsewhere, where `host`
     is its address."""
 
-    def __init__(self, program, gateway, data, sink, *options, host="127.0.0.1", ports=None, before=()):
+    def __init__(self, program, data, sink, *options, host="127.0.0.1", ports=None, before=()):
         self.host = host
         self.listen, self.operate = ports or (free_port(), free_port())
         places = ["--listen", f"{host}:{self.listen}", "--operate", f"{host}:{self.operate}"]
-        self.words = [*before, program, "serve", "--data", data, "--gateway", gateway, "--sink", sink, *places, *options]
+        self.words = [*before, program, "serve", "--data", data, "--sink", sink, *places, *options]
         self.log = f"{data}.log"
         self.process = None
 
@@ -94,30 +94,12 @@ class Service:
         """Whether it took posts within so many seconds; not where it ended."""
         return wait_until(lambda: not self.is_running() or self.is_ready(), seconds) and self.is_running()
 
-    def gateways(self):
-        """The processes that the service has started."""
-        found = []
-        for name in os.listdir("/proc"):
-            try:
-                with open(f"/proc/{name}/stat") as file:
-                    state, parent = file.read().rpartition(")")[2].split()[:2]
-            except (OSError, ValueError):
-                continue
-            if parent == str(self.process.pid) and state != "Z":
-                found.append(int(name))
-        return found
-
     def signal(self, number):
+        """SIGSTOP is waited for: until one of its threads has it, the others go on."""
         if self.is_running():
             self.process.send_signal(number)
-
-    def signal_gateway(self, number):
-        """SIGSTOP is waited for: until one of its threads has it, the others go on."""
-        for pid in self.gateways() if self.is_running() else ():
-            with contextlib.suppress(ProcessLookupError):
-                os.kill(pid, number)
-                if number == signal.SIGSTOP:
-                    wait_until(lambda pid=pid: is_stopped(pid), 5)
+            if number == signal.SIGSTOP:
+                wait_until(lambda: is_stopped(self.process.pid), 5)
 
     def kill(self):
         """As `kill -9`."""

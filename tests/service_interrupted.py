@@ -1,11 +1,11 @@
 #!/usr/bin/env python3
 """The service, interrupted at each of its calls on its files.
 
-    tests/service_interrupted.py TOTXEGUN GATEWAY [EVERY [WAY ..]]
+    tests/service_interrupted.py TOTXEGUN [EVERY [WAY ..]]
 
 It needs gcc. A preloaded library (interrupt_files.c) counts the calls that write, sync, cut, rename, delete or make files
-of the service's folder. A run is four senders' posts with flushes, a quarantine, a renewal, a release, and an end by
-SIGTERM. For each call of such a run, or each EVERY-th, the run is made again, and interrupted there in each of these ways,
+of the service's folder. A run is four senders' posts with flushes, a quarantine, a release, and an end by SIGTERM. For each
+call of such a run, or each EVERY-th, the run is made again, and interrupted there in each of these ways,
 or in those that are named:
   - before, middle, behind: the process is killed there; of what is written half is there, or all;
   - ENOSPC, EIO: the call fails; where it is a write or a sync the service has to end by it;
@@ -15,14 +15,14 @@ or in those that are named:
   - late: it is killed there, and at a later call of the next start the power is lost: so what an earlier run wrote and
     did not sync is gone, unless the start has synced it;
   - held: the call is a sync of the journal, and is held back; meanwhile the service goes on up to a sync of another file,
-    behind which the power is lost. Where none comes it is lost five seconds later.
+    after which the power is lost. Where none comes it is lost five seconds later.
 Then the service is started without the library, and the run goes on where it was: each sender repeats what was not
 answered, each order is given again. At the end the sink, a SQLite file, has each point once that a sender was told is
 taken, and refused none that it has already; late repeats are refused, and the service has found nothing that must not be.
 
-These runs have one slot. Others, of each sixth of such calls, are on a folder that had two slots when its service was
-killed: the start that is interrupted makes three of them, moves the series, and goes on. Where no power is lost, posts are
-only written there.
+Others, of each sixth of such calls, are on the folder of a service of version 0.5.0 that had three slots when it was killed
+(folders/three_slots.tar.gz): the start that is interrupted adopts it, and goes on. Where no power is lost, posts are only
+written there.
 A last run forgets what was synced, and has to fail: so a loss of power is seen.
 
 A line for each run that failed; the last line counts those that passed and failed, and the status is 0 where none failed.
@@ -32,6 +32,7 @@ import os
 import shutil
 import subprocess
 import sys
+import tarfile
 import tempfile
 import threading
 import time
@@ -47,9 +48,12 @@ WRITES_AND_SYNCS = ("write", "pwrite", "writev", *SYNCS)
 # How long a step may take: the service neither ends nor answers.
 SECONDS = 60
 SENDERS = "ABCD"
-# A letter is a post of this sender. What is behind it is ordered once the post is answered or interrupted.
-SCRIPT = ("A", "B", "A", "D/flush", "B", "C", "/quarantine/sender-B", "A", "/flush", "C", "/renew", "A", "C",
+# A letter is a post of this sender. What comes after it is ordered once the post is answered or interrupted.
+SCRIPT = ("A", "B", "A", "D/flush", "B", "C", "/quarantine/sender-B", "A", "/flush", "C", "A", "/flush", "C",
           "/lift/sender-B", "B", "/flush", "A", "B", "C")
+# A folder with three slots, of which this made it: each sender posted, all was flushed and nothing delivered, each posted again,
+# and the service was killed.
+THREE_SLOTS = os.path.join(HERE, "folders", "three_slots.tar.gz")
 # Of memory, where nothing else is said: what is durable is what the library has seen synced.
 FOLDERS = "/dev/shm" if os.access("/dev/shm", os.W_OK) and not os.environ.get("TMPDIR") else None
 
@@ -145,15 +149,14 @@ def left_bytes(path, kept):
 class Run:
     """One run of the script, in a folder of its own."""
 
-    def __init__(self, programs, library, folder, at, way, changes):
-        self.folder, self.at, self.way, self.changes = folder, at, way, changes
+    def __init__(self, program, library, folder, at, way, adopts):
+        self.folder, self.at, self.way, self.adopts = folder, at, way, adopts
         self.data, self.shadow, self.log = f"{folder}/data", f"{folder}/shadow", f"{folder}/calls"
         os.mkdir(self.data)
         os.mkdir(self.shadow)
         self.sink = SqliteSink(f"{folder}/sink.db")
-        durable = "process" if changes and way not in POWER else "disk"
-        self.service = Service(*programs, self.data, self.sink.address, "--durable", durable, "--flush-every", "1h",
-                               "--slots", "2" if changes else "1")
+        durable = "process" if adopts and way not in POWER else "disk"
+        self.service = Service(program, self.data, self.sink.address, "--durable", durable, "--flush-every", "1h")
         self.senders = {name: Sender(self.service, name, seconds=5) for name in SENDERS}
         self.library = library
         # The call at which each start is interrupted; later starts are without the library.
@@ -163,16 +166,13 @@ class Run:
         self.reviving = threading.Lock()
 
     def fill(self):
-        """Another number of slots, each with a group and a post that only the journal has."""
-        self.service.start()
-        self.service.wait_ready(SECONDS)
-        for sender in self.senders.values():
-            self.post(sender)
-        self.order("/flush")
-        for sender in self.senders.values():
-            self.post(sender)
-        self.service.kill()
-        self.service.words[-1] = "3"
+        """Three slots, each with a group and posts that only the journal has; the senders were told of all."""
+        with tarfile.open(THREE_SLOTS) as archive:
+            archive.extractall(self.data, filter="data")
+        for _ in range(2):
+            for sender in self.senders.values():
+                points = sender.next_points()
+                sender.note(points, sender.encoded(points))
         keep_all(self.data, self.shadow)
 
     def start(self):
@@ -235,7 +235,7 @@ class Run:
 
     def make(self):
         """The whole run. Raises Failed."""
-        if self.changes:
+        if self.adopts:
             self.fill()
         self.start()
         self.service.wait_ready(SECONDS)
@@ -277,21 +277,21 @@ class Run:
 class Runs:
     """All runs, and how they ended."""
 
-    def __init__(self, programs, library, folder):
-        self.programs, self.library, self.folder = programs, library, folder
+    def __init__(self, program, library, folder):
+        self.program, self.library, self.folder = program, library, folder
         self.lock = threading.Lock()
         self.passed = self.failed = self.interrupted = 0
 
-    def one(self, at, way, changes):
+    def one(self, at, way, adopts):
         """Makes a run and counts it. Returns its calls."""
-        calls, fault = self.made(at, way, changes)
-        self.count(at, f"{way}, of a change of slots," if changes else way, calls, fault)
+        calls, fault = self.made(at, way, adopts)
+        self.count(at, f"{way}, of a folder of three slots," if adopts else way, calls, fault)
         return calls
 
-    def made(self, at, way, changes=False):
+    def made(self, at, way, adopts=False):
         """Makes a run: its calls, and what is wrong with it."""
         folder = tempfile.mkdtemp(dir=self.folder)
-        run = Run(self.programs, self.library, folder, at, way, changes)
+        run = Run(self.program, self.library, folder, at, way, adopts)
         fault = None
         try:
             run.make()
@@ -328,13 +328,13 @@ def places_of(calls, every, ways):
         yield from ((at, way) for way in ways if way != "held" or is_of_journal)
 
 
-def main(program, gateway, every=1, ways=WAYS):
+def main(program, every=1, ways=WAYS):
     with tempfile.TemporaryDirectory(dir=FOLDERS, prefix="interrupted-") as folder:
-        runs = Runs((program, gateway), build(folder), folder)
-        calls, of_change = (runs.one(0, "before", changes) for changes in (False, True))
-        print(f"note: {len(calls)} calls in a run without interruption, {len(of_change)} where slots change", flush=True)
+        runs = Runs(program, build(folder), folder)
+        calls, of_three = (runs.one(0, "before", adopts) for adopts in (False, True))
+        print(f"note: {len(calls)} calls in a run without interruption, {len(of_three)} where a folder is adopted", flush=True)
         places = [(*place, False) for place in places_of(calls, every, ways)]
-        places += [(*place, True) for place in places_of(of_change, every * 6, ways)]
+        places += [(*place, True) for place in places_of(of_three, every * 6, ways)]
         with concurrent.futures.ThreadPoolExecutor(os.cpu_count()) as pool:
             list(pool.map(lambda place: runs.one(*place), places))
         runs.forgetful(len(calls) * 3 // 4)
@@ -344,6 +344,6 @@ def main(program, gateway, every=1, ways=WAYS):
 
 
 if __name__ == "__main__":
-    if len(sys.argv) < 3:
-        sys.exit(f"usage: {sys.argv[0]} TOTXEGUN GATEWAY [EVERY [WAY ..]]")
-    sys.exit(main(*map(os.path.abspath, sys.argv[1:3]), *map(int, sys.argv[3:4]), sys.argv[4:] or WAYS))
+    if len(sys.argv) < 2:
+        sys.exit(f"usage: {sys.argv[0]} TOTXEGUN [EVERY [WAY ..]]")
+    sys.exit(main(os.path.abspath(sys.argv[1]), *map(int, sys.argv[2:3]), sys.argv[3:] or WAYS))

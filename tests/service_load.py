@@ -1,16 +1,15 @@
 #!/usr/bin/env python3
-"""The service under load, while all that it is made of is killed, stopped and replaced.
+"""The service under load, while it is killed and stopped.
 
-    tests/service_load.py TOTXEGUN GATEWAY [SECONDS] [SEED] [--slots N[,M]]
+    tests/service_load.py TOTXEGUN [SECONDS] [SEED] [--most-series N,..]
 
-Four runs of a quarter of the seconds each (60): durable `disk` and `process`, with a sink of OTLP and a SQLite file. Two of
-them have one slot and two have three, or so many as is said. Where there is more than one, a start behind a kill has another
-number of them now and then, which moves senders from slot to slot.
+Four runs of a quarter of the seconds each (60): durable `disk` and `process`, with a sink of OTLP and a SQLite file. Each
+start has another number of books now and then, by a --most-series of those that are named (8000, 30000 and 100000).
 
 Senders post sums and histograms, in JSON and protobuf, packed or not, on connections that they keep, and repeat each post
-until it is answered; now and then one posts to another's series, and is refused. Meanwhile the gateway, the service, or
-both are killed, also twice in a row; they are stopped and go on; gateways are renewed, senders are quarantined and
-released; the sink of OTLP answers late, 503, 400, not at all, or takes a request and loses its answer.
+until it is answered; now and then one posts to another's series, and is refused. Meanwhile the service is killed, also twice
+in a row; it is stopped and goes on; senders are quarantined and released; the sink of OTLP answers late, 503, 400, not at
+all, or takes a request and loses its answer.
 
 At the end a repeat of what was taken is refused, SIGTERM ends the service within ten seconds with status 0, while the sink
 does not answer; a second start brings all to the sink, what the sink had refused is sent again, and the sink has, series
@@ -41,16 +40,14 @@ TIME_TO_END = 10
 class Trouble:
     """What is done to the service while senders post: one event after another, drawn by chance."""
 
-    def __init__(self, service, senders, seed, slots):
+    def __init__(self, service, senders, seed, most_series):
         self.service = service
         self.senders = senders
-        self.slots = slots
+        self.most_series = most_series
         self.chance = random.Random(f"trouble {seed}")
         self.quarantined = set()
         self.counts = {}
-        kills = [self.kill_gateway, self.kill_service, self.kill_both, self.kill_twice]
-        self.events = kills + [self.stop_gateway, self.stop_service, self.renew, self.flush, self.quarantine, self.lift]
-        self.events += [self.change_slots, self.kill_one] if slots > 1 else []
+        self.events = [self.kill_service, self.kill_twice, self.change_books, self.stop_service, self.flush, self.quarantine, self.lift]
 
     def go_on(self, until):
         while time.monotonic() < until:
@@ -69,25 +66,9 @@ class Trouble:
         if not self.service.is_running():
             self.service.start()
 
-    def kill_gateway(self):
-        self.service.signal_gateway(signal.SIGKILL)
-
-    def kill_one(self):
-        """The gateway of one slot, while the others go on."""
-        pids = self.service.gateways() if self.service.is_running() else []
-        for pid in self.chance.sample(sorted(pids), min(1, len(pids))):
-            try:
-                os.kill(pid, signal.SIGKILL)
-            except ProcessLookupError:
-                pass
-
     def kill_service(self):
         self.service.kill()
         self.start()
-
-    def kill_both(self):
-        self.service.signal_gateway(signal.SIGKILL)
-        self.kill_service()
 
     def kill_twice(self):
         """The second kill meets a service that is starting."""
@@ -95,37 +76,15 @@ class Trouble:
         time.sleep(self.chance.choice([0, 0.01, 0.05, 0.2]))
         self.kill_service()
 
-    def change_slots(self):
-        """Another number, by two starts of which the first one is killed."""
-        before, after = self.service.words[-1], str(self.chance.randrange(1, self.slots + 2))
-        self.service.kill()
-        self.service.words[-1] = after
-        self.service.start()
-        time.sleep(self.chance.choice([0, 0.05, 0.2, 0.5]))
-        self.service.kill()
-        self.service.start()
-        if not self.service.wait_ready(20) and not self.service.is_running():
-            # A sender is quarantined, which keeps the number.
-            self.service.words[-1] = before
-            self.service.start()
-
-    def stop_gateway(self):
-        pids = self.service.gateways()
-        self.service.signal_gateway(signal.SIGSTOP)
-        time.sleep(self.chance.choice([0.05, 0.3, 1.0]))
-        for pid in pids:
-            try:
-                os.kill(pid, signal.SIGCONT)
-            except ProcessLookupError:
-                pass
+    def change_books(self):
+        """Another number of them, by two starts of which the first one is killed."""
+        self.service.words[-1] = str(self.chance.choice(self.most_series))
+        self.kill_twice()
 
     def stop_service(self):
         self.service.signal(signal.SIGSTOP)
         time.sleep(self.chance.choice([0.05, 0.3, 1.0]))
         self.service.signal(signal.SIGCONT)
-
-    def renew(self):
-        self.service.order("/renew", 5)
 
     def flush(self):
         self.service.order("/flush", 5)
@@ -152,7 +111,7 @@ class Trouble:
 
 
 def intrude(sender, senders):
-    """Now and then, a post to a series that another sender has: it is refused, whichever slots the two have."""
+    """Now and then, a post to a series that another sender has: it is refused."""
     if sender.chance.random() > 0.05:
         return
     other = sender.chance.choice([it for it in senders if it is not sender])
@@ -176,13 +135,13 @@ def post_meanwhile(senders, is_over, between=lambda sender: None):
     return threads
 
 
-def load(checks, what, service, sink, seconds, seed, slots):
+def load(checks, what, service, sink, seconds, seed, most_series):
     """Senders and trouble at once; whether all senders were answered."""
     service.start()
     checks.true(f"{what}: it is ready", service.wait_ready(), service.last_lines())
     until = time.monotonic() + seconds
     senders = [Sender(service, number, seed) for number in range(SENDERS)]
-    trouble = Trouble(service, senders, seed, slots)
+    trouble = Trouble(service, senders, seed, most_series)
     threads = post_meanwhile(senders, lambda: time.monotonic() > until, lambda sender: intrude(sender, senders))
     sink.mood(MOODS)
     trouble.go_on(until)
@@ -219,7 +178,7 @@ def repeat_late(checks, what, senders):
 
 
 def end(checks, what, service, sink, senders):
-    """The end, a start behind it, and what the sink has."""
+    """The end, a start after it, and what the sink has."""
     surprises = [surprise for sender in senders for surprise in sender.surprises]
     checks.same(f"{what}: no post was answered otherwise", [], surprises[:3])
     repeat_late(checks, f"{what}: late repeats are refused", senders)
@@ -252,14 +211,14 @@ def compare(checks, what, sink, senders):
     checks.same(f"{what}: the sink has what the senders were told, {len(wanted)} series", [], differences(wanted, found))
 
 
-def run(checks, program, gateway, durable, kind, seconds, seed, slots):
-    what = f"{durable}, {kind}, {slots} slots" if slots > 1 else f"{durable}, {kind}"
+def run(checks, program, durable, kind, seconds, seed, most_series):
+    what = f"{durable}, {kind}"
     with tempfile.TemporaryDirectory(prefix="service-") as folder:
         sink = OtlpSink(seed) if kind == "OTLP" else SqliteSink(f"{folder}/sink.db")
-        words = ["--durable", durable, "--flush-every", "1s", "--slots", str(slots)]
-        service = Service(program, gateway, f"{folder}/data", sink.address, *words)
+        words = ["--durable", durable, "--flush-every", "1s", "--most-series", str(most_series[0])]
+        service = Service(program, f"{folder}/data", sink.address, *words)
         try:
-            senders = load(checks, what, service, sink, seconds, seed, slots)
+            senders = load(checks, what, service, sink, seconds, seed, most_series)
             end(checks, what, service, sink, senders)
         finally:
             service.kill()
@@ -269,19 +228,16 @@ def run(checks, program, gateway, durable, kind, seconds, seed, slots):
 def main(arguments):
     checks = Checks()
     print(f"note: seed {arguments.seed}", flush=True)
-    first, second = (arguments.slots * 2)[:2]
-    for durable, kind, slots in (("disk", "OTLP", first), ("disk", "SQLite", second), ("process", "OTLP", second),
-                                 ("process", "SQLite", first)):
-        run(checks, arguments.totxegun, arguments.gateway, durable, kind, arguments.seconds / 4,
-            f"{arguments.seed} {durable} {kind}", slots)
+    for durable, kind in (("disk", "OTLP"), ("disk", "SQLite"), ("process", "OTLP"), ("process", "SQLite")):
+        run(checks, arguments.totxegun, durable, kind, arguments.seconds / 4, f"{arguments.seed} {durable} {kind}",
+            arguments.most_series)
     return checks.end()
 
 
 if __name__ == "__main__":
     parser = argparse.ArgumentParser(description=__doc__.split("\n", maxsplit=1)[0])
     parser.add_argument("totxegun", type=os.path.abspath)
-    parser.add_argument("gateway", type=os.path.abspath)
     parser.add_argument("seconds", type=float, nargs="?", default=SECONDS)
     parser.add_argument("seed", nargs="?", default="1")
-    parser.add_argument("--slots", type=lambda text: [int(word) for word in text.split(",")], default=[1, 3])
+    parser.add_argument("--most-series", type=lambda text: [int(word) for word in text.split(",")], default=[8_000, 30_000, 100_000])
     sys.exit(main(parser.parse_args()))

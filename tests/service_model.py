@@ -3,15 +3,14 @@
 
     tests/service_model.py
 
-It needs no program. Two senders have three posts on two series: A posts one point of x, then one of x and one of y;
-B posts one of y, so that one of the two senders owns y and the other is refused. Posts are on the way at once, answers
-are lost, and a sender repeats until it is answered. Meanwhile there are checkpoints, a quarantine, a lift, and deliveries
-to a sink. Faults come at any place: the gateway or the service is killed, the power is lost, an answer of the gateway
-does not come.
+It needs no program. Two senders have three posts on two series, each of which is in a book of its own: A posts one point of
+x, then one of x and one of y; B posts one of y, so that one of the two senders owns y and the other is refused. Posts are on
+the way at once, answers are lost, and a sender repeats until it is answered. Meanwhile there are checkpoints, a quarantine, a
+lift, and deliveries to a sink. Faults come at any place: the service is killed, the power is lost, a write of the outbox fails.
 
 In each state in which nothing is on its way:
   - a post whose sender was told that it is taken (200, or `out of order` to a repeat) counts exactly once: in the sink,
-    in the outbox, or in the gateway, which has what the journal has;
+    in the outbox, or in the books, which have what the journal has;
   - a post whose sender was told that it is refused (`other writer`) does not count;
   - any other post counts once or not at all, and all of its points do or none;
   - a late repeat of a post that was taken is refused.
@@ -45,22 +44,24 @@ class Rules:
     answer_waits_for_journal: bool = True
     # A refusal waits for all records before it: a repeat's `out of order` says that the first attempt is there for good.
     refusal_waits_for_journal: bool = True
-    # One post of a sender at a time, from before the gateway is asked until the record is written.
-    one_post_of_a_sender_at_a_time: bool = True
-    # No post is between the gateway and the journal while the gateway is flushed and the journal turns.
-    checkpoint_is_a_barrier: bool = True
-    # Nor while the files are read for a fresh gateway.
-    replacement_is_a_barrier: bool = True
+    # A post is admitted and confirmed, and has its place in the journal's queue, in one step under the lock.
+    admission_and_place_are_one_step: bool = True
+    # A post is in all books that have a series of it, or in none.
+    post_is_in_all_books_or_none: bool = True
+    # A checkpoint takes what all books have, and turns the journal, in one step under the same lock.
+    take_and_turn_are_one_step: bool = True
     # A group is committed once the records of all its posts are synced.
     journal_before_outbox: bool = True
     # The requests of a group count once all of it is there.
     groups_are_whole: bool = True
-    # A segment is numbered behind all that the outbox says are in groups, also where the files of these are gone.
-    segments_are_numbered_behind_the_outbox: bool = True
-    # Where an answer of the gateway did not come, a fresh gateway takes its place.
-    doubt_replaces_the_gateway: bool = True
-    # A fresh gateway is given each series' owner and frontier.
-    fresh_gateway_is_primed: bool = True
+    # What was taken of the books is in no file yet: where it can't be written the process ends.
+    failed_write_ends_the_service: bool = True
+    # A segment is numbered after all that the outbox says are in groups, also where the files of these are gone.
+    segments_are_numbered_after_the_outbox: bool = True
+    # A start gives fresh books each series' owner and frontier.
+    fresh_books_are_primed: bool = True
+    # Then the posts that no group has, in the order of the journal, those of quarantined senders last.
+    replay_has_the_journals_order: bool = True
     # At a checkpoint the posts of quarantined senders, which no flush takes, are copied into the new segment.
     quarantined_posts_are_copied: bool = True
     # A request is acknowledged in the outbox once the sink has said that it has it.
@@ -106,34 +107,38 @@ class Told:
     TEXTS = ("nothing", "that it is taken", "that it is refused")
 
 
+class Sync:
+    """How durable a record is."""
+
+    # In the queue, in memory: a kill takes it, and the books with it.
+    QUEUED = 0
+    # Written by this run: a power loss takes it.
+    WRITTEN = 1
+    # Written by an earlier run, and never synced: this run's syncs are of other files.
+    LEFT = 2
+    SYNCED = 3
+
+
 class Request(NamedTuple):
-    """An attempt at a post that the gateway has answered, and the sender has not been."""
+    """An attempt at a post that the books have answered, and the sender has not been."""
 
     post: int
-    # NOTHING until the record of a post that the gateway took is written; then the answer, which waits for a sync.
+    # NOTHING where a post that was taken has no place in the queue yet, which is against the rule.
     answer: int
+    # Of the records that the answer waits for, the youngest one.
+    last: int
     # Whether the sender still waits for it.
     is_awaited: bool
 
 
-class Gateway(NamedTuple):
-    """The gateway's memory. It takes a post whole or refuses it whole."""
+class Books(NamedTuple):
+    """What the books have in memory. They take a post whole or refuse it whole."""
 
     # Of each series (owner, frontier), or None where it is not known.
     series: tuple
     # Points that were taken and not flushed.
     pending: int
     is_quarantined: bool
-
-
-class Sync:
-    """How durable a record is."""
-
-    # Written by this run: a power loss takes it.
-    WRITTEN = 0
-    # Written by an earlier run, and never synced: this run's syncs are of other files.
-    LEFT = 1
-    SYNCED = 2
 
 
 class Record(NamedTuple):
@@ -146,7 +151,7 @@ class Record(NamedTuple):
     sync: int
 
 
-class Book(NamedTuple):
+class Outbox(NamedTuple):
     """What the outbox says."""
 
     # Sets of points; a request's number is its place, from 1.
@@ -163,12 +168,13 @@ class Book(NamedTuple):
 class Step:
     """How far a checkpoint is."""
 
-    FLUSHING, TURNED, COMMITTED, SYNCED = range(4)
+    # TAKEN has no length where the rule is kept.
+    TAKEN, TURNED, COMMITTED, SYNCED = range(4)
 
 
 class Checkpoint(NamedTuple):
     step: int
-    # The requests that the gateway forwarded.
+    # What was taken of the books: the requests of the group.
     group: tuple
 
 
@@ -187,13 +193,14 @@ class State(NamedTuple):
     told: tuple
     attempts: tuple
     requests: tuple
-    is_up: bool
-    gateway: Gateway
+    # None where the service is down.
+    books: Books
     segment: int
+    # The queue is the end of it.
     journal: tuple
-    book: Book
-    # What a power loss leaves of the book.
-    synced_book: Book
+    outbox: Outbox
+    # What a power loss leaves of the outbox.
+    synced_outbox: Outbox
     checkpoint: Checkpoint
     # Points that the sink has once, and those that it has twice; the highest number of a request that it has.
     sink: int
@@ -202,12 +209,11 @@ class State(NamedTuple):
     left: Left
 
 
-EMPTY_GATEWAY = Gateway((None, None), 0, False)
-EMPTY_BOOK = Book((), 0, 1, (None, None), False)
+EMPTY_BOOKS = Books((None, None), 0, False)
+EMPTY_OUTBOX = Outbox((), 0, 1, (None, None), False)
 BEGIN = State(
-    told=(Told.NOTHING,) * len(POSTS), attempts=(0,) * len(POSTS), requests=(), is_up=True, gateway=EMPTY_GATEWAY, segment=1,
-    journal=(), book=EMPTY_BOOK, synced_book=EMPTY_BOOK, checkpoint=None, sink=0, twice=0, highest=0,
-    left=None)
+    told=(Told.NOTHING,) * len(POSTS), attempts=(0,) * len(POSTS), requests=(), books=EMPTY_BOOKS, segment=1, journal=(),
+    outbox=EMPTY_OUTBOX, synced_outbox=EMPTY_OUTBOX, checkpoint=None, sink=0, twice=0, highest=0, left=None)
 BOUNDS = (Left(2, 1, 1, 1, 1), Left(1, 2, 1, 0, 1))
 
 
@@ -237,44 +243,48 @@ def spend(state, kind):
 
 
 # --------------------------------------------------------------------------------------------------------------------
-# The gateway
+# The books
 
 
-def answer_of(gateway, post):
-    """What the gateway says to a post of a sender that is not quarantined."""
+def answer_of(books, post):
+    """What the books say to a post of a sender that is not quarantined."""
     sender, spans = POSTS[post]
-    for series, (start, _) in spans.items():
-        known = gateway.series[series]
+    for series in spans:
+        known = books.series[series]
         if known and known[0] != sender:
             return Told.REFUSED
     for series, (start, _) in spans.items():
-        known = gateway.series[series]
+        known = books.series[series]
         if known and start < known[1]:
             # `out of order`: senders send in order, so a repeat alone is told this, and it means that it is there.
             return None
     return Told.TAKEN
 
 
-def taken(gateway, post):
-    """The gateway with a post that it takes."""
-    series = list(gateway.series)
+def taken(books, post, only=SERIES):
+    """The books with a post that they take, or with its part of these series."""
+    series, pending = list(books.series), books.pending
     for one, (_, end) in POSTS[post].spans.items():
-        series[one] = (POSTS[post].sender, end)
-    return gateway._replace(series=tuple(series), pending=gateway.pending | OF_POST[post])
+        if one in only:
+            series[one] = (POSTS[post].sender, end)
+            pending |= OF_POST[post] & OF_SERIES[one]
+    return books._replace(series=tuple(series), pending=pending)
 
 
-def flushable(gateway):
+def with_parts(books, post):
+    """The books with those parts of a refused post that one book alone would take."""
+    sender, spans = POSTS[post]
+    known = {one: books.series[one] or (sender, 0) for one in spans}
+    return taken(books, post, [one for one, (start, _) in spans.items() if known[one][0] == sender and known[one][1] <= start])
+
+
+def flushable(books):
     """The points that a flush may take."""
-    return gateway.pending & ~(OF_SENDER[QUARANTINED] if gateway.is_quarantined else 0)
+    return books.pending & ~(OF_SENDER[QUARANTINED] if books.is_quarantined else 0)
 
 
 # --------------------------------------------------------------------------------------------------------------------
 # Posts
-
-
-def is_between(state):
-    """Whether a post is between the gateway and the journal."""
-    return any(request.answer == Told.NOTHING for request in state.requests)
 
 
 def next_post(state, sender):
@@ -282,55 +292,46 @@ def next_post(state, sender):
     return next((number for number, one in enumerate(POSTS) if one.sender == sender and not state.told[number]), None)
 
 
-def has_turn(rules, state, sender):
-    """Whether no other post of this sender is between the gateway and the journal."""
-    others = (one for one in state.requests if one.answer == Told.NOTHING and POSTS[one.post].sender == sender)
-    return not rules.one_post_of_a_sender_at_a_time or not any(others)
-
-
-def waits_at_barrier(rules, state):
-    is_flushing = state.checkpoint is not None and state.checkpoint.step == Step.FLUSHING
-    return is_flushing and rules.checkpoint_is_a_barrier
-
-
 def post(rules, state):
-    """A sender posts what it does not have an answer to, if it waits for no attempt at it, and the gateway is asked."""
-    if not state.gateway or waits_at_barrier(rules, state):
-        return
-    for sender in (A, B):
+    """A sender posts what it does not have an answer to, if it waits for no attempt at it, and the books are asked."""
+    for sender in (A, B) if state.books else ():
         number = next_post(state, sender)
-        if number is None or state.attempts[number] == MOST_ATTEMPTS or not has_turn(rules, state, sender):
+        if number is None or state.attempts[number] == MOST_ATTEMPTS:
             continue
         if any(request.is_awaited and request.post == number for request in state.requests):
             continue
         tried = state._replace(attempts=put(state.attempts, number, state.attempts[number] + 1))
-        if not (state.gateway.is_quarantined and sender == QUARANTINED):
-            yield from asked(rules, tried, number)
+        if not (state.books.is_quarantined and sender == QUARANTINED):
+            yield asked(rules, tried, number)
 
 
 def asked(rules, state, number):
-    """The gateway takes a post or refuses it. Where its answer is lost the sender is answered 503."""
-    if answer_of(state.gateway, number) != Told.TAKEN:
-        yield f"the gateway refuses post {number}", refused(rules, state, number)
-        return
-    state = state._replace(gateway=taken(state.gateway, number))
-    yield f"the gateway takes post {number}", with_request(state, Request(number, Told.NOTHING, True))
-    left = spend(state, "faults")
-    if left:
-        yield f"the gateway takes post {number}, and its answer is lost", doubt(rules, state._replace(left=left))
+    """The books take a post or refuse it."""
+    if answer_of(state.books, number) != Told.TAKEN:
+        return f"post {number} is refused", refused(rules, state, number)
+    state = state._replace(books=taken(state.books, number))
+    if rules.admission_and_place_are_one_step:
+        return f"post {number} is taken, and has its place in the queue", placed(rules, state, number, True)
+    return f"post {number} is taken", with_request(state, Request(number, Told.NOTHING, Sync.QUEUED, True))
+
+
+def placed(rules, state, number, is_awaited):
+    """Its record is the last one of the queue."""
+    state = state._replace(journal=state.journal + (Record(state.segment, number, False, Sync.QUEUED),))
+    if not rules.answer_waits_for_journal:
+        return answered(state, number, Told.TAKEN) if is_awaited else state
+    return with_request(state, Request(number, Told.TAKEN, Sync.QUEUED, is_awaited))
 
 
 def refused(rules, state, number):
-    """A refusal waits for what was written before."""
-    answer = answer_of(state.gateway, number) or Told.TAKEN
-    if rules.refusal_waits_for_journal and any(record.sync == Sync.WRITTEN for record in state.journal):
-        return with_request(state, Request(number, answer, True))
+    """A refusal waits for what has a place before it."""
+    answer = answer_of(state.books, number) or Told.TAKEN
+    if not rules.post_is_in_all_books_or_none:
+        state = state._replace(books=with_parts(state.books, number))
+    open_ones = [record.sync for record in state.journal if record.sync in (Sync.QUEUED, Sync.WRITTEN)]
+    if rules.refusal_waits_for_journal and open_ones:
+        return with_request(state, Request(number, answer, min(open_ones), True))
     return answered(state, number, answer)
-
-
-def doubt(rules, state):
-    """It is not known what the gateway has: it goes, and with it a checkpoint that still flushes."""
-    return lose_gateway(state) if rules.doubt_replaces_the_gateway else state
 
 
 def stop_waiting(rules, state):
@@ -342,31 +343,37 @@ def stop_waiting(rules, state):
             yield f"the sender of post {request.post} waits no longer", with_request(others, request._replace(is_awaited=False))
 
 
-def append(rules, state):
-    """The record of a post that the gateway took is written."""
+def place_late(rules, state):
+    """Where that is a step of its own, a post that was taken gets its place."""
     for place, request in enumerate(state.requests):
         if request.answer == Told.NOTHING:
-            record = Record(state.segment, request.post, False, Sync.WRITTEN)
-            others = state._replace(requests=without(state.requests, place), journal=state.journal + (record,))
-            yield f"the record of post {request.post} is written", with_request(others, request._replace(answer=Told.TAKEN))
-            if request.is_awaited and not rules.answer_waits_for_journal:
-                early = answered(others, request.post, Told.TAKEN)
-                yield f"post {request.post} is answered, and its record is written", early
+            others = state._replace(requests=without(state.requests, place))
+            yield f"post {request.post} has its place in the queue", placed(rules, others, request.post, request.is_awaited)
+
+
+def moved(records, before, after):
+    return tuple(one._replace(sync=after) if one.sync == before else one for one in records)
+
+
+def write_journal(rules, state):
+    """All of the queue, in its order."""
+    if any(record.sync == Sync.QUEUED for record in state.journal):
+        requests = (one._replace(last=Sync.WRITTEN) if one.answer != Told.NOTHING else one for one in state.requests)
+        yield "the queue is written to the journal", state._replace(
+            journal=moved(state.journal, Sync.QUEUED, Sync.WRITTEN), requests=tuple(sorted(requests)))
 
 
 def sync_journal(rules, state):
-    if any(record.sync == Sync.WRITTEN for record in state.journal):
-        yield "the journal is synced, and who waits for it is answered", synced_journal(state)
-
-
-def synced_journal(state):
-    """One sync is for all that wait."""
-    journal = tuple(record._replace(sync=Sync.SYNCED) if record.sync == Sync.WRITTEN else record for record in state.journal)
-    synced = state._replace(journal=journal, requests=tuple(one for one in state.requests if one.answer == Told.NOTHING))
-    for request in state.requests:
-        if request.answer != Told.NOTHING and request.is_awaited:
+    """One sync is for all that was written, and for all who wait for it."""
+    if all(record.sync != Sync.WRITTEN for record in state.journal):
+        return
+    done = [one for one in state.requests if one.last == Sync.WRITTEN]
+    synced = state._replace(journal=moved(state.journal, Sync.WRITTEN, Sync.SYNCED),
+                            requests=tuple(one for one in state.requests if one not in done))
+    for request in done:
+        if request.is_awaited:
             synced = answered(synced, request.post, request.answer)
-    return synced
+    yield "the journal is synced, and who waits for it is answered", synced
 
 
 # --------------------------------------------------------------------------------------------------------------------
@@ -374,84 +381,99 @@ def synced_journal(state):
 
 
 def begin_checkpoint(rules, state):
-    """The posts that are between the gateway and the journal end, and others wait."""
+    """All that may be flushed is taken of the books, a request a series, and the journal turns."""
     left = spend(state, "checkpoints")
-    if left and state.gateway and not state.checkpoint and not (is_between(state) and rules.checkpoint_is_a_barrier):
-        yield "a checkpoint begins", state._replace(checkpoint=Checkpoint(Step.FLUSHING, ()), left=left)
-
-
-def flush(rules, state):
-    """The gateway forwards what it has of one series, or says that it has nothing; its answer may be lost."""
-    if not state.checkpoint or state.checkpoint.step != Step.FLUSHING:
+    if not left or not state.books or state.checkpoint:
         return
-    points = next((flushable(state.gateway) & of for of in OF_SERIES if flushable(state.gateway) & of), 0)
-    if not points:
+    state = all_taken(state._replace(left=left))
+    if rules.take_and_turn_are_one_step:
+        yield f"{state.checkpoint.group} are taken of the books, and the journal turns", turned(rules, state)
+    else:
+        yield f"{state.checkpoint.group} are taken of the books", state
+
+
+def all_taken(state):
+    """A flush that was taken is settled at once: its points are the checkpoint's alone."""
+    points = flushable(state.books)
+    group = tuple(points & of for of in OF_SERIES if points & of)
+    books = state.books._replace(pending=state.books.pending & ~points)
+    return state._replace(books=books, checkpoint=Checkpoint(Step.TAKEN, group))
+
+
+def turn_late(rules, state):
+    """Where that is a step of its own, posts come between."""
+    if state.checkpoint and state.checkpoint.step == Step.TAKEN:
         yield "the journal turns", turned(rules, state)
-        return
-    flushed = state._replace(gateway=state.gateway._replace(pending=state.gateway.pending & ~points))
-    group = state.checkpoint.group + (points,)
-    yield f"points {points:b} are flushed", flushed._replace(checkpoint=Checkpoint(Step.FLUSHING, group))
-    left = spend(state, "faults")
-    if left:
-        yield f"points {points:b} are flushed, and the answer is lost", doubt(rules, flushed._replace(checkpoint=None, left=left))
 
 
 def turned(rules, state):
-    """A new segment, behind which posts go on: it begins with copies of what no flush takes."""
+    """A new segment, in which the next posts have their places: it begins with copies of what no flush takes."""
     segment = state.segment + 1
     copies = ()
-    if state.book.is_quarantined and rules.quarantined_posts_are_copied:
-        copies = tuple(Record(segment, record.post, True, Sync.WRITTEN) for record in replayed(state.book, state.journal)
+    if state.books.is_quarantined and rules.quarantined_posts_are_copied:
+        copies = tuple(Record(segment, record.post, True, Sync.QUEUED) for record in replayed(state.outbox, state.journal)
                        if POSTS[record.post].sender == QUARANTINED)
     return state._replace(segment=segment, journal=state.journal + copies, checkpoint=state.checkpoint._replace(step=Step.TURNED))
 
 
 def commit(rules, state):
-    """What was flushed is written as one group, which names the segment from which posts are in no group."""
+    """What was taken is written as one group, which names the segment from which posts are in no group."""
     if not state.checkpoint or state.checkpoint.step != Step.TURNED:
         return
     needed = (one for one in state.journal if one.segment < state.segment or one.is_copy)
-    if rules.journal_before_outbox and any(record.sync == Sync.WRITTEN for record in needed):
+    if rules.journal_before_outbox and any(record.sync in (Sync.QUEUED, Sync.WRITTEN) for record in needed):
         return
-    book = state.book._replace(requests=state.book.requests + state.checkpoint.group, journal=state.segment)
-    yield "the group is written", state._replace(book=book, checkpoint=state.checkpoint._replace(step=Step.COMMITTED))
+    outbox = state.outbox._replace(requests=state.outbox.requests + state.checkpoint.group, journal=state.segment)
+    yield "the group is written", state._replace(outbox=outbox, checkpoint=state.checkpoint._replace(step=Step.COMMITTED))
     left = spend(state, "faults")
     if left and not rules.groups_are_whole:
-        half = state.book._replace(requests=state.book.requests + state.checkpoint.group[:1])
-        yield "the service is killed while the group is written", ended(state._replace(book=half, left=left))
+        half = state.outbox._replace(requests=state.outbox.requests + state.checkpoint.group[:1])
+        yield "the service is killed while the group is written", ended(state._replace(outbox=half, left=left))
+    if left:
+        failed = state._replace(left=left)
+        after = ended(failed) if rules.failed_write_ends_the_service else failed._replace(checkpoint=None)
+        yield "the group can't be written", after
+
+
+def give_back(rules, state):
+    """There is no memory to write what was taken: it is pending again, and the journal stays as it turned."""
+    left = spend(state, "faults")
+    if left and state.checkpoint and state.checkpoint.step == Step.TURNED:
+        books = state.books._replace(pending=state.books.pending | sum(state.checkpoint.group))
+        yield "what was taken is given back", state._replace(books=books, checkpoint=None, left=left)
 
 
 def sync_outbox(rules, state):
     if state.checkpoint and state.checkpoint.step == Step.COMMITTED:
         yield "the group is synced", state._replace(
-            synced_book=state.book, checkpoint=state.checkpoint._replace(step=Step.SYNCED))
+            synced_outbox=state.outbox, checkpoint=state.checkpoint._replace(step=Step.SYNCED))
 
 
 def end_checkpoint(rules, state):
     """The owners of new series are found in the segments, which are then deleted."""
     if state.checkpoint and state.checkpoint.step == Step.SYNCED:
-        book = with_owners(state.book, state.journal)
-        journal = tuple(record for record in state.journal if record.segment >= book.journal)
-        yield "the checkpoint ends", state._replace(book=book, synced_book=book, journal=journal, checkpoint=None)
+        outbox = with_owners(state.outbox, state.journal)
+        journal = tuple(record for record in state.journal if record.segment >= outbox.journal)
+        yield "the checkpoint ends", state._replace(outbox=outbox, synced_outbox=outbox, journal=journal, checkpoint=None)
 
 
-def frontier(book, series):
+def frontier(outbox, series):
     """Where the last forwarded point of a series ends, or None."""
     points = 0
-    for request in book.requests:
+    for request in outbox.requests:
         points |= request
     ends = [POSTS[post].spans[one][1] for place, (post, one) in enumerate(POINTS) if one == series and points >> place & 1]
     return max(ends, default=None)
 
 
-def with_owners(book, journal):
+def with_owners(outbox, journal):
     """The posts of a group are in the journal, and say who owns its series."""
-    owners = list(book.owners)
+    owners = list(outbox.owners)
     for series in SERIES:
-        if owners[series] is None and frontier(book, series) is not None:
+        if owners[series] is None and frontier(outbox, series) is not None:
             owners[series] = next((POSTS[record.post].sender for record in journal
-                                   if record.segment < book.journal and series in POSTS[record.post].spans), None)
-    return book._replace(owners=tuple(owners))
+                                   if record.segment < outbox.journal and series in POSTS[record.post].spans), None)
+    return outbox._replace(owners=tuple(owners))
 
 
 # --------------------------------------------------------------------------------------------------------------------
@@ -461,10 +483,10 @@ def with_owners(book, journal):
 def deliver(rules, state):
     """The sink gets the first request that is not acknowledged. It takes a number once. Its answer may be lost."""
     is_committing = state.checkpoint is not None and state.checkpoint.step == Step.COMMITTED
-    number = state.book.acknowledged + 1
-    if not state.is_up or number > len(state.book.requests) - (len(state.checkpoint.group) if is_committing else 0):
+    number = state.outbox.acknowledged + 1
+    if not state.books or number > len(state.outbox.requests) - (len(state.checkpoint.group) if is_committing else 0):
         return
-    acknowledged = state._replace(book=state.book._replace(acknowledged=number))
+    acknowledged = state._replace(outbox=state.outbox._replace(acknowledged=number))
     if not rules.sink_answers_before_the_ack:
         yield f"request {number} is acknowledged, and the sink does not take it", acknowledged
     yield f"the sink takes request {number}", delivered(acknowledged, number)
@@ -476,7 +498,7 @@ def deliver(rules, state):
 def delivered(state, number):
     if number <= state.highest:
         return state
-    points = state.book.requests[number - 1]
+    points = state.outbox.requests[number - 1]
     return state._replace(sink=state.sink | points, twice=state.twice | state.sink & points, highest=number)
 
 
@@ -485,79 +507,55 @@ def delivered(state, number):
 
 
 def quarantine(rules, state):
-    """The gateway is asked, and then it is noted in the outbox; the gateway's answer may be lost."""
+    """All books have it, and then it is noted in the outbox: a kill between the two leaves neither."""
     left = spend(state, "quarantines")
-    if not left or not state.gateway or state.checkpoint or state.book.is_quarantined:
-        return
-    asked = state._replace(gateway=state.gateway._replace(is_quarantined=True), left=left)
-    yield f"{QUARANTINED} is quarantined", noted(asked, True)
-    left = spend(asked, "faults")
-    if left:
-        yield f"{QUARANTINED} is quarantined, and the answer is lost", doubt(rules, asked._replace(left=left))
+    if left and state.books and not state.checkpoint and not state.outbox.is_quarantined:
+        yield f"{QUARANTINED} is quarantined", noted(state._replace(left=left), True)
 
 
 def lift(rules, state):
-    if state.gateway and state.gateway.is_quarantined and not state.checkpoint:
-        yield f"{QUARANTINED} is released", noted(state._replace(gateway=state.gateway._replace(is_quarantined=False)), False)
+    if state.books and state.books.is_quarantined and not state.checkpoint:
+        yield f"{QUARANTINED} is released", noted(state, False)
 
 
 def noted(state, is_quarantined):
     """A record of its own, synced at once; what was written before it is synced with it."""
-    book = state.book._replace(is_quarantined=is_quarantined)
-    return state._replace(book=book, synced_book=book)
+    outbox = state.outbox._replace(is_quarantined=is_quarantined)
+    return state._replace(books=state.books._replace(is_quarantined=is_quarantined), outbox=outbox, synced_outbox=outbox)
 
 
 # --------------------------------------------------------------------------------------------------------------------
 # Ends and beginnings
 
 
-def lose_gateway(state):
-    """A checkpoint that has all that it flushed goes on without the gateway."""
-    is_flushing = state.checkpoint is not None and state.checkpoint.step == Step.FLUSHING
-    return state._replace(gateway=None, checkpoint=None if is_flushing else state.checkpoint)
-
-
-def kill_gateway(rules, state):
-    left = spend(state, "faults")
-    if left and state.gateway:
-        yield "the gateway is killed", lose_gateway(state)._replace(left=left)
-
-
-def replace_gateway(rules, state):
-    """Once no post is between the gateway and the journal, and the journal is synced, the files say what it gets."""
-    is_early = is_between(state) and rules.replacement_is_a_barrier
-    if state.is_up and not state.gateway and not state.checkpoint and not is_early:
-        state = synced_journal(state)
-        yield "a fresh gateway is there", state._replace(gateway=fresh_gateway(rules, state.book, state.journal))
-
-
-def replayed(book, journal):
+def replayed(outbox, journal):
     """The records that count."""
-    return tuple(record for record in journal if record.segment >= book.journal
-                 and (not record.is_copy or record.segment == book.journal))
+    return tuple(record for record in journal if record.segment >= outbox.journal
+                 and (not record.is_copy or record.segment == outbox.journal))
 
 
-def fresh_gateway(rules, book, journal):
+def fresh_books(rules, outbox, journal):
     """Primed, then given the posts that no group has, then the quarantine."""
-    known = tuple((owner, frontier(book, series)) if owner and frontier(book, series) is not None else None
-                  for series, owner in enumerate(book.owners))
-    gateway = EMPTY_GATEWAY._replace(series=known) if rules.fresh_gateway_is_primed else EMPTY_GATEWAY
-    for record in replayed(book, journal):
-        if answer_of(gateway, record.post) == Told.TAKEN:
-            gateway = taken(gateway, record.post)
-    return gateway._replace(is_quarantined=book.is_quarantined)
+    known = tuple((owner, frontier(outbox, series)) if owner and frontier(outbox, series) is not None else None
+                  for series, owner in enumerate(outbox.owners))
+    books = EMPTY_BOOKS._replace(series=known) if rules.fresh_books_are_primed else EMPTY_BOOKS
+    records = sorted(replayed(outbox, journal), key=lambda record: outbox.is_quarantined and POSTS[record.post].sender == QUARANTINED)
+    for record in records if rules.replay_has_the_journals_order else reversed(records):
+        if answer_of(books, record.post) == Told.TAKEN:
+            books = taken(books, record.post)
+    return books._replace(is_quarantined=outbox.is_quarantined)
 
 
 def kill_service(rules, state):
     left = spend(state, "faults")
-    if left and state.is_up:
+    if left and state.books:
         yield "the service is killed", ended(state._replace(left=left))
 
 
 def ended(state):
-    """The gateway goes with the service, and all that is on the way. What was written stays."""
-    journal = tuple(record._replace(sync=Sync.LEFT) if record.sync == Sync.WRITTEN else record for record in state.journal)
-    return state._replace(requests=(), is_up=False, gateway=None, checkpoint=None, journal=journal)
+    """Books and queue go with the service, and all that is on the way. What was written stays."""
+    written = tuple(record for record in state.journal if record.sync != Sync.QUEUED)
+    return state._replace(requests=(), books=None, checkpoint=None, journal=moved(written, Sync.WRITTEN, Sync.LEFT))
 
 
 def lose_power(rules, state):
@@ -565,41 +563,40 @@ def lose_power(rules, state):
     left = spend(state, "faults")
     if left:
         journal = tuple(record for record in state.journal if record.sync == Sync.SYNCED)
-        yield "the power is lost", ended(state._replace(journal=journal, book=state.synced_book, left=left))
+        yield "the power is lost", ended(state._replace(journal=journal, outbox=state.synced_outbox, left=left))
 
 
 def start_service(rules, state):
-    """Files are synced, read and believed; a segment begins behind all that are there or that the outbox names."""
-    if state.is_up:
+    """Files are synced, read and believed; a segment begins after all that are there or that the outbox names."""
+    if state.books:
         return
-    journal, synced_book = state.journal, state.synced_book
+    journal, synced_outbox = state.journal, state.synced_outbox
     if rules.files_are_synced_before_they_are_believed:
-        journal, synced_book = tuple(record._replace(sync=Sync.SYNCED) for record in journal), state.book
-    book = with_owners(state.book, journal)
+        journal = tuple(record._replace(sync=Sync.SYNCED) for record in journal)
+    outbox = with_owners(state.outbox, journal)
     if rules.files_are_synced_before_they_are_believed:
-        synced_book = book
-    known = book.journal if rules.segments_are_numbered_behind_the_outbox else 0
+        synced_outbox = outbox
+    known = outbox.journal if rules.segments_are_numbered_after_the_outbox else 0
     segment = max([known] + [record.segment for record in journal]) + 1
-    yield "the service starts", state._replace(
-        is_up=True, segment=segment, journal=journal, book=book, synced_book=synced_book,
-        gateway=fresh_gateway(rules, book, journal))
+    yield "the service starts", state._replace(segment=segment, journal=journal, outbox=outbox, synced_outbox=synced_outbox,
+                                               books=fresh_books(rules, outbox, journal))
 
 
-ACTIONS = (post, stop_waiting, append, sync_journal, begin_checkpoint, flush, commit, sync_outbox, end_checkpoint,
-           deliver, quarantine, lift, kill_gateway, replace_gateway, kill_service, lose_power, start_service)
+ACTIONS = (post, stop_waiting, place_late, write_journal, sync_journal, begin_checkpoint, turn_late, commit, give_back, sync_outbox,
+           end_checkpoint, deliver, quarantine, lift, kill_service, lose_power, start_service)
 
 # --------------------------------------------------------------------------------------------------------------------
 # What holds
 
 
 def is_quiet(state):
-    return state.gateway is not None and not state.requests and not state.checkpoint
+    return state.books is not None and not state.requests and not state.checkpoint
 
 
 def counted(state):
     """Of each point, how often it counts, where nothing more is posted and nothing fails."""
-    waiting = state.book.requests[max(state.book.acknowledged, state.highest):]
-    sets = (state.sink, state.twice, state.gateway.pending, *waiting)
+    waiting = state.outbox.requests[max(state.outbox.acknowledged, state.highest):]
+    sets = (state.sink, state.twice, state.books.pending, *waiting)
     return [sum(points >> place & 1 for points in sets) for place in range(len(POINTS))]
 
 
@@ -611,7 +608,7 @@ def fault_of(state):
         wanted = {Told.TAKEN: [{1}], Told.REFUSED: [{0}], Told.NOTHING: [{0}, {1}]}[told]
         if found not in wanted:
             return f"post {post}, told {Told.TEXTS[told]}, counts {sorted(found)}"
-        if told == Told.TAKEN and answer_of(state.gateway, post) == Told.TAKEN:
+        if told == Told.TAKEN and answer_of(state.books, post) == Told.TAKEN:
             return f"a late repeat of post {post} is taken"
     return None
 

@@ -1,6 +1,7 @@
 """What scripts share that run programs and the files of operate/: programs that are ended in every case, copies of the
-shipped files, and questions to a gateway."""
+shipped files, a small disk, and questions to a gateway."""
 import contextlib
+import ctypes
 import http.client
 import os
 import shutil
@@ -15,6 +16,8 @@ from service import wait_until
 
 OPERATE = os.path.join(os.path.dirname(os.path.abspath(__file__)), "..", "operate")
 CONNECTIONS = 1_000_000
+# Of <sched.h>.
+CLONE_NEWNS = 0x20000
 os.environ["PATH"] += ":/usr/sbin:/sbin"
 
 
@@ -59,6 +62,17 @@ def folder(stack):
     stack.callback(shutil.rmtree, path, ignore_errors=True)
     os.chmod(path, 0o755)
     return path
+
+
+def own_disk(stack, path, size):
+    """Mounts a disk of so many bytes of memory on a folder, which this process and what it starts see alone. Whether it may."""
+    if ctypes.CDLL(None).unshare(CLONE_NEWNS) != 0:
+        return False
+    mounts = ["--make-rprivate", "/"], ["-t", "tmpfs", "-o", f"size={size}", "tmpfs", path]
+    if any(subprocess.run(["mount", *words], stderr=subprocess.DEVNULL, check=False).returncode for words in mounts):
+        return False
+    stack.callback(subprocess.run, ["umount", "--lazy", path], check=False)
+    return True
 
 
 def end_group(process):

@@ -1,7 +1,7 @@
 #!/usr/bin/env python3
 """Two services on machines of their own behind haproxy, each with a part of the senders, while they are replaced.
 
-    tests/two_services.py TOTXEGUN GATEWAY [SECONDS] [SEED] [--sink own|one ..] [--without STEP]
+    tests/two_services.py TOTXEGUN [SECONDS] [SEED] [--sink own|one ..] [--without STEP]
 
 A machine is a network namespace with an address behind a bridge. haproxy has the shipped file and the parts that
 docs/OPERATING.md has. Twelve senders post by way of it in JSON and protobuf, on connections that they keep, and repeat each
@@ -10,13 +10,13 @@ post until it is answered; now and then one goes away before it is. Meanwhile th
   - a service is replaced on another machine, on its folder or a copy of it: it is stopped, or killed, or its machine is gone;
   - a part is given to a fresh folder, or to the other service's: the service that had it ends with it, or goes on.
 
-Between two steps a gateway, another service or haproxy is killed now and then. The run goes on for so many seconds (30), half
+Between two steps another service or haproxy is killed now and then. The run goes on for so many seconds (30), half
 of them with a SQLite file for each folder (own) and half with one PostgreSQL for all (one), and does each list at least once.
 At the end the sinks together have, series by series and bucket by bucket, what the senders were told is taken, and no spans
 of a series overlap.
 
 With --without, a step of the lists is left out, senders go away more often, and the test should fail: stop (the service that is
-replaced stops behind its successor's start, which one database shows), folder (the successor has a fresh one), calm (a part is
+replaced stops after its successor's start, which one database shows), folder (the successor has a fresh one), calm (a part is
 given away while senders wait for an answer), drain (a service ends with what it has), wait (a part is released while haproxy has
 sessions of it).
 
@@ -30,7 +30,6 @@ import json
 import os
 import random
 import re
-import signal
 import socket
 import subprocess
 import sys
@@ -249,8 +248,8 @@ def flushed(service):
 class Operator:
     """Does the lists of the page. `of` is the service that has a part, `wrong` what did not go as it should."""
 
-    def __init__(self, programs, stack, machines, sinks, chance, without):
-        self.programs, self.stack, self.sinks, self.chance, self.without = programs, stack, sinks, chance, without
+    def __init__(self, program, stack, machines, sinks, chance, without):
+        self.program, self.stack, self.sinks, self.chance, self.without = program, stack, sinks, chance, without
         self.spare = machines[::-1]
         self.hasty, self.pause = (MORE_HASTY, SHORT_PAUSE) if without else (HASTY, PAUSE)
         self.count = 0
@@ -283,7 +282,7 @@ class Operator:
         machine, self.count = self.spare.pop(), self.count + 1
         machine.plug("up")
         data = data or f"{self.at}/data-{self.count}"
-        service = Service(*self.programs, data, self.sinks.address(data), "--flush-every", "1s", host=machine.address,
+        service = Service(self.program, data, self.sinks.address(data), "--flush-every", "1s", host=machine.address,
                           ports=(4318, 4319), before=["ip", "netns", "exec", machine.name])
         service.machine, service.data = machine, data
         self.sinks.folders.add(data)
@@ -292,11 +291,9 @@ class Operator:
 
     def disturb(self, *spared):
         """Something else is killed, as it may be between two steps."""
-        event = self.chance.choice([None, None, "gateway", "service", "haproxy"])
+        event = self.chance.choice([None, None, "service", "haproxy"])
         others = [it for it in self.services() if it not in spared]
-        if event == "gateway":
-            self.chance.choice(self.services()).signal_gateway(signal.SIGKILL)
-        elif event == "service" and others:
+        if event == "service" and others:
             other = self.chance.choice(others)
             other.kill()
             other.start()
@@ -354,7 +351,7 @@ class Operator:
                  not any(slot["quarantined"] for slot in status["slots"]), status)
         self.see("nothing waits", flushed(service), service.status())
         self.stop(service)
-        check = subprocess.run([self.programs[0], "check", "--json", service.data], capture_output=True, text=True, timeout=60)
+        check = subprocess.run([self.program, "check", "--json", service.data], capture_output=True, text=True, timeout=60)
         found = json.loads(check.stdout or "{}")
         self.see("its folder has nothing", (found.get("posts"), found.get("waiting")) == (0, 0), check)
 
@@ -443,7 +440,7 @@ class Operator:
 
 
 def load(checks, what, operator, seconds):
-    """The senders, behind all that the operator does."""
+    """The senders, until the operator has done all."""
     is_over, senders = threading.Event(), operator.senders
     threads = post_meanwhile(senders, is_over.is_set, lambda sender: time.sleep(operator.pause))
     operator.work(time.monotonic() + seconds)
@@ -455,11 +452,11 @@ def load(checks, what, operator, seconds):
           f"{', '.join(operator.done)}", flush=True)
 
 
-def run(programs, checks, machines, kind, options):
+def run(program, checks, machines, kind, options):
     what = {"own": "a file for each folder", "one": "one database"}[kind]
     with contextlib.ExitStack() as stack:
         chance = random.Random(f"operator {options.seed} {kind}")
-        operator = Operator(programs, stack, machines, SINKS[kind](stack), chance, options.without)
+        operator = Operator(program, stack, machines, SINKS[kind](stack), chance, options.without)
         operator.begin()
         load(checks, what, operator, options.seconds / len(options.sink))
         senders, services = operator.senders, operator.services()
@@ -483,14 +480,14 @@ def make_machines(checks, stack):
         return None
 
 
-def work(totxegun, gateway, checks, stack):
-    options = read(sys.argv[3:])
+def work(totxegun, checks, stack):
+    options = read(sys.argv[2:])
     if not checks.has("two services", *missing(["haproxy", "openssl", "ip"])) or not (machines := make_machines(checks, stack)):
         return
     print(f"note: seed {options.seed}", flush=True)
     for kind in options.sink:
         if kind == "own" or checks.has("one database", *[] if initdb() else ["postgresql"]):
-            run((totxegun, gateway), checks, machines, kind, options)
+            run(totxegun, checks, machines, kind, options)
 
 
 def read(words):
@@ -508,4 +505,4 @@ if __name__ == "__main__":
         own_network.main([sys.executable, *sys.argv])
         print("left out: two services, missing: a network of its own, which only root can have")
         sys.exit(LEFT_OUT)
-    run_script(int(300 + 2 * read(sys.argv[3:]).seconds), work, ("TOTXEGUN", "GATEWAY"))
+    run_script(int(300 + 2 * read(sys.argv[2:]).seconds), work, ("TOTXEGUN",))

@@ -1,55 +1,61 @@
 #!/usr/bin/env python3
-"""Whether the shipped unit has room for the threads of as many slots as there can be.
+"""Whether the shipped unit has room for the threads of the service.
 
-    tests/unit_tasks.py TOTXEGUN GATEWAY
+    tests/unit_tasks.py TOTXEGUN
 
-The service is started with 1 slot and with 4, and its threads and those of its gateways are counted. What 64 slots take by
-that, with a fresh gateway beside each one, as in a renewal, has to be within TasksMax of operate/totxegun.service: where a
-thread can't be started no gateway is ready, and all posts are answered 503.
+The service is started with the most --threads, and its threads are counted while senders post. With those that long work may
+take beside them they have to be within TasksMax of operate/totxegun.service: where a thread can't be started, what was to be
+done by it fails.
 
-Each line is one check; the last one counts those that passed and failed, and the status is 1 where one failed.
+Each line is one check; the last line counts those that passed and failed, and the status is 1 where one failed.
 """
 import os
 import re
-import signal
+import threading
 
-from service import Service
+from service import Sender, Service
 from shipped import folder, run_script, shipped
 
-MOST_SLOTS, SOME_SLOTS = 64, 4
+MOST_THREADS = 64
+# What long work may take: of each of these threads, and of the others together.
+LONG_WORK, OTHER_LONG_WORK = 2, 16
+SENDERS, POSTS = 8, 40
 
 
-def threads(pid):
-    return len(os.listdir(f"/proc/{pid}/task"))
+def threads(service):
+    return len(os.listdir(f"/proc/{service.process.pid}/task"))
 
 
-def end(service):
-    service.signal(signal.SIGTERM)
-    service.process.wait(20)
+def post_all(service):
+    """Senders at once; whether each was answered as it should be."""
+    senders = [Sender(service, number) for number in range(SENDERS)]
+
+    def go_on(sender):
+        for _ in range(POSTS):
+            sender.post(sender.next_points())
+    posting = [threading.Thread(target=go_on, args=(sender,), daemon=True) for sender in senders]
+    for thread in posting:
+        thread.start()
+    for thread in posting:
+        thread.join(60)
+    return [it for sender in senders for it in sender.surprises]
 
 
-def counted(totxegun, gateway, slots, checks, stack):
-    """The threads of the service with so many slots, and of the gateway that has most."""
+def work(totxegun, checks, stack):
     at = folder(stack)
-    service = Service(totxegun, gateway, f"{at}/data", f"sqlite:{at}/sink.db", "--slots", str(slots))
+    service = Service(totxegun, f"{at}/data", f"sqlite:{at}/sink.db", "--threads", str(MOST_THREADS))
     service.start()
     stack.callback(service.kill)
-    checks.true(f"--slots {slots}: it is ready", service.wait_ready(), service.log)
-    gateways = [threads(pid) for pid in service.gateways()]
-    checks.same(f"--slots {slots}: so many gateways", slots, len(gateways))
-    found = threads(service.process.pid), max(gateways, default=0)
-    end(service)
-    return found
-
-
-def work(totxegun, gateway, checks, stack):
-    of_one, _ = counted(totxegun, gateway, 1, checks, stack)
-    of_some, of_gateway = counted(totxegun, gateway, SOME_SLOTS, checks, stack)
-    of_slot = (of_some - of_one) / (SOME_SLOTS - 1)
-    taken = of_one + (MOST_SLOTS - 1) * of_slot + 2 * MOST_SLOTS * of_gateway
+    checks.true("it is ready", service.wait_ready(), service.last_lines())
+    before = threads(service)
+    checks.true(f"it has {MOST_THREADS} threads for senders", before >= MOST_THREADS, before)
+    checks.same("posts are taken", [], post_all(service))
+    taken = before + LONG_WORK * MOST_THREADS + OTHER_LONG_WORK
     most = int(re.search(r"^TasksMax=(\d+)$", shipped("totxegun.service", {}), re.MULTILINE)[1])
-    checks.true(f"the unit has room for the threads of {MOST_SLOTS} slots", taken <= most, f"{taken:.0f} of {most}")
+    checks.true("the threads that it has after posts are of these", threads(service) <= taken, (threads(service), taken))
+    checks.true(f"the unit has room for them: {taken} of {most}", taken <= most, "")
+    checks.same("SIGTERM ends it", 0, service.end()[0])
 
 
 if __name__ == "__main__":
-    run_script(120, work, ("TOTXEGUN", "GATEWAY"))
+    run_script(120, work, ("TOTXEGUN",))

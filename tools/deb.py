@@ -1,11 +1,11 @@
 #!/usr/bin/env python3
-"""Makes a Debian package of what `make build` has made, or of the programs of another folder.
+"""Makes a Debian package of what `make build` has made, or of the program of another folder.
 
     tools/deb.py [FOLDER]
 
-It is out/totxegun_VERSION_amd64.deb. Nothing is compiled: the programs are installed into a folder by tools/install, and
+It is out/totxegun_VERSION_amd64.deb. Nothing is compiled: the program is installed into a folder by tools/install, and
 packaged by debhelper as packaging/debian says. The times in it are those of CHANGELOG.md's newest version, so the same
-programs give the same bytes. The log is out/logs/deb.log.
+program gives the same bytes. The log is out/logs/deb.log. What is printed says whether the book in it was proved.
 """
 import datetime
 import email.utils
@@ -53,6 +53,12 @@ def changelog():
     return "\n".join(entries)
 
 
+def proof(programs):
+    """What the program that is packed says of its book."""
+    ran = subprocess.run([f"{programs}/totxegun", "version"], stdout=subprocess.PIPE, text=True, check=True)
+    return ran.stdout.strip()
+
+
 def prepare(folder, programs):
     """The source tree of the package; what is missing is told by tools/install, and ends this."""
     shutil.rmtree(WORK, ignore_errors=True)
@@ -85,8 +91,8 @@ def main(words):
     except Wrong as why:
         print(f"tools/deb.py: {why}", file=sys.stderr)
         return 1
-    folder = f"{WORK}/totxegun-{number}"
-    if not prepare(folder, os.path.abspath(words[0]) if words else f"{ROOT}/bin"):
+    folder, programs = f"{WORK}/totxegun-{number}", os.path.abspath(words[0]) if words else f"{ROOT}/bin"
+    if not prepare(folder, programs):
         return 1
     if not build(folder, second_of(day)):
         print("\n".join(end_of(LOG)), file=sys.stderr)
@@ -98,6 +104,7 @@ def main(words):
         digest = hashlib.file_digest(file, "sha256").hexdigest()
     print(f"{os.path.relpath(f'{OUT}/{name}')}: {os.path.getsize(f'{OUT}/{name}'):,} bytes, made in {shown(time.monotonic() - begun)}")
     print(f"sha256 {digest}")
+    print(f"in it is {proof(programs)}")
     return 0
 
 

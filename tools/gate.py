@@ -4,10 +4,11 @@
     tools/gate.py [--without-prover]
 
 `rt ci` proves every crate from nothing, tries the edits of must-fail/ and runs the tests and the
-programs; STEPS below are run behind it, and alone where --without-prover is given. The last line counts
-the crates, edits and steps that passed and failed, and the status is 0 where none failed. The logs are
-in out/logs.
+programs; then the library that the service is linked with is built over what it has proved. STEPS below are
+run after both, and alone where --without-prover is given. The last line counts the crates, edits and steps
+that passed and failed, and the status is 0 where none failed. The logs are in out/logs.
 """
+import os
 import re
 import subprocess
 import sys
@@ -20,6 +21,9 @@ from steps import Failed, Step, Steps, end_of, end_of_lines, locked, shown
 PLAY = "crates/play/out/play"
 GATEWAY = "crates/gateway/out/gateway"
 ALLOC_FAILURES = "crates/alloc_failures/out/alloc_failures"
+# What the service is linked with. The prover's part proves it, and leaves no library.
+BOOK = "crates/book_c"
+LIBRARY = f"{BOOK}/out/libbook_c.a"
 
 # Each is a script of tests/, the program that it runs, about how many seconds it takes, and whether it
 # measures time, so that nothing may run beside it. Those that take longest come first.
@@ -27,7 +31,7 @@ STEPS = (
     ("slow_parties.py", GATEWAY, 70, False),
     ("gateway_serves.py", GATEWAY, 5, False),
     ("alloc_failures_play.py", PLAY, 20, False),
-    ("protobuf_bodies.py", GATEWAY, 10, False),
+    ("protobuf_bodies.py", f"{GATEWAY} gateway", 10, False),
     ("alloc_failures_gateway.py", GATEWAY, 10, False),
     ("play_model.py", PLAY, 10, False),
     ("alloc_failures_libraries.py", ALLOC_FAILURES, 5, False),
@@ -50,10 +54,11 @@ CARGO_STEPS = (
     ("service_is_linted", ["clippy", "--all-targets", "--", "-D", "warnings"]),
     ("service_tests", ["test"]),
 )
-# Behind the program's name: further words, and about how many seconds it takes.
+# After the program's name: further words, and about how many seconds it takes.
 SERVICE_STEPS = (
     ("service_load.py", ["60"], 120),
     ("service_interrupted.py", ["9"], 300),
+    ("same_answers.py", [GATEWAY], 100),
     ("behind_proxies.py", [], 60),
     ("two_services.py", ["0", "1", "--sink", "one"], 40),
     ("demo.py", ["25"], 60),
@@ -64,7 +69,7 @@ SERVICE_STEPS = (
     ("grpc_calls.py", [], 30),
     ("clients.py", [], 30),
     ("unit_tasks.py", [], 5),
-    ("package_installs.py", [PLAY], 15),
+    ("package_installs.py", [], 15),
 )
 STEP_LIMIT = 600
 # A network of its own for each step, so that none takes another's port.
@@ -72,7 +77,7 @@ OWN_NETWORK = "tools/own_network.py"
 # The status of a script that lacks a program that it needs; its last line says which.
 LEFT_OUT = 77
 
-# A line of `cargo test` behind the tests of one file.
+# A line of `cargo test` after the tests of one file.
 TESTED = re.compile(r"test result: ok\. (\d+) passed")
 COUNTS = re.compile(r"(\d+) passed, (\d+) failed$")
 # Lines of `rt ci` as it goes: what a reader waits for, and what is wrong.
@@ -136,8 +141,19 @@ def has_tests(crate):
     return any(IS_TEST.search(content(file)) for file in crate.files())
 
 
+def book_step():
+    """The step that builds the library of the book."""
+
+    def work(step):
+        if step.run(["rt", "lib"], f"{ROOT}/{BOOK}") != 0:
+            raise Failed((end_of(step.log) or ["it printed nothing"])[-1])
+        return LIBRARY
+
+    return Step("book_is_built", work, f"(cd {BOOK} && rt lib)")
+
+
 def step_of(script, program, seconds, is_timed, before, of=""):
-    """The step that runs a script of tests/ on a program, behind these words. With none, steps run in turn."""
+    """The step that runs a script of tests/ on a program, after these words. With none, steps run in turn."""
     command = [f"tests/{script}", *program.split()]
 
     def work(step):
@@ -166,7 +182,7 @@ def tool_step(name, command, seconds):
 
 
 def cargo_steps():
-    """The steps of service/ that need no gateway, in order."""
+    """The steps of service/ that run no script, in order."""
     steps = []
     for name, words in CARGO_STEPS:
         command = ["tools/cargo", *words]
@@ -183,10 +199,10 @@ def cargo_steps():
 
 
 def service_steps(before):
-    """The steps that run the service around the gateway, behind the one that builds it."""
+    """The steps that run the service, after the one that builds it."""
     steps = [step_of("service_model.py", "", 60, False, [])]
     for script, words, seconds in SERVICE_STEPS:
-        step = step_of(script, " ".join([SERVICE_MADE, GATEWAY, *words]), seconds, False, before, "service_")
+        step = step_of(script, " ".join([SERVICE_MADE, *words]), seconds, False, before, "service_")
         step.after = ["service_is_built"]
         steps.append(step)
     return steps
@@ -214,6 +230,12 @@ def main(words):
         with locked(OUT):
             Steps([prover.step()]).run()
         passed, failed = prover.passed, prover.failed
+        if not failed:
+            steps = Steps([book_step()])
+            steps.run()
+            passed, failed = passed + len(steps.passed), len(steps.failed)
+    elif not os.path.exists(f"{ROOT}/{LIBRARY}"):
+        sys.exit(f"there is no {LIBRARY}: make build makes it")
     if not failed:
         before = [OWN_NETWORK] if has_networks() else []
         steps = Steps([

@@ -54,8 +54,8 @@ def hand_written(serve):
     for name, text in texts.items():
         if name not in known:
             raise Wrong(f"packaging/options.toml: totxegun serve has no option --{name}")
-        if not text.keys() <= {"costs", "set", "because"} or ("set" in text) != ("because" in text):
-            raise Wrong(f"packaging/options.toml, {name}: it has `costs`, or `set` and `because` too")
+        if text.keys() != {"costs"}:
+            raise Wrong(f"packaging/options.toml, {name}: it has `costs`, and nothing else")
     return texts
 
 
@@ -74,8 +74,8 @@ def version():
 # The settings
 
 
-def settings(serve, texts):
-    """A line of text for each variable, and a line that sets it, behind # where it is the default."""
+def settings(serve):
+    """A line of text for each variable, and a line with its default, behind #."""
     out = [SETTINGS_HEAD]
     heading = None
     for option in serve["options"]:
@@ -84,17 +84,14 @@ def settings(serve, texts):
         if option["heading"] != heading:
             heading = option["heading"]
             out.append(f"\n# {heading}\n")
-        out.append(setting(option, texts.get(option["long"], {})))
+        out.append(setting(option))
     return "\n".join(out)
 
 
-def setting(option, text):
+def setting(option):
     help_line = option["help"].replace("\n", " ")
     if option["long"] == "data":
         return f"# {help_line}. The unit gives it, so this line changes nothing.\n#{option['variable']}=/var/lib/totxegun\n"
-    if "set" in text:
-        default = f" [default: {option['default']}]" if option["default"] else ""
-        return f"# {help_line}{default}. {text['because']}\n{option['variable']}={text['set']}\n"
     if option["one_of"]:
         help_line += f" [{' or '.join(option['one_of'])}]"
     default = option["default"] or (option["value"] if option["value"] else "false")
@@ -121,7 +118,7 @@ def with_point(text):
 
 
 def tag(option):
-    """How an option is typed, behind `.It`."""
+    """How an option is typed, after `.It`."""
     value = f" Ar {quoted(option['value'])}" if option["value"] else ""
     return f"Fl -{option['long']}{value}" if option["long"] else value.strip()
 
@@ -242,7 +239,7 @@ def main(words):
         files = pages(line, serve, texts, places)
     except Wrong as why:
         sys.exit(f"tools/pages.py: {why}")
-    files["totxegun.env"] = settings(serve, texts)
+    files["totxegun.env"] = settings(serve)
     files["totxegun.bash"] = printed(program, "completion")
     os.makedirs(folder, exist_ok=True)
     for name, text in files.items():

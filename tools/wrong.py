@@ -1,12 +1,12 @@
 #!/usr/bin/env python3
 """Tries wrong copies of the service: a test has to find what is wrong with each.
 
-    tools/wrong.py GATEWAY [NAME ..]
+    tools/wrong.py [NAME ..]
 
 Each file service/wrong/NAME.edit breaks one rule. It names the test that has to find this: a script of tests/ with the
-words behind its programs, or the words of `cargo test`. The rest has the form of an edit of a crate: lines `file:`, `old:`,
+words after its program, or the words of `cargo test`. The rest has the form of an edit of a crate: lines `file:`, `old:`,
 `new:`, where the old text is in that file exactly once. All edits, or those that are named, are tried one after another: the
-copy is built in out/wrong, and the test is run on it, up to three times, until a check of what was taken, sent or refused
+copy is built in out/wrong, over the library in crates/book_c/out or $TOTXEGUN_BOOK, and the test is run on it, up to three times, until a check of what was taken, sent or refused
 fails; that ends the run. A copy that can't be built, or that does not start, was not found.
 
 A line for each edit; the last line counts those that were found and those that were not, and the status is 0 where all
@@ -34,7 +34,9 @@ CARGO = f"{FOLDER}/tools/cargo"
 # What is copied of service/, and what its build reads beside it.
 PARTS = ("Cargo.toml", "Cargo.lock", "build.rs", "rustfmt.toml", "clippy.toml", "src", "tests")
 BESIDE = ("VERSION",)
-# How often a test is run at most. The load has another seed each time, behind its seconds.
+# The library that a copy is linked with.
+BOOK = os.path.abspath(os.environ.get("TOTXEGUN_BOOK") or f"{ROOT}/crates/book_c/out")
+# How often a test is run at most. The load has another seed each time, after its seconds.
 RUNS = 3
 LOAD = "service_load.py"
 # How a check begins that has seen the fault: what was taken, sent or refused is wrong. One that only says that it does not
@@ -88,14 +90,14 @@ def apply(name):
     return test
 
 
-def runs(test, gateway):
+def runs(test):
     """The commands of a test, one a run."""
     script, *words = test.split()
     if script == "cargo":
         return [[CARGO, *words]] * RUNS
     if not os.access(f"{ROOT}/tests/{script}", os.X_OK):
         raise BadEdit(f"no test of this name: {script}")
-    command = [f"{ROOT}/tests/{script}", PROGRAM, gateway]
+    command = [f"{ROOT}/tests/{script}", PROGRAM]
     if script != LOAD:
         return [[*command, *words]] * RUNS
     return [[*command, words[0], str(seed), *words[1:]] for seed in range(1, RUNS + 1)]
@@ -107,9 +109,9 @@ def end(child):
         os.killpg(child.pid, signal.SIGKILL)
 
 
-def run(command, log, gateway, folder):
+def run(command, log, folder):
     """Runs a command until it has ended or a check has seen the fault: its status, and what the check says."""
-    environment = dict(os.environ, TOTXEGUN_GATEWAY=gateway, TMPDIR=folder)
+    environment = dict(os.environ, TOTXEGUN_BOOK=BOOK, TMPDIR=folder)
     child = subprocess.Popen(command, stdout=subprocess.PIPE, stderr=subprocess.STDOUT, text=True, errors="replace",
                              process_group=0, env=environment)
     clock = threading.Timer(LIMIT, end, [child])
@@ -125,23 +127,23 @@ def run(command, log, gateway, folder):
     return child.wait(), seen
 
 
-def check_that_finds(name, gateway):
+def check_that_finds(name):
     """The first check that fails for what is wrong, or nothing."""
     log = f"{LOGS}/wrong-{name}.log"
     open(log, "w", encoding="utf-8").close()
-    commands = runs(apply(name), gateway)
+    commands = runs(apply(name))
     built = [*commands[0][1:], "--no-run"] if commands[0][0] == CARGO else ["build"]
     with tempfile.TemporaryDirectory(dir=MEMORY, prefix="wrong-", ignore_cleanup_errors=True) as folder:
-        if run([CARGO, *built, "--quiet"], log, gateway, folder)[0] != 0:
+        if run([CARGO, *built, "--quiet"], log, folder)[0] != 0:
             raise BadEdit(f"it can't be built: {log}")
         for command in commands:
-            seen = run(command, log, gateway, folder)[1]
+            seen = run(command, log, folder)[1]
             if seen:
                 return seen
     return None
 
 
-def main(gateway, names):
+def main(names):
     os.makedirs(LOGS, exist_ok=True)
     names = names or sorted(file.removesuffix(".edit") for file in os.listdir(EDITS) if file.endswith(".edit"))
     found = 0
@@ -149,7 +151,7 @@ def main(gateway, names):
         begun = time.monotonic()
         copy_service()
         try:
-            check = check_that_finds(name, gateway)
+            check = check_that_finds(name)
         except (BadEdit, OSError) as fault:
             print(f"BAD EDIT {name}: {fault}", flush=True)
             continue
@@ -161,6 +163,4 @@ def main(gateway, names):
 
 
 if __name__ == "__main__":
-    if len(sys.argv) < 2:
-        sys.exit(f"usage: {sys.argv[0]} GATEWAY [NAME ..]")
-    sys.exit(main(os.path.abspath(sys.argv[1]), sys.argv[2:]))
+    sys.exit(main(sys.argv[1:]))

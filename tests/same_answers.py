@@ -1,0 +1,363 @@
+#!/usr/bin/env python3
+"""The service answers the same JSON as the bare gateway does, and forwards the same points.
+
+    tests/same_answers.py TOTXEGUN GATEWAY [POSTS] [SEED]
+
+So many posts (10,000) of a few senders go to a bare gateway and to two services, one of a single book and one of many. They
+are drawn by chance: sums and histograms of many identities, points in and out of order, repeats, others' series, foreign
+points of each kind, containers of another type, what is no JSON, deep nesting, names that are none; and now and then a
+sender is quarantined or released, and all are flushed. Each answer has to have the same status and the same text, with the
+same count of foreign points; what each flush forwards has to have the same points, of a single book in the same bytes; at the
+end the reports have the same series, owners, frontiers and pending sums. A last part has more series than a book takes.
+
+Where the service reads JSON by the protobuf mapping, its text says more than the gateway's (`wrong shape`, `not JSON`): of
+these the status alone is compared.
+
+Each line is one check; the last line counts those that passed and failed, and the status is 0 where none failed.
+"""
+import collections
+import http.client
+import json
+import os
+import random
+import re
+import sys
+import tempfile
+
+from loopback import BackEnd
+from service import JSON, OtlpSink, Service, ask, wait_until
+from shipped import flush_all, gateway_at, run_script
+
+POSTS = 10_000
+SECONDS = 3600
+SENDERS = [f"sender-{number}" for number in range(5)]
+# Of each sender; in all fewer than a book takes.
+SERIES = 60
+TAKES = 10_000
+# One post in so many.
+FLUSH, ORDER, STRANGE, FOREIGN = 400, 60, 12, 6
+DELTA = 1
+OWN_TEXTS = ("not JSON", "wrong shape")
+LINE = re.compile(r"^(series .*) accepted \S+ acknowledged \S+ dropped \S+ in-flight \S+ (stored \S+ quarantined \S+)$")
+
+
+# --------------------------------------------------------------------------------------------------------------------
+# Requests
+
+
+def attributes(chance, most=3):
+    """A list of attributes, in any order."""
+    values = [{}, {"stringValue": chance.choice(["", "a", "\u00e4\u20ac", 'a "b" \\ \n'])}, {"boolValue": chance.random() < 0.5},
+              {"intValue": chance.choice(["0", "-5", "007", 9, str(2**63 - 1)])},
+              {"arrayValue": {"values": [{"stringValue": "x"}, {"intValue": "1"}, {}]}}, {"arrayValue": {}}]
+    return [{"key": key, "value": chance.choice(values)} for key in chance.sample(["a", "b", "http.route", "\u00fc"], chance.randrange(most + 1))]
+
+
+class Series:
+    """What identifies it, and where its points are by now."""
+
+    def __init__(self, chance, name):
+        self.name, self.unit = name, chance.choice(["", "1", "ms"])
+        self.resource, self.scope = attributes(chance), {"name": chance.choice(["", "lib"]), "attributes": attributes(chance, 1)}
+        self.attributes = attributes(chance)
+        self.kind = chance.choice(["sum", "counter", "histogram", "histogram"])
+        self.bounds = sorted(chance.sample(range(-50, 50), chance.randrange(5)))
+        self.time = 1000
+
+    def point(self, chance, start):
+        end = start + chance.choice([1, 10, 10, 10, 25])
+        point = {"startTimeUnixNano": str(start), "timeUnixNano": chance.choice([str(end), end]), "attributes": self.attributes}
+        if self.kind != "histogram":
+            least = 0 if self.kind == "counter" else -1000
+            point["asInt"] = chance.choice([str, int])(chance.choice([0, 5, 2**40, chance.randrange(least, 1000)]))
+        else:
+            counts = [chance.randrange(5) for _ in range(len(self.bounds) + 1)] if self.bounds or chance.random() < 0.5 else []
+            point |= {"count": str(sum(counts)), "bucketCounts": [str(count) for count in counts], "explicitBounds": self.bounds if counts else []}
+            if chance.random() < 0.7:
+                point["sum"] = chance.randrange(1000)
+        if chance.random() < 0.1:
+            point |= {"flags": chance.choice([0, 2]), "exemplars": [], "unknown": {"a": [1.5, None]}}
+        return point, end
+
+    def metric(self, points):
+        data = {"aggregationTemporality": DELTA, "dataPoints": points}
+        if self.kind == "histogram":
+            return {"name": self.name, "unit": self.unit, "histogram": data}
+        return {"name": self.name, "unit": self.unit, "sum": data | ({"isMonotonic": True} if self.kind == "counter" else {})}
+
+
+def foreign(chance, point, data):
+    """Makes a point foreign, or all of its metric."""
+    chance.choice([
+        lambda: point.update(flags=1), lambda: point.update(timeUnixNano=point["startTimeUnixNano"]),
+        lambda: point.pop("startTimeUnixNano"), lambda: point.update(startTimeUnixNano="-1"), lambda: point.update(attributes="a"),
+        lambda: point.update(attributes=[{"key": "a"}, {"key": "a"}]), lambda: point.update(asDouble=0.5),
+        lambda: point.update(attributes=[{"key": "a", "value": {"doubleValue": 1.5}}]),
+        lambda: point.update(attributes=[{"key": "a", "value": {"stringValue": "x" * 4097}}]),
+        lambda: point.update(bucketCounts=["1", "2", "3", "4", "5", "6", "7"], asInt=str(2**63)),
+        lambda: point.update(count=str(2**64), asInt="x"), lambda: data.update(aggregationTemporality=2),
+        lambda: data.update(isMonotonic="yes", aggregationTemporality=0)])()
+
+
+def request(chance, chosen):
+    """A request with a few points of these series, which go on unless it is one out of order."""
+    groups = []
+    for series in chosen:
+        start = series.time + chance.choice([0, 0, 0, 0, 0, 5])
+        if chance.random() < 0.03:
+            start = max(1, start - chance.choice([1, 10, 900]))
+        points = []
+        for _ in range(chance.choice([1, 1, 1, 2, 3])):
+            point, start = series.point(chance, start)
+            points.append(point)
+        series.time = max(series.time, start)
+        metric = series.metric(points)
+        if chance.random() < 1 / FOREIGN:
+            kind = "histogram" if series.kind == "histogram" else "sum"
+            foreign(chance, chance.choice(points), metric[kind])
+            if chance.random() < 0.2:
+                metric[chance.choice(["gauge", "summary", "exponentialHistogram"])] = {"dataPoints": [{}, {}]}
+        group = {"resource": {"attributes": series.resource}, "scopeMetrics": [{"scope": series.scope, "metrics": [metric]}]}
+        if groups and chance.random() < 0.5:
+            groups[-1]["scopeMetrics"][-1]["metrics"].append(metric)  # another series then, of the resource before
+        else:
+            groups.append(group)
+    return {"resourceMetrics": groups}
+
+
+def places(value, path=()):
+    """Each container below a value, by its path."""
+    for key, one in value.items() if isinstance(value, dict) else enumerate(value):
+        if isinstance(one, (dict, list)):
+            yield (*path, key)
+            yield from places(one, (*path, key))
+
+
+def nested(depth):
+    return "[" * depth + "]" * depth
+
+
+def strange(chance, body):
+    """What is no request, or one with something that nobody reads."""
+    text = json.dumps(body)
+    deep = nested(chance.choice([3, 60, 120, 124, 125, 126, 127, 128, 129, 200, 5000]))
+    kind = chance.randrange(9)
+    if kind == 0:
+        return text[:chance.randrange(len(text))].encode()
+    if kind == 1:
+        return text.encode() + chance.choice([b" ", b"\n\n", b"x", b"{}", b"\0", b"\xff"])
+    if kind == 2:
+        return chance.choice([b"", b"{}", b"[]", b"null", b"1", b'"a"', b"\xef\xbb\xbf{}", b'{"resourceMetrics":null}', b"{'a':1}", b'{"a":01}'])
+    if kind == 3:
+        return text.replace('"resourceMetrics"', f'"deep": {deep}, "resourceMetrics"', 1).encode()
+    if kind == 4:
+        return text.replace('"startTimeUnixNano"', f'"deep": {deep}, "startTimeUnixNano"', 1).encode()
+    if kind == 5:
+        at = chance.randrange(len(text))
+        return text[:at].encode() + chance.choice([b"\xff", b"\xc3", b"\\ud800", b"\x01", b","]) + text[at:].encode()
+    *path, last = chance.choice(list(places(body)))
+    where = body
+    for key in path:
+        where = where[key]
+    where[last] = chance.choice([None, "a", 5, True, [], {}, [None], [[]], ["a"]])
+    return json.dumps(body).encode()
+
+
+# --------------------------------------------------------------------------------------------------------------------
+# Who is asked
+
+
+class Bare:
+    """The gateway, and a back end that keeps what it forwards."""
+
+    def __init__(self, stack, program):
+        self.back_end = BackEnd()
+        stack.callback(self.back_end.close)
+        self.port = self.orders = gateway_at(stack, program, self.back_end.port).port
+
+    def post(self, body, headers):
+        return ask(self.port, "POST", "/v1/metrics", body, headers)
+
+    def flushed(self):
+        """The requests that a flush forwards."""
+        self.back_end.bodies.clear()
+        flush_all(self.port)
+        return list(self.back_end.bodies)
+
+
+class Served:
+    """A service whose books take so many series, and a sink."""
+
+    def __init__(self, stack, program, most_series):
+        self.sink = OtlpSink()
+        stack.callback(self.sink.close)
+        data = stack.enter_context(tempfile.TemporaryDirectory(prefix="same-"))
+        self.service = Service(program, f"{data}/data", self.sink.address, "--flush-every", "1h", "--durable", "process",
+                               "--most-series", str(most_series))
+        stack.callback(self.service.kill)
+        self.service.start()
+        if not self.service.wait_ready():
+            raise OSError(f"the service is not ready: {self.service.last_lines()}")
+        self.orders, self.connection = self.service.operate, None
+
+    def post(self, body, headers):
+        if self.connection is None:
+            self.connection = http.client.HTTPConnection("127.0.0.1", self.service.listen, timeout=20)
+        self.connection.request("POST", "/v1/metrics", body, headers)
+        answer = self.connection.getresponse()
+        text = answer.read()
+        if answer.will_close:
+            self.connection = None
+        return answer.status, text
+
+    def flushed(self):
+        self.sink.taken.clear()
+        if self.service.order("/flush") != 200 or not wait_until(self.service.is_drained):
+            raise OSError(f"what was flushed is not delivered: {self.service.last_lines()}")
+        return list(self.sink.taken.values())
+
+
+def is_same(wanted, found):
+    """Of a refusal the service's answer has a code beside the message."""
+    if wanted[0] != found[0] or wanted[0] == 200:
+        return wanted == found
+    message = json.loads(wanted[1])["message"]
+    return message == json.loads(found[1])["message"] or (wanted[0] == 400 and message in OWN_TEXTS)
+
+
+def points_of(bodies):
+    """Each point by its series and its span, as it is forwarded."""
+    found = []
+    for body in bodies:
+        for group in json.loads(body)["resourceMetrics"]:
+            for part in group["scopeMetrics"]:
+                for metric in part["metrics"]:
+                    kind = "sum" if "sum" in metric else "histogram"
+                    data = metric[kind]
+                    of = [group["resource"], part["scope"], metric["name"], metric["unit"], kind, data.get("isMonotonic")]
+                    found += [json.dumps([*of, point], sort_keys=True) for point in data["dataPoints"]]
+    return sorted(found)
+
+
+def series_of(report):
+    """What no round forgets: of each series owner, frontier and what is pending."""
+    lines = report.decode().splitlines()
+    return lines[-1:], sorted(" ".join(LINE.match(line).groups()) for line in lines[:-1])
+
+
+# --------------------------------------------------------------------------------------------------------------------
+# The run
+
+
+class Run:
+    def __init__(self, checks, bare, services, seed):
+        self.checks, self.bare, self.services = checks, bare, services
+        self.chance = random.Random(f"same answers {seed}")
+        self.series = {sender: [Series(self.chance, f"{sender}.{number}") for number in range(SERIES)] for sender in SENDERS}
+        self.last = {}
+        self.answers = collections.Counter()
+        self.wrong = []
+
+    def parties(self):
+        return {"gateway": self.bare, **self.services}
+
+    def post(self, body, sender):
+        headers = {"Content-Type": JSON, "x-sender": sender}
+        wanted = self.bare.post(body, headers)
+        text = json.loads(wanted[1])
+        self.answers[f"{wanted[0]} {re.sub(r'[0-9]+', 'N', text.get('message', 'taken'))}"] += 1
+        self.answers["foreign"] += "partialSuccess" in text
+        for name, service in self.services.items():
+            found = service.post(body, headers)
+            if not is_same(wanted, found):
+                self.wrong.append((name, sender, body[:300], wanted, found))
+
+    def one(self):
+        """A post of a sender, mostly of its own series."""
+        chance, sender = self.chance, self.chance.choice(SENDERS)
+        if sender in self.last and chance.random() < 0.05:
+            self.post(self.last[sender], sender)
+            return
+        whose = chance.choice(SENDERS) if chance.random() < 0.04 else sender
+        made = request(chance, chance.sample(self.series[whose], chance.choice([1, 1, 2, 3, 8, 20])))
+        if chance.random() < 1 / STRANGE:
+            self.post(strange(chance, made), sender)
+        elif chance.random() < 0.01:
+            self.post(json.dumps(made).encode(), chance.choice(["a b", "x" * 65, "\u00e4", ""]).encode("latin-1"))
+        else:
+            self.last[sender] = json.dumps(made).encode()
+            self.post(self.last[sender], sender)
+
+    def order(self):
+        """A quarantine or its end, which may be refused."""
+        path = f"/{self.chance.choice(['quarantine', 'lift', 'lift'])}/{self.chance.choice(SENDERS)}"
+        found = {name: ask(party.orders, "POST", path) for name, party in self.parties().items()}
+        if len({status for status, _ in found.values()}) > 1:
+            self.wrong.append((path, found))
+        self.answers[f"{found['gateway'][0]} to an order"] += 1
+
+    def flush(self):
+        bodies = {name: party.flushed() for name, party in self.parties().items()}
+        wanted = points_of(bodies["gateway"])
+        self.answers["forwarded points"] += len(wanted)
+        for name in self.services:
+            found = points_of(bodies[name])
+            if found != wanted:
+                self.wrong.append((name, "forwards", len(wanted), len(found), sorted(set(found) ^ set(wanted))[:2]))
+        if bodies["one book"] != bodies["gateway"]:
+            self.wrong.append(("one book", "forwards other bytes", [(a[:200], b[:200]) for a, b in zip(*bodies.values()) if a != b][:1]))
+
+    def go(self, posts):
+        for number in range(1, posts + 1):
+            self.one()
+            if self.chance.random() < 1 / ORDER:
+                self.order()
+            if number % FLUSH == 0:
+                self.flush()
+            if len(self.wrong) > 20:
+                break
+        for sender in SENDERS:
+            for party in self.parties().values():
+                ask(party.orders, "POST", f"/lift/{sender}")
+
+    def reports(self):
+        return {name: series_of(ask(party.orders, "GET", "/report")[1]) for name, party in self.parties().items()}
+
+    def past_the_limit(self):
+        """More series than one book takes: those that fit, and none of a request that does not fit."""
+        self.services = {"one book": self.services["one book"]}
+        for first in range(0, TAKES + 2000, 900):
+            made = [Series(self.chance, f"many.{number}") for number in range(first, first + 900)]
+            self.post(json.dumps(request(random.Random(1), made)).encode(), "many")
+        for number in range(200):
+            self.post(json.dumps(request(random.Random(1), [Series(self.chance, f"more.{number}")])).encode(), "more")
+        self.flush()
+
+    def look(self, what):
+        self.checks.same(f"{what}: each answer and each flush is that of the gateway", [], self.wrong[:3])
+        self.wrong.clear()
+
+
+def work(totxegun, gateway, checks, stack):
+    posts, seed = int((sys.argv[3:4] or [POSTS])[0]), (sys.argv[4:5] or ["1"])[0]
+    services = {"one book": Served(stack, totxegun, 8000), "many books": Served(stack, totxegun, 100_000)}
+    run = Run(checks, Bare(stack, gateway), services, seed)
+    run.go(posts)
+    run.look(f"{posts} posts, seed {seed}")
+    wanted = run.reports()
+    for name in services:
+        checks.true(f"{name}: the report has the gateway's series", wanted[name] == wanted["gateway"],
+                    [line for line in wanted[name][1] if line not in wanted["gateway"][1]][:3])
+    run.flush()
+    run.look("a last flush")
+    run.past_the_limit()
+    run.look("past a book's series")
+    checks.same("the services found nothing that must not be", [], [it for one in services.values() for it in one.service.faults()])
+    expected = ["200 taken", "400 out of order: point N, frontier N", "400 other writer: point N", "403 quarantined", "400 wrong shape",
+                "400 not JSON", "400 bad sender", "503 too many series", "foreign", "forwarded points"]
+    checks.same("each kind of answer was there", [], [it for it in expected if not run.answers[it]])
+    print(f"note: {dict(run.answers)}", flush=True)
+
+
+if __name__ == "__main__":
+    run_script(SECONDS, work, ("TOTXEGUN", "GATEWAY"))
