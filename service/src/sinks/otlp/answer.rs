@@ -11,6 +11,7 @@
 //! other 5xx are of a sink that failed, which may pass (`delivery`).
 
 use super::without_query;
+use crate::log;
 use crate::otlp::{partial_success, Encoding, ExportMetricsServiceResponse};
 use crate::sinks::Fate;
 use hyper::body::HttpBody;
@@ -153,10 +154,8 @@ fn message(body: Read, encoding: Encoding) -> String {
     shown(&told.unwrap_or_else(|| String::from_utf8_lossy(&bytes).into_owned()))
 }
 
-/// One short line of a text that anybody may have written.
 fn shown(text: &str) -> String {
-    let line: String = text.trim().chars().take(LONGEST_MESSAGE).collect();
-    line.replace(|one: char| one.is_control(), " ")
+    log::shown(text, LONGEST_MESSAGE)
 }
 
 fn join(status: &str, more: &str) -> String {

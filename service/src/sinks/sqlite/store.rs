@@ -4,7 +4,7 @@ use super::fault::{NotTaken, SqliteFault};
 use super::schema::{self, STEPS};
 use super::whole::Whole;
 use crate::otlp::series::{self, ForwardedPoint, SeriesKey};
-use crate::sinks::part::Left;
+use crate::sinks::part::{shown, Left};
 use crate::sinks::Forwarded;
 use rusqlite::{params, Connection, OpenFlags, OptionalExtension, Transaction, TransactionBehavior};
 use std::collections::HashMap;
@@ -272,10 +272,4 @@ impl Writing<'_> {
     fn of<T>(&self, call: impl FnOnce(&Transaction) -> rusqlite::Result<T>) -> Result<T, NotTaken> {
         call(&self.transaction).map_err(|error| not_taken(self.path, error))
     }
-}
-
-/// A point for an error: its span, and its series as far as that is short.
-fn shown(point: &ForwardedPoint) -> String {
-    let series: String = point.series.0.chars().take(300).collect();
-    format!("({}, {}] of {series}", point.start, point.end)
 }
