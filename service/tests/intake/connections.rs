@@ -1,7 +1,9 @@
 //! Connections as senders treat them: in pieces, many requests at once, half closed, gone.
 
 use crate::support::{json, post, Served, BODY, LATE};
+use std::time::Duration;
 use tokio::io::AsyncWriteExt;
+use totxegun::intake::Limits;
 use totxegun::otlp::Outcome;
 
 #[tokio::test]
@@ -181,4 +183,29 @@ async fn a_sender_that_asks_for_the_end_gets_it_behind_its_answer() {
         .await;
     assert_eq!(late.answer().await.status, 415);
     assert!(late.ends().await, "whether the body comes is not known");
+}
+
+/// Else it would keep its place from who waits for one.
+#[tokio::test]
+async fn a_sender_that_does_not_read_its_answers_is_closed_where_another_waits() {
+    let limits = Limits {
+        connections: 1,
+        head: LATE,
+        idle: Duration::from_secs(600),
+    };
+    let long = Outcome::Refused {
+        status: 400,
+        message: "x".repeat(1 << 20),
+    };
+    let served = Served::limited(limits, LATE, long, 64 << 20).await;
+    let mut deaf = served.client().await;
+    deaf.write(&json(BODY.as_bytes()).repeat(100)).await;
+    while served.bodies().is_empty() {
+        tokio::time::sleep(LATE / 50).await;
+    }
+    assert_eq!(served.ask(&json(BODY.as_bytes())).await.status, 400);
+    assert!(
+        served.bodies().len() < 101,
+        "all answers to the first one found room"
+    );
 }
