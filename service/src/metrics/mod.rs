@@ -37,7 +37,7 @@ pub struct Metrics {
     /// By `slot`, as the gauges of a gateway are: an alert is of one gateway.
     pub recoveries: IntCounterVec,
     pub forwarded_requests: IntCounter,
-    /// By `outcome`: `taken`, `partial`, `again`, `refused`.
+    /// By `outcome`: `taken`, `partial`, `again`, `denied` (it is sent again too), `refused`.
     pub deliveries: IntCounterVec,
     pub forgotten_series: IntCounter,
     pub log_lines_lost: IntCounter,

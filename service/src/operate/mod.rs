@@ -44,8 +44,6 @@ pub struct Desk {
     pub listen: String,
     pub data: String,
     pub begun: Instant,
-    /// One letter is sent again at a time.
-    pub resending: tokio::sync::Mutex<()>,
 }
 
 /// A slot at work.

@@ -136,7 +136,6 @@ impl Parts {
             listen: senders.shown(),
             data: settings.data.display().to_string(),
             begun: Instant::now(),
-            resending: tokio::sync::Mutex::new(()),
         };
         Running {
             intake: tokio::spawn(senders.serve(limits, intake, self.threads.clone(), intake_stopped)),

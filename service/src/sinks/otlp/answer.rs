@@ -4,11 +4,12 @@
 //! |---|---|
 //! | 2xx | is taken; where a partial success names rejected points, taken in part |
 //! | 408, 425, 429, 502, 503, 504 | is sent again, by `Retry-After` where it is there |
-//! | any other 5xx | is sent again so for a while, and then refused for good |
+//! | 401, 403, any other 5xx | is sent again so for a while, and then refused for good |
 //! | any other | is refused for good |
 //!
 //! OTLP names 429, 502, 503 and 504 as those to repeat. 408 and 425 say the same of themselves: nothing was taken. The
-//! other 5xx are of a sink that failed, which may pass (`delivery`).
+//! other 5xx are of a sink that failed, which may pass (`delivery`); 401 and 403 are of a token that has expired, as a
+//! rule, and then each request would be refused until somebody sees it.
 
 use super::without_query;
 use crate::log;
@@ -64,6 +65,10 @@ pub(super) async fn fate(response: Response<Body>, sent: Encoding, deadline: Ins
     match head.status.as_u16() {
         200..=299 => taken(body, encoding),
         408 | 425 | 429 | 502..=504 => Fate::Again {
+            reason: join(&head.status.to_string(), &message(body, encoding)),
+            after: asked(&head.headers),
+        },
+        401 | 403 => Fate::Denied {
             reason: join(&head.status.to_string(), &message(body, encoding)),
             after: asked(&head.headers),
         },

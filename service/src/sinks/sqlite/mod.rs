@@ -15,13 +15,13 @@ mod tests;
 pub use fault::SqliteFault;
 pub use whole::Exact;
 
-use super::{Fate, Forwarded, Sink};
+use super::{Fate, Forwarded, Keys, Sink};
 use fault::NotTaken;
 use std::future::Future;
 use std::path::{Path, PathBuf};
 use std::pin::Pin;
 use std::thread::JoinHandle;
-use store::Store;
+use store::{Found, Store};
 use tokio::sync::{mpsc, oneshot};
 
 /// Requests that wait for the thread. A slot sends one at a time: further ones wait at the channel.
@@ -32,6 +32,7 @@ pub struct SqliteSink {
     /// There until this is dropped.
     jobs: Option<mpsc::Sender<Job>>,
     thread: Option<JoinHandle<()>>,
+    keys: Keys,
 }
 
 struct Job {
@@ -51,7 +52,8 @@ impl SqliteSink {
             if fault.is_lasting() {
                 return Err(fault);
             }
-            tracing::warn!("{fault}; it is opened again at each delivery");
+            let reason = fault.to_string();
+            tracing::warn!(reason, "{reason}; it is opened again at each delivery");
         }
         let (jobs, mut received) = mpsc::channel::<Job>(WAITING);
         let write = move || {
@@ -71,6 +73,7 @@ impl SqliteSink {
             path: path.into(),
             jobs: Some(jobs),
             thread: Some(thread),
+            keys: Keys::default(),
         })
     }
 
@@ -102,6 +105,10 @@ impl Sink for SqliteSink {
     fn name(&self) -> String {
         format!("sqlite {}", self.path.display())
     }
+
+    fn keys(&self) -> &Keys {
+        &self.keys
+    }
 }
 
 /// Waits for the request that is being written, and leaves the file closed.
@@ -123,19 +130,45 @@ struct Writer {
 impl Writer {
     fn store(&mut self) -> Result<&mut Store, SqliteFault> {
         let store = match self.store.take() {
-            Some(store) if store.is_in_place() => store,
-            // Else rows would go into a file that has no name any more.
-            Some(gone) => {
-                drop(gone);
-                tracing::error!(
-                    "{} was deleted or replaced: the file of this name lacks what was delivered so far",
-                    self.path.display()
-                );
+            Some(store) if store.found() == Found::Whole => store,
+            Some(store) => {
+                self.tell(&store);
+                drop(store);
                 Store::open(&self.path)?
             }
             None => Store::open(&self.path)?,
         };
         Ok(self.store.insert(store))
+    }
+
+    /// Says what is gone of an open file. What only its log had is saved, where that is gone alone.
+    fn tell(&self, store: &Store) {
+        let path = self.path.display();
+        match (
+            store.found(),
+            store.found() == Found::WithoutLog && store.settle().is_ok(),
+        ) {
+            (Found::WithoutLog, true) => {
+                tracing::error!(
+                    "{path}-wal or -shm was deleted or replaced: what it had was copied into the file"
+                );
+            }
+            (Found::WithoutLog, false) => {
+                tracing::error!(
+                    "{path}-wal or -shm was deleted or replaced: the file may lack what was delivered last"
+                );
+            }
+            _ => tracing::error!(
+                "{path} was deleted or replaced: the file of this name lacks what was delivered so far"
+            ),
+        }
+    }
+
+    /// Whether a file was deleted while it was written.
+    fn is_lost(&self) -> bool {
+        self.store
+            .as_ref()
+            .is_some_and(|store| store.found() != Found::Whole)
     }
 
     fn take(&mut self, request: &Forwarded) -> Fate {
@@ -144,6 +177,11 @@ impl Writer {
             .map_err(NotTaken::from)
             .and_then(|store| store.take(request))
         {
+            // It is written where nobody will read it: the key says what there is to be done.
+            Ok(_) if self.is_lost() => Fate::again(format!(
+                "{} or its -wal was deleted meanwhile: it is opened again",
+                self.path.display()
+            )),
             Ok(None) => Fate::Taken,
             Ok(Some(left)) => left.fate(&request.body),
             Err(NotTaken::Refused(reason)) => Fate::refused(reason),

@@ -68,6 +68,29 @@ fn a_file_that_is_moved_is_not_written_on() {
     assert_eq!(trial.totals(), only("a", 2, 1));
 }
 
+/// Else it would go into a log without a name, and be lost with the process.
+#[test]
+fn a_log_that_is_deleted_loses_nothing() {
+    for gone in [&["-wal"][..], &["-shm"], &["-wal", "-shm"]] {
+        let mut trial = Trial::new();
+        trial.taken(1, sum("a", 10, 20, 1));
+        for end in gone {
+            std::fs::remove_file(trial.folder.path().join(format!("totals.db{end}"))).expect("it is there");
+        }
+        trial.taken(2, sum("a", 20, 30, 2));
+        // Killed behind it: its files as they lie there, opened by another process.
+        let copy = tempfile::tempdir().expect("a folder");
+        for name in ["totals.db", "totals.db-wal"] {
+            std::fs::copy(trial.folder.path().join(name), copy.path().join(name)).expect("a copy");
+        }
+        let copied = Trial {
+            writer: writer(&copy.path().join("totals.db")),
+            folder: copy,
+        };
+        assert_eq!(copied.totals(), only("a", 3, 2), "{gone:?}");
+    }
+}
+
 #[test]
 fn a_missing_folder_is_told_and_waited_for() {
     let mut trial = Trial::new();
