@@ -45,9 +45,12 @@ fn reply(address: &str, method: &str, path: &str, patience: Duration) -> Result<
     let mut stream = connected(address).with_context(|| {
         format!("no service answers at {address}: start it, or give its operator's address by --operate")
     })?;
-    let request = format!(
-        "{method} {path} HTTP/1.1\r\nHost: {address}\r\nContent-Length: 0\r\nConnection: close\r\n\r\n"
-    );
+    // By its number: a name that it does not know of itself is one that a page may have given it.
+    let host = stream
+        .peer_addr()
+        .map_or(address.to_string(), |place| place.to_string());
+    let request =
+        format!("{method} {path} HTTP/1.1\r\nHost: {host}\r\nContent-Length: 0\r\nConnection: close\r\n\r\n");
     stream
         .write_all(request.as_bytes())
         .with_context(|| format!("the service at {address} is gone"))?;

@@ -134,6 +134,7 @@ impl Parts {
             metrics: self.metrics,
             budget: self.budget,
             listen: senders.shown(),
+            operate: settings.operate.clone(),
             data: settings.data.display().to_string(),
             begun: Instant::now(),
         };

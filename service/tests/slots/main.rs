@@ -4,6 +4,7 @@ mod change;
 mod lines;
 mod log;
 mod memory;
+mod pages;
 mod support;
 mod told;
 
