@@ -156,7 +156,8 @@ impl Metrics {
         }
         let mut page = Vec::new();
         if let Err(error) = TextEncoder::new().encode(&self.registry.gather(), &mut page) {
-            tracing::warn!("the metrics page is not whole: {error}");
+            let reason = error.to_string();
+            tracing::warn!(reason, "the metrics page is not whole: {reason}");
         }
         page
     }
@@ -228,6 +229,7 @@ mod tests {
             "totxegun_posts_total{status=\"503\"} 1",
             "totxegun_deliveries_total{outcome=\"taken\"} 0",
             "totxegun_deliveries_total{outcome=\"partial\"} 0",
+            "totxegun_deliveries_total{outcome=\"denied\"} 0",
             "totxegun_checkpoints_total{outcome=\"failed\"} 0",
             "totxegun_dead_requests 0",
             "totxegun_quarantined_senders 0",
