@@ -1,5 +1,6 @@
 //! Asks the running service at its operator's address.
 
+use crate::log::all_shown;
 use anyhow::{anyhow, bail, Context, Result};
 use std::io::{Error, ErrorKind, Read, Write};
 use std::net::{TcpStream, ToSocketAddrs};
@@ -168,10 +169,11 @@ fn parsed(bytes: &[u8]) -> Result<Reply> {
 
 fn message(body: &[u8]) -> String {
     let read: serde_json::Value = serde_json::from_slice(body).unwrap_or_default();
-    match read["message"].as_str() {
-        Some(message) => message.to_string(),
-        None => String::from_utf8_lossy(body).into_owned(),
-    }
+    let text = match read["message"].as_str() {
+        Some(message) => message.into(),
+        None => String::from_utf8_lossy(body),
+    };
+    all_shown(&text)
 }
 
 #[cfg(test)]

@@ -119,7 +119,7 @@ fn resend_all(at: &Address) -> Result<Vec<u8>> {
         None if letters.is_empty() => Ok(line(NONE)),
         None => Ok(line(format_args!("done: {}", so_far(taken)))),
         Some(first) => bail!(
-            "{}, and not all of {}: {first}",
+            "{}; it refused, or took in part, {}: {first}",
             so_far(taken),
             values::counted(left.len() as u64, "request")
         ),

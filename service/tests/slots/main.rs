@@ -1,6 +1,7 @@
 //! Several slots, by the program itself: whose post goes where, who has a series, kills, and another number of slots.
 
 mod change;
+mod letters;
 mod lines;
 mod log;
 mod memory;
