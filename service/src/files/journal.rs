@@ -20,6 +20,7 @@ use std::fs::File;
 use std::path::PathBuf;
 use std::sync::atomic::{AtomicU64, Ordering::SeqCst};
 use std::sync::{Arc, Condvar, Mutex};
+use std::time::Duration;
 use sync::Waiters;
 
 const POST: u8 = records::OWN;
@@ -51,6 +52,8 @@ struct Shared {
     durability: Durability,
     room: Arc<Room>,
     place: Mutex<Place>,
+    /// Never locked over a call of the disk: who shows it must not wait for one.
+    sizes: Mutex<Vec<Size>>,
     /// All before this ticket is durable.
     durable: AtomicU64,
     waiters: Mutex<Waiters>,
@@ -68,7 +71,6 @@ struct Place {
     ended: Vec<(Arc<File>, PathBuf)>,
     /// The ticket of the last turn or copy: earlier segments are not deleted before it is durable.
     kept: u64,
-    sizes: Vec<Size>,
 }
 
 /// What a segment has.
@@ -106,7 +108,7 @@ impl Journal {
         if kind == COPY {
             place.kept = place.ticket;
         }
-        if let Some(size) = place.sizes.last_mut() {
+        if let Some(size) = lock(&shared.sizes).last_mut() {
             size.bytes += length;
             size.first.get_or_insert(now);
         }
@@ -191,17 +193,22 @@ impl Journal {
                 shared.disk.remove(&segment::path(&shared.folder, number))?;
             }
         }
-        lock(&shared.place)
-            .sizes
-            .retain(|size| size.number >= before || size.number >= last);
+        lock(&shared.sizes).retain(|size| size.number >= before || size.number >= last);
         Ok(())
     }
 
     /// Bytes in the segments that are there, and when the first of their posts was appended (seconds since 1970).
+    /// Never waits for the disk.
     pub fn size(&self) -> (u64, Option<u64>) {
-        let place = lock(&self.shared.place);
-        let bytes = place.sizes.iter().map(|size| size.bytes).sum();
-        (bytes, place.sizes.iter().find_map(|size| size.first))
+        let sizes = lock(&self.shared.sizes);
+        let bytes = sizes.iter().map(|size| size.bytes).sum();
+        (bytes, sizes.iter().find_map(|size| size.first))
+    }
+
+    /// How long the call of the disk that began first has been under way; zero where none is. Never waits: a disk that
+    /// stalls is seen while who writes has all of the journal's locks.
+    pub fn under_way(&self) -> Duration {
+        self.shared.disk.under_way()
     }
 }
 
@@ -215,7 +222,7 @@ impl Shared {
         place.named = false;
         place.ticket += 1;
         place.kept = place.ticket;
-        place.sizes.push(Size {
+        lock(&self.sizes).push(Size {
             number,
             bytes: 0,
             first: None,

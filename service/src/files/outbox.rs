@@ -212,6 +212,11 @@ impl Outbox {
         )
     }
 
+    /// How long the call of the disk that began first has been under way; zero where none is. Never waits for it.
+    pub fn under_way(&self) -> Duration {
+        self.disk.under_way()
+    }
+
     /// Returns the first waiting request with its body, as soon as there is one.
     pub async fn first(&self) -> Result<(Waiting, Vec<u8>), Fault> {
         loop {

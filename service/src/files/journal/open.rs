@@ -29,6 +29,7 @@ impl Journal {
         room: Arc<Room>,
         reach: u64,
     ) -> Result<Journal, Fault> {
+        let disk = &disk.of_its_own();
         disk.make_folder(folder)?;
         segment::settle(disk, folder, reach)?;
         let mut sizes = close(disk, folder, reach)?;
@@ -46,7 +47,6 @@ impl Journal {
             ticket: 1,
             ended: Vec::new(),
             kept: 1,
-            sizes,
         };
         let shared = Arc::new(Shared {
             disk: disk.clone(),
@@ -54,6 +54,7 @@ impl Journal {
             durability,
             room,
             place: Mutex::new(place),
+            sizes: Mutex::new(sizes),
             durable: AtomicU64::new(0),
             waiters: Mutex::new(Waiters::default()),
             work: Condvar::new(),

@@ -10,7 +10,6 @@ use crate::files::numbers::Numbers;
 use std::path::Path;
 use std::sync::atomic::{AtomicBool, AtomicUsize};
 use std::sync::mpsc;
-use std::time::Duration;
 
 fn open_from(disk: &Disk, path: &Path, durability: Durability, reach: u64) -> Result<Journal, Fault> {
     Journal::open(

@@ -37,6 +37,7 @@ impl Outbox {
         read_ends: ReadEnds,
         longest: u64,
     ) -> Result<Outbox, Fault> {
+        let disk = &disk.of_its_own();
         disk.make_folder(folder)?;
         let numbers = segment::numbers(folder)?;
         // Each is begun once the one before it is durable.

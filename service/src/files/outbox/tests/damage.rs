@@ -198,3 +198,31 @@ fn outbox_view_behind(outbox: &Outbox, commits: u64) -> bool {
             .get(&key_of("a"))
             .is_some_and(|known| known.frontier == commits)
 }
+
+#[test]
+fn what_asks_is_answered_while_a_write_stalls() {
+    let folder = tempfile::tempdir().unwrap();
+    let stalls = Arc::new(AtomicBool::new(false));
+    let stalling = stalls.clone();
+    let disk = Disk::failing(move |call, _| {
+        while call == Call::Write && stalling.load(SeqCst) {
+            std::thread::sleep(Duration::from_millis(1));
+        }
+        Ok(())
+    });
+    let outbox = Arc::new(open_on(&disk, folder.path(), "e", SEGMENT).unwrap());
+    let before = view(&outbox);
+    stalls.store(true, SeqCst);
+    let commits = outbox.clone();
+    let committing = std::thread::spawn(move || commits.commit(&[body(&[("a", 1)], "")], 2));
+    while outbox.under_way() < Duration::from_millis(30) {
+        std::thread::sleep(Duration::from_millis(1));
+    }
+    let (asks, (tell, told)) = (outbox.clone(), std::sync::mpsc::channel());
+    std::thread::spawn(move || tell.send(view(&asks)));
+    let seen = told.recv_timeout(Duration::from_secs(5));
+    stalls.store(false, SeqCst);
+    committing.join().unwrap().unwrap();
+    assert_eq!(seen, Ok(before));
+    assert_eq!(outbox.under_way(), Duration::ZERO);
+}
