@@ -12,6 +12,8 @@
 //! What waits in the outbox keeps its keys, for it has the same bytes. A copy of the whole disk looks as the first one:
 //! there `renew_epoch` is for the operator.
 
+mod usable;
+
 use super::disk::{io_fault, Disk};
 use super::room::{Promise, Room};
 use super::{lock, segment, Dead, Durability, Fault, Journal, Outbox};
@@ -34,8 +36,11 @@ const PATIENCE: Duration = Duration::from_secs(1);
 
 #[derive(Debug, thiserror::Error)]
 pub enum FolderFault {
-    #[error("{0} is in use by another service")]
+    #[error("{0} is in use by another service: end it, or give another --data")]
     InUse(PathBuf),
+    /// Nothing is wrong with what is in it, and nothing was changed.
+    #[error("{} {what}", path.display())]
+    Unusable { path: PathBuf, what: String },
     #[error(transparent)]
     Fault(#[from] Fault),
 }
@@ -99,9 +104,11 @@ impl Folder {
     }
 
     pub(crate) fn open_on(disk: Disk, path: &Path, durability: Durability) -> Result<Folder, FolderFault> {
+        usable::look_at(path)?;
         // Where that file is, an earlier start has made the folder to its end.
         if !path.join("version").exists() {
-            disk.make_lasting_folder(path)?;
+            disk.make_lasting_folder(path)
+                .map_err(|fault| usable::named(fault, path))?;
         }
         let (lock, itself) = locked(path)?;
         let room = Arc::new(Room::new(path)?);
@@ -143,6 +150,12 @@ impl Folder {
             }
         }
         Ok(folder)
+    }
+
+    /// Whether a start could use what is there: that this user has the rights, and files and folders are what they have
+    /// to be. Changes nothing, and does not look at what files say.
+    pub fn look_at(path: &Path) -> Result<(), FolderFault> {
+        usable::look_at(path)
     }
 
     /// Draws a new epoch, for a folder that was put back in a way that a start can't see. It is that of the slots

@@ -16,7 +16,7 @@ use crate::metrics::Metrics;
 use crate::otlp::Reading;
 use crate::sinks::Address;
 use crate::slot::Slots;
-use anyhow::{anyhow, Context};
+use anyhow::Context;
 use parts::Parts;
 use senders::{bind, local, Senders};
 use std::path::PathBuf;
@@ -73,7 +73,7 @@ impl From<FolderFault> for Ended {
     fn from(fault: FolderFault) -> Ended {
         match fault {
             FolderFault::Fault(fault) => Ended::Disk(fault),
-            in_use => Ended::Other(anyhow!("{in_use}: end it, or give another --data")),
+            of_the_operator => Ended::Other(of_the_operator.into()),
         }
     }
 }
