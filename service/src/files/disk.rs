@@ -22,7 +22,6 @@ pub enum Call {
     SyncFolder,
     Rename,
     Remove,
-    Cut,
 }
 
 type Hook = dyn Fn(Call, &Path) -> io::Result<()> + Send + Sync;
@@ -217,10 +216,6 @@ impl Disk {
 
     pub fn remove(&self, path: &Path) -> Result<(), Fault> {
         self.call(Call::Remove, path, || std::fs::remove_file(path))
-    }
-
-    pub fn cut(&self, file: &File, path: &Path, length: u64) -> Result<(), Fault> {
-        self.call(Call::Cut, path, || file.set_len(length))
     }
 
     /// Puts a whole file in the place of what may be there: durable when this returns, and never seen in part.

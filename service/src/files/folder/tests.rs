@@ -1,8 +1,11 @@
 //! Whose folder it is, and what an earlier run or a copy has left.
 
+mod damage;
+mod rights;
+
 use super::*;
 use crate::files::Post;
-use std::os::unix::fs::PermissionsExt;
+use std::os::unix::fs::{MetadataExt, PermissionsExt};
 
 fn open(path: &Path) -> Result<Folder, FolderFault> {
     Folder::open(path, Durability::Process)
@@ -175,6 +178,14 @@ fn a_folder_that_is_made_has_a_name_that_lasts() {
     }
 }
 
+/// As an earlier totxegun leaves a folder.
+fn forget_what_was_begun(place: &Path) {
+    let version = place.join("version");
+    let text = std::fs::read_to_string(&version).unwrap();
+    let kept = text.lines().filter(|line| !line.starts_with("begun "));
+    std::fs::write(&version, kept.map(|line| format!("{line}\n")).collect::<String>()).unwrap();
+}
+
 #[test]
 fn an_outbox_that_begins_anew_in_an_old_folder_has_keys_of_its_own() {
     let place = tempfile::tempdir().unwrap();
@@ -183,6 +194,7 @@ fn an_outbox_that_begins_anew_in_an_old_folder_has_keys_of_its_own() {
     assert_eq!(folder.slot(0).unwrap().1.epoch(), drawn);
     drop(folder);
     std::fs::remove_dir_all(place.path().join("slot-0")).unwrap();
+    forget_what_was_begun(place.path());
     let folder = open(place.path()).unwrap();
     let anew = folder.slot(0).unwrap().1.epoch();
     assert_ne!(anew, drawn);
@@ -225,7 +237,9 @@ fn the_journal_goes_on_behind_what_the_outbox_knows() {
     let folder = open(place.path()).unwrap();
     let (journal, outbox) = folder.slot(0).unwrap();
     outbox.commit(&[], 9).unwrap();
-    drop((journal, outbox));
+    drop((journal, outbox, folder));
+    forget_what_was_begun(place.path());
+    let folder = open(place.path()).unwrap();
     let (journal, _outbox) = folder.slot(0).unwrap();
     assert_eq!(journal.turn().0, 10);
 }
@@ -261,98 +275,5 @@ fn the_number_of_slots_stays_and_one_slot_is_of_version_1() {
         text().starts_with("totxegun 2\n") && text().contains("\nslots 1\n"),
         "files of other slots are left: {}",
         text()
-    );
-}
-
-fn unusable(path: &Path) -> String {
-    match open(path).err().unwrap() {
-        FolderFault::Unusable { path, what } => format!("{} {what}", path.display()),
-        other => panic!("{other}"),
-    }
-}
-
-#[test]
-fn what_is_no_folder_is_refused_by_name_and_stays() {
-    let place = tempfile::tempdir().unwrap();
-    let file = place.path().join("file");
-    std::fs::write(&file, "a").unwrap();
-    let text = unusable(&file);
-    assert!(
-        text.contains("file is a file, and --data has to name a folder"),
-        "{text}"
-    );
-    let text = unusable(&file.join("below"));
-    assert!(text.contains("has a part that is a file"), "{text}");
-    assert_eq!(std::fs::read(&file).unwrap(), b"a");
-    let folder = place.path().join("folder");
-    drop(open(&folder).unwrap());
-    std::fs::remove_file(folder.join("lock")).unwrap();
-    std::fs::create_dir(folder.join("lock")).unwrap();
-    let text = unusable(&folder);
-    assert!(
-        text.contains("lock is a folder, and has to be a file: remove it"),
-        "{text}"
-    );
-}
-
-/// Run by the next test in a process of its own, by a user who is not root.
-#[test]
-#[ignore]
-fn has_no_rights() {
-    let Some(path) = std::env::var_os("TOTXEGUN_TEST_FOLDER") else {
-        return;
-    };
-    println!("refused: {}", unusable(Path::new(&path)));
-}
-
-#[test]
-fn a_folder_without_rights_is_refused_by_name() {
-    use std::os::unix::process::CommandExt;
-    const NOBODY: u32 = 65534;
-    let place = tempfile::tempdir().unwrap();
-    let all_may =
-        |path: &Path, mode| std::fs::set_permissions(path, std::fs::Permissions::from_mode(mode)).unwrap();
-    all_may(place.path(), 0o755);
-    let folder = place.path().join("folder");
-    drop(open(&folder).unwrap().slot(0).unwrap());
-    let is_root = std::fs::metadata("/proc/self").unwrap().uid() == 0;
-    let refused = |path: &Path| {
-        let mut this = std::process::Command::new("/proc/self/exe");
-        this.args([
-            "--exact",
-            "--ignored",
-            "--nocapture",
-            "files::folder::tests::has_no_rights",
-        ]);
-        if is_root {
-            this.uid(NOBODY);
-        }
-        let ended = this.env("TOTXEGUN_TEST_FOLDER", path).output().unwrap();
-        String::from_utf8_lossy(&ended.stdout).into_owned()
-    };
-    let journal = folder.join("slot-0/journal");
-    for (closed, named) in [(&folder, "folder can't"), (&journal, "slot-0/journal can't")] {
-        all_may(&folder, 0o777);
-        for (path, mode) in [
-            ("lock", 0o666),
-            ("version", 0o666),
-            ("slot-0", 0o777),
-            ("slot-0/outbox", 0o777),
-        ] {
-            all_may(&folder.join(path), mode);
-        }
-        for file in std::fs::read_dir(folder.join("slot-0/outbox")).unwrap() {
-            all_may(&file.unwrap().path(), 0o666);
-        }
-        all_may(closed, 0o555);
-        let text = refused(&folder);
-        assert!(text.contains(named) && text.contains("chown -R"), "{text}");
-    }
-    all_may(&folder, 0o700);
-    all_may(place.path(), 0o555);
-    let text = refused(&place.path().join("new"));
-    assert!(
-        text.contains("new can't be read and written") && text.contains("chown -R"),
-        "{text}"
     );
 }

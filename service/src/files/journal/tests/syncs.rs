@@ -242,8 +242,11 @@ fn what_was_copied_is_durable_before_its_first_place_is_deleted() {
             .iter()
             .rposition(|one| *one == (call, segment::path(folder.path(), number)))
     };
+    let copied = calls
+        .iter()
+        .position(|one| *one == (Call::Write, segment::path(folder.path(), 2)));
     assert!(position(Call::Sync, 2).unwrap() < position(Call::Remove, 1).unwrap());
-    assert!(position(Call::Write, 2).unwrap() < position(Call::Sync, 2).unwrap());
+    assert!(copied.unwrap() < position(Call::Sync, 2).unwrap());
 }
 
 #[test]
