@@ -7,19 +7,21 @@
 //! A record is written in place, under one short lock, so that the order in the file is the order of the calls. One
 //! thread syncs, once for all that wait; nobody who must wait for the disk holds the lock of those who write.
 
+mod found;
 mod open;
 mod sync;
 
 use super::disk::Disk;
 use super::records::{self, Next, Reader, Which};
 use super::room::Room;
-use super::segment::{self, Ahead, Segment};
+use super::segment::{self, Ahead, Dropped, Segment};
 use super::{lock, seconds, Durability, Fault};
 use bytes::Bytes;
 use std::fs::File;
-use std::path::PathBuf;
+use std::path::{Path, PathBuf};
 use std::sync::atomic::{AtomicU64, Ordering::SeqCst};
 use std::sync::{Arc, Condvar, Mutex};
+use std::time::Duration;
 use sync::Waiters;
 
 const POST: u8 = records::OWN;
@@ -43,6 +45,20 @@ pub struct Ticket(pub u64);
 pub struct Journal {
     shared: Arc<Shared>,
     syncer: Option<std::thread::JoinHandle<()>>,
+    /// The segment that this start has begun.
+    begun: u64,
+    dropped: Vec<Dropped>,
+}
+
+/// What is known beside the journal of what it has to have.
+pub(super) struct Expected {
+    /// The first segment whose posts are in no group, by the outbox.
+    pub reach: u64,
+    /// The segment that the last start has begun. Its name, and those from `reach` on, are there for good. None in a
+    /// folder in which no start has noted that.
+    pub begun: Option<u64>,
+    /// Which segment of the outbox says so, and where that one ended.
+    pub by: (PathBuf, u64),
 }
 
 struct Shared {
@@ -51,11 +67,15 @@ struct Shared {
     durability: Durability,
     room: Arc<Room>,
     place: Mutex<Place>,
+    /// Never locked over a call of the disk: who shows it must not wait for one.
+    sizes: Mutex<Vec<Size>>,
     /// All before this ticket is durable.
     durable: AtomicU64,
     waiters: Mutex<Waiters>,
     work: Condvar,
     syncing: Mutex<()>,
+    /// The next segment, durable, which has no name yet. Locked behind `place`.
+    next: Mutex<Option<Segment>>,
 }
 
 /// Where is written.
@@ -68,7 +88,6 @@ struct Place {
     ended: Vec<(Arc<File>, PathBuf)>,
     /// The ticket of the last turn or copy: earlier segments are not deleted before it is durable.
     kept: u64,
-    sizes: Vec<Size>,
 }
 
 /// What a segment has.
@@ -76,6 +95,18 @@ struct Size {
     number: u64,
     bytes: u64,
     first: Option<u64>,
+}
+
+#[cfg(test)]
+impl Expected {
+    /// Of a folder of which nothing is known.
+    pub fn of_none() -> Expected {
+        Expected {
+            reach: 1,
+            begun: None,
+            by: (PathBuf::new(), 0),
+        }
+    }
 }
 
 impl Journal {
@@ -106,7 +137,7 @@ impl Journal {
         if kind == COPY {
             place.kept = place.ticket;
         }
-        if let Some(size) = place.sizes.last_mut() {
+        if let Some(size) = lock(&shared.sizes).last_mut() {
             size.bytes += length;
             size.first.get_or_insert(now);
         }
@@ -186,36 +217,71 @@ impl Journal {
         let shared = &*self.shared;
         let last = lock(&shared.place).segment.number;
         self.settle_copies();
-        for number in segment::numbers(&shared.folder)? {
-            if number < before && number < last {
-                shared.disk.remove(&segment::path(&shared.folder, number))?;
-            }
+        let mut numbers = segment::numbers(&shared.folder)?;
+        numbers.retain(|number| *number < before && *number < last);
+        if !numbers.is_empty() {
+            // A start that misses one of them is told so whether the outbox is older than this.
+            lock(&shared.place).segment.say_forgotten(before)?;
         }
-        lock(&shared.place)
-            .sizes
-            .retain(|size| size.number >= before || size.number >= last);
+        for number in numbers {
+            shared.disk.remove(&segment::path(&shared.folder, number))?;
+        }
+        lock(&shared.sizes).retain(|size| size.number >= before || size.number >= last);
         Ok(())
     }
 
     /// Bytes in the segments that are there, and when the first of their posts was appended (seconds since 1970).
+    /// Never waits for the disk.
     pub fn size(&self) -> (u64, Option<u64>) {
-        let place = lock(&self.shared.place);
-        let bytes = place.sizes.iter().map(|size| size.bytes).sum();
-        (bytes, place.sizes.iter().find_map(|size| size.first))
+        let sizes = lock(&self.shared.sizes);
+        let bytes = sizes.iter().map(|size| size.bytes).sum();
+        (bytes, sizes.iter().find_map(|size| size.first))
+    }
+
+    /// The segment that this start has begun.
+    pub(super) fn begun(&self) -> u64 {
+        self.begun
+    }
+
+    /// What this start left out of the files that were there.
+    pub fn dropped(&self) -> &[Dropped] {
+        &self.dropped
+    }
+
+    /// How long the call of the disk that began first has been under way; zero where none is. Never waits: a disk that
+    /// stalls is seen while who writes has all of the journal's locks.
+    pub fn under_way(&self) -> Duration {
+        self.shared.disk.under_way()
     }
 }
 
 impl Shared {
     fn begin(&self, place: &mut Place, number: u64) -> Result<(), Fault> {
         place.segment.end()?;
-        let path = segment::path(&self.folder, number);
-        let next = Segment::create(&self.disk, path, Which::Journal, number, ahead(self.durability))?;
+        let mut prepared = lock(&self.next);
+        let mut next = match prepared.take() {
+            Some(next) if next.number == number => next,
+            other => {
+                if let Some(other) = other {
+                    self.disk.remove(&other.path)?;
+                }
+                prepare(
+                    &self.disk,
+                    &self.folder,
+                    number,
+                    self.durability,
+                    place.segment.forgotten(),
+                )?
+            }
+        };
+        drop(prepared);
+        name(&self.disk, &self.folder, &mut next)?;
         let ended = std::mem::replace(&mut place.segment, next);
         place.ended.push((ended.file, ended.path));
         place.named = false;
         place.ticket += 1;
         place.kept = place.ticket;
-        place.sizes.push(Size {
+        lock(&self.sizes).push(Size {
             number,
             bytes: 0,
             first: None,
@@ -259,6 +325,32 @@ impl Shared {
             next = reader.next()?;
         }
     }
+}
+
+/// Makes a segment durable that has no name yet: one that has its name has a header, and is as long as it was made.
+fn prepare(
+    disk: &Disk,
+    folder: &Path,
+    number: u64,
+    durability: Durability,
+    forgotten: u64,
+) -> Result<Segment, Fault> {
+    let draft = segment::path(folder, number).with_extension("draft");
+    if draft.exists() {
+        disk.remove(&draft)?;
+    }
+    let (ahead, which) = (ahead(durability), Which::Journal);
+    let segment = Segment::create(disk, draft.clone(), which, number, ahead, Some(forgotten))?;
+    disk.sync(&segment.file, &draft)?;
+    Ok(segment)
+}
+
+/// Gives a segment its name; durable with the next sync of the folder.
+fn name(disk: &Disk, folder: &Path, segment: &mut Segment) -> Result<(), Fault> {
+    let path = segment::path(folder, segment.number);
+    disk.rename(&segment.path, &path)?;
+    segment.path = path;
+    Ok(())
 }
 
 /// What a segment has ahead.

@@ -11,9 +11,10 @@ use crate::files::disk::Disk;
 use crate::files::judge::{is_torn, CHANGED};
 use crate::files::records::{Next, Reader, Which, HEADER};
 use crate::files::room::Room;
-use crate::files::{segment, Fault};
+use crate::files::segment::{self, Dropped};
+use crate::files::Fault;
 use crate::otlp::series::SeriesKey;
-use std::path::Path;
+use std::path::{Path, PathBuf};
 use std::sync::{Arc, Mutex};
 use tokio::sync::Notify;
 
@@ -37,11 +38,17 @@ impl Outbox {
         read_ends: ReadEnds,
         longest: u64,
     ) -> Result<Outbox, Fault> {
+        let disk = &disk.of_its_own();
         disk.make_folder(folder)?;
         let numbers = segment::numbers(folder)?;
         // Each is begun once the one before it is durable.
         segment::settle(disk, folder, numbers.last().copied().unwrap_or(0))?;
-        let (mut state, has_requests) = read_all(disk, folder, &numbers, epoch)?;
+        let Left {
+            mut state,
+            has_requests,
+            ended,
+            dropped,
+        } = read_all(disk, folder, &numbers, epoch)?;
         state.next_epoch = epoch.into();
         // A segment without a request is replaced: starts that end at once would leave one each.
         let number = numbers.last().map_or(1, |last| last + u64::from(has_requests));
@@ -55,16 +62,37 @@ impl Outbox {
             writer: Mutex::new(Writer::new(segment)),
             state: Mutex::new(state),
             arrived: Notify::new(),
+            ended,
+            dropped,
         };
         outbox.sweep()?;
         Ok(outbox)
     }
 }
 
-/// Reads the segments, and closes the last of them. Whether that one has requests, taken or not.
-fn read_all(disk: &Disk, folder: &Path, numbers: &[u64], epoch: &str) -> Result<(State, bool), Fault> {
+/// Whether an outbox was made there.
+pub(in crate::files) fn is_there(folder: &Path) -> Result<bool, Fault> {
+    Ok(folder.exists() && !segment::numbers(folder)?.is_empty())
+}
+
+/// What was left.
+struct Left {
+    state: State,
+    /// Whether the last segment has requests, taken or not.
+    has_requests: bool,
+    ended: (PathBuf, u64),
+    dropped: Vec<Dropped>,
+}
+
+/// Reads the segments, and closes the last of them.
+fn read_all(disk: &Disk, folder: &Path, numbers: &[u64], epoch: &str) -> Result<Left, Fault> {
     let Some((last, earlier)) = numbers.split_last() else {
-        return Ok((State::new(epoch), false));
+        return Ok(Left {
+            state: State::new(epoch),
+            has_requests: false,
+            ended: (folder.into(), 0),
+            dropped: Vec::new(),
+        });
     };
     let mut batches = Vec::new();
     for number in earlier {
@@ -72,9 +100,12 @@ fn read_all(disk: &Disk, folder: &Path, numbers: &[u64], epoch: &str) -> Result<
     }
     let mut reading = Reading::open(folder, *last)?;
     let (mut state, end) = reading.read_last()?;
+    let mut dropped = Vec::new();
     if let Some(end) = end {
+        dropped.extend(segment::keep_aside(disk, &reading.reader.path, end)?);
         segment::close_at(disk, &reading.reader.path, end)?;
     }
+    let ended = (reading.reader.path.clone(), end.unwrap_or(reading.reader.at));
     let has_requests = !state.batches.is_empty();
     batches.extend(std::mem::take(&mut state.batches));
     state.bytes = 0;
@@ -93,7 +124,12 @@ fn read_all(disk: &Disk, folder: &Path, numbers: &[u64], epoch: &str) -> Result<
         state.wait(batch);
     }
     match next == state.next {
-        true => Ok((state, has_requests)),
+        true => Ok(Left {
+            state,
+            has_requests,
+            ended,
+            dropped,
+        }),
         false => Err(lost(folder, numbers, &reading.reader)),
     }
 }

@@ -1,6 +1,7 @@
 //! Groups that are cut or changed, and calls on the disk that fail.
 
 use super::*;
+use crate::files::records::MARK_LENGTHS;
 
 #[tokio::test]
 async fn a_group_that_is_cut_anywhere_is_not_there() {
@@ -20,12 +21,14 @@ async fn a_group_that_is_cut_anywhere_is_not_there() {
     let after = view(&outbox);
     kill(outbox);
     let all = std::fs::read(last_segment(folder.path())).unwrap();
+    // Behind its last record is the mark of it.
+    let all = &all[..all.len() - MARK_LENGTHS[0]];
     for cut in begin..=all.len() {
         for zeros in [0, 600] {
             let found = [&all[..cut], &vec![0; zeros]].concat();
             let torn = copied(folder.path(), &found);
             // Where its last bytes are zeros, zeros make it whole.
-            let expected = if found.starts_with(&all) { &after } else { &before };
+            let expected = if found.starts_with(all) { &after } else { &before };
             assert_eq!(view(&open(torn.path())), *expected, "{cut} {zeros}");
         }
     }
@@ -48,6 +51,7 @@ fn a_group_whose_middle_was_lost_is_not_there_though_its_commit_is() {
     outbox.commit(&[body(&[("a", 1)], &noise)], 2).unwrap();
     kill(outbox);
     let mut all = std::fs::read(last_segment(folder.path())).unwrap();
+    all.truncate(all.len() - MARK_LENGTHS[0]);
     assert!(all.len() > 2000);
     all[1024..1536].fill(0);
     let torn = copied(folder.path(), &all);
@@ -61,8 +65,7 @@ async fn a_changed_byte_is_named_at_the_start_or_at_the_delivery_and_nothing_is_
     outbox.commit(&[body(&[("a", 1)], "first")], 2).unwrap();
     outbox.own(HashMap::from([(key_of("a"), "me".into())])).unwrap();
     outbox.quarantine("me").unwrap();
-    let end = std::fs::metadata(last_segment(folder.path())).unwrap().len() as usize;
-    outbox.lift("me").unwrap();
+    let end = std::fs::metadata(last_segment(folder.path())).unwrap().len() as usize - MARK_LENGTHS[0];
     kill(outbox);
     let path = last_segment(folder.path());
     let all = std::fs::read(&path).unwrap();
@@ -197,4 +200,32 @@ fn outbox_view_behind(outbox: &Outbox, commits: u64) -> bool {
             .series()
             .get(&key_of("a"))
             .is_some_and(|known| known.frontier == commits)
+}
+
+#[test]
+fn what_asks_is_answered_while_a_write_stalls() {
+    let folder = tempfile::tempdir().unwrap();
+    let stalls = Arc::new(AtomicBool::new(false));
+    let stalling = stalls.clone();
+    let disk = Disk::failing(move |call, _| {
+        while call == Call::Write && stalling.load(SeqCst) {
+            std::thread::sleep(Duration::from_millis(1));
+        }
+        Ok(())
+    });
+    let outbox = Arc::new(open_on(&disk, folder.path(), "e", SEGMENT).unwrap());
+    let before = view(&outbox);
+    stalls.store(true, SeqCst);
+    let commits = outbox.clone();
+    let committing = std::thread::spawn(move || commits.commit(&[body(&[("a", 1)], "")], 2));
+    while outbox.under_way() < Duration::from_millis(30) {
+        std::thread::sleep(Duration::from_millis(1));
+    }
+    let (asks, (tell, told)) = (outbox.clone(), std::sync::mpsc::channel());
+    std::thread::spawn(move || tell.send(view(&asks)));
+    let seen = told.recv_timeout(Duration::from_secs(5));
+    stalls.store(false, SeqCst);
+    committing.join().unwrap().unwrap();
+    assert_eq!(seen, Ok(before));
+    assert_eq!(outbox.under_way(), Duration::ZERO);
 }
