@@ -35,7 +35,7 @@ use Rattle.metric_events.proofs.Congruence.{once_le}
 fewer_clear : (qs rs : List Accepted) → Clearer (qs ++ rs) qs
 fewer_clear qs rs = record { all = λ s p k. all_first (λ a. is_clear s p a.point a.sender) qs rs k }
 
-turn_own : (x : Identity) (us qs : List Accepted) → are_in_turn qs us ≡ true → are_in_turn qs (of_series x us) ≡ true
+pub turn_own : (x : Identity) (us qs : List Accepted) → are_in_turn qs us ≡ true → are_in_turn qs (of_series x us) ≡ true
 turn_own x [] qs h = refl
 turn_own x (a ∷ us) qs h = both (is_of x a) refl (turn_own x us (qs ++ a ∷ []) l.1)
   where
@@ -59,7 +59,7 @@ turn_past x a n (v ∷ vs) qs o h =
     apart : is_of x v ≡ true → is_clear v.sender v.point a.point a.sender ≡ true
     apart e = or_left (not (same_series a.point.series v.point.series)) (same_sender a.sender v.sender && nat_le a.point.span.end v.point.span.start) (ap not (ap (same_series a.point.series) (same_series-exact v.point.series x e) ∙ n))
 
-turn_all : (us qs : List Accepted) → ((x : Identity) → are_in_turn qs (of_series x us) ≡ true) → are_in_turn qs us ≡ true
+pub turn_all : (us qs : List Accepted) → ((x : Identity) → are_in_turn qs (of_series x us) ≡ true) → are_in_turn qs us ≡ true
 turn_all [] qs h = refl
 turn_all (a ∷ us) qs h = and_from (list_all (λ q. is_clear a.sender a.point q.point q.sender) qs) (are_in_turn (qs ++ a ∷ []) us) (of_own a.point.series (same_series-refl a.point.series)).0 (turn_all us (qs ++ a ∷ []) (λ x. both x (is_of x a) refl))
   where

@@ -294,7 +294,7 @@ any_parted t h (a ∷ qs) = both (h a) refl (any_parted t h qs)
         grouped true v w = refl
         grouped false v w = refl
 
-any_bare : (x : Identity) (qs : List Accepted) → list_any (is_of x) (map bare qs) ≡ list_any (is_of x) qs
+pub any_bare : (x : Identity) (qs : List Accepted) → list_any (is_of x) (map bare qs) ≡ list_any (is_of x) qs
 any_bare x qs = any_map (is_of x) bare (λ a. refl) qs
 
 recall : (E F : History) (qs : List Accepted) (ns : List Numbered) (ss : List (List ℕ)) → Lives E qs → IsLegal F → Recalls F qs → AreInterleaved (homes qs) (all_points ns) → HasPlace E F ns ss → MayReplay F ns ss × Repeats E F ns ss

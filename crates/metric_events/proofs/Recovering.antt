@@ -193,25 +193,28 @@ ends_by_frontier x (a ∷ qs) n h = both (is_of x a) refl (ends_by_frontier x qs
         let k : frontier x qs ≤ n = rw e at h in
         and_from (not (is_of x a) || nat_le a.point.span.end n) _ (or_left (not (is_of x a)) (nat_le a.point.span.end n) (ap not e)) (r k)
 
--- what may come after these may come after those, where each series has the same owner and frontier
-pub clearer_known : (qs rs : List Accepted) → OneOwner rs → ((x : Identity) → list_any (is_of x) rs ≡ list_any (is_of x) qs) → ((x : Identity) → owner x rs ≡ owner x qs) → ((x : Identity) → frontier x rs ≡ frontier x qs) → Clearer qs rs
-clearer_known qs rs o w own ends = record { all = λ s p k. both s p k (list_any (is_of p.series) rs) refl }
+-- where a point's series has the same owner and frontier, the point may come after these if it may come after those
+pub clear_known : (qs rs : List Accepted) → OneOwner rs → (s : List ℕ) (p : DataPoint) → list_any (is_of p.series) rs ≡ list_any (is_of p.series) qs → owner p.series rs ≡ owner p.series qs → frontier p.series rs ≡ frontier p.series qs → list_all (λ a. is_clear s p a.point a.sender) qs ≡ true → list_all (λ a. is_clear s p a.point a.sender) rs ≡ true
+clear_known qs rs o s p w own ends k = both (list_any (is_of p.series) rs) refl
   where
-    is_met : (s : List ℕ) (p : DataPoint) (a : Accepted) → is_by_or_other p.series s a ≡ true → (not (is_of p.series a) || nat_le a.point.span.end p.span.start) ≡ true → is_clear s p a.point a.sender ≡ true
-    is_met s p a h k = parts (same_series a.point.series p.series) (same_sender a.sender s) (nat_le a.point.span.end p.span.start) h k
+    is_met : (a : Accepted) → is_by_or_other p.series s a ≡ true → (not (is_of p.series a) || nat_le a.point.span.end p.span.start) ≡ true → is_clear s p a.point a.sender ≡ true
+    is_met a h k = parts (same_series a.point.series p.series) (same_sender a.sender s) (nat_le a.point.span.end p.span.start) h k
       where
         parts : (u v w : Bool) → (not u || v) ≡ true → (not u || w) ≡ true → (not u || (v && w)) ≡ true
         parts true v w h k = and_from v w h k
         parts false v w h k = refl
 
-    both : (s : List ℕ) (p : DataPoint) → list_all (λ a. is_clear s p a.point a.sender) qs ≡ true → (v : Bool) → list_any (is_of p.series) rs ≡ v → list_all (λ a. is_clear s p a.point a.sender) rs ≡ true
-    both s p k false e = all_weaker (λ a. not (is_of p.series a)) (λ a. is_clear s p a.point a.sender) (λ a n. or_left (not (is_of p.series a)) (same_sender a.sender s && nat_le a.point.span.end p.span.start) n) rs (any_none (is_of p.series) rs e)
-    both s p k true e =
-        let met = clear_met s p qs k (sym (w p.series) ∙ e) in
-        let mine : owner p.series rs ≡ s = own p.series ∙ same_sender-exact (owner p.series qs) s met.0 in
+    both : (v : Bool) → list_any (is_of p.series) rs ≡ v → list_all (λ a. is_clear s p a.point a.sender) rs ≡ true
+    both false e = all_weaker (λ a. not (is_of p.series a)) (λ a. is_clear s p a.point a.sender) (λ a n. or_left (not (is_of p.series a)) (same_sender a.sender s && nat_le a.point.span.end p.span.start) n) rs (any_none (is_of p.series) rs e)
+    both true e =
+        let met = clear_met s p qs k (sym w ∙ e) in
+        let mine : owner p.series rs ≡ s = own ∙ same_sender-exact (owner p.series qs) s met.0 in
         let all_mine : list_all (is_by_or_other p.series s) rs ≡ true = subst (λ t. list_all (is_by_or_other p.series t) rs ≡ true) mine (all_own p.series rs o e) in
-        all_both (is_by_or_other p.series s) (λ a. not (is_of p.series a) || nat_le a.point.span.end p.span.start) (λ a. is_clear s p a.point a.sender) (is_met s p) rs all_mine
-        (ends_by_frontier p.series rs p.span.start (omega (arith, ends p.series, met.1)))
+        all_both (is_by_or_other p.series s) (λ a. not (is_of p.series a) || nat_le a.point.span.end p.span.start) (λ a. is_clear s p a.point a.sender) is_met rs all_mine
+        (ends_by_frontier p.series rs p.span.start (omega (arith, ends, met.1)))
+
+pub clearer_known : (qs rs : List Accepted) → OneOwner rs → ((x : Identity) → list_any (is_of x) rs ≡ list_any (is_of x) qs) → ((x : Identity) → owner x rs ≡ owner x qs) → ((x : Identity) → frontier x rs ≡ frontier x qs) → Clearer qs rs
+clearer_known qs rs o w own ends = record { all = λ s p k. clear_known qs rs o s p (w p.series) (own p.series) (ends p.series) k }
 
 -- there are no more series
 

@@ -12,7 +12,7 @@ use Rattle.metric_events.specs.Series.{is_of, of_series, owner, frontier, hull, 
 use Rattle.metric_events.specs.Standing.{stands, sum_where}
 use Rattle.metric_events.specs.Legal.{IsLegal, MayAdmit, is_in_order, is_held}
 use Rattle.metric_events.specs.Recovery.{bare, pending, IsAtRest, FlushesNothing, are_in_turn, bare_points, Numbered, all_points, readmitted, quarantined, AreBatches, IsAtMost}
-use Rattle.metric_events.specs.Congruence.{StandAlike, IsCalm, MayReplay, Repeats}
+use Rattle.metric_events.specs.Congruence.{home_hull, StandAlike, IsCalm, MayReplay, Repeats}
 use Rattle.metric_events.specs.declared.accepted.Accepted.{Accepted}
 use Rattle.metric_events.specs.declared.batch.Batch.{Batch}
 use Rattle.metric_events.specs.declared.limits.TheConstants.{MAX_SERIES, MAX_HELD, MAX_ENTRIES}
@@ -204,14 +204,22 @@ replay F ns ss m h = hold F (trail Start ns) ss ss (all_points ns) h.rest h.once
 same_trail : (F : History) (ns : List Numbered) (ss : List (List ℕ)) → quarantined (readmitted F ns) ss ≡ F then holds (trail Start ns) ss
 same_trail F ns ss = ap (λ K. quarantined K ss) (trail_is F Start ns) ∙ holds_is F (trail Start ns) ss
 
--- what comes behind rest, and is never flushed, stands as its points say
-stood_behind : (F S : History) (all : List Accepted) → IsAtRest F → FlushesNothing S → IsLegal (F then S) → pending (F then S) ≡ all → (E : History) → ((x : Identity) → owner x (points F ++ all) ≡ owner x (points E)) → ((x : Identity) → frontier x (points F ++ all) ≡ frontier x (points E)) → ((x : Identity) → sum_of x all ≡ sum_where is_home x (points E)) → ((x : Identity) → hull (of_series x all) ≡ hull (filter (stands is_home) (of_series x (points E)))) → ((s : List ℕ) → is_held s (held_senders (F then S)) ≡ is_held s (held_senders E)) → StandAlike E (F then S)
-stood_behind F S all r n m p E owners frontiers sums spans held = record {
-  owners = λ x. ap (owner x) (only_behind F S r.batches n m) ∙ (owner_append x (points F) (news S) ∙ (ap (λ s. cond (list_any (is_of x) (points F)) (owner x (points F)) s) (sym (bare_owner x (news S)) ∙ ap (owner x) same) ∙ (sym (owner_append x (points F) all) ∙ owners x)));
-  frontiers = λ x. ap (frontier x) (only_behind F S r.batches n m) ∙ (frontier_append x (points F) (news S) ∙ (ap (max (frontier x (points F))) (sym (bare_frontier x (news S)) ∙ ap (frontier x) same) ∙ (sym (frontier_append x (points F) all) ∙ frontiers x)));
-  sums = λ x. ap (row_sum (row_length x.kind)) (here x) ∙ (sym (bare_sum x (news S)) ∙ (ap (sum_of x) same ∙ sums x));
-  spans = λ x. ap hull (here x) ∙ (sym (bare_hull (of_series x (news S))) ∙ (ap hull (sym (filter-map (is_of x) bare (λ a. refl) (news S)) ∙ ap (of_series x) same) ∙ spans x));
-  held = held;
+-- what comes behind rest, and is never flushed, says of each series what its points say
+
+pub record Brings (F R : History) (all : List Accepted) (ss : List (List ℕ)) : Type 0 where
+  pub owners : (x : Identity) → owner x (points R) ≡ owner x (points F ++ all)
+  pub frontiers : (x : Identity) → frontier x (points R) ≡ frontier x (points F ++ all)
+  pub sums : (x : Identity) → sum_where is_home x (points R) ≡ sum_of x all
+  pub spans : (x : Identity) → home_hull x R ≡ hull (of_series x all)
+  pub held : (s : List ℕ) → is_held s (held_senders R) ≡ is_held s ss
+
+brought_behind : (F S : History) (all : List Accepted) (ss : List (List ℕ)) → IsAtRest F → FlushesNothing S → IsLegal (F then S) → pending (F then S) ≡ all → held_senders (F then S) ≡ ss → Brings F (F then S) all ss
+brought_behind F S all ss r n m p h = record {
+  owners = λ x. ap (owner x) (only_behind F S r.batches n m) ∙ (owner_append x (points F) (news S) ∙ (ap (λ s. cond (list_any (is_of x) (points F)) (owner x (points F)) s) (sym (bare_owner x (news S)) ∙ ap (owner x) same) ∙ sym (owner_append x (points F) all)));
+  frontiers = λ x. ap (frontier x) (only_behind F S r.batches n m) ∙ (frontier_append x (points F) (news S) ∙ (ap (max (frontier x (points F))) (sym (bare_frontier x (news S)) ∙ ap (frontier x) same) ∙ sym (frontier_append x (points F) all)));
+  sums = λ x. ap (row_sum (row_length x.kind)) (here x) ∙ (sym (bare_sum x (news S)) ∙ ap (sum_of x) same);
+  spans = λ x. ap hull (here x) ∙ (sym (bare_hull (of_series x (news S))) ∙ ap hull (sym (filter-map (is_of x) bare (λ a. refl) (news S)) ∙ ap (of_series x) same));
+  held = λ s. ap (is_held s) h;
 }
   where
     same : map bare (news S) ≡ all
@@ -220,12 +228,18 @@ stood_behind F S all r n m p E owners frontiers sums spans held = record {
     here : (x : Identity) → filter (stands is_home) (of_series x (points (F then S))) ≡ of_series x (news S)
     here x = filter-filter (stands is_home) (is_of x) (points (F then S)) ∙ ap (of_series x) (home_behind F S r n m)
 
-pub replayed_law : (E F : History) (ns : List Numbered) (ss : List (List ℕ)) → IsLegal F → MayReplay F ns ss → Repeats E F ns ss → IsLegal (quarantined (readmitted F ns) ss) × IsCalm (quarantined (readmitted F ns) ss) × StandAlike E (quarantined (readmitted F ns) ss)
-replayed_law E F ns ss m h r = (
+pub brought_law : (F : History) (ns : List Numbered) (ss : List (List ℕ)) → IsLegal F → MayReplay F ns ss → IsLegal (quarantined (readmitted F ns) ss) × IsCalm (quarantined (readmitted F ns) ss) × Brings F (quarantined (readmitted F ns) ss) (all_points ns) ss
+brought_law F ns ss m h = (
   subst IsLegal (sym (same_trail F ns ss)) end.legal,
   subst IsCalm (sym (same_trail F ns ss)) (record { batches = end.none_open; live = live_then F (holds (trail Start ns) ss) end.admits ∙ h.rest.live }),
-  subst (StandAlike E) (sym (same_trail F ns ss)) (stood_behind F (holds (trail Start ns) ss) (all_points ns) h.rest end.admits end.legal end.pends E r.owners r.frontiers r.sums r.spans (λ s. ap (is_held s) (sym (append-nil (held_senders (F then holds (trail Start ns) ss))) ∙ end.holding) ∙ r.held s)),
+  subst (λ (R : History). Brings F R (all_points ns) ss) (sym (same_trail F ns ss)) (brought_behind F (holds (trail Start ns) ss) (all_points ns) ss h.rest end.admits end.legal end.pends (sym (append-nil (held_senders (F then holds (trail Start ns) ss))) ∙ end.holding)),
 )
   where
     end : Holding F (holds (trail Start ns) ss) [] ss (all_points ns)
     end = replay F ns ss m h
+
+pub replayed_law : (E F : History) (ns : List Numbered) (ss : List (List ℕ)) → IsLegal F → MayReplay F ns ss → Repeats E F ns ss → IsLegal (quarantined (readmitted F ns) ss) × IsCalm (quarantined (readmitted F ns) ss) × StandAlike E (quarantined (readmitted F ns) ss)
+replayed_law E F ns ss m h r =
+    let end = brought_law F ns ss m h in
+    let b = end.2 in
+    (end.0, end.1, record { owners = λ x. b.owners x ∙ r.owners x; frontiers = λ x. b.frontiers x ∙ r.frontiers x; sums = λ x. b.sums x ∙ r.sums x; spans = λ x. b.spans x ∙ r.spans x; held = λ s. b.held s ∙ r.held s })

@@ -6,14 +6,16 @@ use Rattle.series_id.specs.Identity.{Identity}
 use Rattle.metric_events.specs.DataPoint.{DataPoint}
 use Rattle.metric_events.specs.Rows.{fits}
 use Rattle.metric_events.specs.History.{History, Opened, ◌▸◌, entries}
-use Rattle.metric_events.specs.Points.{points, points_after, taken, landed}
+use Rattle.metric_events.specs.Points.{points, points_after, is_home, taken, landed}
 use Rattle.metric_events.specs.Running.{held_senders}
 use Rattle.metric_events.specs.Senders.{same_sender, are_once}
-use Rattle.metric_events.specs.Series.{is_of, owner, frontier, sum_of}
+use Rattle.metric_events.specs.Series.{is_of, owner, frontier, sum_of, series_count}
+use Rattle.metric_events.specs.Standing.{sum_where}
 use Rattle.metric_events.specs.Legal.{is_held}
 use Rattle.metric_events.specs.Recovery.{IsAtRest, Numbered, AreBatches, all_points}
 use Rattle.metric_events.specs.Recovery.{bare_points, is_not_home}
-use Rattle.metric_events.specs.declared.limits.TheConstants.{MAX_ENTRIES}
+use Rattle.metric_events.specs.Congruence.{home_hull}
+use Rattle.metric_events.specs.declared.limits.TheConstants.{MAX_SERIES, MAX_HELD, MAX_ENTRIES}
 use Rattle.metric_events.specs.declared.accepted.Accepted.{Accepted}
 use Rattle.metric_events.specs.declared.batch.Batch.{Batch}
 use Rattle.metric_events.specs.declared.place.Place.TheVariants.{Home, Acknowledged, Dropped}
@@ -92,3 +94,27 @@ pub record HasPlace (E F : History) (ns : List Numbered) (ss : List (List ℕ)) 
   pub once : are_once ss ≡ true
   pub held : (s : List ℕ) → is_held s ss ≡ is_held s (held_senders E)
   pub room : entries F + 2 * length ns + 2 * length ss ≤ MAX_ENTRIES
+
+-- of a series F knows what these points say of it that are not pending
+pub record KnowsOf (x : Identity) (F : History) (qs : List Accepted) : Type 0 where
+  pub known : list_any (is_of x) (points F) ≡ list_any (is_of x) (filter is_not_home qs)
+  pub owner : owner x (points F) ≡ owner x (filter is_not_home qs)
+  pub frontier : frontier x (points F) ≡ frontier x (filter is_not_home qs)
+
+-- F is at rest, and has room for these batches, of whatever histories, and for these senders; there
+-- are not too many series, and no sum passes a limit
+pub record HasPlaceFor (F : History) (ns : List Numbered) (ss : List (List ℕ)) : Type 0 where
+  pub rest : IsAtRest F
+  pub batches : AreBatches F ns
+  pub few_series : series_count (points F ++ all_points ns) ≤ MAX_SERIES
+  pub small : (x : Identity) → fits x.kind (sum_of x (points F ++ all_points ns)) ≡ true
+  pub once : are_once ss ≡ true
+  pub few_held : length ss ≤ MAX_HELD
+  pub room : entries F + 2 * length ns + 2 * length ss ≤ MAX_ENTRIES
+
+-- a series stands in F as in E
+pub record StandsIn (x : Identity) (E F : History) : Type 0 where
+  pub owner : owner x (points F) ≡ owner x (points E)
+  pub frontier : frontier x (points F) ≡ frontier x (points E)
+  pub sum : sum_where is_home x (points F) ≡ sum_where is_home x (points E)
+  pub span : home_hull x F ≡ home_hull x E
