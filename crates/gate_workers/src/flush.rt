@@ -13,7 +13,7 @@ use crate::worker::{Pace, Spot};
 use back_answers::{Act, Answer, act, classify};
 use byte_ends::{Sink, Source};
 use delta_book::faults::TakeFault;
-use http_edge::{Written, read_response, write_post};
+use http_edge::{MAX_HEAD, Written, read_response, write_post};
 use metric_events::limits::MAX_TAKEN;
 use out_texts::request_text;
 use std::alloc::Global;
@@ -101,9 +101,9 @@ pub fn flush_turn<K: Store, U: Uplink, P: Pace>(
 
 /// Posts the body, and reads the head of the answer. No read follows the one that completes it or
 /// shows that none can come. The answer is Unknown unless the whole request was written and a head
-/// was read.
+/// was read, and no memory is taken: so a request that was answered is Unknown only where a call
+/// failed or no head came.
 pub fn exchange<S: Source, W: Sink>(
-    alloc: Global,
     reader: &mut S,
     writer: &mut W,
     host: &str,
@@ -121,11 +121,9 @@ pub fn exchange<S: Source, W: Sink>(
         Written::None_ => return Answer::Unknown,
         Written::Part(_) => return Answer::Unknown,
     }
-    match read_response(alloc, reader) {
+    let mut head = [0u8; MAX_HEAD];
+    match read_response(reader, &mut head) {
         Err(_) => Answer::Unknown,
-        Ok(reply) => match &reply.retry_after {
-            None => classify(reply.status, None),
-            Some(value) => classify(reply.status, Some(value.as_slice())),
-        },
+        Ok(reply) => classify(reply.status, reply.retry_after),
     }
 }
