@@ -38,11 +38,14 @@ pub enum Turn {
 
 /// The way to the back end.
 pub trait Uplink {
+    /// What a request is sent with: what the pace gave when it was asked.
+    type Pass;
+
     /// How a call with its bytes and its answer changes the uplink.
     ghost sends: { Self → List ℕ → Answer → Self → Type 0 };
 
     /// Sends a request's body, and returns the class of the answer.
-    fn send(&mut self, bytes: &[u8]) -> Answer
+    fn send(&mut self, pass: Self::Pass, bytes: &[u8]) -> Answer
         ensures { sends self.old bytes.now result self.new };
 }
 
@@ -63,9 +66,10 @@ fn end_flush<K: Store>(keeper: &mut K, flush: u64, by: Act)
     }
 }
 
-/// Takes a flush, sends it, and ends it by the answer. Without memory for its text it is given
-/// back.
-pub fn flush_turn<K: Store, U: Uplink, P: Pace>(
+/// Takes a flush, asks the pace, sends the flush, and ends it by the answer. Without memory for its
+/// text it is given back. That the pace is asked first the types say: what it gives is what the
+/// flush is sent with.
+pub fn flush_turn<T: Drop, K: Store, U: Uplink<Pass = T>, P: Pace<Pass = T>>(
     alloc: Global,
     keeper: &mut K,
     uplink: &mut U,
@@ -87,8 +91,8 @@ pub fn flush_turn<K: Store, U: Uplink, P: Pace>(
         end_flush(keeper, flush.number, Act::GiveBack);
         return Turn::NoMemory;
     };
-    pace.at(Spot::BeforeSend);
-    let answer = uplink.send(text.as_slice());
+    let pass = pace.at(Spot::BeforeSend);
+    let answer = uplink.send(pass, text.as_slice());
     let by = act(answer);
     end_flush(keeper, flush.number, by);
     Turn::Done {

@@ -78,6 +78,8 @@ impl<'a, D: Connect> Backend<'a, D> {
 }
 
 impl<D: Connect> Uplink for Backend<'_, D> {
+    type Pass = ();
+
     /// One connection is made, and at most one request is written to it.
     ghost sends = { λ before bytes answer after. (line : Option (D.Reader × D.Writer))
         × D.connects before.connector line after.connector
@@ -87,7 +89,7 @@ impl<D: Connect> Uplink for Backend<'_, D> {
 
     /// Unknown where there is no connection, and where it breaks. An answer is waited for as long
     /// as it takes: a flush that was given back meanwhile might be counted twice.
-    fn send(&mut self, bytes: &[u8]) -> Answer {
+    fn send(&mut self, _pass: (), bytes: &[u8]) -> Answer {
         let Some((reader, writer)) = self.connector.connect() else {
             return Answer::Unknown;
         };

@@ -22,10 +22,12 @@ struct Scripted<'a> {
 }
 
 impl Uplink for Scripted<'_> {
+    type Pass = ();
+
     /// What is answered is compared where it runs.
     ghost sends = { λ before bytes answer after. Unit {0} };
 
-    fn send(&mut self, bytes: &[u8]) -> Answer {
+    fn send(&mut self, _pass: (), bytes: &[u8]) -> Answer {
         let mut reader = Script::new(self.reply, self.reads);
         let mut writer = Tape::new(self.alloc, self.writes);
         exchange(&mut reader, &mut writer, "b:9", bytes)

@@ -12,7 +12,7 @@ use std::test::Fail;
 use test_support::{ACCEPTED, Fixed, POSTED};
 
 /// Sends the request on a connection, has it served, and gives what the client reads.
-fn answer_to<R: Abort, U: Uplink + Drop>(
+fn answer_to<R: Abort, U: Uplink<Pass = ()> + Drop>(
     rt: &R,
     net: &HostRuntime,
     keeper: &mut BookKeeper<U>,
