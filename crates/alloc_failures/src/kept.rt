@@ -4,12 +4,14 @@
 ghost use Rattle.std.specs.Prelude.{◌≡◌, ◌≤◌};
 ghost use Rattle.metric_events.specs.Opening.{first_opening};
 
-use crate::bodies::{FOREIGN, MIXED, SUMS};
+use crate::bodies::{FOREIGN, MIXED, SUMS, WAIT};
 use crate::lines::{print_number, print_right};
 use crate::make_calls;
 use crate::making::{batch_of, first_point, name_of};
+use byte_ends::Script;
 use delta_book::book::Book;
 use gate_workers::{SeatedBook, SharedKeeper, Store};
+use http_edge::{MAX_HEAD, read_response};
 use metric_events::sender_name::SenderName;
 use series_cell::cell::Cell;
 use series_id::SharedId;
@@ -77,6 +79,15 @@ fn is_copied(alloc: Global, shared: &SharedId) -> bool {
     }
 }
 
+/// Whether the head of a response is read.
+fn is_read() -> bool {
+    let mut head = [0u8; MAX_HEAD];
+    match read_response(&mut Script::new(WAIT, &[]), &mut head) {
+        Ok(reply) => reply.status == 503 && reply.retry_after.is_some(),
+        Err(_) => false,
+    }
+}
+
 /// Compares the first seat with the book, which has the same entries, and ends the sharing, which
 /// is refused without the second seat.
 fn finish<L: Round>(
@@ -133,6 +144,7 @@ pub fn run<L: Round, R: Print + Wait>(rt: &R, alloc: Global, blank: Blank) -> Re
         "end: copies of an identity",
         is_copied(alloc, &identity),
     );
+    print_right(rt, "end: read_response", is_read());
     end(rt, &mut keeper, &quarantined);
     let seat = keeper.into_seat();
     print_number(rt, "end: Seat::receipts", seat.receipts().len() as u64);

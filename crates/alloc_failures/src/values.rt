@@ -1,12 +1,12 @@
 //! Calls that make a value of what they are lent: identities, events, texts and messages. Each is
 //! made on values of its own, so that what it leaves is what it answers.
-use crate::bodies::{CHUNKED, LATER, MIXED, NO_JSON, NO_REQUEST, SUMS, WAIT};
+use crate::bodies::{CHUNKED, LATER, MIXED, NO_JSON, NO_REQUEST, SUMS};
 use crate::lines::{no_memory, print_text};
 use crate::making::{batch_of, first_point, name_of, own_series, points_of, text, text_of};
 use back_answers::Act;
 use byte_ends::Script;
 use delta_book::totals::row_of;
-use http_edge::{Decoder, HttpFault, Request, read_message, read_response};
+use http_edge::{Decoder, HttpFault, Request, read_message};
 use metric_events::row::Row;
 use metric_events::series_list::SeriesList;
 use otlp_read::{IdentityCache, ReadFault, Reading, read_request, read_request_with};
@@ -166,11 +166,6 @@ fn message(alloc: Global) -> Result<bool, AllocError> {
     Ok(is_chunked(&request))
 }
 
-fn response(alloc: Global) -> Result<bool, AllocError> {
-    let reply = heard(read_response(alloc, &mut Script::new(WAIT, &[])))?;
-    Ok(matches!(&reply, Some(it) if it.status == 503 && it.retry_after.is_some()))
-}
-
 /// The request byte by byte. A decoder that was out of memory says so at each later call.
 fn decoded(alloc: Global) -> Result<bool, AllocError> {
     let mut decoder = Decoder::new(alloc);
@@ -234,7 +229,6 @@ pub fn make_all(rt: &impl Print, alloc: Global) -> Result<(), AllocError> {
         "Batch::copy" => copied!(alloc, batch_of(alloc, MIXED)?),
         "Cell::new" => cell_new(alloc),
         "read_message" => message(alloc),
-        "read_response" => response(alloc),
         "Decoder::feed" => decoded(alloc),
     );
     make_texts(rt, alloc)

@@ -1,7 +1,7 @@
 use byte_ends::{Script, Step, Tape};
 use http::{Method, StatusCode};
 use http_edge::{
-    Decoder, HttpFault, MAX_BODY, Request, Written, find_in, read_message, read_response,
+    Decoder, HttpFault, MAX_BODY, MAX_HEAD, Request, Written, find_in, read_message, read_response,
     write_post, write_response,
 };
 use std::alloc::Global;
@@ -146,7 +146,8 @@ fn a_failing_reader(rt: HostRuntime) -> Result<(), Fail> {
     let mut source = Script::new(CHUNKED, &steps);
     assert!(rt; matches!(read_message(rt.alloc(), &mut source), Err(HttpFault::Io)));
     let mut source = Script::new(b"HTTP/1.1 200 OK\r\n\r\n", &steps);
-    assert!(rt; matches!(read_response(rt.alloc(), &mut source), Err(HttpFault::Io)));
+    let mut head = [0u8; MAX_HEAD];
+    assert!(rt; matches!(read_response(&mut source, &mut head), Err(HttpFault::Io)));
     Ok(())
 }
 
@@ -166,6 +167,7 @@ fn gives_and_fails<'a>(bytes: &'a [u8], each: usize, steps: &'a mut [Step]) -> S
 #[test]
 fn a_reader_is_not_asked_again(rt: HostRuntime) -> Result<(), Fail> {
     let reply = b"HTTP/1.1 200 OK\r\nContent-Length: 9\r\n\r\n";
+    let mut head = [0u8; MAX_HEAD];
     for each in [1, 2, 7, 16_384] {
         let mut steps = [Step::Fail; 128];
         let mut source = gives_and_fails(CHUNKED, each, &mut steps);
@@ -175,7 +177,7 @@ fn a_reader_is_not_asked_again(rt: HostRuntime) -> Result<(), Fail> {
         assert!(rt; is_posted(&request));
         let mut source = gives_and_fails(reply, each, &mut steps);
         assert!(rt;
-            read_response(rt.alloc(), &mut source).is_ok(),
+            read_response(&mut source, &mut head).is_ok(),
             "{each} at a time"
         );
     }
@@ -268,20 +270,21 @@ fn a_body_at_the_limit(rt: HostRuntime) -> Result<(), Fail> {
 fn replies(rt: HostRuntime) -> Result<(), Fail> {
     let text =
         b"HTTP/1.1 503 Service Unavailable\r\nRetry-After:  2 \r\nretry-after: 3\r\n\r\nbody";
+    let mut head = [0u8; MAX_HEAD];
     for cut in 1..text.len() {
         let steps = [Step::AtMost(cut)];
         let mut source = Script::new(text, &steps);
-        let Ok(reply) = read_response(rt.alloc(), &mut source) else {
+        let Ok(reply) = read_response(&mut source, &mut head) else {
             panic!(rt; "cut {cut}");
         };
         assert_eq!(rt; reply.status, 503);
         let Some(seconds) = reply.retry_after else {
             panic!(rt; "cut {cut}");
         };
-        assert!(rt; seconds.as_slice() == b"2".as_slice());
+        assert!(rt; seconds == b"2".as_slice());
     }
     let mut source = Script::new(b"HTTP/1.0 200\r\n\r\n", &[]);
-    let Ok(reply) = read_response(rt.alloc(), &mut source) else {
+    let Ok(reply) = read_response(&mut source, &mut head) else {
         panic!(rt; "no reply");
     };
     assert_eq!(rt; reply.status, 200);
@@ -293,7 +296,7 @@ fn replies(rt: HostRuntime) -> Result<(), Fail> {
     ];
     for (bytes, fault) in &cases {
         let mut source = Script::new(bytes, &[]);
-        assert_eq!(rt; read_response(rt.alloc(), &mut source).err(), Some(*fault));
+        assert_eq!(rt; read_response(&mut source, &mut head).err(), Some(*fault));
     }
     Ok(())
 }

@@ -12,9 +12,11 @@ use std::test::Fail;
 struct TakesAll;
 
 impl Uplink for TakesAll {
+    type Pass = ();
+
     ghost sends = { λ uplink bytes answer after. answer ≡ Success };
 
-    fn send(&mut self, _bytes: &[u8]) -> Answer {
+    fn send(&mut self, _pass: (), _bytes: &[u8]) -> Answer {
         Answer::Success
     }
 }

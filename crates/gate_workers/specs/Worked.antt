@@ -37,11 +37,15 @@ AreConnectionsServed {S} {C} {K} {P} given serves gives reaches (x ∷ xs) s t w
     × (c : C) × given u (Some c) t × serves K P gives reaches c m w' x
     × IsServedOnce gives m.0 w'.0 x
 
--- so many turns were made one after another, each with its asking of the pace, and nothing else was
--- done, sent or asked; the latest comes first
-abbrev pub AreMade : {K U P : Type 0} → Giving K → (U → List ℕ → Answer → U → Type 0)
-    → Reaching P → ℕ → List Turn → K → K → U → U → P → P → Type 0
-AreMade gives sends reaches max [] k k' u u' p p' = (k ≡ k') × (u ≡ u') × (p ≡ p')
-AreMade {K} {U} {P} gives sends reaches max (t ∷ ts) k k' u u' p p' =
-    (m : K) × (v : U) × (q : P) × AreMade gives sends reaches max ts k m u v p q
-    × IsTurn gives sends max m k' v u' t × IsTurnPaced reaches q p' t
+-- so many orders were given, and for each a turn was made, one after another, with its asking of
+-- the pace, and ended its order; nothing else was done, sent or asked; the latest comes first
+abbrev pub AreMade : {S O K U P : Type 0} → (S → Option O → S → Type 0) → (O → Turn → Type 0)
+    → Giving K → (U → List ℕ → Answer → U → Type 0) → Reaching P → ℕ → List Turn → S → S → K → K
+    → U → U → P → P → Type 0
+AreMade given ends gives sends reaches max [] s t k k' u u' p p' =
+    (s ≡ t) × (k ≡ k') × (u ≡ u') × (p ≡ p')
+AreMade {S} {O} {K} {U} {P} given ends gives sends reaches max (x ∷ xs) s t k k' u u' p p' =
+    (r : S) × (m : K) × (v : U) × (q : P)
+    × AreMade given ends gives sends reaches max xs s r k m u v p q
+    × (o : O) × given r (Some o) t × IsTurn gives sends max m k' v u' x
+    × IsTurnPaced reaches q p' x × ends o x

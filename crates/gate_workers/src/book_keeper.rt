@@ -81,7 +81,7 @@ impl Store for SeatedBook {
 }
 
 /// A flush turn of a book.
-pub fn book_turn<U: Uplink, P: Pace>(
+pub fn book_turn<T: Drop, U: Uplink<Pass = T>, P: Pace<Pass = T>>(
     alloc: Global,
     seated: &mut SeatedBook,
     uplink: &mut U,
@@ -98,7 +98,7 @@ pub fn book_turn<U: Uplink, P: Pace>(
     flush_turn(alloc, seated, uplink, pace, max)
 }
 
-impl<U: Uplink + Drop> BookKeeper<U> {
+impl<U: Uplink<Pass = ()> + Drop> BookKeeper<U> {
     /// A keeper of this book. A flush takes at most `max` series.
     pub fn new(alloc: Global, book: Book, seat: u16, uplink: U, max: usize) -> BookKeeper<U>
         requires low { 1 ≤ max }
@@ -126,7 +126,7 @@ impl<U: Uplink + Drop> BookKeeper<U> {
     }
 }
 
-impl<U: Uplink + Drop> Store for BookKeeper<U> {
+impl<U: Uplink<Pass = ()> + Drop> Store for BookKeeper<U> {
     ghost gives = { λ k c w. (w.seated.seat ≡ k.seated.seat) × (w.max ≡ k.max)
         × KeeperGives U.sends k.seated.seat k.max k.seated.book k.uplink c w.seated.book w.uplink };
 
@@ -171,7 +171,7 @@ impl<U: Uplink + Drop> Store for BookKeeper<U> {
     }
 }
 
-impl<U: Uplink + Drop> Keeper for BookKeeper<U> {
+impl<U: Uplink<Pass = ()> + Drop> Keeper for BookKeeper<U> {
     fn order(&mut self) -> Result<Turn, OrderFault> {
         Ok(book_turn(
             self.alloc,

@@ -13,7 +13,7 @@ use crate::worker::{Pace, Spot};
 use back_answers::{Act, Answer, act, classify};
 use byte_ends::{Sink, Source};
 use delta_book::faults::TakeFault;
-use http_edge::{Written, read_response, write_post};
+use http_edge::{MAX_HEAD, Written, read_response, write_post};
 use metric_events::limits::MAX_TAKEN;
 use out_texts::request_text;
 use std::alloc::Global;
@@ -38,11 +38,14 @@ pub enum Turn {
 
 /// The way to the back end.
 pub trait Uplink {
+    /// What a request is sent with: what the pace gave when it was asked.
+    type Pass;
+
     /// How a call with its bytes and its answer changes the uplink.
     ghost sends: { Self → List ℕ → Answer → Self → Type 0 };
 
     /// Sends a request's body, and returns the class of the answer.
-    fn send(&mut self, bytes: &[u8]) -> Answer
+    fn send(&mut self, pass: Self::Pass, bytes: &[u8]) -> Answer
         ensures { sends self.old bytes.now result self.new };
 }
 
@@ -63,9 +66,10 @@ fn end_flush<K: Store>(keeper: &mut K, flush: u64, by: Act)
     }
 }
 
-/// Takes a flush, sends it, and ends it by the answer. Without memory for its text it is given
-/// back.
-pub fn flush_turn<K: Store, U: Uplink, P: Pace>(
+/// Takes a flush, asks the pace, sends the flush, and ends it by the answer. Without memory for its
+/// text it is given back. That the pace is asked first the types say: what it gives is what the
+/// flush is sent with.
+pub fn flush_turn<T: Drop, K: Store, U: Uplink<Pass = T>, P: Pace<Pass = T>>(
     alloc: Global,
     keeper: &mut K,
     uplink: &mut U,
@@ -87,8 +91,8 @@ pub fn flush_turn<K: Store, U: Uplink, P: Pace>(
         end_flush(keeper, flush.number, Act::GiveBack);
         return Turn::NoMemory;
     };
-    pace.at(Spot::BeforeSend);
-    let answer = uplink.send(text.as_slice());
+    let pass = pace.at(Spot::BeforeSend);
+    let answer = uplink.send(pass, text.as_slice());
     let by = act(answer);
     end_flush(keeper, flush.number, by);
     Turn::Done {
@@ -101,9 +105,9 @@ pub fn flush_turn<K: Store, U: Uplink, P: Pace>(
 
 /// Posts the body, and reads the head of the answer. No read follows the one that completes it or
 /// shows that none can come. The answer is Unknown unless the whole request was written and a head
-/// was read.
+/// was read, and no memory is taken: so a request that was answered is Unknown only where a call
+/// failed or no head came.
 pub fn exchange<S: Source, W: Sink>(
-    alloc: Global,
     reader: &mut S,
     writer: &mut W,
     host: &str,
@@ -121,11 +125,9 @@ pub fn exchange<S: Source, W: Sink>(
         Written::None_ => return Answer::Unknown,
         Written::Part(_) => return Answer::Unknown,
     }
-    match read_response(alloc, reader) {
+    let mut head = [0u8; MAX_HEAD];
+    match read_response(reader, &mut head) {
         Err(_) => Answer::Unknown,
-        Ok(reply) => match &reply.retry_after {
-            None => classify(reply.status, None),
-            Some(value) => classify(reply.status, Some(value.as_slice())),
-        },
+        Ok(reply) => classify(reply.status, reply.retry_after),
     }
 }

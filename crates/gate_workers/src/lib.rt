@@ -25,7 +25,7 @@ mod worker;
 pub use book_keeper::{BookKeeper, SeatedBook, book_turn};
 pub use flush::{Turn, Uplink, exchange, flush_turn};
 pub use laws::one_request;
-pub use order::{CHANNEL_PLACES, Order, OrderFault};
+pub use order::{CHANNEL_PLACES, Order, OrderFault, Orders, TurnOrder};
 pub use refusal::{Allowed, Refusal};
 pub use service::{End, Served, serve, serve_book, serve_with};
 pub use shared_keeper::SharedKeeper;

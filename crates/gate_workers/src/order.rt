@@ -1,8 +1,9 @@
 //! Orders for flush turns.
-ghost use Rattle.std.specs.Prelude.{◌≡◌, Ok, IsErr, MatchResult};
+ghost use Rattle.std.specs.Prelude.{◌≡◌, Ok, Option, IsErr, MatchResult};
+ghost use Rattle.gate_workers.specs.declared.flush.Turn.{Turn};
 
 use crate::flush::Turn;
-use crossbeam_channel::{RecvError, Sender, bounded};
+use crossbeam_channel::{Receiver, RecvError, Sender, bounded};
 use std::alloc::Global;
 use std::sync::Wait;
 
@@ -21,6 +22,50 @@ pub const CHANNEL_PLACES: usize = 64;
 #[derive(Drop)]
 pub struct Order {
     pub reply: Sender<Turn>,
+}
+
+/// What has one flush turn made. It is a trait, so that a loop over any orders ends each by its
+/// turn: it knows of an order by its call alone.
+pub trait TurnOrder {
+    /// It was ended by this turn.
+    ghost ends: { Self → Turn → Type 0 };
+
+    /// Ends it by its turn. Where nobody waits for that, the turn stands all the same.
+    fn end<R: Wait>(self, rt: &R, turn: Turn)
+        ensures { ends self turn };
+}
+
+/// Where a flusher gets its orders.
+pub trait Orders: Drop {
+    /// An order that it gives.
+    type Order: TurnOrder + Drop;
+
+    /// What a call with its outcome makes of it.
+    ghost gives: { Self → Option Self.Order → Self → Type 0 };
+
+    /// The next order, or none where there are no more. May wait for it.
+    fn next<R: Wait>(&mut self, rt: &R) -> Option<Self::Order>
+        ensures { gives self.old result self.new };
+}
+
+impl TurnOrder for Order {
+    /// What a channel delivers no contract says.
+    ghost ends = { λ order turn. Unit {0} };
+
+    fn end<R: Wait>(self, rt: &R, turn: Turn) {
+        let _ = self.reply.send(rt, turn);
+    }
+}
+
+impl Orders for Receiver<Order> {
+    type Order = Order;
+
+    /// As of an order.
+    ghost gives = { λ before order after. Unit {0} };
+
+    fn next<R: Wait>(&mut self, rt: &R) -> Option<Order> {
+        self.recv(rt).ok()
+    }
 }
 
 /// The answer to an order. Where no turn came back, the flusher is gone.

@@ -198,7 +198,7 @@ pub fn serve_with<K: Keeper, S: Source, W: Sink, P: Pace>(
 }
 
 /// Serves one request over a book. No read follows the one that completes it or shows a fault.
-pub fn serve_book<U: Uplink + Drop, S: Source, W: Sink, P: Pace>(
+pub fn serve_book<U: Uplink<Pass = ()> + Drop, S: Source, W: Sink, P: Pace>(
     alloc: Global,
     keeper: &mut BookKeeper<U>,
     reader: &mut S,

@@ -7,7 +7,7 @@ ghost use Rattle.gate_workers.specs.declared.flush.Turn.{Turn};
 ghost use Rattle.gate_workers.specs.declared.worker.Spot.{Spot};
 
 use crate::flush::{Uplink, flush_turn};
-use crate::order::Order;
+use crate::order::{Orders, TurnOrder};
 use crate::service::Served;
 use crate::store::{Keeper, Store};
 use crossbeam_channel::Receiver;
@@ -27,11 +27,15 @@ pub enum Spot {
 
 /// What a worker asks at a spot. Tests hold it there; the gateway notes that a request was read.
 pub trait Pace {
+    /// What shows that the worker was at a spot: a flush is sent with it. Of any pace nobody else
+    /// can make one, so the pace is asked first.
+    type Pass: Drop;
+
     /// How a worker that reaches a spot changes the pace.
     ghost reaches: { Self → Spot → Self → Type 0 };
 
     /// Holds the worker for a while, or not at all.
-    fn at(&mut self, spot: Spot)
+    fn at(&mut self, spot: Spot) -> Self::Pass
         ensures { reaches self.old spot self.new };
 }
 
@@ -40,6 +44,8 @@ pub trait Pace {
 pub struct NoPace;
 
 impl Pace for NoPace {
+    type Pass = ();
+
     ghost reaches = { λ before spot after. after ≡ before };
 
     fn at(&mut self, _spot: Spot) {}
@@ -115,13 +121,13 @@ pub fn receiver_loop<S: Connections, K: Keeper, P: Pace, R: Wait>(
     unreachable!()
 }
 
-/// Makes one flush turn for each order, and gives it back on the order's end; where nobody waits
-/// for it the turn stands all the same. May wait for the next order. The store is asked for these
-/// turns and nothing else, and nothing else is sent. The pace is asked as `flush_turn` asks it.
-pub fn flusher_loop<K: Store, U: Uplink, P: Pace, R: Wait>(
+/// Makes one flush turn for each order, and ends the order by it, until there are no more. May wait
+/// for the next order. The store is asked for these turns and nothing else, and nothing else is
+/// sent. The pace is asked as `flush_turn` asks it.
+pub fn flusher_loop<T: Drop, S: Orders, K: Store, U: Uplink<Pass = T>, P: Pace<Pass = T>, R: Wait>(
     rt: &R,
     alloc: Global,
-    orders: Receiver<Order>,
+    mut orders: S,
     keeper: &mut K,
     uplink: &mut U,
     pace: &mut P,
@@ -129,11 +135,17 @@ pub fn flusher_loop<K: Store, U: Uplink, P: Pace, R: Wait>(
 )
     requires low { 1 ≤ max }
     requires high { max ≤ MAX_TAKEN }
-    ensures { (all : List Turn) × AreMade K.gives U.sends P.reaches max all keeper.old keeper.new
-        uplink.old uplink.new pace.old pace.new }
+    ensures { (all : List Turn) × (last : S) × (end : S)
+        × AreMade S.gives S.Order.ends K.gives U.sends P.reaches max all orders last keeper.old
+        keeper.new uplink.old uplink.new pace.old pace.new
+        × S.gives last None end }
 {
-    for order in orders.iter(rt) {
+    for _ in rt.forever() {
+        let Some(order) = orders.next(rt) else {
+            return;
+        };
         let turn = flush_turn(alloc, keeper, uplink, pace, max);
-        let _ = order.reply.send(rt, turn);
+        order.end(rt, turn);
     }
+    unreachable!()
 }

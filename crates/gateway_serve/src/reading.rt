@@ -43,15 +43,17 @@ impl<'a, P> Noting<'a, P> {
 }
 
 impl<P: Pace> Pace for Noting<'_, P> {
+    type Pass = P::Pass;
+
     /// The other pace is asked at the same spot. Nothing is noted of other spots.
     ghost reaches = { λ before spot after. IsNoted before.reading spot after.reading
         × (after.pace.ghost_name ≡ before.pace.ghost_name)
         × P.reaches before.pace.now spot after.pace.now };
 
-    fn at(&mut self, spot: Spot) {
+    fn at(&mut self, spot: Spot) -> P::Pass {
         if spot == Spot::BodyRead {
             self.reading = Reading::Whole;
         }
-        self.pace.at(spot);
+        self.pace.at(spot)
     }
 }

@@ -43,7 +43,7 @@ pub fn run_worker<L: Round + RoundStart<Listener>, R: Net<Stream = TcpStream> + 
         Work::Flush { orders } => {
             let mut keeper = SharedKeeper::new(rt, alloc, shared, seat, None);
             let connector = TcpConnector::new(rt, options.backend);
-            let mut backend = Backend::new(connector, alloc, options.backend);
+            let mut backend = Backend::new(connector, options.backend);
             let most = options.flush_series;
             flusher_loop(
                 rt,

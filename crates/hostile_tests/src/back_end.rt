@@ -22,13 +22,15 @@ struct Scripted<'a> {
 }
 
 impl Uplink for Scripted<'_> {
+    type Pass = ();
+
     /// What is answered is compared where it runs.
     ghost sends = { λ before bytes answer after. Unit {0} };
 
-    fn send(&mut self, bytes: &[u8]) -> Answer {
+    fn send(&mut self, _pass: (), bytes: &[u8]) -> Answer {
         let mut reader = Script::new(self.reply, self.reads);
         let mut writer = Tape::new(self.alloc, self.writes);
-        exchange(self.alloc, &mut reader, &mut writer, "b:9", bytes)
+        exchange(&mut reader, &mut writer, "b:9", bytes)
     }
 }
 
@@ -36,14 +38,14 @@ impl Uplink for Scripted<'_> {
 fn answer_of(alloc: Global, reply: &[u8], reads: &[Step], writes: &[Step]) -> Answer {
     let mut reader = Script::new(reply, reads);
     let mut writer = Tape::new(alloc, writes);
-    exchange(alloc, &mut reader, &mut writer, "b:9", b"{}")
+    exchange(&mut reader, &mut writer, "b:9", b"{}")
 }
 
 /// How many bytes the request of two bytes has.
 fn request_length(alloc: Global) -> usize {
     let mut reader = Script::new(OK, &[]);
     let mut writer = Tape::new(alloc, &[]);
-    let _ = exchange(alloc, &mut reader, &mut writer, "b:9", b"{}");
+    let _ = exchange(&mut reader, &mut writer, "b:9", b"{}");
     writer.taken().len()
 }
 

@@ -11,10 +11,12 @@ use std::test::Fail;
 pub struct Nobody;
 
 impl Uplink for Nobody {
+    type Pass = ();
+
     /// What is answered stands in the call alone.
     ghost sends = { λ before bytes answer after. Unit {0} };
 
-    fn send(&mut self, _bytes: &[u8]) -> Answer {
+    fn send(&mut self, _pass: (), _bytes: &[u8]) -> Answer {
         Answer::Unknown
     }
 }

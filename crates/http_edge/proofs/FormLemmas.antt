@@ -104,9 +104,6 @@ says form laws (Some bytes) r x closed = says_of form laws r bytes closed x
 abbrev pub BeginsAs : Option (List ℕ) → List ℕ → Type 0
 BeginsAs old front = IfSome old (λ bytes. (left : List ℕ) × (bytes ≡ front ++ left))
 
-pub shorter_front : (old : Option (List ℕ)) (front back : List ℕ) → BeginsAs old (front ++ back) → BeginsAs old front
-shorter_front old front back is = IfSome_then old is (λ bytes b. (back ++ b.0, b.1 ∙ append_assoc front back b.0))
-
 -- where there is a byte, nothing has to be said of a source without one
 pub not_empty : (old : Option (List ℕ)) (front : List ℕ) (P : Type 0) → BeginsAs old front → 0 < length front → IfSome old (λ bytes. bytes ≡ [] → P)
 not_empty old front P is some = IfSome_then old is (λ bytes b e. absurd (omega (arith, ap length e, ap length b.1, length-append front b.0, some)))
@@ -119,10 +116,6 @@ known_front (Some bytes) (Some left) fed known = (left, known)
 -- what more bytes do not change is said of all the bytes
 pub said_of_front : {M R : Type 0} (form : Form M R) (old : Option (List ℕ)) (front : List ℕ) (r : Result R HttpFault) → BeginsAs old front → ((more : List ℕ) → IsAnswer form (front ++ more) r) → Said form old r
 said_of_front form old front r is answers = IfSome_then old is (λ bytes b. inr (subst (λ (s : List ℕ). IsAnswer form s r) (sym b.1) (answers b.0)))
-
-pub said_of_memory : {M R : Type 0} (form : Form M R) (laws : Laws M R form) (old : Option (List ℕ)) → Said form old (Err NoMemory)
-said_of_memory form laws None = tt
-said_of_memory form laws (Some bytes) = inr (laws.memory bytes)
 
 -- at its end the source has given all its bytes
 pub said_at_end : {M R : Type 0} (form : Form M R) (old now : Option (List ℕ)) (fed : List ℕ) (r : Result R HttpFault) → Consumes old now fed → IsAtEnd now → IsAnswer form fed r → Said form old r

@@ -1,6 +1,9 @@
 -- The head of a response that is being read.
 use Rattle.std.proofs.Common.{◌≡◌, ℕ, ◌+◌, ◌<◌, ◌≤◌, true, false, List, [], ◌∷◌, ◌++◌, length, map, take, drop, get_or, Option, Some, None, refl, sym, ap, subst, ◌∙◌, arith, append_assoc}
-use Rattle.std.specs.Prelude.{codes, Result, IfSome}
+use Rattle.std.specs.Prelude.{codes, Result, Ok, Err, IfSome}
+use lib.Seq.{take-append-add}
+use borrow.Rule.Slice.PartMut.{put_mid}
+use Rattle.std.proofs.lemmas.Slice.{take-put_mid}
 use Rattle.std.specs.Char.{is_ascii_digit}
 use Rattle.std.proofs.lemmas.List.Elements.{All-cons, All-nil}
 use Rattle.std.proofs.lemmas.List.{length-append, append-nil, take-append-drop, map-append, length-map, length-take-le, take-take}
@@ -18,9 +21,10 @@ use Rattle.http_edge.specs.Delivery.{StopsReading}
 use Rattle.http_edge.specs.Message.{Header}
 use Rattle.http_edge.specs.Framing.{is_named, values_of}
 use Rattle.http_edge.specs.Reply.{ReplyHead, first_of, reply_of, BeginsWithReply, NoReply, IsReplyOpen, ExplainsReply, reply_form, SaysReply}
-use Rattle.http_edge.specs.Form.{IsAnswer, IsLasting}
-use Rattle.http_edge.proofs.FormLemmas.{IsSilent, Laws, BeginsAs, says, known_front, shorter_front, said_of_front}
-use Rattle.http_edge.proofs.SourceLemmas.{some_given, stops}
+use Rattle.http_edge.specs.Form.{IsAnswer, IsClosed, FaultSays, IsLasting}
+use Rattle.http_edge.specs.inner.Reply.{IsRead}
+use Rattle.http_edge.proofs.FormLemmas.{IsSilent, Laws, says, known_front, not_empty, said_of_front}
+use Rattle.http_edge.proofs.SourceLemmas.{stops}
 use Rattle.http_edge.proofs.FieldLemmas.{values_of-append, values_of_more}
 use Rattle.http_edge.proofs.ListLemmas.{front_of}
 use Rattle.http_edge.proofs.HeadLemmas.{long_or_front}
@@ -157,12 +161,39 @@ begins old = record { known = Consumes-nil old; none = none_at_first; short = om
 pub stops_reply : (old now next : Option (List ℕ)) (given n : ℕ) (kept buf : List ℕ) → HeadSoFar old now kept → Consumes now next (take n buf) → n ≤ length buf → given ≡ n → StopsReading IsReplyOpen old next given
 stops_reply old now next given n kept buf so took within is = stops IsReplyOpen old now next given n kept buf so.known took within is (so.none, so.short, so.unfinished)
 
--- what is said where the front of a piece was kept
-pub kept_says : (old now next : Option (List ℕ)) (kept buf new : List ℕ) (n m : ℕ) (r : Result Reply HttpFault) → HeadSoFar old now kept → Consumes now next (take n buf) → n ≤ length buf → 0 < n → m ≤ n → new ≡ kept ++ take m buf
-    → ((more : List ℕ) → IsAnswer reply_form (new ++ more) r) → IfSome old (λ bytes. SaysReply bytes r)
-kept_says old now next kept buf new n m r so took within some few is answers =
-    let piece = take n buf in
-    let cut : kept ++ piece ≡ new ++ drop m piece =
-    ap (λ s. kept ++ s) (sym (take-append-drop m piece) ∙ ap (λ s. s ++ drop m piece) (take-take m n buf few)) ∙ sym (append_assoc kept (take m buf) (drop m piece)) ∙ ap (λ s. s ++ drop m piece) (sym is) in
-    let front = shorter_front old new (drop m piece) (subst (BeginsAs old) cut (known_front old next (kept ++ piece) (Consumes-trans old now next kept piece so.known took))) in
-    says reply_form reply_laws old r (said_of_front reply_form old new r front answers) (some_given old now next kept buf n _ so.known took within some)
+-- a piece that was read behind the front of a buffer
+pub front_put : (len n k : ℕ) (head buf : List ℕ) → len ≤ length head → n ≤ length buf → take (len + n) (put_mid len k head buf) ≡ take len head ++ take n buf
+front_put len n k head buf room few =
+    sym (take-take (len + n) (len + length buf) (put_mid len k head buf) (omega arith)) ∙ ap (take (len + n)) (take-put_mid len k head buf (len + length buf) refl room)
+    ∙ ap (λ m. take (m + n) (take len head ++ buf)) (sym (length-take-le len head room)) ∙ take-append-add (take len head) buf n
+
+-- no head yet behind one piece more
+pub one_piece_more : (old now next : Option (List ℕ)) (kept piece new : List ℕ) → HeadSoFar old now kept → Consumes now next piece → new ≡ kept ++ piece → IsReplyOpen new → HeadSoFar old next new
+one_piece_more old now next kept piece new so took is still = record {
+  known = subst (Consumes old next) (sym is) (Consumes-trans old now next kept piece so.known took);
+  none = still.0;
+  short = still.1;
+  unfinished = still.2;
+}
+
+-- what is said of all that was read
+front_says : (old next : Option (List ℕ)) (new : List ℕ) (r : Result Reply HttpFault) → Consumes old next new → 0 < length new → ((more : List ℕ) → IsAnswer reply_form (new ++ more) r) → IfSome old (λ bytes. SaysReply bytes r)
+front_says old next new r known some answers =
+    let front = known_front old next new known in
+    says reply_form reply_laws old r (said_of_front reply_form old new r front answers) (not_empty old new (IsClosed r) front some)
+
+-- a fault that the bytes show that were read
+pub fault_says : (old now next : Option (List ℕ)) (kept piece new : List ℕ) (e : HttpFault) → HeadSoFar old now kept → Consumes now next piece → new ≡ kept ++ piece → 0 < length piece → IsLasting e → ExplainsReply e new
+    → IfSome old (FaultSays reply_form e)
+fault_says old now next kept piece new e so took is some lasts explains =
+    front_says old next new (Err e) (subst (Consumes old next) (sym is) (Consumes-trans old now next kept piece so.known took)) (omega (arith, ap length is, length-append kept piece, some)) (λ more. explains_more e new more lasts explains)
+
+-- the head that was read is whole
+pub read_some : (old next : Option (List ℕ)) (len : ℕ) (head : List ℕ) → IsRead old next len head → 0 < length (take len head)
+read_some old next len head is = let b = is.begins.1 in some_bytes (take len head) b.1 b.0 b.2.reads
+
+pub read_says : (old next : Option (List ℕ)) (len : ℕ) (head : List ℕ) (r : Result Reply HttpFault) → IsRead old next len head → ((more : List ℕ) → IsAnswer reply_form (take len head ++ more) r) → IfSome old (λ bytes. SaysReply bytes r)
+read_says old next len head r is answers = front_says old next (take len head) r is.known (read_some old next len head is) answers
+
+pub read_not_open : (old next : Option (List ℕ)) (len : ℕ) (head : List ℕ) → IsRead old next len head → IsReplyOpen (take len head) → ⊥
+read_not_open old next len head is still = let b = is.begins.1 in still.0 b.0 b.1 b.2.reads

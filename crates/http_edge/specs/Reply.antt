@@ -31,7 +31,7 @@ reply_of k =
 
 -- what a reply says
 abbrev pub reply_in : Reply → ReplyHead
-reply_in r = record { status = r.status; retry_after = option_map (λ v. v.items) r.retry_after }
+reply_in r = record { status = r.status; retry_after = option_map (λ v. v.now) r.retry_after }
 
 -- buf is a head within the limits and then after
 pub record IsResponseAt (buf : List ℕ) (k : ResponseHead) (after : List ℕ) : Type 0 where

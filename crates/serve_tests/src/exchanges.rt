@@ -16,7 +16,7 @@ const FORWARDED: &[u8] =
 fn answer_to(alloc: Global, reply: &[u8], steps: &[Step]) -> Answer {
     let mut reader = Script::new(reply, &[]);
     let mut writer = Tape::new(alloc, steps);
-    exchange(alloc, &mut reader, &mut writer, "127.0.0.1:9", FORWARDED)
+    exchange(&mut reader, &mut writer, "127.0.0.1:9", FORWARDED)
 }
 
 #[test]
@@ -24,7 +24,7 @@ fn writes_the_request(rt: HostRuntime) -> Result<(), Fail> {
     let alloc = rt.alloc();
     let mut reader = Script::new(b"HTTP/1.1 200 OK\r\n\r\n", &[]);
     let mut writer = Tape::new(alloc, &[]);
-    let answer = exchange(alloc, &mut reader, &mut writer, "127.0.0.1:9", FORWARDED);
+    let answer = exchange(&mut reader, &mut writer, "127.0.0.1:9", FORWARDED);
     assert_eq!(rt; answer, Answer::Success);
     let head = b"POST /v1/metrics HTTP/1.1\r\n\
             Host: 127.0.0.1:9\r\n\
@@ -56,6 +56,17 @@ fn answers_by_the_head(rt: HostRuntime) -> Result<(), Fail> {
     ];
     for (reply, answer) in cases {
         assert_eq!(rt; answer_to(rt.alloc(), reply, &[]), answer);
+    }
+    Ok(())
+}
+
+#[test]
+fn each_status_of_success(rt: HostRuntime) -> Result<(), Fail> {
+    let mut reply = *b"HTTP/1.1 200 OK\r\n\r\n";
+    for last in 0..100u8 {
+        reply[10] = b'0' + last / 10;
+        reply[11] = b'0' + last % 10;
+        assert_eq!(rt; answer_to(rt.alloc(), &reply, &[]), Answer::Success, "2{last:02}");
     }
     Ok(())
 }

@@ -12,7 +12,7 @@ use std::test::Fail;
 use test_support::{ACCEPTED, Fixed, POSTED};
 
 /// Sends the request on a connection, has it served, and gives what the client reads.
-fn answer_to<R: Abort, U: Uplink + Drop>(
+fn answer_to<R: Abort, U: Uplink<Pass = ()> + Drop>(
     rt: &R,
     net: &HostRuntime,
     keeper: &mut BookKeeper<U>,
@@ -122,7 +122,7 @@ fn a_body_that_is_too_long_and_still_comes_is_answered(rt: HostRuntime) -> Resul
 #[test]
 fn a_flush_to_nobody_is_returned(rt: HostRuntime) -> Result<(), Fail> {
     let alloc = rt.alloc();
-    let backend = Backend::new(TcpConnector::new(&rt, "127.0.0.1:9"), alloc, "127.0.0.1:9");
+    let backend = Backend::new(TcpConnector::new(&rt, "127.0.0.1:9"), "127.0.0.1:9");
     let mut keeper = BookKeeper::new(alloc, Book::new(alloc)?, 0, backend, 1000);
     let _ = answer_to(&rt, &rt, &mut keeper, POSTED, done(End::Confirmed))?;
     let text = answer_to(

@@ -10,9 +10,11 @@ pub struct Fixed {
 }
 
 impl Uplink for Fixed {
+    type Pass = ();
+
     ghost sends = { λ u bytes answer w. answer ≡ u.answer };
 
-    fn send(&mut self, _bytes: &[u8]) -> Answer {
+    fn send(&mut self, _pass: (), _bytes: &[u8]) -> Answer {
         self.answer
     }
 }

@@ -57,6 +57,8 @@ impl<'a, R: Clock> PauseAt<'a, R> {
 }
 
 impl<R: Clock> Pace for PauseAt<'_, R> {
+    type Pass = ();
+
     /// What it waits for no contract says.
     ghost reaches = { λ before spot after. Unit {0} };
 
@@ -84,6 +86,8 @@ impl<'a, R: Clock> After<'a, R> {
 }
 
 impl<R: Clock> Pace for After<'_, R> {
+    type Pass = ();
+
     /// What it waits for no contract says.
     ghost reaches = { λ before spot after. Unit {0} };
 

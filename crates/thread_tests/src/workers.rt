@@ -69,7 +69,7 @@ fn receive<L: Round, R: Wait, P: Pace>(
 }
 
 /// Runs the flushes that are ordered, over an uplink that accepts all.
-fn flush<L: Round, R: Wait, P: Pace>(
+fn flush<L: Round, R: Wait, P: Pace<Pass = ()>>(
     rt: &R,
     alloc: Global,
     shared: &SharedBook<L>,

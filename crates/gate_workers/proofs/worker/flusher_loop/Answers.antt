@@ -1,8 +1,19 @@
 use Rattle.std.proofs.Common.{◌∷◌}
 use Rattle.gate_workers.proofs.worker.flusher_loop.Goals as goal
 
-pub loop-order-preserved : goal.loop-order-preserved
-loop-order-preserved g c = (
-  c.flush_turn-turn.result ∷ c.loop-order.invariant.0,
-  (c.loop-order.keeper, c.loop-order.uplink, c.loop-order.pace, c.loop-order.invariant.1, c.flush_turn-turn.ensures.turn, c.flush_turn-turn.ensures.paced),
+pub loop-preserved : goal.loop-preserved
+loop-preserved g c = (
+  c.flush_turn-turn.result ∷ c.loop.invariant.0,
+  (
+    c.loop.orders,
+    c.loop.keeper,
+    c.loop.uplink,
+    c.loop.pace,
+    c.loop.invariant.1,
+    c.in-Some-next.order,
+    c.in-Some-next.ensures,
+    c.flush_turn-turn.ensures.turn,
+    c.flush_turn-turn.ensures.paced,
+    c.end.ensures,
+  ),
 )
