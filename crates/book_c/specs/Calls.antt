@@ -35,12 +35,14 @@ TellsNotAdmitted old new parts answer =
     (e : DeskFault) × (answer ≡ admit_answer e) × IsNotAdmitted old new parts e
 
 -- flushes were not taken
-abbrev pub TellsNotTaken : (max : ℕ) → (old new : List Journal) → List (Option Flush) → Answer → Type 0
+abbrev pub TellsNotTaken :
+    (max : ℕ) → (old new : List Journal) → List (Option Flush) → Answer → Type 0
 TellsNotTaken max old new before answer =
     (e : TakeAllFault) × (answer ≡ plain (take_status e)) × IsNotTaken max old new before e
 
 -- flushes were not ended
-abbrev pub TellsNotEnded : End → (old new : List Journal) → List (Option Flush) → (status : ℕ) → Type 0
+abbrev pub TellsNotEnded :
+    End → (old new : List Journal) → List (Option Flush) → (status : ℕ) → Type 0
 TellsNotEnded end old new flushes status =
     (e : EndFault) × (status ≡ end_status e) × IsNotEnded end old new flushes e
 

@@ -11,7 +11,8 @@ use parts::Parts;
 use std::alloc::Global;
 use std::marker::Model;
 
-/// What is kept for C, or nothing where the pointer is null. Whoever has the handle has what is kept.
+/// What is kept for C, or nothing where the pointer is null. Whoever has the handle has what is
+/// kept.
 #[repr(C)]
 #[derive(Drop)]
 pub struct Handle {

@@ -1,5 +1,5 @@
-//! Many books for a program that is not Rattle: a static library over `book_desk`. Its exports alone
-//! are here. Each of a program's handles is one word; one call at a time has it.
+//! Many books for a program that is not Rattle: a static library over `book_desk`. Here are its
+//! exports alone. A handle is one word; one call at a time has it.
 #![tactic(auto)]
 
 ghost use Rattle.std.specs.Prelude.{◌≡◌, ◌≢◌, ◌≤◌, ◌<◌, ◌++◌, [], true, false, None, length, drop};
@@ -150,8 +150,8 @@ pub extern "C" fn desk_free(alloc: Global, desk: &mut Handle)
     drop(out_of(alloc, desk));
 }
 
-/// Admits what the reader has read, which is gone from it then: all books have their parts, confirmed,
-/// or none has.
+/// Admits what the reader has read, which is gone from it then: all books have their parts,
+/// confirmed, or none has.
 #[unsafe(no_mangle)]
 pub extern "C" fn desk_admit(
     alloc: Global,

@@ -1,6 +1,7 @@
 -- Which refusal a post over many books gets: that of the least position in the whole post.
-use Rattle.std.specs.Prelude.{◌≡◌, ◌≢◌, length, ℕ, Bool, ◌&&◌, ◌||◌, nat_lt, nat_eq, if◌then◌else◌, Option, Some, None}
-use Rattle.std.specs.Prelude.{List, [], ◌∷◌, get_or, unwrap_or, option_map}
+use Rattle.std.specs.Prelude.{◌≡◌, ◌≢◌, ℕ, Bool, ◌&&◌, ◌||◌, nat_lt, nat_eq, if◌then◌else◌}
+use Rattle.std.specs.Prelude.{Option, Some, None, List, [], ◌∷◌, length, get_or, unwrap_or}
+use Rattle.std.specs.Prelude.{option_map}
 use Rattle.delta_book.specs.Journal.{Journal, history}
 use Rattle.delta_book.specs.Refusals.{admit_refusal}
 use Rattle.delta_book.specs.declared.faults.AdmitFault.{AdmitFault}
@@ -65,8 +66,8 @@ abbrev pub GoesBy : (answer refusal : Option AdmitFault) → Type 0
 GoesBy None refusal = refusal ≡ None
 GoesBy (Some fault) refusal = fault ≡ unwrap_or refusal NoMemory
 
--- a post is not admitted: nothing was read for so many books, and nothing changes; or it is refused,
--- and each book is as it was, or as if its part had never come
+-- a post is not admitted: nothing was read for so many books, and nothing changes; or it is
+-- refused, and each book is as it was, or as if its part had never come
 abbrev pub IsNotAdmitted : (old new : List Journal) → List (Option Part) → DeskFault → Type 0
 IsNotAdmitted old new parts Nothing = (length parts ≢ length old) × (new ≡ old)
 IsNotAdmitted old new parts (Refused fault) =

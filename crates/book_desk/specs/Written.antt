@@ -1,5 +1,6 @@
 -- The texts of a flush and of a book, and the number of all series.
-use Rattle.std.specs.Prelude.{◌≡◌, ◌≢◌, ℕ, ◌+◌, ◌-◌, ◌^◌, ◌<◌, ◌≤◌, min, List, length, map, get_or, fold}
+use Rattle.std.specs.Prelude.{◌≡◌, ◌≢◌, ℕ, ◌+◌, ◌-◌, ◌^◌, ◌<◌, ◌≤◌, min}
+use Rattle.std.specs.Prelude.{List, length, map, get_or, fold}
 use Rattle.std.specs.Prelude.{Option, Some, None, true}
 use Rattle.std.specs.List.{All}
 use Rattle.metric_events.specs.Series.{is_ascending}
@@ -16,19 +17,19 @@ use Rattle.book_desk.specs.declared.flushes.TextFault.TheVariants.{NoSuch, NoMem
 use Rattle.book_desk.specs.declared.flushes.Written.{Written}
 use Rattle.book_desk.specs.Takes.{nth}
 
--- the bytes are the request that forwards the i-th flush: read back they say each of its points, in
--- order, and nothing else; and of points in series order no resource, scope or metric twice
-pub record IsRequest (flushes : List (Option Flush)) (i : ℕ) (bytes : List ℕ) (w : Written) (flush : Flush) : Type 0 where
-  pub found : nth flushes i ≡ Some flush
+-- the bytes are the request that forwards a flush: read back they say each of its points, in order,
+-- and nothing else; and of points in series order no resource, scope or metric twice
+pub record IsRequest (bytes : List ℕ) (w : Written) (flush : Flush) : Type 0 where
   pub text : bytes ≡ request_text flush.points
   pub back : ReadsBack bytes flush.points
   pub once : is_ascending (map (λ p. p.series) flush.points) ≡ true → HasEachOnce flush.points
   pub size : w.bytes ≡ length bytes
   pub series : w.series ≡ length flush.points
 
--- there is such a flush
+-- the bytes are that of the i-th flush
 abbrev pub IsForwarded : List (Option Flush) → ℕ → List ℕ → Written → Type 0
-IsForwarded flushes i bytes w = (flush : Flush) × IsRequest flushes i bytes w flush
+IsForwarded flushes i bytes w =
+    (flush : Flush) × (nth flushes i ≡ Some flush) × IsRequest bytes w flush
 
 -- why the request is not written: there is no such flush, or memory ran out
 abbrev pub IsNotForwarded : List (Option Flush) → ℕ → TextFault → Type 0

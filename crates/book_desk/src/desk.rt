@@ -1,5 +1,6 @@
 //! The books of a desk, each with the series that belong to it.
-ghost use Rattle.std.specs.Prelude.{◌≡◌, ◌≢◌, ◌≤◌, [], None, length, OnOk, OnErr, IfErr, IfOk, false};
+ghost use Rattle.std.specs.Prelude.{◌≡◌, ◌≢◌, ◌≤◌, [], None, length, false};
+ghost use Rattle.std.specs.Prelude.{OnOk, OnErr, IfErr, IfOk};
 ghost use Rattle.std.specs.List.{All};
 ghost use Rattle.delta_book.specs.Journal.{journal_of};
 ghost use Rattle.metric_events.specs.Opening.{first_opening};
@@ -101,8 +102,8 @@ impl Desk {
     }
 
     /// Admits what the reader has read, which is gone from it then. All books have their parts
-    /// afterwards, confirmed, and nothing else has happened. Or none has: each is as it was, or as if
-    /// its part had never come. The refusal is the one that comes first in the whole post.
+    /// afterwards, confirmed, and nothing else has happened. Or none has: each is as it was, or as
+    /// if its part had never come. The refusal is the one that comes first in the whole post.
     pub fn admit(&mut self, reader: &mut Reader) -> Result<(), DeskFault>
         ensures taken { OnOk result (Each Keeps self.old.books.items self.new.books.items
             reader.old) }

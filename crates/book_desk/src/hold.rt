@@ -46,7 +46,8 @@ fn lift(book: &mut Book, sender: &SenderName) -> bool
     book.lift(0, sender).is_ok()
 }
 
-/// Quarantines the sender in each book, in order. Where one refuses, it is released in those before.
+/// Quarantines the sender in each book, in order. Where one refuses, it is released in those
+/// before.
 pub fn hold_each(
     alloc: Global,
     books: &mut [Book],

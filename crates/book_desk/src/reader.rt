@@ -108,8 +108,8 @@ impl Reader {
         }
     }
 
-    /// Reads a post and splits it into parts, one for each of so many books. What was read before is
-    /// gone, also if the post can't be read.
+    /// Reads a post and splits it into parts, one for each of so many books. What was read before
+    /// is gone, also if the post can't be read.
     pub fn read(&mut self, sender: &[u8], body: &[u8], books: usize) -> Result<Counts, PostFault>
         requires { 0 < books }
         ensures read { IfOk result (λ counts. IsRead sender.now body.now books counts self.new) }
