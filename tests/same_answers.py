@@ -35,7 +35,7 @@ SENDERS = [f"sender-{number}" for number in range(5)]
 SERIES = 60
 TAKES = 10_000
 # One post in so many.
-FLUSH, ORDER, STRANGE, FOREIGN = 400, 60, 12, 6
+FLUSH, ORDER, STRANGE, FOREIGN = 400, 20, 12, 6
 DELTA = 1
 OWN_TEXTS = ("not JSON", "wrong shape")
 LINE = re.compile(r"^(series .*) accepted \S+ acknowledged \S+ dropped \S+ in-flight \S+ (stored \S+ quarantined \S+)$")
@@ -290,7 +290,7 @@ class Run:
 
     def order(self):
         """A quarantine or its end, which may be refused."""
-        path = f"/{self.chance.choice(['quarantine', 'lift', 'lift'])}/{self.chance.choice(SENDERS)}"
+        path = f"/{self.chance.choice(['quarantine'] + ['lift'] * 8)}/{self.chance.choice(SENDERS)}"
         found = {name: ask(party.orders, "POST", path) for name, party in self.parties().items()}
         if len({status for status, _ in found.values()}) > 1:
             self.wrong.append((path, found))
