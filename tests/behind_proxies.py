@@ -5,8 +5,9 @@
 
 Names first: a sender has the name of its certificate or token, whatever name it gives itself, and without one it is
 refused. Then what is hidden, sizes, encodings, HTTP/2. Then senders, half of them by certificates, post on connections that
-they keep and repeat each post until it is answered, while the proxy, the service, and both are killed by `kill -9`. At the end the SQLite sink has, series by series, what the senders were told is taken, and each series has the
-sender that the proxy named.
+they keep and repeat each post until it is answered, while the proxy, the service, and both are killed by `kill -9`. At the
+end the SQLite sink has, series by series, what the senders were told is taken, and each series has the sender that the
+proxy named.
 
 It needs haproxy, nginx, curl and openssl. Where one is missing a line says so, and the status is 77. Each other line is one
 check; the last one counts those that passed and failed, and the status is 1 where one failed.

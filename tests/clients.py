@@ -14,9 +14,9 @@ small, is full twice. The sink has to have what each has counted; of wrk, which 
 service has counted. Two ways post fractions of a second: the service has to say of each of these series by how much it
 rounded.
 
-It needs curl, wrk, python3-protobuf and root's right to mount; where one is missing a line says so, and the status is 77. Each other line is one
-check; the last one counts those that passed and failed and names the clients that are not installed, and the status is 1
-where one failed.
+It needs curl, wrk, python3-protobuf and root's right to mount; where one is missing a line says so, and the status is 77.
+Each other line is one check; the last one counts those that passed and failed and names the clients that are not installed,
+and the status is 1 where one failed.
 """
 import contextlib
 import importlib.util

@@ -152,7 +152,8 @@ def look_at_settings(checks, root, serve_help):
     text = content(f"{root}/etc/totxegun/totxegun.env")
     bare = [name for name in wanted if not re.search(rf"^# \S.*\n#{name}=", text, re.MULTILINE)]
     checks.same("each with a line of text", [], bare)
-    checks.same("what the unit sets is a setting too", [], [it for it in set_by_unit(root) if it.startswith("TOTXEGUN_") and it not in wanted])
+    known = {*wanted, "MALLOC_TRIM_THRESHOLD_"}
+    checks.same("what the unit sets is there to be set", set(), set_by_unit(root).keys() - known)
 
 
 def options_of(page):

@@ -6,7 +6,8 @@
 Debian's base is fetched once by debootstrap, into out/debian. A copy of it is booted by its own systemd in namespaces of
 its own, without the toolchain and without a network but loopback. There settings are written, which anybody may read, and
 the package is installed as of an earlier version: it has these settings, which nobody else may read then. It serves as the
-README's first use shows, and is replaced by DEB while senders post; the program is killed meanwhile. At the end the sink has, series by series, what the senders were told. A purge leaves what was taken, and says so.
+README's first use shows, and is replaced by DEB while senders post; the program is killed meanwhile. At the end the sink
+has, series by series, what the senders were told. A purge leaves what was taken, and says so.
 
 Each line is one check; the last line counts those that passed and failed, and the status is 0 where none failed, 77 where
 the machine can't have it.

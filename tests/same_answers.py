@@ -18,7 +18,6 @@ Each line is one check; the last line counts those that passed and failed, and t
 import collections
 import http.client
 import json
-import os
 import random
 import re
 import sys
@@ -35,7 +34,7 @@ SENDERS = [f"sender-{number}" for number in range(5)]
 SERIES = 60
 TAKES = 10_000
 # One post in so many.
-FLUSH, ORDER, STRANGE, FOREIGN = 400, 60, 12, 6
+FLUSH, ORDER, STRANGE, FOREIGN = 400, 20, 12, 6
 DELTA = 1
 OWN_TEXTS = ("not JSON", "wrong shape")
 LINE = re.compile(r"^(series .*) accepted \S+ acknowledged \S+ dropped \S+ in-flight \S+ (stored \S+ quarantined \S+)$")
@@ -50,7 +49,8 @@ def attributes(chance, most=3):
     values = [{}, {"stringValue": chance.choice(["", "a", "\u00e4\u20ac", 'a "b" \\ \n'])}, {"boolValue": chance.random() < 0.5},
               {"intValue": chance.choice(["0", "-5", "007", 9, str(2**63 - 1)])},
               {"arrayValue": {"values": [{"stringValue": "x"}, {"intValue": "1"}, {}]}}, {"arrayValue": {}}]
-    return [{"key": key, "value": chance.choice(values)} for key in chance.sample(["a", "b", "http.route", "\u00fc"], chance.randrange(most + 1))]
+    keys = chance.sample(["a", "b", "http.route", "\u00fc"], chance.randrange(most + 1))
+    return [{"key": key, "value": chance.choice(values)} for key in keys]
 
 
 class Series:
@@ -72,7 +72,7 @@ class Series:
             point["asInt"] = chance.choice([str, int])(chance.choice([0, 5, 2**40, chance.randrange(least, 1000)]))
         else:
             counts = [chance.randrange(5) for _ in range(len(self.bounds) + 1)] if self.bounds or chance.random() < 0.5 else []
-            point |= {"count": str(sum(counts)), "bucketCounts": [str(count) for count in counts], "explicitBounds": self.bounds if counts else []}
+            point |= {"count": str(sum(counts)), "bucketCounts": list(map(str, counts)), "explicitBounds": self.bounds}
             if chance.random() < 0.7:
                 point["sum"] = chance.randrange(1000)
         if chance.random() < 0.1:
@@ -147,7 +147,8 @@ def strange(chance, body):
     if kind == 1:
         return text.encode() + chance.choice([b" ", b"\n\n", b"x", b"{}", b"\0", b"\xff"])
     if kind == 2:
-        return chance.choice([b"", b"{}", b"[]", b"null", b"1", b'"a"', b"\xef\xbb\xbf{}", b'{"resourceMetrics":null}', b"{'a':1}", b'{"a":01}'])
+        return chance.choice([b"", b"{}", b"[]", b"null", b"1", b'"a"', b"\xef\xbb\xbf{}", b'{"resourceMetrics":null}', b"{'a':1}",
+                              b'{"a":01}'])
     if kind == 3:
         return text.replace('"resourceMetrics"', f'"deep": {deep}, "resourceMetrics"', 1).encode()
     if kind == 4:
@@ -290,7 +291,7 @@ class Run:
 
     def order(self):
         """A quarantine or its end, which may be refused."""
-        path = f"/{self.chance.choice(['quarantine', 'lift', 'lift'])}/{self.chance.choice(SENDERS)}"
+        path = f"/{self.chance.choice(['quarantine'] + ['lift'] * 8)}/{self.chance.choice(SENDERS)}"
         found = {name: ask(party.orders, "POST", path) for name, party in self.parties().items()}
         if len({status for status, _ in found.values()}) > 1:
             self.wrong.append((path, found))

@@ -57,7 +57,7 @@ CARGO_STEPS = (
 # After the program's name: further words, and about how many seconds it takes.
 SERVICE_STEPS = (
     ("service_load.py", ["60"], 120),
-    ("service_interrupted.py", ["9"], 300),
+    ("service_interrupted.py", ["5"], 300),
     ("same_answers.py", [GATEWAY], 100),
     ("behind_proxies.py", [], 60),
     ("two_services.py", ["0", "1", "--sink", "one"], 40),

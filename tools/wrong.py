@@ -6,8 +6,9 @@
 Each file service/wrong/NAME.edit breaks one rule. It names the test that has to find this: a script of tests/ with the
 words after its program, or the words of `cargo test`. The rest has the form of an edit of a crate: lines `file:`, `old:`,
 `new:`, where the old text is in that file exactly once. All edits, or those that are named, are tried one after another: the
-copy is built in out/wrong, over the library in crates/book_c/out or $TOTXEGUN_BOOK, and the test is run on it, up to three times, until a check of what was taken, sent or refused
-fails; that ends the run. A copy that can't be built, or that does not start, was not found.
+copy is built in out/wrong, over the library in crates/book_c/out or $TOTXEGUN_BOOK, and the test is run on it, up to three
+times, until a check of what was taken, sent or refused fails; that ends the run. A copy that can't be built, or that does
+not start, was not found.
 
 A line for each edit; the last line counts those that were found and those that were not, and the status is 0 where all
 were. The logs are in out/logs.
