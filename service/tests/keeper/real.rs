@@ -179,6 +179,8 @@ async fn load(run: &Arc<Run>, had: &[u64], ends: &Arc<AtomicBool>) -> Vec<u64> {
                 number += 1;
                 let body = point(&name, number * 10, number * 10 + 10, number as i64);
                 assert_eq!(run.post(&name, body).await, all(), "{name}, {number}");
+                // A post that is only written waits for nothing.
+                tokio::task::yield_now().await;
             }
             (sender, number)
         });
