@@ -29,6 +29,7 @@ LIBRARY = f"{BOOK}/out/libbook_c.a"
 # measures time, so that nothing may run beside it. Those that take longest come first.
 STEPS = (
     ("slow_parties.py", GATEWAY, 70, False),
+    ("gateway_sizes.py", GATEWAY, 30, False),
     ("gateway_serves.py", GATEWAY, 5, False),
     ("alloc_failures_play.py", PLAY, 20, False),
     ("protobuf_bodies.py", f"{GATEWAY} gateway", 10, False),

@@ -56,12 +56,13 @@ run_first c most left r audit s h less a more taken = record {
 }
 
 -- one round more
-pub run_one_more : (c most left rest : ℕ) (latest r : ServedRound) (earlier : List ServedRound) (j : Journal) (audit : Audit) (s t : Sums) → IsRun c most (c - left) latest earlier j s → left ≤ c → r.connections ≡ min left most → r.begun ≡ closed j → rest ≡ left - r.connections → IsOver r.begun r.ended audit → t.admitted ≡ min (s.admitted + audit.admitted) MOST → t.acknowledged ≡ min (s.acknowledged + audit.acknowledged) MOST → IsRun c most (c - rest) r (latest ∷ earlier) r.ended t
-run_one_more c most left rest latest r earlier j audit s t h within count begun less a more taken = record {
+pub run_one_more : (c most left rest : ℕ) (latest r : ServedRound) (earlier : List ServedRound) (j : Journal) (audit : Audit) (s t : Sums) → IsRun c most (c - left) latest earlier j s → left ≤ c → r.connections ≡ min left most → r.begun ≡ closed j → rest ≡ left - r.connections → r.accepted ≡ r.connections → IsOver r.begun r.ended audit → t.admitted ≡ min (s.admitted + audit.admitted) MOST → t.acknowledged ≡ min (s.acknowledged + audit.acknowledged) MOST → IsRun c most (c - rest) r (latest ∷ earlier) r.ended t
+run_one_more c most left rest latest r earlier j audit s t h within count begun less all a more taken = record {
   rounds = (
     h.rounds,
     record {
       given = omega (arith, h.all, within, count);
+      accepted = all;
       begun = begun ∙ sym (ap closed h.last);
       opening = a.opening;
       legal = a.legal;
@@ -77,12 +78,3 @@ run_one_more c most left rest latest r earlier j audit s t h within count begun 
 pub next_number : (j b k : Journal) → b ≡ closed j → k.opening ≡ b.opening → k.opening.round ≡ j.opening.round + 1
 next_number j b k closing opening =
     ap (λ (O : Opening). O.round) opening ∙ ap (λ (J : Journal). J.opening.round) closing ∙ ap (λ (O : Opening). O.round + 1) (opening-history j)
-
-called_each : {S : Type 0} (serves : Serving S) (P : ServedRound → Type 0) → ((s t : S) (r : ServedRound) (audit : Audit) → serves s r.begun r.connections (Ok (r.ended, audit)) t → P r) → (s : S) (rounds : List ServedRound) (t : S) → AreCalls serves s rounds t → All P rounds
-called_each serves P each s [] t h = All-nil P
-called_each serves P each s (r ∷ earlier) t h =
-    All-cons P r earlier (each h.0 t r h.2 h.3) (called_each serves P each s earlier h.0 h.1)
-
--- what each call that serves a round gives holds of all rounds
-pub served_each : {S : Type 0} {serves : Serving S} {s t : S} {rounds : List ServedRound} (P : ServedRound → Type 0) → AreServed serves s rounds t → ((s t : S) (r : ServedRound) (audit : Audit) → serves s r.begun r.connections (Ok (r.ended, audit)) t → P r) → All P rounds
-served_each {S} {serves} {s} {t} {rounds} P h each = called_each serves P each s rounds t h.calls

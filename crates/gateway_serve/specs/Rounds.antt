@@ -9,10 +9,11 @@ use Rattle.delta_book.specs.Totals.{acknowledged_points}
 use Rattle.shared_book.specs.Audits.{admitted_points}
 use Rattle.gateway_serve.specs.declared.sums.Sums.{Sums}
 
--- a round that was served: how many connections it was given, and the journals that it began and
--- ended with
+-- a round that was served: how many connections it was given, how many it has accepted, and the
+-- journals that it began and ended with
 pub record ServedRound : Type 0 where
   pub connections : ℕ
+  pub accepted : ℕ
   pub begun : Journal
   pub ended : Journal
 
@@ -37,11 +38,12 @@ acknowledged_in [] = 0
 acknowledged_in (r ∷ earlier) =
     acknowledged_in earlier + acknowledged_points (standing (history r.ended)).series
 
--- a round behind earlier ones: it is given what is left, at most so many; it begins where they
--- ended, and ends with a legal history from there
+-- a round behind earlier ones: it is given what is left, at most so many, and has accepted as many;
+-- it begins where they ended, and ends with a legal history from there
 pub record IsRound (connections most : ℕ) (earlier : List ServedRound)
     (r : ServedRound) : Type 0 where
   pub given : r.connections ≡ min (connections - given_to earlier) most
+  pub accepted : r.accepted ≡ r.connections
   pub begun : r.begun ≡ next_journal earlier
   pub opening : r.ended.opening ≡ r.begun.opening
   pub legal : IsLegal (history r.ended)

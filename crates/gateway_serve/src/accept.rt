@@ -45,11 +45,10 @@ impl Listener {
 }
 
 impl Accept for Listener {
-    ghost use Rattle.gateway_serve.specs.Filled.{CameIn};
-
     type Connection = TcpStream;
 
-    ghost accepts = { CameIn };
+    /// What comes in at a system's listener no contract says.
+    ghost accepts = { λ listener connection. Unit {0} };
 
     fn accept(&self, _permit: Permit) -> Option<TcpStream> {
         let (stream, _) = self.listener.accept().ok()?;

@@ -1,26 +1,13 @@
 //! How many connections of a round may still be accepted, and how many were.
-ghost use Rattle.std.specs.Prelude.{◌≡◌, ◌+◌, ◌-◌, ℕ, Option, Some, None, IfSome, IfNone, OnOk};
-ghost use Rattle.std.specs.Prelude.{unwrap_or};
-ghost use Rattle.gateway_serve.specs.Accepted.{AreAccepted, IsAccepted};
-ghost use Rattle.gateway_serve.specs.inner.Accepted.{IsEnded, or_fault, round_fault};
+ghost use Rattle.std.specs.Prelude.{◌≡◌, ◌==◌, ◌+◌, ◌-◌, ◌^◌, min, Some, None, IfSome, IfNone};
+ghost use Rattle.std.specs.Prelude.{IfOk, unwrap_or};
+ghost use Rattle.gateway_serve.specs.inner.Accepted.{IsEnded, or_fault, round_fault, without_count};
 
 use crate::accept::Accept;
 use crate::fault::GatewayFault;
-use std::marker::{Brand, PhantomData};
-
-/// How a round begins: with which listener, and with how many connections to accept. The function
-/// that begins a round chooses both in its proof.
-pub trait RoundStart<A> {
-    ghost listener: { Option A };
-
-    ghost connections: { ℕ };
-}
-
-impl<A> RoundStart<A> for Brand {
-    ghost listener = { None };
-
-    ghost connections = { 0 };
-}
+use shared_book::round::Round;
+use std::marker::PhantomData;
+use std::thread::{JoinHandle, Threads};
 
 /// The right to accept one connection.
 #[derive(Drop)]
@@ -28,66 +15,97 @@ pub struct Permit {
     of: PhantomData<()>,
 }
 
-/// A connection was accepted by the round's listener. There is one of these for each that was.
+/// A connection was accepted. There is one of these for each that was.
 #[derive(Drop)]
-pub struct Accepted<A: Accept, B: RoundStart<A>> {
-    begun: PhantomData<(A, B)>,
-    ghost one: { ∥ ((connection : A.Connection)
-        × IsAccepted A.accepts B.listener connection) ∥₁ },
+pub struct Accepted {
+    of: PhantomData<()>,
+}
+
+/// A worker of the round, in a thread that has started.
+#[derive(Drop)]
+pub struct Running<T> {
+    worker: JoinHandle<T>,
+}
+
+impl<T> Running<T> {
+    /// Waits until it ends, and gives what it returns.
+    pub fn join<R: Threads>(self, rt: &R) -> T {
+        let Running { worker } = self;
+        worker.join(rt)
+    }
 }
 
 /// Accepts one connection of the round, or none where it can't be accepted.
-pub fn accept_one<A: Accept, B: RoundStart<A>>(
-    listener: &A,
-    permit: Permit,
-) -> Option<(A::Connection, Accepted<A, B>)>
-    requires { B.listener ≡ Some listener.now }
+pub fn accept_one<A: Accept>(listener: &A, permit: Permit) -> Option<(A::Connection, Accepted)>
     ensures { IfSome result (λ r. A.accepts listener.now r.0) }
 {
     let connection = listener.accept(permit)?;
-    let accepted = Accepted { begun: PhantomData };
-    Some((connection, accepted))
+    Some((connection, Accepted { of: PhantomData }))
 }
 
-/// Counts the connections of a round: it permits so many to be accepted, each once, and notes those
-/// that were. After a fault it permits none, and the first fault counts. The receivers share it
-/// under a lock, and accept outside. That so many were accepted by the round's listener is known of
-/// it at any time.
+/// How many connections a round has accepted. An acceptor alone makes one.
 #[derive(Drop)]
-pub struct Acceptor<A: Accept, B: RoundStart<A>> {
-    left: u64,
-    missing: u64,
-    fault: Option<GatewayFault>,
-    begun: PhantomData<(A, B)>,
-    ghost accepted: { ∥ AreAccepted A.accepts B.listener B.connections missing ∥₁ },
+pub struct RoundCount {
+    accepted: u64,
 }
 
-impl<A: Accept, B: RoundStart<A>> Acceptor<A, B> {
-    /// None of the connections of this round was accepted.
-    pub fn new(connections: u64) -> Self
-        requires { B.connections ≡ connections }
+/// Counts the connections of a round: once all its workers have started it permits so many to be
+/// accepted, each once, and counts those that were. After a fault it permits none, and the first
+/// fault counts. The receivers share it under a lock, and accept outside.
+#[derive(Drop)]
+pub struct Acceptor<L: Round> {
+    awaited: u64,
+    left: u64,
+    accepted: u64,
+    fault: Option<GatewayFault>,
+    of: PhantomData<L>,
+}
+
+impl<L: Round> Acceptor<L> {
+    /// None of the round's workers has started: one for each seat of its book. None of its
+    /// connections was accepted.
+    pub fn new(workers: u64, connections: u64) -> Self
+        requires { L.parts ≡ workers }
+        ensures awaited { result.awaited ≡ workers }
         ensures left { result.left ≡ connections }
-        ensures missing { result.missing ≡ connections }
+        ensures accepted { result.accepted ≡ 0 }
         ensures fault { result.fault ≡ None }
     {
         Acceptor {
+            awaited: workers,
             left: connections,
-            missing: connections,
+            accepted: 0,
             fault: None,
-            begun: PhantomData,
+            of: PhantomData,
         }
     }
 
-    /// Permits one more to be accepted. None once all were permitted, or after a fault.
+    /// Notes a worker that has started, by its thread's handle.
+    pub fn start<T>(&mut self, worker: JoinHandle<T>) -> Running<T>
+        ensures awaited { self.new.awaited ≡ self.old.awaited - 1 }
+        ensures left { self.new.left ≡ self.old.left }
+        ensures accepted { self.new.accepted ≡ self.old.accepted }
+        ensures fault { self.new.fault ≡ self.old.fault }
+    {
+        if self.awaited > 0 {
+            self.awaited -= 1;
+        }
+        Running { worker }
+    }
+
+    /// Permits one more to be accepted. None before all workers have started, once all were
+    /// permitted, or after a fault.
     pub fn permit(&mut self) -> Option<Permit>
+        ensures started { IfSome result (λ permit. self.old.awaited ≡ 0) }
         ensures left { IfSome result (λ permit. self.old.left ≡ self.new.left + 1) }
         ensures open { IfSome result (λ permit. self.old.fault ≡ None) }
-        ensures ended { IfNone result (IsEnded self.old.left self.old.fault
+        ensures ended { IfNone result (IsEnded self.old.awaited self.old.left self.old.fault
             × (self.new.left ≡ self.old.left)) }
         ensures fault { self.new.fault ≡ self.old.fault }
-        ensures missing { self.new.missing ≡ self.old.missing }
+        ensures accepted { self.new.accepted ≡ self.old.accepted }
+        ensures awaited { self.new.awaited ≡ self.old.awaited }
     {
-        if self.left == 0 || self.fault.is_some() {
+        if self.awaited > 0 || self.left == 0 || self.fault.is_some() {
             return None;
         }
         self.left -= 1;
@@ -95,14 +113,13 @@ impl<A: Accept, B: RoundStart<A>> Acceptor<A, B> {
     }
 
     /// Notes one that was accepted.
-    pub fn note(&mut self, _accepted: Accepted<A, B>)
-        ensures missing { self.new.missing ≡ self.old.missing - 1 }
+    pub fn note(&mut self, _accepted: Accepted)
+        ensures accepted { self.new.accepted ≡ min (self.old.accepted + 1) (2 ^ 64 - 1) }
         ensures left { self.new.left ≡ self.old.left }
         ensures fault { self.new.fault ≡ self.old.fault }
+        ensures awaited { self.new.awaited ≡ self.old.awaited }
     {
-        if self.missing > 0 {
-            self.missing -= 1;
-        }
+        self.accepted = self.accepted.saturating_add(1);
     }
 
     /// Permits no more.
@@ -114,16 +131,25 @@ impl<A: Accept, B: RoundStart<A>> Acceptor<A, B> {
         }
     }
 
-    /// What the round gives: the first fault, if there is one, and `CannotAccept` where not all
-    /// were accepted; else the workers' outcome.
-    pub fn end<T: Drop>(&self, outcome: Result<T, GatewayFault>) -> Result<T, GatewayFault>
-        ensures fault { result ≡ or_fault (round_fault self.now.missing self.now.fault) outcome }
-        ensures all { OnOk result (∥ AreAccepted A.accepts B.listener B.connections 0 ∥₁) }
+    /// What a round of so many connections gives: the first fault, if there is one, and
+    /// `CannotAccept` where not so many were accepted; else the workers' outcome, and how many
+    /// were.
+    pub fn end<T: Drop>(
+        &self,
+        connections: u64,
+        outcome: Result<T, GatewayFault>,
+    ) -> Result<(T, RoundCount), GatewayFault>
+        ensures fault { without_count result ≡ or_fault
+            (round_fault (self.now.accepted == connections) self.now.fault) outcome }
+        ensures accepted { IfOk result (λ r. r.1.accepted ≡ connections) }
     {
         match self.fault {
             Some(fault) => Err(fault),
-            None if self.missing > 0 => Err(GatewayFault::CannotAccept),
-            None => outcome,
+            None if self.accepted != connections => Err(GatewayFault::CannotAccept),
+            None => {
+                let accepted = self.accepted;
+                Ok((outcome?, RoundCount { accepted }))
+            }
         }
     }
 }

@@ -49,7 +49,12 @@ impl<R: Net<Stream = TcpStream>> Connect for TcpConnector<'_, R> {
 
     fn connect(
         &mut self,
-    ) -> Option<(PieceSource<Uninterrupted<TcpStream>>, ToWriter<Uninterrupted<TcpStream>>)> {
+    ) -> Option<
+        (
+            PieceSource<Uninterrupted<TcpStream>>,
+            ToWriter<Uninterrupted<TcpStream>>,
+        ),
+    > {
         let stream = TcpStream::connect(self.net, self.address).ok()?;
         let other = stream.try_clone().ok()?;
         let reader = PieceSource::new(Uninterrupted::new(stream));
@@ -84,7 +89,7 @@ impl<D: Connect> Uplink for Backend<'_, D> {
     ghost sends = { λ before bytes answer after. (line : Option (D.Reader × D.Writer))
         × D.connects before.connector line after.connector
         × IsCalled D.Reader.remaining D.Reader.given D.Reader.failures D.Reader.one_more
-            D.Writer.contents D.Writer.failures D.Writer.one_more line
+        D.Writer.contents D.Writer.failures D.Writer.one_more line
         (post_text before.host.now bytes) answer × (after.host.now ≡ before.host.now) };
 
     /// Unknown where there is no connection, and where it breaks. An answer is waited for as long

@@ -1,11 +1,9 @@
 //! One round, served by workers in threads.
-ghost use Rattle.std.specs.Prelude.{◌≡◌, ◌+◌, [], IfOk, OnOk, Some};
-ghost use Rattle.gateway_serve.specs.Accepted.{AreAccepted, HasAccepted};
-ghost use Rattle.gateway_serve.specs.Filled.{CameIn};
+ghost use Rattle.std.specs.Prelude.{◌≡◌, ◌+◌, [], IfOk};
 ghost use Rattle.gateway_serve.specs.inner.Rounds.{IsOver};
 
-use crate::accept::{Accept, Listener};
-use crate::acceptor::RoundStart;
+use crate::accept::Listener;
+use crate::acceptor::RoundCount;
 use crate::fault::GatewayFault;
 use crate::workers::serve_beside;
 use delta_book::book::Book;
@@ -24,7 +22,7 @@ use std::time::Clock;
 /// One round over a ledger: the book is shared, so many connections are accepted and served, and
 /// the receipts of the workers are compared with the book.
 fn round_over<
-    L: Round + RoundStart<Listener> + Send + Sync,
+    L: Round + Send + Sync,
     R: Net<Listener = TcpListener, Stream = TcpStream> + Threads + Wait + Clock + Sync,
 >(
     rt: &R,
@@ -34,24 +32,21 @@ fn round_over<
     listener: Listener,
     options: &ServeOptions<'_>,
     connections: u64,
-) -> Result<(Book, Audit), GatewayFault>
+) -> Result<(Book, Audit, RoundCount), GatewayFault>
     requires ledger { (blank.name ≡ L.name) × (blank.parts ≡ L.parts) }
     requires parts { blank.parts ≡ options.now.receivers + options.now.flushers }
     requires empty { book.entries ≡ [] }
     requires opening { book.opening ≡ L.opening }
-    requires listener { L.listener ≡ Some listener }
-    requires connections { L.connections ≡ connections }
     ensures over { IfOk result (λ r. IsOver book r.0 r.1) }
-    ensures accepted { OnOk result (
-        ∥ AreAccepted ⟦<Listener as Accept>⟧.accepts (Some listener) connections 0 ∥₁) }
+    ensures accepted { IfOk result (λ r. r.2.accepted ≡ connections) }
 {
     let seats = options.receivers + options.flushers;
     let Ok((shared, seats)) = SharedBook::<L>::new(alloc, book, blank, seats) else {
         return Err(GatewayFault::NoMemory);
     };
-    let seats = serve_beside(rt, alloc, &shared, seats, listener, options, connections)?;
+    let (seats, count) = serve_beside(rt, alloc, &shared, seats, listener, options, connections)?;
     match shared.finish(seats) {
-        Ok(done) => Ok(done),
+        Ok((book, audit)) => Ok((book, audit, count)),
         Err(_) => Err(GatewayFault::AuditFailed),
     }
 }
@@ -66,10 +61,10 @@ pub fn one_round<
     options: &ServeOptions<'_>,
     book: Book,
     connections: u64,
-) -> Result<(Book, Audit), GatewayFault>
+) -> Result<(Book, Audit, RoundCount), GatewayFault>
     requires empty { book.entries ≡ [] }
     ensures over { IfOk result (λ r. IsOver book r.0 r.1) }
-    ensures accepted { OnOk result (HasAccepted CameIn connections) }
+    ensures accepted { IfOk result (λ r. r.2.accepted ≡ connections) }
 {
     let parts = u64::from(options.receivers) + u64::from(options.flushers);
     let blank = Blank::new(parts);

@@ -5,6 +5,7 @@ ghost use Rattle.delta_book.specs.Rounds.{closed, round_refusal};
 ghost use Rattle.gateway_serve.specs.Rounds.{IsRun, ServedRound};
 ghost use Rattle.gateway_serve.specs.inner.Rounds.{AreServed, CanServe, IsLastRound, close_fault};
 
+use crate::acceptor::RoundCount;
 use crate::fault::GatewayFault;
 use crate::sums::Sums;
 use delta_book::book::Book;
@@ -36,7 +37,7 @@ fn next_count(left: u64, round: u64) -> u64
 /// Has all connections served over a new book, and gives it with the sums of the audits: a round is
 /// closed after so many connections, unless none is left. So the number of the last round is how
 /// many rounds these connections fill.
-pub fn serve_rounds<F: FnMut(Book, u64) -> Result<(Book, Audit), GatewayFault>>(
+pub fn serve_rounds<F: FnMut(Book, u64) -> Result<(Book, Audit, RoundCount), GatewayFault>>(
     serve_round: &mut F,
     alloc: Global,
     options: &ServeOptions<'_>,
@@ -53,13 +54,13 @@ pub fn serve_rounds<F: FnMut(Book, u64) -> Result<(Book, Audit), GatewayFault>>(
         return Err(GatewayFault::NoMemory);
     };
     let first = next_count(options.connections, options.round);
-    let (mut book, audit) = serve_round(new, first)?;
+    let (mut book, audit, _) = serve_round(new, first)?;
     let mut sums = Sums::of(audit);
     let mut left = options.connections - first;
     while left > 0 {
         close(&mut book)?;
         let count = next_count(left, options.round);
-        let (next, audit) = serve_round(book, count)?;
+        let (next, audit, _) = serve_round(book, count)?;
         book = next;
         sums = sums.and(audit);
         left -= count;

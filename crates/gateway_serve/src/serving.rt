@@ -1,11 +1,10 @@
 //! Connections are served by workers over one store, and the report is told at the end.
-ghost use Rattle.std.specs.Prelude.{◌≡◌, IfOk, List, OnOk, [], ◌∷◌};
-ghost use Rattle.gateway_serve.specs.Accepted.{HasAccepted};
+ghost use Rattle.std.specs.Prelude.{◌≡◌, IfOk, List, [], ◌∷◌};
 ghost use Rattle.gateway_serve.specs.Ended.{IsEnding, ending_text};
-ghost use Rattle.gateway_serve.specs.Filled.{AreFilled, CameIn};
 ghost use Rattle.gateway_serve.specs.Rounds.{ServedRound};
 ghost use Rattle.gateway_serve.specs.inner.Rounds.{AreServed, CanServe, IsOver};
 
+use crate::acceptor::RoundCount;
 use crate::fault::GatewayFault;
 use crate::one_round::one_round;
 use crate::rounds::serve_rounds;
@@ -32,7 +31,7 @@ fn ending_of(alloc: Global, book: &Book, sums: Sums) -> Result<Vec<u8>, AllocErr
 
 /// Has all connections served in rounds, and gives what is to be printed: the report of the last
 /// round, and the sums of all audits.
-fn tell_rounds<F: FnMut(Book, u64) -> Result<(Book, Audit), GatewayFault>>(
+fn tell_rounds<F: FnMut(Book, u64) -> Result<(Book, Audit, RoundCount), GatewayFault>>(
     serve_round: &mut F,
     alloc: Global,
     options: &ServeOptions<'_>,
@@ -64,13 +63,15 @@ pub fn serve_bound<
     options: &ServeOptions<'_>,
 ) -> Result<Vec<u8>, GatewayFault>
     ensures { IfOk result (λ text. (latest : ServedRound) × (earlier : List ServedRound)
-        × IsEnding options.now.connections options.now.round latest earlier text.items
-        × AreFilled (latest ∷ earlier)) }
+        × IsEnding options.now.connections options.now.round latest earlier text.items) }
 {
-    let mut serve_round = |book: Book, connections: u64| -> Result<(Book, Audit), GatewayFault>
+    let mut serve_round = |book: Book, connections: u64,| -> Result<
+        (Book, Audit, RoundCount),
+        GatewayFault,
+    >
         requires { book.entries ≡ [] }
         ensures over { IfOk result (λ r. IsOver book r.0 r.1) }
-        ensures accepted { OnOk result (HasAccepted CameIn connections) }
+        ensures accepted { IfOk result (λ r. r.2.accepted ≡ connections) }
     { one_round(rt, alloc, listener, options, book, connections) };
     tell_rounds(&mut serve_round, alloc, options)
 }
@@ -80,8 +81,7 @@ pub fn serve_all<
     R: Net<Listener = TcpListener, Stream = TcpStream> + Threads + Wait + Clock + Sync,
 >(rt: &R, alloc: Global, options: &ServeOptions<'_>) -> Result<Vec<u8>, GatewayFault>
     ensures { IfOk result (λ text. (latest : ServedRound) × (earlier : List ServedRound)
-        × IsEnding options.now.connections options.now.round latest earlier text.items
-        × AreFilled (latest ∷ earlier)) }
+        × IsEnding options.now.connections options.now.round latest earlier text.items) }
 {
     let Ok(listener) = TcpListener::bind(rt, options.listen) else {
         return Err(GatewayFault::CannotListen);

@@ -1,40 +1,38 @@
 //! A round's listener, as its receivers share it.
-ghost use Rattle.std.specs.Prelude.{◌≡◌, Some, IfErr, IfOk, IfSome, IsSome, OnOk};
+ghost use Rattle.std.specs.Prelude.{◌≡◌, IfErr, IfOk, IfSome, IsSome};
 ghost use Rattle.std.specs.Sync.Mutex.{mutex_guard_value};
-ghost use Rattle.gateway_serve.specs.Accepted.{AreAccepted};
 
 use crate::accept::Accept;
-use crate::acceptor::{Accepted, Acceptor, Permit, RoundStart, accept_one};
+use crate::acceptor::{Accepted, Acceptor, Permit, RoundCount, accept_one};
 use crate::client_connection::ClientConnection;
 use crate::fault::GatewayFault;
 use gate_workers::Connections;
+use shared_book::round::Round;
 use std::net::TcpStream;
 use std::sync::{Mutex, MutexGuard, Wait};
 use std::time::Clock;
 
 /// A round's listener, and its acceptor under a lock.
 #[derive(Drop)]
-pub struct SharedListener<A: Accept, B: RoundStart<A>> {
+pub struct SharedListener<A: Accept, L: Round> {
     listener: A,
-    acceptor: Mutex<Acceptor<A, B>>,
-    ghost begun: { B.listener ≡ Some listener },
+    acceptor: Mutex<Acceptor<L>>,
 }
 
-impl<A: Accept, B: RoundStart<A>> SharedListener<A, B> {
-    /// None of the connections of this round was accepted.
-    pub fn new(listener: A, connections: u64) -> Self
-        requires listener { B.listener ≡ Some listener }
-        requires connections { B.connections ≡ connections }
+impl<A: Accept, L: Round> SharedListener<A, L> {
+    /// None of the round's workers has started, and none of its connections was accepted.
+    pub fn new(listener: A, workers: u64, connections: u64) -> Self
+        requires { L.parts ≡ workers }
         ensures { result.listener ≡ listener }
     {
         SharedListener {
             listener,
-            acceptor: Mutex::new(Acceptor::new(connections)),
+            acceptor: Mutex::new(Acceptor::new(workers, connections)),
         }
     }
 
     /// While this is held nothing more is permitted.
-    pub fn hold<R: Wait>(&self, rt: &R) -> MutexGuard<'_, Acceptor<A, B>> {
+    pub fn hold<R: Wait>(&self, rt: &R) -> MutexGuard<'_, Acceptor<L>> {
         self.acceptor.lock(rt)
     }
 
@@ -44,7 +42,7 @@ impl<A: Accept, B: RoundStart<A>> SharedListener<A, B> {
         &self,
         rt: &R,
         permit: Permit,
-    ) -> Result<(A::Connection, Accepted<A, B>), MutexGuard<'_, Acceptor<A, B>>>
+    ) -> Result<(A::Connection, Accepted), MutexGuard<'_, Acceptor<L>>>
         ensures accepted { IfOk result (λ r. A.accepts self.now.listener r.0) }
         ensures closed { IfErr result (λ acceptor. IsSome (mutex_guard_value acceptor).fault) }
     {
@@ -62,8 +60,8 @@ impl<A: Accept, B: RoundStart<A>> SharedListener<A, B> {
     pub fn next<R: Wait>(
         &self,
         rt: &R,
-        latest: Option<Accepted<A, B>>,
-    ) -> Option<(A::Connection, Accepted<A, B>)>
+        latest: Option<Accepted>,
+    ) -> Option<(A::Connection, Accepted)>
         ensures { IfSome result (λ r. A.accepts self.now.listener r.0) }
     {
         let mut acceptor = self.acceptor.lock(rt);
@@ -83,24 +81,28 @@ impl<A: Accept, B: RoundStart<A>> SharedListener<A, B> {
     }
 
     /// What the round gives, by its acceptor.
-    pub fn end<T: Drop>(self, outcome: Result<T, GatewayFault>) -> Result<T, GatewayFault>
-        ensures { OnOk result (∥ AreAccepted A.accepts B.listener B.connections 0 ∥₁) }
+    pub fn end<T: Drop>(
+        self,
+        connections: u64,
+        outcome: Result<T, GatewayFault>,
+    ) -> Result<(T, RoundCount), GatewayFault>
+        ensures { IfOk result (λ r. r.1.accepted ≡ connections) }
     {
-        self.acceptor.into_inner().end(outcome)
+        self.acceptor.into_inner().end(connections, outcome)
     }
 }
 
 /// The connections that a receiver accepts, and the clock that bounds them. The latest one is noted
 /// with the next call: so a call takes the lock once.
 #[derive(Drop)]
-pub struct Incoming<'a, A: Accept, B: RoundStart<A>, C> {
-    shared: &'a SharedListener<A, B>,
+pub struct Incoming<'a, A: Accept, L: Round, C> {
+    shared: &'a SharedListener<A, L>,
     clock: &'a C,
-    latest: Option<Accepted<A, B>>,
+    latest: Option<Accepted>,
 }
 
-impl<'a, A: Accept<Connection = TcpStream>, B: RoundStart<A>, C: Clock> Incoming<'a, A, B, C> {
-    pub fn new(shared: &'a SharedListener<A, B>, clock: &'a C) -> Self {
+impl<'a, A: Accept<Connection = TcpStream>, L: Round, C: Clock> Incoming<'a, A, L, C> {
+    pub fn new(shared: &'a SharedListener<A, L>, clock: &'a C) -> Self {
         Incoming {
             shared,
             clock,
@@ -109,8 +111,8 @@ impl<'a, A: Accept<Connection = TcpStream>, B: RoundStart<A>, C: Clock> Incoming
     }
 }
 
-impl<'a, A: Accept<Connection = TcpStream>, B: RoundStart<A>, C: Clock> Connections
-    for Incoming<'a, A, B, C> {
+impl<'a, A: Accept<Connection = TcpStream>, L: Round, C: Clock> Connections
+    for Incoming<'a, A, L, C> {
     type Connection = ClientConnection<'a, C>;
 
     /// A connection that it gives is one that the listener accepted.

@@ -1,6 +1,5 @@
 //! A worker of a round: a receiver or a flusher.
 use crate::accept::Listener;
-use crate::acceptor::RoundStart;
 use crate::backend::{Backend, TcpConnector};
 use crate::shared_listener::{Incoming, SharedListener};
 use crossbeam_channel::{Receiver, Sender};
@@ -24,7 +23,7 @@ pub enum Work {
 }
 
 /// Works from a seat until there is no more work, and gives the seat back with all its receipts.
-pub fn run_worker<L: Round + RoundStart<Listener>, R: Net<Stream = TcpStream> + Wait + Clock>(
+pub fn run_worker<L: Round, R: Net<Stream = TcpStream> + Wait + Clock>(
     rt: &R,
     alloc: Global,
     shared: &SharedBook<L>,

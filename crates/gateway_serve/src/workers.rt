@@ -1,11 +1,10 @@
 //! The workers of a round, each in a thread of its own.
-ghost use Rattle.std.specs.Prelude.{◌≡◌, IfErr, IfOk, OnOk, Some, nat_lt};
+ghost use Rattle.std.specs.Prelude.{◌≡◌, ◌+◌, IfErr, IfOk, nat_lt};
 ghost use Rattle.gateway_serve.specs.inner.Tasks.{is_flush};
-ghost use Rattle.gateway_serve.specs.Accepted.{AreAccepted};
 ghost use Rattle.gateway_serve.specs.declared.fault.GatewayFault.TheVariants.{NoMemory};
 
-use crate::accept::{Accept, Listener};
-use crate::acceptor::RoundStart;
+use crate::accept::Listener;
+use crate::acceptor::{RoundCount, Running};
 use crate::fault::GatewayFault;
 use crate::shared_listener::SharedListener;
 use crate::worker::{Work, run_worker};
@@ -20,7 +19,7 @@ use std::net::{Net, TcpListener, TcpStream};
 use std::sync::Wait;
 use std::sync::ledger::Ledger;
 use std::thread;
-use std::thread::{Builder, JoinHandle, Threads};
+use std::thread::{Builder, Threads};
 use std::time::Clock;
 
 /// The stack of a worker, in bytes. Small, so that the stacks of a round's workers find room where
@@ -61,7 +60,7 @@ fn work_of(channel: &OrderChannel, flushers: u16, number: u16) -> Result<Work, G
 fn join_all<L: Ledger, R: Threads>(
     rt: &R,
     alloc: Global,
-    running: Vec<JoinHandle<Seat<L>>>,
+    running: Vec<Running<Seat<L>>>,
 ) -> Result<Vec<Seat<L>>, GatewayFault>
     ensures { IfErr result (λ fault. fault ≡ NoMemory) }
 {
@@ -80,7 +79,7 @@ fn join_all<L: Ledger, R: Threads>(
 /// started, and none where one could not be. On every path the sides of the channel are dropped
 /// before a worker is waited for, so each of them ends.
 fn run_workers<
-    L: Round + RoundStart<Listener> + Send + Sync,
+    L: Round + Send + Sync,
     R: Net<Listener = TcpListener, Stream = TcpStream> + Threads + Wait + Clock + Sync,
 >(
     rt: &R,
@@ -111,7 +110,7 @@ fn run_workers<
                 acceptor.close(GatewayFault::CannotStart);
                 break;
             };
-            if running.push(worker).is_err() {
+            if running.push(acceptor.start(worker)).is_err() {
                 acceptor.close(GatewayFault::NoMemory);
                 break;
             }
@@ -124,9 +123,9 @@ fn run_workers<
 
 /// Starts a worker on each seat, and waits until they end: the receivers once so many connections
 /// were accepted and served, or after a fault, and then the flushers. None is accepted before all
-/// have started. If it returns Ok, so many connections were accepted by this listener.
+/// have started. If it returns Ok, so many connections were accepted.
 pub fn serve_beside<
-    L: Round + RoundStart<Listener> + Send + Sync,
+    L: Round + Send + Sync,
     R: Net<Listener = TcpListener, Stream = TcpStream> + Threads + Wait + Clock + Sync,
 >(
     rt: &R,
@@ -136,14 +135,13 @@ pub fn serve_beside<
     listener: Listener,
     options: &ServeOptions<'_>,
     connections: u64,
-) -> Result<Vec<Seat<L>>, GatewayFault>
-    requires listener { L.listener ≡ Some listener }
-    requires connections { L.connections ≡ connections }
-    ensures accepted { OnOk result (
-        ∥ AreAccepted ⟦<Listener as Accept>⟧.accepts (Some listener) connections 0 ∥₁) }
+) -> Result<(Vec<Seat<L>>, RoundCount), GatewayFault>
+    requires { L.parts ≡ options.now.receivers + options.now.flushers }
+    ensures accepted { IfOk result (λ r. r.1.accepted ≡ connections) }
 {
     let channel = order_channel(alloc)?;
-    let listener = SharedListener::<Listener, L>::new(listener, connections);
+    let workers = u64::from(options.receivers) + u64::from(options.flushers);
+    let listener = SharedListener::<Listener, L>::new(listener, workers, connections);
     let seats = run_workers(rt, alloc, shared, seats, &listener, channel, options);
-    listener.end(seats)
+    listener.end(connections, seats)
 }

@@ -66,7 +66,11 @@ fn each_status_of_success(rt: HostRuntime) -> Result<(), Fail> {
     for last in 0..100u8 {
         reply[10] = b'0' + last / 10;
         reply[11] = b'0' + last % 10;
-        assert_eq!(rt; answer_to(rt.alloc(), &reply, &[]), Answer::Success, "2{last:02}");
+        assert_eq!(rt;
+            answer_to(rt.alloc(), &reply, &[]),
+            Answer::Success,
+            "2{last:02}"
+        );
     }
     Ok(())
 }

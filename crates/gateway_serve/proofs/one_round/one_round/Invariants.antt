@@ -1,4 +1,3 @@
-use Rattle.std.proofs.Common.{Some}
 use Rattle.gateway_serve.proofs.one_round.one_round.Given as goal
 
 abbrev pub ghosts-round_over-L-Ledger : goal.ghosts-round_over-L-Ledger
@@ -6,6 +5,3 @@ ghosts-round_over-L-Ledger g a = record { name = a.blank.name; parts = a.blank.p
 
 abbrev pub ghosts-round_over-L-Round : goal.ghosts-round_over-L-Round
 ghosts-round_over-L-Round g a = record { opening = a.book.opening }
-
-abbrev pub ghosts-round_over-L-RoundStart : goal.ghosts-round_over-L-RoundStart
-ghosts-round_over-L-RoundStart g a = record { listener = Some a.listener; connections = a.connections }
