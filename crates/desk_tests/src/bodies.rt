@@ -2,11 +2,12 @@
 use std::alloc::{AllocError, Global};
 
 /// Appends a data point of the sum `a`, of this series: value 1, over ten nanoseconds.
-fn put_point(body: &mut String, series: u64, start: u64) -> Result<(), AllocError> {
-    let alloc = body.allocator();
+fn put_point(alloc: Global, body: &mut String, series: u64, start: u64) -> Result<(), AllocError> {
     let end = start.saturating_add(10);
     body.push_str(&format!(in alloc; "{{\"asInt\":\"1\",\"startTimeUnixNano\":\"{start}\",")?)?;
-    body.push_str(&format!(in alloc; "\"timeUnixNano\":\"{end}\",\"attributes\":[{{\"key\":\"k\",")?)?;
+    body.push_str(&format!(in alloc;
+        "\"timeUnixNano\":\"{end}\",\"attributes\":[{{\"key\":\"k\","
+    )?)?;
     body.push_str(&format!(in alloc; "\"value\":{{\"intValue\":\"{series}\"}}}}]}}")?)
 }
 
@@ -19,7 +20,7 @@ pub fn body_of(alloc: Global, points: &[(u64, u64)]) -> Result<String, AllocErro
         if i > 0 {
             body.push_str(",")?;
         }
-        put_point(&mut body, *series, *start)?;
+        put_point(alloc, &mut body, *series, *start)?;
     }
     body.push_str("]}}]}]}]}")?;
     Ok(body)
