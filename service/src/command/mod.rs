@@ -83,6 +83,9 @@ enum Failure {
     Line(anyhow::Error),
     #[error("{0}")]
     Disk(#[from] Fault),
+    /// The same of what does not keep the service from starting.
+    #[error("{0}")]
+    Changed(String),
 }
 
 impl From<Ended> for Failure {
@@ -111,7 +114,7 @@ pub fn run() -> ExitCode {
             ExitCode::from(match failure {
                 Failure::Refused(_) => REFUSED,
                 Failure::Line(_) => FAULTY,
-                Failure::Disk(_) => DISK,
+                Failure::Disk(_) | Failure::Changed(_) => DISK,
             })
         }
     }
