@@ -53,6 +53,9 @@ struct Found {
     series: usize,
     series_without_owner: usize,
     quarantined: Vec<String>,
+    /// Of the posts, those in quarantined senders' own files.
+    held_posts: u64,
+    held_bytes: u64,
     dead: u64,
     /// What is forwarded from this start on has keys of its own: the folder was copied, or its lock is gone.
     new_epoch: bool,
@@ -237,6 +240,9 @@ fn found(copy: &Path) -> Result<Found, Failure> {
         found.segments += segments(&copy.join(format!("slot-{number}/journal")));
         let (journal, outbox) = folder.slot(number)?;
         found.journal_bytes += journal.size().0;
+        let held = journal.held();
+        found.held_posts += held.posts;
+        found.held_bytes += held.bytes;
         found
             .dropped
             .extend(journal.dropped().iter().map(Dropped::to_string));
@@ -347,6 +353,14 @@ fn text(found: &Found, data: &Path) -> String {
         ),
     );
     row("quarantined", values::senders_shown(&found.quarantined));
+    row(
+        "held back",
+        format!(
+            "{}, {}",
+            counted(found.held_posts, "post"),
+            bytes(found.held_bytes)
+        ),
+    );
     row("refused for good", counted(found.dead, "request"));
     if found.new_epoch {
         row(
