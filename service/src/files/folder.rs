@@ -121,6 +121,16 @@ impl Folder {
         usable::look_at(path)
     }
 
+    /// Whether a start would take it for a copy, or for one whose lock was deleted, and so draw a new epoch. False where
+    /// there is none, or its version can't be read.
+    pub fn is_moved(path: &Path) -> bool {
+        let Ok(Some(version)) = Version::read(path) else {
+            return false;
+        };
+        let found = File::open(path.join("lock")).and_then(|lock| Identity::of(&lock));
+        !found.is_ok_and(|found| version.lock.may_be(found))
+    }
+
     /// Draws a new epoch, for a folder that was put back in a way that a start can't see. It is that of the slots
     /// that are opened from then on; what waits in an outbox keeps its own.
     pub fn renew_epoch(&self) -> Result<String, Fault> {

@@ -3,20 +3,25 @@
 //! | kind | bytes |
 //! |---|---|
 //! | 16 post, 17 copy | seconds since 1970 (u64), foreign points (u64), length of the sender's name (u64), name, body |
+//! | 18 held | JSON: of each quarantined sender its name, how many of its posts are in its own file, and where they end there |
 //!
 //! A record is written in place, under one short lock, so that the order in the file is the order of the calls. One
 //! thread syncs, once for all that wait; nobody who must wait for the disk holds the lock of those who write.
 
 mod found;
+mod held;
 mod open;
+mod reading;
 mod sync;
 
 use super::disk::Disk;
-use super::records::{self, Next, Reader, Which};
+use super::records::{self, Which};
 use super::room::Room;
 use super::segment::{self, Ahead, Dropped, Segment};
 use super::{lock, seconds, Durability, Fault};
 use bytes::Bytes;
+pub use held::Held;
+use std::collections::{BTreeMap, BTreeSet};
 use std::fs::File;
 use std::path::{Path, PathBuf};
 use std::sync::atomic::{AtomicU64, Ordering::SeqCst};
@@ -26,6 +31,7 @@ use sync::Waiters;
 
 const POST: u8 = records::OWN;
 const COPY: u8 = records::OWN + 1;
+const HELD: u8 = records::OWN + 2;
 
 /// A post that the gateway took.
 #[derive(Clone, Debug, PartialEq, Eq)]
@@ -35,6 +41,13 @@ pub struct Post {
     pub foreign: u64,
     /// As the gateway was given it.
     pub body: Bytes,
+}
+
+impl Post {
+    /// What is ahead of name and body in its record.
+    fn numbers(&self, since: u64) -> [[u8; 8]; 3] {
+        [since, self.foreign, self.sender.len() as u64].map(u64::to_le_bytes)
+    }
 }
 
 /// A place in the journal: all that was appended before it.
@@ -69,6 +82,8 @@ struct Shared {
     place: Mutex<Place>,
     /// Never locked over a call of the disk: who shows it must not wait for one.
     sizes: Mutex<Vec<Size>>,
+    /// What of quarantined senders' files counts, where a segment is the first that is replayed.
+    held: Mutex<BTreeMap<u64, held::List>>,
     /// All before this ticket is durable.
     durable: AtomicU64,
     waiters: Mutex<Waiters>,
@@ -88,6 +103,8 @@ struct Place {
     ended: Vec<(Arc<File>, PathBuf)>,
     /// The ticket of the last turn or copy: earlier segments are not deleted before it is durable.
     kept: u64,
+    /// Quarantined senders whose posts are in their own files, and who have posted nothing since.
+    moved: BTreeSet<String>,
 }
 
 /// What a segment has.
@@ -123,7 +140,7 @@ impl Journal {
         let shared = &*self.shared;
         let now = seconds();
         let name = post.sender.as_bytes();
-        let numbers = [now, post.foreign, name.len() as u64].map(u64::to_le_bytes);
+        let numbers = post.numbers(now);
         let numbers = numbers.as_flattened();
         let head = records::head(kind, &[numbers, name, &post.body]);
         let length = (head.len() + numbers.len() + name.len() + post.body.len()) as u64;
@@ -134,8 +151,9 @@ impl Journal {
             shared.disk.end(&fault);
         }
         place.ticket += 1;
-        if kind == COPY {
-            place.kept = place.ticket;
+        match kind {
+            COPY => place.kept = place.ticket,
+            _ => drop(place.moved.remove(&post.sender)),
         }
         if let Some(size) = lock(&shared.sizes).last_mut() {
             size.bytes += length;
@@ -177,27 +195,6 @@ impl Journal {
         }
     }
 
-    /// Gives the posts of the segments from `first` to before `end` that count, in order, until `each` is false.
-    pub fn posts(&self, first: u64, end: u64, mut each: impl FnMut(Post) -> bool) -> Result<(), Fault> {
-        let (last, at) = {
-            let place = lock(&self.shared.place);
-            (place.segment.number, place.segment.at)
-        };
-        for number in segment::numbers(&self.shared.folder)? {
-            if !(first..end).contains(&number) || number > last {
-                continue;
-            }
-            let written = (number == last).then_some(at);
-            if !self
-                .shared
-                .posts_of(number, written, number == first, &mut each)?
-            {
-                break;
-            }
-        }
-        Ok(())
-    }
-
     /// Makes sure that the next segment's number is at least this: the outbox may know of a later segment than is left.
     pub fn reach(&self, segment: u64) {
         let mut place = lock(&self.shared.place);
@@ -227,7 +224,7 @@ impl Journal {
             shared.disk.remove(&segment::path(&shared.folder, number))?;
         }
         lock(&shared.sizes).retain(|size| size.number >= before || size.number >= last);
-        Ok(())
+        self.forget_held(before.min(last))
     }
 
     /// Bytes in the segments that are there, and when the first of their posts was appended (seconds since 1970).
@@ -288,43 +285,6 @@ impl Shared {
         });
         Ok(())
     }
-
-    /// Whether `each` wants more. Only the segment that is written, up to where it is, has no end.
-    fn posts_of(
-        &self,
-        number: u64,
-        written: Option<u64>,
-        is_first: bool,
-        each: &mut impl FnMut(Post) -> bool,
-    ) -> Result<bool, Fault> {
-        let path = segment::path(&self.folder, number);
-        let (mut reader, mut next) = Reader::open(&path, Which::Journal, number, written)?;
-        loop {
-            match next {
-                Next::Record {
-                    at,
-                    kind: kind @ (POST | COPY),
-                    bytes,
-                } => {
-                    let (_, post) = post_of(bytes)
-                        .ok_or_else(|| reader.damaged(at, "is no post that was written here"))?;
-                    if (kind == POST || is_first) && !each(post) {
-                        return Ok(false);
-                    }
-                }
-                Next::Record {
-                    kind: records::HEADER,
-                    ..
-                } => {}
-                Next::Closed => return Ok(true),
-                Next::Stop if Some(reader.at) == written => return Ok(true),
-                Next::Record { .. } | Next::Stop => {
-                    return Err(reader.damaged(reader.at, super::judge::CHANGED))
-                }
-            }
-            next = reader.next()?;
-        }
-    }
 }
 
 /// Makes a segment durable that has no name yet: one that has its name has a header, and is as long as it was made.
@@ -359,24 +319,6 @@ fn ahead(durability: Durability) -> Ahead {
         Durability::Disk => Ahead::Zeros(0),
         Durability::Process => Ahead::Blocks(0),
     }
-}
-
-/// When a post was appended, and the post.
-fn post_of(bytes: Vec<u8>) -> Option<(u64, Post)> {
-    let mut rest = &bytes[..];
-    let since = records::take_number(&mut rest)?;
-    let foreign = records::take_number(&mut rest)?;
-    let length = usize::try_from(records::take_number(&mut rest)?).ok()?;
-    let sender = std::str::from_utf8(rest.get(..length)?).ok()?.to_string();
-    let begin = bytes.len() - rest.len() + length;
-    Some((
-        since,
-        Post {
-            sender,
-            foreign,
-            body: Bytes::from(bytes).slice(begin..),
-        },
-    ))
 }
 
 #[cfg(test)]

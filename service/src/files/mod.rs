@@ -18,7 +18,7 @@ pub use dead::Dead;
 #[cfg(test)]
 pub(crate) use disk::{Call, Disk};
 pub use folder::{Folder, FolderFault, MOST_SLOTS};
-pub use journal::{Journal, Post, Ticket};
+pub use journal::{Held, Journal, Post, Ticket};
 pub use outbox::{Outbox, Series};
 pub use segment::Dropped;
 

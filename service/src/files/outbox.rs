@@ -4,6 +4,7 @@
 //! bytes are described in `rows`.
 
 mod changes;
+mod damaged;
 mod moved;
 mod open;
 mod rows;
@@ -70,6 +71,7 @@ pub struct Outbox {
     /// Which segment the last run wrote to, and up to where.
     ended: (PathBuf, u64),
     dropped: Vec<Dropped>,
+    stuck: Mutex<Option<String>>,
 }
 
 /// The ends of the points, as the gateway's own request tells them.
@@ -231,7 +233,7 @@ impl Outbox {
         self.disk.under_way()
     }
 
-    /// Returns the first waiting request with its body, as soon as there is one.
+    /// Returns the first waiting request with its body, as soon as there is one, and it is as it was committed.
     pub async fn first(&self) -> Result<(Waiting, Vec<u8>), Fault> {
         loop {
             let front = lock(&self.state).front();
@@ -242,8 +244,13 @@ impl Outbox {
             };
             let waiting = front.waiting.clone();
             let path = segment::path(&self.folder, front.segment);
-            let body = blocking(move || rows::read_item(&path, &front)).await?;
-            return Ok((waiting, body));
+            match blocking(move || rows::read_item(&path, &front)).await {
+                Err(fault @ Fault::Damaged { .. }) => self.note_changed(&fault).await,
+                read => {
+                    self.note_sound();
+                    return Ok((waiting, read?));
+                }
+            }
         }
     }
 

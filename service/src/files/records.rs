@@ -36,6 +36,8 @@ pub const VERSION: u16 = 1;
 pub enum Which {
     Journal = 1,
     Outbox = 2,
+    /// Of the journal, the posts of a quarantined sender.
+    Held = 3,
 }
 
 /// Appends a record made of parts.

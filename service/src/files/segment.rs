@@ -114,6 +114,18 @@ pub struct Dropped {
     pub kept: PathBuf,
 }
 
+impl std::fmt::Display for Dropped {
+    fn fmt(&self, out: &mut std::fmt::Formatter<'_>) -> std::fmt::Result {
+        let (file, kept) = (self.file.display(), self.kept.display());
+        let (at, bytes) = (self.at, self.bytes);
+        write!(
+            out,
+            "{file}, byte {at}: {bytes} bytes are no whole record, as a loss of power leaves it, so they do not count; they \
+             are kept in {kept}"
+        )
+    }
+}
+
 /// Keeps what is in a file from `at` on, but zeros at its end, before it is dropped: in a file beside it, durably.
 pub fn keep_aside(disk: &Disk, path: &Path, at: u64) -> Result<Option<Dropped>, Fault> {
     let mut rest = Vec::new();

@@ -1,7 +1,8 @@
 //! What the segments of an earlier run are, and what of them was changed since: a loss of power leaves only what was
 //! not durable otherwise than it was written.
 
-use super::{post_of, Expected, Size, COPY, POST};
+use super::reading::post_of;
+use super::{held, Expected, Size, COPY, HELD, POST};
 use crate::files::judge::{is_torn, CHANGED};
 use crate::files::records::{Next, Reader, Which};
 use crate::files::{segment, Fault};
@@ -22,6 +23,7 @@ pub(super) struct Found {
     length: u64,
     made: u64,
     pub forgotten: u64,
+    pub held: held::List,
 }
 
 pub(super) fn find(folder: &Path, number: u64) -> Result<Found, Fault> {
@@ -36,8 +38,18 @@ pub(super) fn find(folder: &Path, number: u64) -> Result<Found, Fault> {
         bytes: 0,
         first: None,
     };
+    let mut held = held::List::new();
     loop {
         match next {
+            Next::Record {
+                at,
+                kind: HELD,
+                bytes,
+            } => {
+                size.bytes += bytes.len() as u64;
+                let list = held::list_of(&bytes);
+                held = list.ok_or_else(|| reader.damaged(at, "is no list that was written here"))?;
+            }
             Next::Record {
                 kind: POST | COPY,
                 bytes,
@@ -57,6 +69,7 @@ pub(super) fn find(folder: &Path, number: u64) -> Result<Found, Fault> {
                     length,
                     made: reader.made,
                     forgotten: reader.forgotten,
+                    held,
                 })
             }
         }
@@ -79,7 +92,9 @@ pub(super) fn check(folder: &Path, found: &[Found], expected: &Expected) -> Resu
     if needed.first().is_some_and(|first| *first > reach) {
         return Err(segment::missing(folder, reach));
     }
-    found.iter().try_for_each(|one| one.check(folder, expected))
+    found.iter().try_for_each(|one| one.check(folder, expected))?;
+    let first = found.iter().find(|one| one.size.number == reach);
+    first.map_or(Ok(()), |first| held::check(folder, &first.held))
 }
 
 /// An older outbox would have posts counted again that are in a group.

@@ -7,6 +7,7 @@ use crate::files::judge::CHANGED;
 use crate::files::room::Room;
 use crate::files::segment::{self, Dropped};
 use crate::files::{Durability, Fault};
+use std::collections::BTreeSet;
 use std::path::Path;
 use std::sync::atomic::AtomicU64;
 use std::sync::{Arc, Condvar, Mutex};
@@ -27,6 +28,10 @@ impl Journal {
         let number = drop_empty(disk, folder, &mut found, expected)?;
         let mut segment = prepare(disk, folder, number, durability, expected.reach)?;
         name(disk, folder, &mut segment)?;
+        let lists = found
+            .iter_mut()
+            .map(|one| (one.size.number, std::mem::take(&mut one.held)));
+        let held = lists.filter(|(_, list)| !list.is_empty()).collect();
         let mut sizes: Vec<Size> = found.into_iter().map(|one| one.size).collect();
         sizes.push(Size {
             number,
@@ -39,6 +44,7 @@ impl Journal {
             ticket: 1,
             ended: Vec::new(),
             kept: 1,
+            moved: BTreeSet::new(),
         };
         let shared = Arc::new(Shared {
             disk: disk.clone(),
@@ -47,6 +53,7 @@ impl Journal {
             room,
             place: Mutex::new(place),
             sizes: Mutex::new(sizes),
+            held: Mutex::new(held),
             durable: AtomicU64::new(0),
             waiters: Mutex::new(Waiters::default()),
             work: Condvar::new(),

@@ -2,6 +2,7 @@
 
 mod changed;
 mod damage;
+mod held;
 mod power;
 mod syncs;
 

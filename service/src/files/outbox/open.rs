@@ -64,6 +64,7 @@ impl Outbox {
             arrived: Notify::new(),
             ended,
             dropped,
+            stuck: Mutex::new(None),
         };
         outbox.sweep()?;
         Ok(outbox)
@@ -150,15 +151,21 @@ fn skip_taken(folder: &Path, mut batch: Batch, acknowledged: u64) -> Result<Batc
             number: batch.first,
             since: batch.since,
         };
-        let length = rows::item_length(
-            &path,
-            &Front {
-                waiting,
-                segment: batch.segment,
-                at: batch.at,
-            },
-        )?;
-        (batch.first, batch.count, batch.at) = (batch.first + 1, batch.count - 1, batch.at + length);
+        let front = Front {
+            waiting,
+            segment: batch.segment,
+            at: batch.at,
+        };
+        let (taken, at) = match rows::sound_length(&path, &front) {
+            Ok(length) => (1, batch.at + length),
+            // One that the sink has was changed: the next one is looked for.
+            Err(Fault::Damaged { .. }) => {
+                let next = rows::find_item(&path, batch.at..batch.end, acknowledged + 1)?;
+                (acknowledged + 1 - batch.first, next.unwrap_or(batch.at))
+            }
+            Err(fault) => return Err(fault),
+        };
+        (batch.first, batch.count, batch.at) = (batch.first + taken, batch.count - taken, at);
     }
     Ok(batch)
 }
@@ -289,6 +296,24 @@ impl Reading {
         }
     }
 
+    /// The items of a group of the last segment, which may be torn. Where they are durable and one was changed, all else is
+    /// known by the commit: the delivery stops at that one, and says so.
+    fn last_items(&mut self, head: &GroupHead) -> Result<Items, Fault> {
+        let from = self.reader.at;
+        let torn = match self.items(head, true)? {
+            Items::Torn(torn) => torn,
+            whole => return Ok(whole),
+        };
+        let Err(changed) = is_torn(&self.reader.path, torn) else {
+            return Ok(Items::Torn(torn));
+        };
+        self.reader.seek(from)?;
+        match self.items(head, false) {
+            Ok(whole @ Items::Whole { .. }) => Ok(whole),
+            _ => Err(changed),
+        }
+    }
+
     /// The state that the last segment tells, and where it has to be closed, where it was not.
     fn read_last(&mut self) -> Result<(State, Option<u64>), Fault> {
         let Next::Record {
@@ -315,11 +340,8 @@ impl Reading {
                     bytes,
                 } => {
                     let head = self.head(at, &bytes)?;
-                    match self.items(&head, true)? {
-                        Items::Torn(torn) => {
-                            is_torn(&self.reader.path, torn)?;
-                            return Ok((state, Some(at)));
-                        }
+                    match self.last_items(&head)? {
+                        Items::Torn(_) => return Ok((state, Some(at))),
                         whole => state.apply(self.group(head, whole, &mut keys, at)?),
                     }
                 }

@@ -1,15 +1,14 @@
 //! A segment that somebody changed: what a loss of power can't have done is refused by name, and nothing is deleted.
 
 use super::*;
+use crate::files::power::place;
 
 /// A segment with two posts, as a killed service leaves it once nothing was posted for a moment.
 fn killed(folder: &Path, durability: Durability) -> Vec<u8> {
     let journal = open_on(&Disk::default(), folder, durability).unwrap();
     ["first", "second"].iter().for_each(|text| append(&journal, text));
-    let marked = || lock(&journal.shared.place).segment.at;
     journal.shared.sync();
-    let before = marked();
-    while marked() == before {
+    while lock(&journal.shared.place).segment.needs_mark() {
         std::thread::sleep(Duration::from_millis(1));
     }
     kill(journal);
@@ -44,7 +43,7 @@ fn names(folder: &Path) -> Vec<std::ffi::OsString> {
 #[test]
 fn a_bit_that_is_flipped_in_any_record_of_a_marked_segment_is_named() {
     for durability in [Durability::Disk, Durability::Process] {
-        let folder = tempfile::tempdir().unwrap();
+        let folder = place();
         let sound = killed(folder.path(), durability);
         let path = segment::path(folder.path(), 1);
         let written = sound.iter().rposition(|byte| *byte != 0).unwrap();
@@ -66,7 +65,7 @@ fn a_bit_that_is_flipped_in_any_record_of_a_marked_segment_is_named() {
 
 #[test]
 fn a_segment_that_is_shorter_than_it_was_made_is_named() {
-    let folder = tempfile::tempdir().unwrap();
+    let folder = place();
     let sound = killed(folder.path(), Durability::Disk);
     let path = segment::path(folder.path(), 1);
     let written = sound.iter().rposition(|byte| *byte != 0).unwrap() + 1;
@@ -84,7 +83,7 @@ fn a_segment_that_is_shorter_than_it_was_made_is_named() {
 #[test]
 fn a_segment_that_is_missing_or_another_file_is_named() {
     for durability in [Durability::Disk, Durability::Process] {
-        let folder = tempfile::tempdir().unwrap();
+        let folder = place();
         let sound = killed(folder.path(), durability);
         let path = segment::path(folder.path(), 1);
         let mut numbers = Numbers(3);
@@ -114,7 +113,7 @@ fn a_segment_that_is_missing_or_another_file_is_named() {
 /// No commit names it, but the start has noted that it began it.
 #[test]
 fn a_segment_that_a_start_has_begun_is_missed_too() {
-    let folder = tempfile::tempdir().unwrap();
+    let folder = place();
     append(&open(folder.path()), "a");
     append(&open(folder.path()), "b");
     std::fs::remove_file(segment::path(folder.path(), 2)).unwrap();
@@ -128,7 +127,7 @@ fn a_segment_that_a_start_has_begun_is_missed_too() {
 
 #[test]
 fn two_segments_that_were_swapped_are_named() {
-    let folder = tempfile::tempdir().unwrap();
+    let folder = place();
     append(&open(folder.path()), "a");
     append(&open(folder.path()), "b");
     let (first, second) = (segment::path(folder.path(), 1), segment::path(folder.path(), 2));
@@ -144,7 +143,7 @@ fn two_segments_that_were_swapped_are_named() {
 /// A torn record, as a loss of power leaves it: the service starts, and no byte of it is gone.
 #[test]
 fn what_is_dropped_is_kept_aside() {
-    let folder = tempfile::tempdir().unwrap();
+    let folder = place();
     let journal = open(folder.path());
     append(&journal, "first");
     let end = lock(&journal.shared.place).segment.at;
