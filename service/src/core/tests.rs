@@ -250,7 +250,11 @@ fn what_is_written_in_parts_is_there_once_also_behind_faults() {
     assert_eq!(post(&core, "A", &points(&known, 10, 5)), Ok(0));
     let mut texts = Vec::new();
     let (blocks, ()) = each_block_fails(false, || core.lock().write_all(&mut texts));
-    assert!(texts.len() >= 12 && blocks > 50, "{} texts, {blocks} blocks", texts.len());
+    assert!(
+        texts.len() >= 12 && blocks > 50,
+        "{} texts, {blocks} blocks",
+        texts.len()
+    );
     let points: Vec<_> = texts.iter().flat_map(|text| forwarded(text).unwrap()).collect();
     let series: std::collections::HashSet<_> = points.iter().map(|point| &point.series).collect();
     assert_eq!((points.len(), series.len()), (120, 120));

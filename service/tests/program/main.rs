@@ -138,29 +138,27 @@ fn a_folder_with_more_series_than_fit_is_refused_by_name() {
 fn a_book_without_memory_takes_no_posts_and_forwards_all_that_it_took() {
     let place = Place::new();
     let sink = format!("sqlite:{}", place.folder.path().join("sink.db").display());
-    let words = ["--sink", &sink, "--most-series", "8000", "--book-memory", "64MiB"];
+    let words = ["--sink", &sink, "--most-series", "20000", "--book-memory", "64MiB"];
     let service = place.serve_with(&words);
-    let long = "x".repeat(30_000);
-    let mut taken = Vec::new();
-    until("there is no memory", || {
-        let name = format!("n{}{long}", taken.len());
-        let body = points(&[&name], 100, 1);
-        match service.post("A", &body).unwrap() {
-            (200, _) => taken.push(name),
-            (503, text) => {
-                assert!(text.contains("no memory"), "{text}");
-                return true;
-            }
-            other => panic!("{other:?}"),
+    let long = "x".repeat(4_000);
+    let mut taken: Vec<String> = Vec::new();
+    let why = loop {
+        let of_post = |number: usize| format!("n{}{long}", taken.len() + number);
+        let names: Vec<String> = (0..20).map(of_post).collect();
+        let named: Vec<&str> = names.iter().map(String::as_str).collect();
+        match service.post("A", &points(&named, 100, 1)).unwrap() {
+            (200, text) if text == "{}" => taken.extend(names),
+            other => break other,
         }
-        false
-    });
+        assert!(taken.len() < 20_000, "it never has too little");
+    };
+    assert!(why.0 == 503 && why.1.contains("no memory"), "{why:?}");
     assert!(taken.len() > 100, "{}", taken.len());
     service.drain();
     service.has_no_fault();
     assert_eq!(service.end(), Some(0));
     let service = place.serve();
-    for name in &taken {
+    for name in taken.iter().step_by(20) {
         let late = service.post("A", &points(&[name], 100, 1)).unwrap();
         assert_eq!(late.0, 400, "{late:?}");
     }
