@@ -1,7 +1,6 @@
 -- Connections that are served round by round.
 use Rattle.std.proofs.Common.{◌≡◌, ℕ, ◌+◌, ◌-◌, ◌*◌, ◌<◌, ◌≤◌, List, [], ◌∷◌, ◌∙◌, ap, sym, arith, refl}
-use Rattle.std.specs.Prelude.{min, All, Ok}
-use Rattle.std.proofs.lemmas.List.Elements.{All-cons, All-nil}
+use Rattle.std.specs.Prelude.{min}
 use Rattle.std.proofs.Math.Nat.{suc-mul}
 use Rattle.metric_events.specs.declared.opening.Opening.{Opening}
 use Rattle.delta_book.specs.Journal.{Journal}
@@ -10,7 +9,7 @@ use Rattle.delta_book.proofs.Journaled.{opening-history}
 use Rattle.shared_book.specs.declared.audit.Audit.{Audit}
 use Rattle.gateway_serve.specs.declared.sums.Sums.{Sums}
 use Rattle.gateway_serve.specs.Rounds.{ServedRound, IsRound, IsRun, MOST}
-use Rattle.gateway_serve.specs.inner.Rounds.{AreCalls, AreServed, IsLastRound, IsOver, Serving}
+use Rattle.gateway_serve.specs.inner.Rounds.{IsLastRound, IsOver}
 
 -- behind rounds 1, 2, .. up to the last so many of the connections are left; while some are, each round was full
 pub record AreThrough (connections round last left : ℕ) : Type 0 where
