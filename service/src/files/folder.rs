@@ -18,7 +18,7 @@ mod version;
 use super::disk::{io_fault, Disk};
 use super::journal::Expected;
 use super::room::{Promise, Room};
-use super::{lock, outbox, segment, Dead, Durability, Fault, Journal, Outbox};
+use super::{lock, segment, Dead, Durability, Fault, Journal, Outbox};
 use nix::errno::Errno;
 use nix::fcntl::{flock, FlockArg};
 use std::fs::{File, OpenOptions};
@@ -214,7 +214,7 @@ impl Folder {
     pub fn outbox(&self, number: u16) -> Result<Outbox, Fault> {
         let slot = self.of_slot(number);
         let (journal, outbox) = (slot.join("journal"), slot.join("outbox"));
-        if lock(&self.version).begun.contains_key(&number) && !outbox::is_there(&outbox)? {
+        if lock(&self.version).begun.contains_key(&number) && !has_segments(&outbox)? {
             return Err(Fault::Damaged {
                 path: outbox,
                 at: 0,
@@ -259,6 +259,11 @@ impl Folder {
         self.disk.sync_folder(&self.path)?;
         Ok(dead)
     }
+}
+
+/// Whether an outbox was made there.
+fn has_segments(folder: &Path) -> Result<bool, Fault> {
+    Ok(folder.exists() && !segment::numbers(folder)?.is_empty())
 }
 
 /// The kernel gives the locks back when the process ends, in whatever way. A started gateway does not get them: files

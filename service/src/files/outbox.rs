@@ -19,7 +19,6 @@ use super::{lock, seconds, Fault};
 use crate::otlp::series::{self, NotForwarded, SeriesKey};
 use crate::work::blocking;
 use changes::{Change, Group};
-pub(in crate::files) use open::is_there;
 use rows::Snapshot;
 use state::{Age, State};
 use std::collections::{BTreeSet, HashMap, HashSet};

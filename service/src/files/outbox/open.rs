@@ -11,8 +11,7 @@ use crate::files::disk::Disk;
 use crate::files::judge::{is_torn, CHANGED};
 use crate::files::records::{Next, Reader, Which, HEADER};
 use crate::files::room::Room;
-use crate::files::segment::{self, Dropped};
-use crate::files::Fault;
+use crate::files::{segment, Dropped, Fault};
 use crate::otlp::series::SeriesKey;
 use std::path::{Path, PathBuf};
 use std::sync::{Arc, Mutex};
@@ -69,11 +68,6 @@ impl Outbox {
         outbox.sweep()?;
         Ok(outbox)
     }
-}
-
-/// Whether an outbox was made there.
-pub(in crate::files) fn is_there(folder: &Path) -> Result<bool, Fault> {
-    Ok(folder.exists() && !segment::numbers(folder)?.is_empty())
 }
 
 /// What was left.
@@ -151,11 +145,8 @@ fn skip_taken(folder: &Path, mut batch: Batch, acknowledged: u64) -> Result<Batc
             number: batch.first,
             since: batch.since,
         };
-        let front = Front {
-            waiting,
-            segment: batch.segment,
-            at: batch.at,
-        };
+        let (segment, at) = (batch.segment, batch.at);
+        let front = Front { waiting, segment, at };
         let (taken, at) = match rows::sound_length(&path, &front) {
             Ok(length) => (1, batch.at + length),
             // One that the sink has was changed: the next one is looked for.
