@@ -9,7 +9,7 @@ mod support;
 mod told;
 
 use std::time::Duration;
-use support::{points, until, Load, Place, NO_SINK};
+use support::{points, Load, Place, NO_SINK};
 
 fn refused(why: &str) -> (u16, String) {
     (400, format!("{{\"code\":3,\"message\":\"{why}\"}}"))
