@@ -6,7 +6,6 @@ use std::process::Command;
 /// All that changes something, or has something of the senders.
 const GUARDED: [(&str, &str); 10] = [
     ("POST", "/flush"),
-    ("POST", "/renew"),
     ("POST", "/quarantine/A"),
     ("POST", "/lift/A"),
     ("POST", "/dead/0-a-1/resend"),
