@@ -199,7 +199,10 @@ fn look_at_names() -> Result<(), Failure> {
     let set = std::env::vars_os().map(|(name, _)| name.to_string_lossy().into_owned());
     let names = Names::of(&super::Line::command(), set);
     for name in names.gone {
-        tracing::warn!(name, "{name} is set, and is no setting any more: it changes nothing");
+        tracing::warn!(
+            name,
+            "{name} is set, and is no setting any more: it changes nothing"
+        );
     }
     match names.unknown {
         Some(unknown) => Err(Failure::Line(anyhow!(unknown))),

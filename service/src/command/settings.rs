@@ -84,7 +84,12 @@ mod tests {
 
     #[test]
     fn what_is_gone_or_of_somebody_else_is_no_fault() {
-        let found = names(&["TOTXEGUN_SLOTS", "TOTXEGUN_SERVICE_HOST", "TOTXEGUN_PORT_4318_TCP", "TOTXEGUN_BOOK"]);
+        let found = names(&[
+            "TOTXEGUN_SLOTS",
+            "TOTXEGUN_SERVICE_HOST",
+            "TOTXEGUN_PORT_4318_TCP",
+            "TOTXEGUN_BOOK",
+        ]);
         let wanted = Names {
             gone: vec!["TOTXEGUN_SLOTS".into()],
             unknown: None,
