@@ -4,7 +4,7 @@ use crate::support::{points, Place, Service};
 use std::process::Command;
 
 /// All that changes something, or has something of the senders.
-const GUARDED: [(&str, &str); 10] = [
+const GUARDED: [(&str, &str); 9] = [
     ("POST", "/flush"),
     ("POST", "/quarantine/A"),
     ("POST", "/lift/A"),
