@@ -89,8 +89,8 @@ pub struct Options {
     /// How many connections senders may have at a time
     #[arg(long, env = "TOTXEGUN_MOST_CONNECTIONS", value_name = "N", default_value_t = 1024, value_parser = value_parser!(u32).range(1..=100_000))]
     most_connections: u32,
-    /// How many threads serve senders
-    #[arg(long, env = "TOTXEGUN_THREADS", value_name = "N", default_value_t = 2, value_parser = value_parser!(u16).range(1..=64))]
+    /// How many threads serve senders: each reads its posts, so as many as there are processors
+    #[arg(long, env = "TOTXEGUN_THREADS", value_name = "N", default_value_t = 4, value_parser = value_parser!(u16).range(1..=64))]
     threads: u16,
     // What is behind a group stands under its heading: so the groups come last.
     #[command(flatten)]

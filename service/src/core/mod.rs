@@ -25,7 +25,7 @@ const SMALL: usize = 10;
 /// What may be asked for.
 pub const MOST_SERIES: usize = 1_000_000;
 
-/// A round is closed behind so many posts or points: what ended is forgotten then, which takes some milliseconds.
+/// A round is closed after so many posts or points: what ended is forgotten then, which takes some milliseconds.
 const ENTRIES_OF_A_ROUND: u64 = 2_000;
 const POINTS_OF_A_ROUND: u64 = 50_000;
 
@@ -232,7 +232,7 @@ impl Book {
     }
 
     fn end(&mut self, taken: Flushed, end: fn(&mut Desk, &mut Flushes) -> u32) -> Result<(), Refused> {
-        // Each is ended, also behind one that says no, which none does.
+        // Each is ended, also after one that says no, which none does.
         let ended = taken.parts.into_iter().map(|(mut flushes, _)| {
             let status = end(&mut self.desk, &mut flushes);
             check(Answer::of_status(status)).map(drop)
@@ -266,7 +266,7 @@ impl Book {
         std::mem::take(&mut self.rounds_closed)
     }
 
-    /// What each of its books has, one behind the other.
+    /// What each of its books has, one after the other.
     pub fn report(&mut self) -> Result<Vec<u8>, Refused> {
         let mut flushes = Flushes::new().ok_or(Refused::NoMemory)?;
         let mut all = Vec::new();

@@ -179,7 +179,7 @@ fn each_block_fails<T>(does_without: bool, mut call: impl FnMut() -> Result<T, R
             Ok(done) if all_were_given => return (blocks, done),
             // A reader keeps what it has room for.
             Ok(_) => assert!(does_without, "a block was refused, and it was done all the same"),
-            Err(refused) => assert_eq!(refused, Refused::NoMemory, "behind {blocks} blocks"),
+            Err(refused) => assert_eq!(refused, Refused::NoMemory, "after {blocks} blocks"),
         }
     }
     unreachable!()
@@ -244,7 +244,7 @@ fn check_quarantine(core: &Core) -> Result<(), Refused> {
 
 /// Where memory is short: what was written stays written, and the rest is in the book.
 #[test]
-fn what_is_written_in_parts_is_there_once_also_behind_faults() {
+fn what_is_written_in_parts_is_there_once_also_after_faults() {
     let core = Core::new(24_000).unwrap();
     let known = names("s", 120);
     assert_eq!(post(&core, "A", &points(&known, 10, 5)), Ok(0));

@@ -144,7 +144,7 @@ pub(super) fn commit(slot: &Slot, bodies: &[Vec<u8>], group: Group) -> Result<u6
 
 /// Points of quarantined senders outlive a checkpoint: their posts are copied into the new segment. These senders
 /// post nothing meanwhile, so their order is kept although other posts go on. The copies are durable when this
-/// returns: behind the commit the first ones count no more.
+/// returns: after the commit the first ones count no more.
 fn copy_posts_of(slot: &Slot, held: &BTreeSet<String>, first: u64, next: u64) -> Result<(), Fault> {
     let journal = &slot.journal;
     let mut kept = Vec::new();
