@@ -4,9 +4,9 @@
 
 use super::table::Table;
 use super::{json, values, Failure, Form};
-use crate::files::{Durability, Fault, Folder, FolderFault, Journal, Outbox};
+use crate::files::{Dropped, Durability, Fault, Folder, FolderFault, Journal, Outbox};
 use crate::service::slot_of;
-use anyhow::{anyhow, bail, Context};
+use anyhow::{bail, Context};
 use clap::Args;
 use nix::fcntl::{flock, FlockArg};
 use nix::sys::signal::{SigSet, Signal};
@@ -17,7 +17,11 @@ use std::io::ErrorKind;
 use std::os::fd::AsRawFd;
 use std::os::unix::fs::DirBuilderExt;
 use std::path::{Path, PathBuf};
+use std::time::Duration;
 
+/// How often the folder's lock is tried, and how long between.
+const TRIES: u32 = 50;
+const PAUSE: Duration = Duration::from_millis(20);
 /// How often a copy is tried to be removed.
 const REMOVALS: usize = 100;
 
@@ -49,7 +53,16 @@ struct Found {
     series: usize,
     series_without_owner: usize,
     quarantined: Vec<String>,
+    /// Of the posts, those in quarantined senders' own files.
+    held_posts: u64,
+    held_bytes: u64,
     dead: u64,
+    /// What is forwarded from this start on has keys of its own: the folder was copied, or its lock is gone.
+    new_epoch: bool,
+    /// What a start leaves out of a file, and keeps beside it.
+    dropped: Vec<String>,
+    /// Of each request that was changed: the delivery of its slot stops there, and all else goes on.
+    faults: Vec<String>,
 }
 
 impl Options {
@@ -61,31 +74,65 @@ impl Options {
         remove_at(interrupts, copy.0.clone()).context("no thread could be started")?;
         copy.fill(&self.data, &temporary)?;
         let found = found(&copy.0).map_err(|failure| in_the_original(failure, &copy.0, &self.data))?;
-        match self.form.json {
-            true => Ok(json(&found)?),
-            false => Ok(text(&found, &self.data).into()),
+        show_found(found, &copy.0, &self.data, self.form)
+    }
+}
+
+/// What is printed. Where a request was changed, that is, and the first fault ends the command.
+fn show_found(mut found: Found, copy: &Path, data: &Path, form: Form) -> Result<Vec<u8>, Failure> {
+    found.new_epoch = Folder::is_moved(data);
+    let (inner, outer) = (copy.display().to_string(), data.display().to_string());
+    for text in found.dropped.iter_mut().chain(&mut found.faults) {
+        *text = text.replace(&inner, &outer);
+    }
+    let shown = match form.json {
+        true => json(&found)?,
+        false => text(&found, data).into(),
+    };
+    match &found.faults[..] {
+        [] => Ok(shown),
+        [first, ..] => {
+            super::show(&shown)?;
+            Err(Failure::Changed(first.clone()))
         }
     }
 }
 
-/// Keeps a service from starting on the folder while it is copied. Nothing is written.
+/// Keeps a service from starting on the folder while it is copied. Nothing is written: a lock that was deleted is not
+/// made, and the folder itself is locked in its place.
 fn lock(data: &Path) -> anyhow::Result<File> {
-    let path = data.join("lock");
-    let file = File::open(&path).map_err(|error| match error.kind() {
-        ErrorKind::NotFound => anyhow!(
-            "{} is no folder of totxegun: there is no {}",
+    Folder::look_at(data)?;
+    let is_none = |name: &str| !data.join(name).exists();
+    if is_none("version") && is_none("dead") && !has_slot(data) {
+        bail!(
+            "{} is no folder of totxegun: there is no {}. A start would begin a new one there",
             data.display(),
-            path.display()
-        ),
-        _ => anyhow!("{} can't be read: {error}", path.display()),
-    })?;
-    if flock(file.as_raw_fd(), FlockArg::LockSharedNonblock).is_err() {
+            data.join("version").display()
+        );
+    }
+    let path = if is_none("lock") {
+        data.to_path_buf()
+    } else {
+        data.join("lock")
+    };
+    let file = File::open(&path).with_context(|| format!("{} can't be read", path.display()))?;
+    // A process that is just being started has the file open for a moment, though who started it has ended.
+    let is_free = |try_number: u32| {
+        std::thread::sleep(PAUSE * try_number.min(1));
+        flock(file.as_raw_fd(), FlockArg::LockSharedNonblock).is_ok()
+    };
+    if !(0..TRIES).any(is_free) {
         bail!(
             "{} is in use by a running service: `totxegun status` shows how it is",
             data.display()
         );
     }
     Ok(file)
+}
+
+fn has_slot(data: &Path) -> bool {
+    let mut entries = std::fs::read_dir(data).into_iter().flatten().flatten();
+    entries.any(|entry| entry.file_name().as_encoded_bytes().starts_with(b"slot-"))
 }
 
 /// What ends a command from outside, from here on for who waits for it alone.
@@ -193,6 +240,12 @@ fn found(copy: &Path) -> Result<Found, Failure> {
         found.segments += segments(&copy.join(format!("slot-{number}/journal")));
         let (journal, outbox) = folder.slot(number)?;
         found.journal_bytes += journal.size().0;
+        let held = journal.held();
+        found.held_posts += held.posts;
+        found.held_bytes += held.bytes;
+        found
+            .dropped
+            .extend(journal.dropped().iter().map(Dropped::to_string));
         found.add(number, &outbox)?;
         count_posts(&journal, &outbox, &mut found, &mut senders)?;
     }
@@ -215,6 +268,11 @@ impl Found {
         self.series += series.len();
         self.series_without_owner += series.values().filter(|series| series.owner.is_none()).count();
         self.quarantined.extend(outbox.quarantined());
+        self.dropped
+            .extend(outbox.dropped().iter().map(Dropped::to_string));
+        let changed = outbox.find_changed()?.into_iter();
+        self.faults
+            .extend(changed.map(|fault| format!("slot {number}: {fault}")));
         Ok(())
     }
 }
@@ -235,7 +293,9 @@ fn count_posts(
 }
 
 fn segments(folder: &Path) -> u64 {
-    std::fs::read_dir(folder).map_or(0, |entries| entries.count() as u64)
+    let entries = std::fs::read_dir(folder).into_iter().flatten().flatten();
+    let is_segment = |path: PathBuf| path.extension().is_some_and(|extension| extension == "seg");
+    entries.filter(|entry| is_segment(entry.path())).count() as u64
 }
 
 /// A fault names the file in the folder that was asked for, not in the copy.
@@ -293,8 +353,33 @@ fn text(found: &Found, data: &Path) -> String {
         ),
     );
     row("quarantined", values::senders_shown(&found.quarantined));
+    row(
+        "held back",
+        format!(
+            "{}, {}",
+            counted(found.held_posts, "post"),
+            bytes(found.held_bytes)
+        ),
+    );
     row("refused for good", counted(found.dead, "request"));
-    row("faults", "none".into());
+    if found.new_epoch {
+        row(
+            "keys",
+            "new ones from a start on: this folder was copied, or its lock is gone".into(),
+        );
+    }
+    for dropped in &found.dropped {
+        row("left out", dropped.clone());
+    }
+    for fault in &found.faults {
+        row(
+            "fault",
+            format!("{fault}. A start goes on, but delivers no request of this slot from there on"),
+        );
+    }
+    if found.faults.is_empty() {
+        row("faults", "none".into());
+    }
     let posts = found.posts;
     format!("{table}\nA start tells the book its series, gives it the posts ({posts} in all), and delivers the requests in order.\n")
 }

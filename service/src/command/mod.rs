@@ -84,6 +84,9 @@ enum Failure {
     Disk(#[from] Fault),
     #[error("{0}")]
     Memory(String),
+    /// The same of what does not keep the service from starting.
+    #[error("{0}")]
+    Changed(String),
 }
 
 impl From<Ended> for Failure {
@@ -113,7 +116,7 @@ pub fn run() -> ExitCode {
             ExitCode::from(match failure {
                 Failure::Refused(_) => REFUSED,
                 Failure::Line(_) => FAULTY,
-                Failure::Disk(_) => DISK,
+                Failure::Disk(_) | Failure::Changed(_) => DISK,
                 Failure::Memory(_) => MEMORY,
             })
         }

@@ -9,7 +9,9 @@ use std::io::{self, IoSlice};
 use std::os::fd::AsRawFd;
 use std::os::unix::fs::{DirBuilderExt, FileExt, OpenOptionsExt};
 use std::path::Path;
-use std::sync::Arc;
+use std::sync::atomic::{AtomicU64, Ordering::Relaxed};
+use std::sync::{Arc, LazyLock};
+use std::time::{Duration, Instant};
 
 #[derive(Clone, Copy, Debug, PartialEq, Eq)]
 pub enum Call {
@@ -20,7 +22,6 @@ pub enum Call {
     SyncFolder,
     Rename,
     Remove,
-    Cut,
 }
 
 type Hook = dyn Fn(Call, &Path) -> io::Result<()> + Send + Sync;
@@ -31,6 +32,47 @@ type End = dyn Fn(&Fault) + Send + Sync;
 pub struct Disk {
     hook: Option<Arc<Hook>>,
     end: Option<Arc<End>>,
+    under_way: Arc<UnderWay>,
+}
+
+/// Calls side by side: one writes, one syncs, one deletes, and one more.
+const PLACES: usize = 4;
+static BEGAN: LazyLock<Instant> = LazyLock::new(Instant::now);
+
+/// The calls that are under way. No lock is needed to look at them: who has one may be in such a call.
+#[derive(Default)]
+struct UnderWay([AtomicU64; PLACES]);
+
+/// A call that is under way until this is dropped.
+struct Noted<'a>(Option<&'a AtomicU64>);
+
+impl UnderWay {
+    /// In nanoseconds, and never 0.
+    fn now() -> u64 {
+        1 + BEGAN.elapsed().as_nanos() as u64
+    }
+
+    fn note(&self) -> Noted<'_> {
+        let now = UnderWay::now();
+        let is_taken = |place: &&AtomicU64| place.compare_exchange(0, now, Relaxed, Relaxed).is_ok();
+        Noted(self.0.iter().find(is_taken))
+    }
+
+    fn longest(&self) -> Duration {
+        let began = self.0.iter().map(|place| place.load(Relaxed));
+        let first = began.filter(|began| *began > 0).min();
+        first.map_or(Duration::ZERO, |first| {
+            Duration::from_nanos(UnderWay::now().saturating_sub(first))
+        })
+    }
+}
+
+impl Drop for Noted<'_> {
+    fn drop(&mut self) {
+        if let Some(place) = self.0 {
+            place.store(0, Relaxed);
+        }
+    }
 }
 
 /// The exit status of a process that ends by its disk.
@@ -49,7 +91,7 @@ impl Disk {
     pub fn failing(hook: impl Fn(Call, &Path) -> io::Result<()> + Send + Sync + 'static) -> Disk {
         Disk {
             hook: Some(Arc::new(hook)),
-            end: None,
+            ..Disk::default()
         }
     }
 
@@ -71,6 +113,19 @@ impl Disk {
         self
     }
 
+    /// The same disk for who has its calls looked at beside those of others.
+    pub fn of_its_own(&self) -> Disk {
+        Disk {
+            under_way: Arc::default(),
+            ..self.clone()
+        }
+    }
+
+    /// How long the call that began first has been under way; zero where none is.
+    pub fn under_way(&self) -> Duration {
+        self.under_way.longest()
+    }
+
     /// Ends the process: what is on disk is not known then, and only a start reads just that.
     pub fn end(&self, fault: &Fault) -> ! {
         match &self.end {
@@ -88,6 +143,7 @@ impl Disk {
     }
 
     fn call<T>(&self, call: Call, path: &Path, does: impl FnOnce() -> io::Result<T>) -> Result<T, Fault> {
+        let _noted = self.under_way.note();
         let asked = self.hook.as_ref().map_or(Ok(()), |hook| hook(call, path));
         asked.and_then(|()| does()).map_err(io_fault(path))
     }
@@ -141,6 +197,7 @@ impl Disk {
 
     /// Takes blocks for what will be written there, and leaves the file's length. Where there are none, the writes say so.
     pub fn take_blocks(&self, file: &File, at: u64, length: u64) {
+        let _noted = self.under_way.note();
         let keep_size = FallocateFlags::FALLOC_FL_KEEP_SIZE;
         let _ = fallocate(file.as_raw_fd(), keep_size, at as i64, length as i64);
     }
@@ -159,10 +216,6 @@ impl Disk {
 
     pub fn remove(&self, path: &Path) -> Result<(), Fault> {
         self.call(Call::Remove, path, || std::fs::remove_file(path))
-    }
-
-    pub fn cut(&self, file: &File, path: &Path, length: u64) -> Result<(), Fault> {
-        self.call(Call::Cut, path, || file.set_len(length))
     }
 
     /// Puts a whole file in the place of what may be there: durable when this returns, and never seen in part.

@@ -3,7 +3,7 @@
 //! | file | what it is |
 //! |---|---|
 //! | `lock` | locked by the service that has the folder |
-//! | `version` | lines: `totxegun 1`, the format's version; `epoch`, 16 hexadecimal digits; `lock`, the inode of the lock's file; of version 2 `slots`, how many there are; `born`, when the lock's file was made, in nanoseconds since 1970, where the file system knows it |
+//! | `version` | lines: `totxegun 1`, the format's version; `epoch`, 16 hexadecimal digits; `lock`, the inode of the lock's file; of version 2 `slots`, how many there are; `born`, when the lock's file was made, in nanoseconds since 1970, where the file system knows it; `begun`, of each slot `N:M` where a start has begun the journal's segment M |
 //! | `slot-N/journal`, `slot-N/outbox` | segments. Where N is no slot any more, its outbox has what the sink has not taken |
 //! | `dead/` | one file a request that was refused for good |
 //!
@@ -12,7 +12,11 @@
 //! What waits in the outbox keeps its keys, for it has the same bytes. A copy of the whole disk looks as the first one:
 //! there `renew_epoch` is for the operator.
 
+mod usable;
+mod version;
+
 use super::disk::{io_fault, Disk};
+use super::journal::Expected;
 use super::room::{Promise, Room};
 use super::{lock, segment, Dead, Durability, Fault, Journal, Outbox};
 use nix::errno::Errno;
@@ -20,22 +24,27 @@ use nix::fcntl::{flock, FlockArg};
 use std::fs::{File, OpenOptions};
 use std::io::Read;
 use std::os::fd::AsRawFd;
-use std::os::unix::fs::{MetadataExt, OpenOptionsExt};
+use std::os::unix::fs::OpenOptionsExt;
 use std::path::{Path, PathBuf};
 use std::sync::{Arc, Mutex};
-use std::time::{Duration, Instant, UNIX_EPOCH};
+use std::time::{Duration, Instant};
+use version::{Identity, Version};
 
-/// Of the folder: which files there are, and where. A folder is of the second once it had another number of slots than 1.
-const VERSION: u32 = 2;
 /// Of one service.
 pub const MOST_SLOTS: u16 = 64;
+const LOST_SLOT: &str =
+    "has no segments, and this folder is not new: put all of the slot's folder back, or move the \
+                         folder away and start with a new one. Nothing was deleted";
 /// How long a lock is waited for.
 const PATIENCE: Duration = Duration::from_secs(1);
 
 #[derive(Debug, thiserror::Error)]
 pub enum FolderFault {
-    #[error("{0} is in use by another service")]
+    #[error("{0} is in use by another service: end it, or give another --data")]
     InUse(PathBuf),
+    /// Nothing is wrong with what is in it, and nothing was changed.
+    #[error("{} {what}", path.display())]
+    Unusable { path: PathBuf, what: String },
     #[error(transparent)]
     Fault(#[from] Fault),
 }
@@ -55,43 +64,6 @@ pub struct Folder {
     _itself: File,
 }
 
-/// What the file `version` says.
-#[derive(Clone)]
-struct Version {
-    epoch: String,
-    lock: Identity,
-    /// None in a folder of version 1, which has one.
-    slots: Option<u16>,
-}
-
-/// By which a file is told from its copies.
-#[derive(Clone, Copy, Default)]
-struct Identity {
-    inode: u64,
-    /// In nanoseconds since 1970. No copy of a file gets it. None where the file system does not know it, or an earlier
-    /// totxegun wrote `version`.
-    born: Option<u128>,
-}
-
-impl Identity {
-    fn of(file: &File) -> std::io::Result<Identity> {
-        let about = file.metadata()?;
-        let born = about
-            .created()
-            .ok()
-            .and_then(|at| at.duration_since(UNIX_EPOCH).ok());
-        Ok(Identity {
-            inode: about.ino(),
-            born: born.map(|since| since.as_nanos()),
-        })
-    }
-
-    fn may_be(self, other: Identity) -> bool {
-        let born_apart = self.born.zip(other.born).is_some_and(|(one, other)| one != other);
-        self.inode == other.inode && !born_apart
-    }
-}
-
 impl Folder {
     /// Makes the folder where there is none, locks it, and reads its version.
     pub fn open(path: &Path, durability: Durability) -> Result<Folder, FolderFault> {
@@ -99,9 +71,11 @@ impl Folder {
     }
 
     pub(crate) fn open_on(disk: Disk, path: &Path, durability: Durability) -> Result<Folder, FolderFault> {
+        usable::look_at(path)?;
         // Where that file is, an earlier start has made the folder to its end.
         if !path.join("version").exists() {
-            disk.make_lasting_folder(path)?;
+            disk.make_lasting_folder(path)
+                .map_err(|fault| usable::named(fault, path))?;
         }
         let (lock, itself) = locked(path)?;
         let room = Arc::new(Room::new(path)?);
@@ -114,11 +88,7 @@ impl Folder {
             path: path.into(),
             durability,
             room,
-            version: Mutex::new(Version {
-                epoch: String::new(),
-                lock: Identity::default(),
-                slots: known.as_ref().and_then(|known| known.slots),
-            }),
+            version: Mutex::new(known.clone().unwrap_or_default()),
             is_new: known.is_none(),
             lock,
             _itself: itself,
@@ -143,6 +113,22 @@ impl Folder {
             }
         }
         Ok(folder)
+    }
+
+    /// Whether a start could use what is there: that this user has the rights, and files and folders are what they have
+    /// to be. Changes nothing, and does not look at what files say.
+    pub fn look_at(path: &Path) -> Result<(), FolderFault> {
+        usable::look_at(path)
+    }
+
+    /// Whether a start would take it for a copy, or for one whose lock was deleted, and so draw a new epoch. False where
+    /// there is none, or its version can't be read.
+    pub fn is_moved(path: &Path) -> bool {
+        let Ok(Some(version)) = Version::read(path) else {
+            return false;
+        };
+        let found = File::open(path.join("lock")).and_then(|lock| Identity::of(&lock));
+        !found.is_ok_and(|found| version.lock.may_be(found))
     }
 
     /// Draws a new epoch, for a folder that was put back in a way that a start can't see. It is that of the slots
@@ -204,13 +190,23 @@ impl Folder {
     /// The files of a slot. What an earlier run wrote is synced before it is believed.
     pub fn slot(&self, number: u16) -> Result<(Journal, Outbox), Fault> {
         let outbox = self.outbox(number)?;
+        let begun = lock(&self.version).begun.get(&number).copied();
         let journal = Journal::open(
             &self.disk,
             &self.of_slot(number).join("journal"),
             self.durability,
             self.room.clone(),
-            outbox.journal(),
+            &Expected {
+                reach: outbox.journal(),
+                begun,
+                by: outbox.ended(),
+            },
         )?;
+        if begun != Some(journal.begun()) {
+            self.change(|version| {
+                version.begun.insert(number, journal.begun());
+            })?;
+        }
         Ok((journal, outbox))
     }
 
@@ -218,6 +214,13 @@ impl Folder {
     pub fn outbox(&self, number: u16) -> Result<Outbox, Fault> {
         let slot = self.of_slot(number);
         let (journal, outbox) = (slot.join("journal"), slot.join("outbox"));
+        if lock(&self.version).begun.contains_key(&number) && !has_segments(&outbox)? {
+            return Err(Fault::Damaged {
+                path: outbox,
+                at: 0,
+                what: LOST_SLOT.into(),
+            });
+        }
         for path in [&slot, &journal, &outbox] {
             self.disk.make_folder(path)?;
         }
@@ -235,7 +238,7 @@ impl Folder {
         self.path.join(format!("slot-{number}"))
     }
 
-    /// The slots that have files, also those that there are no more, ascending.
+    /// The slots that have files, or had them, also those that there are no more, ascending.
     pub fn slots_with_files(&self) -> Result<Vec<u16>, Fault> {
         let mut found = Vec::new();
         for entry in std::fs::read_dir(&self.path).map_err(io_fault(&self.path))? {
@@ -245,7 +248,9 @@ impl Folder {
                 .and_then(|name| name.strip_prefix("slot-")?.parse().ok());
             found.extend(number.filter(|number| self.of_slot(*number).ends_with(&name)));
         }
+        found.extend(lock(&self.version).begun.keys());
         found.sort_unstable();
+        found.dedup();
         Ok(found)
     }
 
@@ -254,6 +259,11 @@ impl Folder {
         self.disk.sync_folder(&self.path)?;
         Ok(dead)
     }
+}
+
+/// Whether an outbox was made there.
+fn has_segments(folder: &Path) -> Result<bool, Fault> {
+    Ok(folder.exists() && !segment::numbers(folder)?.is_empty())
 }
 
 /// The kernel gives the locks back when the process ends, in whatever way. A started gateway does not get them: files
@@ -310,76 +320,6 @@ fn check_new(folder: &Path) -> Result<(), Fault> {
         }
     }
     Ok(())
-}
-
-impl Version {
-    fn text(&self) -> String {
-        let Version { epoch, lock, slots } = self;
-        let inode = lock.inode;
-        let text = match slots {
-            None => format!("totxegun 1\nepoch {epoch}\nlock {inode}\n"),
-            Some(slots) => format!("totxegun {VERSION}\nepoch {epoch}\nlock {inode}\nslots {slots}\n"),
-        };
-        // The last line: an earlier totxegun passes over it.
-        let born = lock.born.map(|born| format!("born {born}\n"));
-        text + &born.unwrap_or_default()
-    }
-
-    fn read(folder: &Path) -> Result<Option<Version>, Fault> {
-        let path = folder.join("version");
-        let text = match std::fs::read(&path) {
-            Err(error) if error.kind() == std::io::ErrorKind::NotFound => return Ok(None),
-            text => text.map_err(io_fault(&path))?,
-        };
-        let damaged = |what: String| {
-            Err(Fault::Damaged {
-                path: path.clone(),
-                at: 0,
-                what,
-            })
-        };
-        let text = String::from_utf8_lossy(&text);
-        let mut lines = text.lines();
-        let mut value = |name: &str| {
-            lines
-                .next()?
-                .strip_prefix(name)?
-                .strip_prefix(' ')
-                .map(String::from)
-        };
-        let version: Option<u32> = value("totxegun").and_then(|version| version.parse().ok());
-        match version {
-            Some(1..=VERSION) => {}
-            Some(version) if version > VERSION => {
-                return damaged(format!(
-                    "the folder is of format version {version}, and this totxegun reads up to {VERSION}: start the later totxegun that wrote it"
-                ))
-            }
-            _ => return damaged("is no version of a folder of totxegun: put a copy of this file in its place".into()),
-        }
-        let epoch = value("epoch")
-            .filter(|epoch| epoch.len() == 16 && epoch.bytes().all(|byte| byte.is_ascii_hexdigit()));
-        let inode = value("lock").and_then(|inode| inode.parse().ok());
-        let slots = match version {
-            Some(1) => Some(None),
-            _ => value("slots")
-                .and_then(|slots| slots.parse().ok())
-                .filter(|slots| (1..=MOST_SLOTS).contains(slots))
-                .map(Some),
-        };
-        let born = value("born").and_then(|born| born.parse().ok());
-        match (epoch, inode, slots) {
-            (Some(epoch), Some(inode), Some(slots)) => Ok(Some(Version {
-                epoch,
-                lock: Identity { inode, born },
-                slots,
-            })),
-            _ => damaged(
-                "has no epoch, no inode of the lock, or no number of slots: put a copy of this file in its place"
-                    .into(),
-            ),
-        }
-    }
 }
 
 #[cfg(test)]

@@ -3,27 +3,35 @@
 //! | kind | bytes |
 //! |---|---|
 //! | 16 post, 17 copy | seconds since 1970 (u64), foreign points (u64), length of the sender's name (u64), name, body |
+//! | 18 held | JSON: of each quarantined sender its name, how many of its posts are in its own file, and where they end there |
 //!
 //! A record is written in place, under one short lock, so that the order in the file is the order of the calls. One
 //! thread syncs, once for all that wait; nobody who must wait for the disk holds the lock of those who write.
 
+mod found;
+mod held;
 mod open;
+mod reading;
 mod sync;
 
 use super::disk::Disk;
-use super::records::{self, Next, Reader, Which};
+use super::records::{self, Which};
 use super::room::Room;
-use super::segment::{self, Ahead, Segment};
+use super::segment::{self, Ahead, Dropped, Segment};
 use super::{lock, seconds, Durability, Fault};
 use bytes::Bytes;
+pub use held::Held;
+use std::collections::{BTreeMap, BTreeSet};
 use std::fs::File;
-use std::path::PathBuf;
+use std::path::{Path, PathBuf};
 use std::sync::atomic::{AtomicU64, Ordering::SeqCst};
 use std::sync::{Arc, Condvar, Mutex};
+use std::time::Duration;
 use sync::Waiters;
 
 const POST: u8 = records::OWN;
 const COPY: u8 = records::OWN + 1;
+const HELD: u8 = records::OWN + 2;
 
 /// A post that the gateway took.
 #[derive(Clone, Debug, PartialEq, Eq)]
@@ -35,6 +43,13 @@ pub struct Post {
     pub body: Bytes,
 }
 
+impl Post {
+    /// What is ahead of name and body in its record.
+    fn numbers(&self, since: u64) -> [[u8; 8]; 3] {
+        [since, self.foreign, self.sender.len() as u64].map(u64::to_le_bytes)
+    }
+}
+
 /// A place in the journal: all that was appended before it.
 #[derive(Clone, Copy, Debug, PartialEq, Eq, PartialOrd, Ord)]
 pub struct Ticket(pub u64);
@@ -43,6 +58,20 @@ pub struct Ticket(pub u64);
 pub struct Journal {
     shared: Arc<Shared>,
     syncer: Option<std::thread::JoinHandle<()>>,
+    /// The segment that this start has begun.
+    begun: u64,
+    dropped: Vec<Dropped>,
+}
+
+/// What is known beside the journal of what it has to have.
+pub(super) struct Expected {
+    /// The first segment whose posts are in no group, by the outbox.
+    pub reach: u64,
+    /// The segment that the last start has begun. Its name, and those from `reach` on, are there for good. None in a
+    /// folder in which no start has noted that.
+    pub begun: Option<u64>,
+    /// Which segment of the outbox says so, and where that one ended.
+    pub by: (PathBuf, u64),
 }
 
 struct Shared {
@@ -51,11 +80,17 @@ struct Shared {
     durability: Durability,
     room: Arc<Room>,
     place: Mutex<Place>,
+    /// Never locked over a call of the disk: who shows it must not wait for one.
+    sizes: Mutex<Vec<Size>>,
+    /// What of quarantined senders' files counts, where a segment is the first that is replayed.
+    held: Mutex<BTreeMap<u64, held::List>>,
     /// All before this ticket is durable.
     durable: AtomicU64,
     waiters: Mutex<Waiters>,
     work: Condvar,
     syncing: Mutex<()>,
+    /// The next segment, durable, which has no name yet. Locked behind `place`.
+    next: Mutex<Option<Segment>>,
 }
 
 /// Where is written.
@@ -68,7 +103,8 @@ struct Place {
     ended: Vec<(Arc<File>, PathBuf)>,
     /// The ticket of the last turn or copy: earlier segments are not deleted before it is durable.
     kept: u64,
-    sizes: Vec<Size>,
+    /// Quarantined senders whose posts are in their own files, and who have posted nothing since.
+    moved: BTreeSet<String>,
 }
 
 /// What a segment has.
@@ -76,6 +112,18 @@ struct Size {
     number: u64,
     bytes: u64,
     first: Option<u64>,
+}
+
+#[cfg(test)]
+impl Expected {
+    /// Of a folder of which nothing is known.
+    pub fn of_none() -> Expected {
+        Expected {
+            reach: 1,
+            begun: None,
+            by: (PathBuf::new(), 0),
+        }
+    }
 }
 
 impl Journal {
@@ -92,7 +140,7 @@ impl Journal {
         let shared = &*self.shared;
         let now = seconds();
         let name = post.sender.as_bytes();
-        let numbers = [now, post.foreign, name.len() as u64].map(u64::to_le_bytes);
+        let numbers = post.numbers(now);
         let numbers = numbers.as_flattened();
         let head = records::head(kind, &[numbers, name, &post.body]);
         let length = (head.len() + numbers.len() + name.len() + post.body.len()) as u64;
@@ -103,10 +151,11 @@ impl Journal {
             shared.disk.end(&fault);
         }
         place.ticket += 1;
-        if kind == COPY {
-            place.kept = place.ticket;
+        match kind {
+            COPY => place.kept = place.ticket,
+            _ => drop(place.moved.remove(&post.sender)),
         }
-        if let Some(size) = place.sizes.last_mut() {
+        if let Some(size) = lock(&shared.sizes).last_mut() {
             size.bytes += length;
             size.first.get_or_insert(now);
         }
@@ -146,27 +195,6 @@ impl Journal {
         }
     }
 
-    /// Gives the posts of the segments from `first` to before `end` that count, in order, until `each` is false.
-    pub fn posts(&self, first: u64, end: u64, mut each: impl FnMut(Post) -> bool) -> Result<(), Fault> {
-        let (last, at) = {
-            let place = lock(&self.shared.place);
-            (place.segment.number, place.segment.at)
-        };
-        for number in segment::numbers(&self.shared.folder)? {
-            if !(first..end).contains(&number) || number > last {
-                continue;
-            }
-            let written = (number == last).then_some(at);
-            if !self
-                .shared
-                .posts_of(number, written, number == first, &mut each)?
-            {
-                break;
-            }
-        }
-        Ok(())
-    }
-
     /// Makes sure that the next segment's number is at least this: the outbox may know of a later segment than is left.
     pub fn reach(&self, segment: u64) {
         let mut place = lock(&self.shared.place);
@@ -186,79 +214,103 @@ impl Journal {
         let shared = &*self.shared;
         let last = lock(&shared.place).segment.number;
         self.settle_copies();
-        for number in segment::numbers(&shared.folder)? {
-            if number < before && number < last {
-                shared.disk.remove(&segment::path(&shared.folder, number))?;
-            }
+        let mut numbers = segment::numbers(&shared.folder)?;
+        numbers.retain(|number| *number < before && *number < last);
+        if !numbers.is_empty() {
+            // A start that misses one of them is told so whether the outbox is older than this.
+            lock(&shared.place).segment.say_forgotten(before)?;
         }
-        lock(&shared.place)
-            .sizes
-            .retain(|size| size.number >= before || size.number >= last);
-        Ok(())
+        for number in numbers {
+            shared.disk.remove(&segment::path(&shared.folder, number))?;
+        }
+        lock(&shared.sizes).retain(|size| size.number >= before || size.number >= last);
+        self.forget_held(before.min(last))
     }
 
     /// Bytes in the segments that are there, and when the first of their posts was appended (seconds since 1970).
+    /// Never waits for the disk.
     pub fn size(&self) -> (u64, Option<u64>) {
-        let place = lock(&self.shared.place);
-        let bytes = place.sizes.iter().map(|size| size.bytes).sum();
-        (bytes, place.sizes.iter().find_map(|size| size.first))
+        let sizes = lock(&self.shared.sizes);
+        let bytes = sizes.iter().map(|size| size.bytes).sum();
+        (bytes, sizes.iter().find_map(|size| size.first))
+    }
+
+    /// The segment that this start has begun.
+    pub(super) fn begun(&self) -> u64 {
+        self.begun
+    }
+
+    /// What this start left out of the files that were there.
+    pub fn dropped(&self) -> &[Dropped] {
+        &self.dropped
+    }
+
+    /// How long the call of the disk that began first has been under way; zero where none is. Never waits: a disk that
+    /// stalls is seen while who writes has all of the journal's locks.
+    pub fn under_way(&self) -> Duration {
+        self.shared.disk.under_way()
     }
 }
 
 impl Shared {
     fn begin(&self, place: &mut Place, number: u64) -> Result<(), Fault> {
         place.segment.end()?;
-        let path = segment::path(&self.folder, number);
-        let next = Segment::create(&self.disk, path, Which::Journal, number, ahead(self.durability))?;
+        let mut prepared = lock(&self.next);
+        let mut next = match prepared.take() {
+            Some(next) if next.number == number => next,
+            other => {
+                if let Some(other) = other {
+                    self.disk.remove(&other.path)?;
+                }
+                prepare(
+                    &self.disk,
+                    &self.folder,
+                    number,
+                    self.durability,
+                    place.segment.forgotten(),
+                )?
+            }
+        };
+        drop(prepared);
+        name(&self.disk, &self.folder, &mut next)?;
         let ended = std::mem::replace(&mut place.segment, next);
         place.ended.push((ended.file, ended.path));
         place.named = false;
         place.ticket += 1;
         place.kept = place.ticket;
-        place.sizes.push(Size {
+        lock(&self.sizes).push(Size {
             number,
             bytes: 0,
             first: None,
         });
         Ok(())
     }
+}
 
-    /// Whether `each` wants more. Only the segment that is written, up to where it is, has no end.
-    fn posts_of(
-        &self,
-        number: u64,
-        written: Option<u64>,
-        is_first: bool,
-        each: &mut impl FnMut(Post) -> bool,
-    ) -> Result<bool, Fault> {
-        let path = segment::path(&self.folder, number);
-        let (mut reader, mut next) = Reader::open(&path, Which::Journal, number, written)?;
-        loop {
-            match next {
-                Next::Record {
-                    at,
-                    kind: kind @ (POST | COPY),
-                    bytes,
-                } => {
-                    let (_, post) = post_of(bytes)
-                        .ok_or_else(|| reader.damaged(at, "is no post that was written here"))?;
-                    if (kind == POST || is_first) && !each(post) {
-                        return Ok(false);
-                    }
-                }
-                Next::Record {
-                    kind: records::HEADER,
-                    ..
-                } => {}
-                Next::Closed => return Ok(true),
-                Next::Stop if Some(reader.at) == written => return Ok(true),
-                Next::Record { .. } | Next::Stop => {
-                    return Err(reader.damaged(reader.at, super::judge::CHANGED))
-                }
-            }
-            next = reader.next()?;
-        }
+/// Makes a segment durable that has no name yet: one that has its name has a header, and is as long as it was made.
+fn prepare(
+    disk: &Disk,
+    folder: &Path,
+    number: u64,
+    durability: Durability,
+    forgotten: u64,
+) -> Result<Segment, Fault> {
+    let draft = segment::path(folder, number).with_extension("draft");
+    if draft.exists() {
+        disk.remove(&draft)?;
     }
+    let (ahead, which) = (ahead(durability), Which::Journal);
+    let segment = Segment::create(disk, draft.clone(), which, number, ahead, Some(forgotten))?;
+    disk.sync(&segment.file, &draft)?;
+    Ok(segment)
+}
+
+/// Gives a segment its name; durable with the next sync of the folder.
+fn name(disk: &Disk, folder: &Path, segment: &mut Segment) -> Result<(), Fault> {
+    let path = segment::path(folder, segment.number);
+    disk.rename(&segment.path, &path)?;
+    segment.path = path;
+    Ok(())
 }
 
 /// What a segment has ahead.
@@ -267,24 +319,6 @@ fn ahead(durability: Durability) -> Ahead {
         Durability::Disk => Ahead::Zeros(0),
         Durability::Process => Ahead::Blocks(0),
     }
-}
-
-/// When a post was appended, and the post.
-fn post_of(bytes: Vec<u8>) -> Option<(u64, Post)> {
-    let mut rest = &bytes[..];
-    let since = records::take_number(&mut rest)?;
-    let foreign = records::take_number(&mut rest)?;
-    let length = usize::try_from(records::take_number(&mut rest)?).ok()?;
-    let sender = std::str::from_utf8(rest.get(..length)?).ok()?.to_string();
-    let begin = bytes.len() - rest.len() + length;
-    Some((
-        since,
-        Post {
-            sender,
-            foreign,
-            body: Bytes::from(bytes).slice(begin..),
-        },
-    ))
 }
 
 #[cfg(test)]

@@ -6,7 +6,7 @@
 //! and it is cut.
 
 use super::disk::io_fault;
-use super::records::{self, END, HEAD, HEADER, LAST, MARK, MARK_LENGTH, OWN};
+use super::records::{self, END, HEAD, HEADER, LAST, MARK, MARK_LENGTHS, OWN};
 use super::Fault;
 use std::fs::File;
 use std::io::{Read, Seek, SeekFrom};
@@ -66,7 +66,7 @@ fn whole_record(bytes: &[u8], effort: &mut usize) -> Option<(u8, usize)> {
     let head = bytes.first_chunk::<HEAD>()?;
     let length = records::whole_length(head).filter(|length| *length <= bytes.len())?;
     match head[8] {
-        MARK | END if length == MARK_LENGTH => {}
+        MARK | END if MARK_LENGTHS.contains(&length) => {}
         HEADER | OWN..=LAST if *effort >= length => *effort -= length,
         _ => return None,
     }

@@ -18,8 +18,9 @@ pub use dead::Dead;
 #[cfg(test)]
 pub(crate) use disk::{Call, Disk};
 pub use folder::{Folder, FolderFault, MOST_SLOTS};
-pub use journal::{Journal, Post, Ticket};
+pub use journal::{Held, Journal, Post, Ticket};
 pub use outbox::{Outbox, Series};
+pub use segment::Dropped;
 
 use std::sync::{Mutex, MutexGuard, PoisonError};
 
@@ -68,5 +69,13 @@ pub(crate) fn held_journal(
     open: std::sync::Arc<std::sync::atomic::AtomicBool>,
 ) -> Journal {
     let room = std::sync::Arc::new(room::Room::new(folder).unwrap());
-    Journal::open(&disk::Disk::held(open), folder, Durability::Disk, room, 1).unwrap()
+    let disk = disk::Disk::held(open);
+    Journal::open(
+        &disk,
+        folder,
+        Durability::Disk,
+        room,
+        &journal::Expected::of_none(),
+    )
+    .unwrap()
 }

@@ -4,6 +4,7 @@
 //! bytes are described in `rows`.
 
 mod changes;
+mod damaged;
 mod moved;
 mod open;
 mod rows;
@@ -13,7 +14,7 @@ mod writer;
 use super::disk::Disk;
 use super::records::Which;
 use super::room::Room;
-use super::segment::{self, Ahead, Segment};
+use super::segment::{self, Ahead, Dropped, Segment};
 use super::{lock, seconds, Fault};
 use crate::otlp::series::{self, NotForwarded, SeriesKey};
 use crate::work::blocking;
@@ -66,6 +67,10 @@ pub struct Outbox {
     writer: Mutex<Writer>,
     state: Mutex<State>,
     arrived: Notify,
+    /// Which segment the last run wrote to, and up to where.
+    ended: (PathBuf, u64),
+    dropped: Vec<Dropped>,
+    stuck: Mutex<Option<String>>,
 }
 
 /// The ends of the points, as the gateway's own request tells them.
@@ -212,7 +217,22 @@ impl Outbox {
         )
     }
 
-    /// Returns the first waiting request with its body, as soon as there is one.
+    /// Which segment the last run wrote to, and up to where it counts.
+    pub(super) fn ended(&self) -> (PathBuf, u64) {
+        self.ended.clone()
+    }
+
+    /// What this start left out of the files that were there.
+    pub fn dropped(&self) -> &[Dropped] {
+        &self.dropped
+    }
+
+    /// How long the call of the disk that began first has been under way; zero where none is. Never waits for it.
+    pub fn under_way(&self) -> Duration {
+        self.disk.under_way()
+    }
+
+    /// Returns the first waiting request with its body, as soon as there is one, and it is as it was committed.
     pub async fn first(&self) -> Result<(Waiting, Vec<u8>), Fault> {
         loop {
             let front = lock(&self.state).front();
@@ -223,8 +243,13 @@ impl Outbox {
             };
             let waiting = front.waiting.clone();
             let path = segment::path(&self.folder, front.segment);
-            let body = blocking(move || rows::read_item(&path, &front)).await?;
-            return Ok((waiting, body));
+            match blocking(move || rows::read_item(&path, &front)).await {
+                Err(fault @ Fault::Damaged { .. }) => self.note_changed(&fault).await,
+                read => {
+                    self.note_sound();
+                    return Ok((waiting, read?));
+                }
+            }
         }
     }
 
@@ -286,6 +311,8 @@ impl Outbox {
             writer.segment.sync()?;
         }
         lock(&self.state).apply(change(begin).in_segment(writer.segment.number));
+        // Else a change of this record can't be told from one that was torn.
+        writer.segment.mark_last()?;
         if writer.is_full(self.longest) {
             self.begin_segment(writer)?;
         }
@@ -335,7 +362,7 @@ fn begin(disk: &Disk, folder: &Path, number: u64, snapshot: &Snapshot) -> Result
     if draft.exists() {
         disk.remove(&draft)?;
     }
-    let mut segment = Segment::create(disk, draft.clone(), Which::Outbox, number, Ahead::Nothing)?;
+    let mut segment = Segment::create(disk, draft.clone(), Which::Outbox, number, Ahead::Nothing, None)?;
     segment.put(&[&snapshot.record()])?;
     segment.sync()?;
     disk.rename(&draft, &path)?;

@@ -111,7 +111,12 @@ fn mixed(synced: &[u8], now: &[u8], chance: &mut Numbers) -> Vec<u8> {
 
 /// A disk that is seen, and gone behind so many calls.
 pub(super) fn disk(shadow: &Arc<Mutex<Shadow>>, calls: u64) -> Disk {
-    let (shadow, left) = (shadow.clone(), AtomicU64::new(calls));
+    disk_behind(shadow, Arc::new(AtomicU64::new(calls)))
+}
+
+/// The same with a number that a test sets.
+pub(super) fn disk_behind(shadow: &Arc<Mutex<Shadow>>, left: Arc<AtomicU64>) -> Disk {
+    let shadow = shadow.clone();
     Disk::failing(move |call, path| {
         let mut shadow = lock(&shadow);
         match left.fetch_update(SeqCst, SeqCst, |left| left.checked_sub(1)) {

@@ -3,7 +3,7 @@
 //! | kind | bytes |
 //! |---|---|
 //! | 1 header, the first of each file | `totxegun`, format version (u16), which file (u8), its number (u64) |
-//! | 2 mark | offset (u64): all before it was durable when the mark was written |
+//! | 2 mark | offset (u64): all before it was durable when the mark was written; of the journal also the length that the file had durably, and the first segment that is not in groups (u64 each) |
 //! | 3 end, the last of a closed file | as a mark |
 //!
 //! Other kinds are a file's own. No kind is a byte that JSON may have, so that no body has a record in it.
@@ -23,8 +23,8 @@ pub const LAST: u8 = 31;
 
 /// Of a record's length, checksum and kind.
 pub const HEAD: usize = 9;
-/// Of a whole mark.
-pub const MARK_LENGTH: usize = HEAD + 8;
+/// Of whole marks, of the outbox and of the journal.
+pub const MARK_LENGTHS: [usize; 2] = [HEAD + 8, HEAD + 24];
 /// The most bytes of a record: none is written that is longer, also of 10,000 series of the longest identities.
 pub const LARGEST: usize = 2 << 30;
 const MAGIC: &[u8; 8] = b"totxegun";
@@ -36,6 +36,8 @@ pub const VERSION: u16 = 1;
 pub enum Which {
     Journal = 1,
     Outbox = 2,
+    /// Of the journal, the posts of a quarantined sender.
+    Held = 3,
 }
 
 /// Appends a record made of parts.
@@ -113,6 +115,10 @@ pub struct Reader {
     pub at: u64,
     /// Whether a mark was passed: something of the file was durable, and so all that was written before the file.
     pub has_marks: bool,
+    /// So long was the file once, and durably, by its marks.
+    pub made: u64,
+    /// A mark says that the journal's segments before this one are in groups, and may be deleted.
+    pub forgotten: u64,
     /// Where the file ends for this reader.
     end: u64,
 }
@@ -137,6 +143,8 @@ impl Reader {
             path: path.into(),
             at: 0,
             has_marks: false,
+            made: 0,
+            forgotten: 0,
             end,
         })
     }
@@ -179,7 +187,7 @@ impl Reader {
                     return Ok(Next::Stop);
                 }
                 Some((kind @ (MARK | END), bytes)) => {
-                    self.has_marks |= take_number(&mut &bytes[..]) > Some(0);
+                    self.pass_mark(&bytes);
                     if kind == END {
                         return Ok(Next::Closed);
                     }
@@ -187,6 +195,12 @@ impl Reader {
                 Some((kind, bytes)) => return Ok(Next::Record { at, kind, bytes }),
             }
         }
+    }
+
+    fn pass_mark(&mut self, mut bytes: &[u8]) {
+        self.has_marks |= take_number(&mut bytes) > Some(0);
+        self.made = self.made.max(take_number(&mut bytes).unwrap_or(0));
+        self.forgotten = self.forgotten.max(take_number(&mut bytes).unwrap_or(0));
     }
 
     /// `None` where no whole record begins.

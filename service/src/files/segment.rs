@@ -1,10 +1,10 @@
 //! Segments: numbered files of a folder, of which the last is written.
 
 use super::disk::{io_fault, Disk};
-use super::records::{self, Which, END, MARK};
+use super::records::{self, Which, END, MARK, MARK_LENGTHS};
 use super::Fault;
 use std::fs::File;
-use std::io::ErrorKind;
+use std::io::{ErrorKind, Read, Seek, SeekFrom};
 use std::os::unix::fs::FileExt;
 use std::path::{Path, PathBuf};
 use std::sync::Arc;
@@ -56,17 +56,24 @@ pub fn settle(disk: &Disk, folder: &Path, first: u64) -> Result<(), Fault> {
         let file = open.read(true).write(is_doubtful).open(&path);
         let file = file.map_err(io_fault(&path))?;
         if is_doubtful {
-            write_anew(disk, &file, &path)?;
+            // The same bytes at the same places. Zeros are what was there before.
+            each_piece(&file, &path, 0, |at, piece| {
+                disk.write_at(&file, &path, &[piece], at)
+            })?;
         }
         disk.sync(&file, &path)?;
     }
     disk.sync_folder(folder)
 }
 
-/// The same bytes at the same places. Zeros are what was there before.
-fn write_anew(disk: &Disk, file: &File, path: &Path) -> Result<(), Fault> {
+/// Each piece from `at` on that is not all zeros, and where it begins.
+fn each_piece(
+    file: &File,
+    path: &Path,
+    mut at: u64,
+    mut each: impl FnMut(u64, &[u8]) -> Result<(), Fault>,
+) -> Result<(), Fault> {
     let mut piece = vec![0; PIECE];
-    let mut at = 0;
     loop {
         let length = match file.read_at(&mut piece, at) {
             Ok(0) => return Ok(()),
@@ -74,7 +81,7 @@ fn write_anew(disk: &Disk, file: &File, path: &Path) -> Result<(), Fault> {
             read => read.map_err(io_fault(path))?,
         };
         if piece[..length].iter().any(|byte| *byte != 0) {
-            disk.write_at(file, path, &[&piece[..length]], at)?;
+            each(at, &piece[..length])?;
         }
         at += length as u64;
     }
@@ -89,26 +96,91 @@ pub fn check_row(folder: &Path, numbers: &[u64]) -> Result<(), Fault> {
 }
 
 pub fn missing(folder: &Path, number: u64) -> Fault {
-    let what = "this file is missing, and later ones are there: put it back".into();
+    let what = "this file is missing. Nothing was deleted: put it back, or move the folder away and start with a new one";
     Fault::Damaged {
         path: path(folder, number),
         at: 0,
-        what,
+        what: what.into(),
     }
 }
 
-/// Closes the last segment of an earlier run at `at`: what was torn behind is cut.
+/// What a start left out of a file: nobody was told that it is there.
+#[derive(Clone, Debug, PartialEq, Eq)]
+pub struct Dropped {
+    pub file: PathBuf,
+    /// Where it began, and how many bytes it has up to the last that is not zero.
+    pub at: u64,
+    pub bytes: u64,
+    pub kept: PathBuf,
+}
+
+impl std::fmt::Display for Dropped {
+    fn fmt(&self, out: &mut std::fmt::Formatter<'_>) -> std::fmt::Result {
+        let (file, kept) = (self.file.display(), self.kept.display());
+        let (at, bytes) = (self.at, self.bytes);
+        write!(
+            out,
+            "{file}, byte {at}: {bytes} bytes are no whole record, as a loss of power leaves it, so they do not count; they \
+             are kept in {kept}"
+        )
+    }
+}
+
+/// Keeps what is in a file from `at` on, but zeros at its end, before it is dropped: in a file beside it, durably.
+pub fn keep_aside(disk: &Disk, path: &Path, at: u64) -> Result<Option<Dropped>, Fault> {
+    let mut rest = Vec::new();
+    let mut file = File::open(path).map_err(io_fault(path))?;
+    file.seek(SeekFrom::Start(at))
+        .and_then(|_| file.read_to_end(&mut rest))
+        .map_err(io_fault(path))?;
+    let Some(last) = rest.iter().rposition(|byte| *byte != 0) else {
+        return Ok(None);
+    };
+    rest.truncate(last + 1);
+    let stem = path.file_stem().unwrap_or_default().to_string_lossy();
+    let mut kept = path.with_file_name(format!("{stem}-{at}.torn"));
+    let mut number = 1;
+    // An earlier start may have ended behind it.
+    while std::fs::read(&kept).is_ok_and(|there| there != rest) {
+        number += 1;
+        kept = path.with_file_name(format!("{stem}-{at}-{number}.torn"));
+    }
+    if !kept.exists() {
+        disk.put_file(&kept, &rest)?;
+    }
+    let bytes = rest.len() as u64;
+    tracing::warn!(
+        "{}, byte {at}: {bytes} bytes are no whole record, as a loss of power leaves it, so they do not count; they \
+         are kept in {}",
+        path.display(),
+        kept.display()
+    );
+    let file = path.into();
+    Ok(Some(Dropped {
+        file,
+        at,
+        bytes,
+        kept,
+    }))
+}
+
+/// Closes the last segment of an earlier run at `at`. What was torn behind becomes zeros, and the file stays as long:
+/// one that is shorter than it was made is a fault.
 pub fn close_at(disk: &Disk, path: &Path, at: u64) -> Result<(), Fault> {
-    let file = File::options().write(true).open(path).map_err(io_fault(path))?;
-    disk.cut(&file, path, at)?;
+    let mut open = File::options();
+    let file = open.read(true).write(true).open(path).map_err(io_fault(path))?;
+    each_piece(&file, path, at, |at, piece| {
+        disk.write_at(&file, path, &[&ZEROS[..piece.len()]], at)
+    })?;
     disk.sync(&file, path)?;
-    disk.write_at(&file, path, &[&mark(END, at)], at)?;
+    disk.write_at(&file, path, &[&mark(END, &[at])], at)?;
     disk.sync(&file, path)
 }
 
-fn mark(kind: u8, durable: u64) -> Vec<u8> {
+fn mark(kind: u8, numbers: &[u64]) -> Vec<u8> {
+    let bytes: Vec<u8> = numbers.iter().flat_map(|number| number.to_le_bytes()).collect();
     let mut out = Vec::new();
-    records::put(&mut out, kind, &[&durable.to_le_bytes()]);
+    records::put(&mut out, kind, &[&bytes]);
     out
 }
 
@@ -124,16 +196,32 @@ pub struct Segment {
     /// All before it is durable.
     durable: u64,
     marked: u64,
+    /// Where the last record ends that is no mark.
+    records: u64,
+    /// What marks say beside that.
+    says: Option<Says>,
+}
+
+/// What the journal's marks say.
+#[derive(Clone, Copy)]
+pub struct Says {
+    /// So long is the file, durably.
+    pub length: u64,
+    /// Segments before it are in groups.
+    pub forgotten: u64,
 }
 
 impl Segment {
-    /// Makes a segment that has its header alone.
+    /// Makes a segment that has its header alone. With a number of segments that are in groups its marks say that, and
+    /// how long it is, and the first mark is ahead of the header: so also a segment that was cut anywhere has it, and
+    /// an earlier totxegun passes over it. That mark holds once the segment is synced: it may have no name before.
     pub fn create(
         disk: &Disk,
         path: PathBuf,
         which: Which,
         number: u64,
         ahead: Ahead,
+        forgotten: Option<u64>,
     ) -> Result<Segment, Fault> {
         let file = Arc::new(disk.create(&path)?);
         let mut made = Segment {
@@ -145,28 +233,87 @@ impl Segment {
             ahead,
             durable: 0,
             marked: 0,
+            records: 0,
+            says: forgotten.map(|forgotten| Says { length: 0, forgotten }),
         };
-        made.put(&[&records::header(which, number)])?;
+        let header = records::header(which, number);
+        made.make_ahead(header.len() as u64)?;
+        let length = made.length();
+        let first = made.says.as_mut().map(|says| says.length = length);
+        let first = first.map_or(Vec::new(), |()| made.mark(MARK));
+        made.put(&[&first, &header])?;
         Ok(made)
+    }
+
+    /// How long the file was made, where it is longer than its records.
+    pub fn length(&self) -> u64 {
+        match self.ahead {
+            Ahead::Zeros(filled) => filled,
+            Ahead::Nothing | Ahead::Blocks(_) => 0,
+        }
+    }
+
+    fn mark(&self, kind: u8) -> Vec<u8> {
+        match self.says {
+            None => mark(kind, &[self.durable]),
+            Some(says) => mark(kind, &[self.durable, says.length, says.forgotten]),
+        }
     }
 
     /// Writes records with one write: where it begins. A mark goes before what follows a sync.
     pub fn put<const N: usize>(&mut self, parts: &[&[u8]; N]) -> Result<u64, Fault> {
         let length = parts.iter().map(|part| part.len() as u64).sum::<u64>();
-        self.make_ahead(self.at + records::MARK_LENGTH as u64 + length)?;
+        self.make_ahead(self.at + MARK_LENGTHS[1] as u64 + length)?;
         if self.durable > self.marked {
-            let mark = mark(MARK, self.durable);
-            self.disk.write_at(&self.file, &self.path, &[&mark], self.at)?;
-            self.at += records::MARK_LENGTH as u64;
-            self.marked = self.durable;
+            self.put_mark()?;
         }
         let begin = self.at;
         self.disk.write_at(&self.file, &self.path, parts, begin)?;
         self.at += length;
+        self.records = self.at;
         Ok(begin)
     }
 
-    /// Makes what a write up to `end` needs.
+    fn put_mark(&mut self) -> Result<(), Fault> {
+        let mark = self.mark(MARK);
+        self.make_ahead(self.at + mark.len() as u64)?;
+        self.disk.write_at(&self.file, &self.path, &[&mark], self.at)?;
+        self.at += mark.len() as u64;
+        self.marked = self.durable;
+        Ok(())
+    }
+
+    /// Whether its last record is durable, and no mark says so.
+    pub fn needs_mark(&self) -> bool {
+        self.records > self.marked && self.durable >= self.records
+    }
+
+    /// Marks the last record too: else a change of it can't be told from a record that was torn.
+    pub fn mark_last(&mut self) -> Result<(), Fault> {
+        match self.needs_mark() {
+            true => self.put_mark(),
+            false => Ok(()),
+        }
+    }
+
+    /// Says that the journal's segments before this one are in groups.
+    pub fn say_forgotten(&mut self, before: u64) -> Result<(), Fault> {
+        match &mut self.says {
+            Some(says) if says.forgotten < before => {
+                says.forgotten = before;
+                self.put_mark()
+            }
+            _ => Ok(()),
+        }
+    }
+
+    /// Up to which segment it says that.
+    pub fn forgotten(&self) -> u64 {
+        self.says.map_or(0, |says| says.forgotten)
+    }
+
+    /// Makes what a write up to `end` needs. Zeros go on half a piece ahead: so a mark says how long the file is, as a
+    /// rule, before a record needs that.
     fn make_ahead(&mut self, end: u64) -> Result<(), Fault> {
         match &mut self.ahead {
             Ahead::Blocks(taken) if *taken < end => {
@@ -174,7 +321,7 @@ impl Segment {
                 self.disk.take_blocks(&self.file, self.at, *taken - self.at);
             }
             Ahead::Zeros(filled) => {
-                while *filled < end {
+                while *filled < end + PIECE as u64 / 2 {
                     self.disk.write_at(&self.file, &self.path, &[&ZEROS], *filled)?;
                     *filled += PIECE as u64;
                 }
@@ -184,21 +331,24 @@ impl Segment {
         Ok(())
     }
 
-    /// Notes that all before a place is durable.
-    pub fn note_durable(&mut self, at: u64) {
+    /// Notes that all before a place is durable, and that the file is so long.
+    pub fn note_durable(&mut self, at: u64, length: u64) {
         self.durable = self.durable.max(at);
+        if let Some(says) = &mut self.says {
+            says.length = says.length.max(length);
+        }
     }
 
     /// Makes all durable that was put.
     pub fn sync(&mut self) -> Result<(), Fault> {
         self.disk.sync(&self.file, &self.path)?;
-        self.note_durable(self.at);
+        self.note_durable(self.at, self.length());
         Ok(())
     }
 
     /// Ends the segment: no record follows.
     pub fn end(&mut self) -> Result<(), Fault> {
-        self.put(&[&mark(END, self.durable)]).map(drop)
+        self.put(&[&self.mark(END)]).map(drop)
     }
 }
 
@@ -214,7 +364,8 @@ mod tests {
         let folder = tempfile::tempdir().unwrap();
         let path = path(folder.path(), 1);
         let ahead = Ahead::Blocks(0);
-        let mut segment = Segment::create(&Disk::default(), path.clone(), Which::Journal, 1, ahead).unwrap();
+        let mut segment =
+            Segment::create(&Disk::default(), path.clone(), Which::Journal, 1, ahead, None).unwrap();
         let parts: [&[u8]; 3] = [b"a", &[b'b'; 9_999], b""];
         for number in 0..300 {
             let at = segment.at;

@@ -85,7 +85,7 @@ impl From<FolderFault> for Ended {
     fn from(fault: FolderFault) -> Ended {
         match fault {
             FolderFault::Fault(fault) => Ended::Disk(fault),
-            in_use => Ended::Other(anyhow!("{in_use}: end it, or give another --data")),
+            of_the_operator => Ended::Other(of_the_operator.into()),
         }
     }
 }

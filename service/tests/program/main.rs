@@ -135,7 +135,14 @@ fn a_folder_with_more_series_than_fit_is_refused_by_name() {
 fn a_book_without_memory_takes_no_posts_and_forwards_all_that_it_took() {
     let place = Place::new();
     let sink = format!("sqlite:{}", place.folder.path().join("sink.db").display());
-    let words = ["--sink", &sink, "--most-series", "20000", "--book-memory", "64MiB"];
+    let words = [
+        "--sink",
+        &sink,
+        "--most-series",
+        "20000",
+        "--book-memory",
+        "64MiB",
+    ];
     let service = place.serve_with(&words);
     let long = "x".repeat(4_000);
     let mut taken: Vec<String> = Vec::new();

@@ -9,15 +9,81 @@ fn what_is_no_folder_is_named() -> Result<()> {
     let folder = tempdir()?;
     let error = format!("{:#}", lock(folder.path()).unwrap_err());
     assert!(error.contains("no folder of totxegun: there is no"), "{error}");
-    std::os::unix::fs::symlink("lock", folder.path().join("lock"))?; // it can't be opened, also by root
+    let file = folder.path().join("file");
+    std::fs::write(&file, "a")?;
+    let error = lock(&file).unwrap_err().to_string();
+    assert!(error.contains("--data has to name a folder"), "{error}");
+    std::fs::create_dir(folder.path().join("lock"))?;
     let error = lock(folder.path()).unwrap_err().to_string();
-    assert!(error.contains("lock can't be read"), "{error}");
+    assert!(error.contains("lock is a folder"), "{error}");
+    Ok(())
+}
+
+/// What a check of a folder says, and how it ends.
+fn checked(data: &Path) -> Result<Vec<u8>, Failure> {
+    let temporary = tempdir().unwrap();
+    let _kept_still = lock(data)?;
+    let copy = Copy::made(temporary.path())?;
+    copy.fill(data, temporary.path())?;
+    let found = found(&copy.0).map_err(|failure| in_the_original(failure, &copy.0, data))?;
+    show_found(found, &copy.0, data, Form { json: false })
+}
+
+/// A folder with a group of two requests, of a service that was killed.
+fn killed(data: &Path) -> Result<()> {
+    let folder = Folder::open(data, Durability::Disk).unwrap();
+    let (journal, outbox) = folder.slot(0)?;
+    let (next, _) = journal.turn();
+    let request = br#"{"resourceMetrics":[]}"#.to_vec();
+    outbox.commit(&[request.clone(), request], next)?;
+    std::mem::forget(outbox); // as `kill -9` leaves it
+    Ok(())
+}
+
+#[test]
+fn a_lock_that_is_gone_or_a_version_alone_are_as_a_start_takes_them() -> Result<()> {
+    let data = tempdir()?;
+    killed(data.path())?;
+    let text = String::from_utf8(checked(data.path()).unwrap())?;
+    assert!(text.contains("none") && !text.contains("new ones"), "{text}");
+    std::fs::remove_file(data.path().join("lock"))?;
+    let text = String::from_utf8(checked(data.path()).unwrap())?;
+    assert!(text.contains("new ones from a start on"), "{text}");
+    assert!(!data.path().join("lock").exists(), "nothing is changed");
+    std::fs::rename(data.path().join("slot-0"), data.path().join("aside"))?;
+    let checked = checked(data.path()).unwrap_err().to_string();
+    let started = Folder::open(data.path(), Durability::Disk).unwrap().slot(0);
+    assert_eq!(checked, started.err().unwrap().to_string());
+    Ok(())
+}
+
+#[test]
+fn a_request_that_was_changed_is_a_fault_and_the_rest_is_told() -> Result<()> {
+    let data = tempdir()?;
+    killed(data.path())?;
+    let path = data.path().join("slot-0/outbox/000000000001.seg");
+    let mut bytes = std::fs::read(&path)?;
+    let item = bytes
+        .windows(9)
+        .position(|part| part == [18, 2, 0, 0, 0, 0, 0, 0, 0]);
+    bytes[item.unwrap() + 12] ^= 1;
+    std::fs::write(&path, bytes)?;
+    let error = checked(data.path()).unwrap_err();
+    assert!(matches!(error, Failure::Changed(_)));
+    let text = error.to_string();
+    assert!(
+        text.contains(path.to_str().unwrap()) && text.contains("request 2"),
+        "{text}"
+    );
+    let outbox = Folder::open(data.path(), Durability::Disk).unwrap().slot(0)?.1;
+    assert_eq!(outbox.waiting().0, 2, "a start goes on");
     Ok(())
 }
 
 #[test]
 fn a_folder_in_use_is_not_read() -> Result<()> {
     let folder = tempdir()?;
+    std::fs::write(folder.path().join("version"), "")?;
     let file = File::create(folder.path().join("lock"))?;
     flock(file.as_raw_fd(), FlockArg::LockExclusiveNonblock)?;
     let error = lock(folder.path()).unwrap_err().to_string();

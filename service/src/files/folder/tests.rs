@@ -1,8 +1,11 @@
 //! Whose folder it is, and what an earlier run or a copy has left.
 
+mod damage;
+mod rights;
+
 use super::*;
 use crate::files::Post;
-use std::os::unix::fs::PermissionsExt;
+use std::os::unix::fs::{MetadataExt, PermissionsExt};
 
 fn open(path: &Path) -> Result<Folder, FolderFault> {
     Folder::open(path, Durability::Process)
@@ -175,6 +178,14 @@ fn a_folder_that_is_made_has_a_name_that_lasts() {
     }
 }
 
+/// As an earlier totxegun leaves a folder.
+fn forget_what_was_begun(place: &Path) {
+    let version = place.join("version");
+    let text = std::fs::read_to_string(&version).unwrap();
+    let kept = text.lines().filter(|line| !line.starts_with("begun "));
+    std::fs::write(&version, kept.map(|line| format!("{line}\n")).collect::<String>()).unwrap();
+}
+
 #[test]
 fn an_outbox_that_begins_anew_in_an_old_folder_has_keys_of_its_own() {
     let place = tempfile::tempdir().unwrap();
@@ -183,6 +194,7 @@ fn an_outbox_that_begins_anew_in_an_old_folder_has_keys_of_its_own() {
     assert_eq!(folder.slot(0).unwrap().1.epoch(), drawn);
     drop(folder);
     std::fs::remove_dir_all(place.path().join("slot-0")).unwrap();
+    forget_what_was_begun(place.path());
     let folder = open(place.path()).unwrap();
     let anew = folder.slot(0).unwrap().1.epoch();
     assert_ne!(anew, drawn);
@@ -225,7 +237,9 @@ fn the_journal_goes_on_behind_what_the_outbox_knows() {
     let folder = open(place.path()).unwrap();
     let (journal, outbox) = folder.slot(0).unwrap();
     outbox.commit(&[], 9).unwrap();
-    drop((journal, outbox));
+    drop((journal, outbox, folder));
+    forget_what_was_begun(place.path());
+    let folder = open(place.path()).unwrap();
     let (journal, _outbox) = folder.slot(0).unwrap();
     assert_eq!(journal.turn().0, 10);
 }

@@ -1,40 +1,38 @@
 //! What an earlier run left in the journal.
 
-use super::{post_of, Journal, Place, Shared, Size, Waiters, COPY, POST};
-use crate::files::disk::Disk;
-use crate::files::judge::{is_torn, CHANGED};
-use crate::files::records::{Next, Reader, Which};
+use super::found::{self, Found};
+use super::{name, prepare, Expected, Journal, Place, Shared, Size, Waiters};
+use crate::files::disk::{io_fault, Disk};
+use crate::files::judge::CHANGED;
 use crate::files::room::Room;
-use crate::files::segment::{self, Segment};
+use crate::files::segment::{self, Dropped};
 use crate::files::{Durability, Fault};
+use std::collections::BTreeSet;
 use std::path::Path;
 use std::sync::atomic::AtomicU64;
 use std::sync::{Arc, Condvar, Mutex};
 
-/// How a segment was found.
-struct Found {
-    size: Size,
-    /// Where its last whole record ends.
-    end: u64,
-    closed: bool,
-    has_marks: bool,
-}
-
 impl Journal {
-    /// Closes what an earlier run left, and begins a segment behind it, of a number not before `reach`.
+    /// Closes what an earlier run left, and begins a segment behind it, of a number not before the first that counts.
     pub(in crate::files) fn open(
         disk: &Disk,
         folder: &Path,
         durability: Durability,
         room: Arc<Room>,
-        reach: u64,
+        expected: &Expected,
     ) -> Result<Journal, Fault> {
+        let disk = &disk.of_its_own();
         disk.make_folder(folder)?;
-        segment::settle(disk, folder, reach)?;
-        let mut sizes = close(disk, folder, reach)?;
-        let number = sizes.last().map_or(1, |last| last.number + 1).max(reach);
-        let path = segment::path(folder, number);
-        let segment = Segment::create(disk, path, Which::Journal, number, super::ahead(durability))?;
+        remove_drafts(disk, folder)?;
+        let (mut found, dropped) = close(disk, folder, expected)?;
+        let number = drop_empty(disk, folder, &mut found, expected)?;
+        let mut segment = prepare(disk, folder, number, durability, expected.reach)?;
+        name(disk, folder, &mut segment)?;
+        let lists = found
+            .iter_mut()
+            .map(|one| (one.size.number, std::mem::take(&mut one.held)));
+        let held = lists.filter(|(_, list)| !list.is_empty()).collect();
+        let mut sizes: Vec<Size> = found.into_iter().map(|one| one.size).collect();
         sizes.push(Size {
             number,
             bytes: 0,
@@ -46,7 +44,7 @@ impl Journal {
             ticket: 1,
             ended: Vec::new(),
             kept: 1,
-            sizes,
+            moved: BTreeSet::new(),
         };
         let shared = Arc::new(Shared {
             disk: disk.clone(),
@@ -54,51 +52,68 @@ impl Journal {
             durability,
             room,
             place: Mutex::new(place),
+            sizes: Mutex::new(sizes),
+            held: Mutex::new(held),
             durable: AtomicU64::new(0),
             waiters: Mutex::new(Waiters::default()),
             work: Condvar::new(),
             syncing: Mutex::new(()),
+            next: Mutex::new(None),
         });
         shared.try_sync()?;
         let run = shared.clone();
         let syncer = std::thread::Builder::new()
             .name("journal".into())
             .spawn(move || run.run());
-        let syncer = Some(syncer.map_err(crate::files::disk::io_fault(folder))?);
-        Ok(Journal { shared, syncer })
+        let syncer = Some(syncer.map_err(io_fault(folder))?);
+        Ok(Journal {
+            shared,
+            syncer,
+            begun: number,
+            dropped,
+        })
     }
 }
 
-/// Cuts what a crash tore, and ends the last segment.
+/// Segments that had no name yet.
+fn remove_drafts(disk: &Disk, folder: &Path) -> Result<(), Fault> {
+    for entry in std::fs::read_dir(folder).map_err(io_fault(folder))? {
+        let path = entry.map_err(io_fault(folder))?.path();
+        if path.extension().is_some_and(|extension| extension == "draft") {
+            disk.remove(&path)?;
+        }
+    }
+    Ok(())
+}
+
+/// Leaves out what a crash tore, and ends the last segment. What was left out.
 ///
 /// A segment is begun before the one before it is synced. So a power loss can tear a segment that is not the last;
 /// then nothing of the later ones was durable, nobody was told of it, and it goes with what was torn.
-fn close(disk: &Disk, folder: &Path, reach: u64) -> Result<Vec<Size>, Fault> {
-    let numbers = segment::numbers(folder)?;
-    let needed: Vec<u64> = numbers
-        .iter()
-        .copied()
-        .filter(|number| *number >= reach)
-        .collect();
-    segment::check_row(folder, &needed)?;
-    if needed.first().is_some_and(|first| *first > reach.max(1)) {
-        return Err(segment::missing(folder, reach.max(1)));
-    }
+fn close(disk: &Disk, folder: &Path, expected: &Expected) -> Result<(Vec<Found>, Vec<Dropped>), Fault> {
     let mut found = Vec::new();
-    for number in numbers {
-        found.push(find(folder, number)?);
+    for number in segment::numbers(folder)? {
+        found.push(found::find(folder, number)?);
     }
-    if let Some(torn) = found.iter().position(|one| !one.closed) {
-        cut(disk, folder, &mut found, torn)?;
+    found::check(folder, &found, expected)?;
+    segment::settle(disk, folder, expected.reach)?;
+    let mut dropped = Vec::new();
+    let is_torn = |one: &Found| !one.closed && one.size.number >= expected.reach;
+    if let Some(torn) = found.iter().position(is_torn) {
+        cut(disk, folder, &mut found, torn, &mut dropped)?;
     }
-    drop_empty(disk, folder, &mut found)?;
-    Ok(found.into_iter().map(|one| one.size).collect())
+    Ok((found, dropped))
 }
 
 /// Cuts the segment at this place, with what follows it.
-fn cut(disk: &Disk, folder: &Path, found: &mut Vec<Found>, torn: usize) -> Result<(), Fault> {
+fn cut(
+    disk: &Disk,
+    folder: &Path,
+    found: &mut Vec<Found>,
+    torn: usize,
+    dropped: &mut Vec<Dropped>,
+) -> Result<(), Fault> {
     let (path, end) = (segment::path(folder, found[torn].size.number), found[torn].end);
-    is_torn(&path, end)?;
     if found[torn + 1..].iter().any(|later| later.has_marks) {
         return Err(Fault::Damaged {
             path,
@@ -106,14 +121,16 @@ fn cut(disk: &Disk, folder: &Path, found: &mut Vec<Found>, torn: usize) -> Resul
             what: CHANGED.into(),
         });
     }
+    dropped.extend(segment::keep_aside(disk, &path, end)?);
     for later in found.drain(torn + 1..).rev() {
-        tracing::warn!(
-            "segment {} of the journal follows a torn one, so none of it counts",
-            later.size.number
-        );
+        let number = later.size.number;
+        tracing::warn!("segment {number} of the journal follows a torn one, so none of it counts");
+        if later.size.bytes > 0 {
+            dropped.extend(segment::keep_aside(disk, &segment::path(folder, number), 0)?);
+        }
         // Each before the next one, and all before the torn one looks whole: no name may come back behind one that does
         // not, and what follows the torn one would count again.
-        remove(disk, folder, later.size.number)?;
+        remove(disk, folder, number)?;
     }
     if end == 0 {
         disk.remove(&path)?;
@@ -124,48 +141,21 @@ fn cut(disk: &Disk, folder: &Path, found: &mut Vec<Found>, torn: usize) -> Resul
     disk.sync_folder(folder)
 }
 
-/// Deletes the last segments that have no post. Starts that end at once would leave one each.
-fn drop_empty(disk: &Disk, folder: &Path, found: &mut Vec<Found>) -> Result<(), Fault> {
-    while let Some(last) = found.pop_if(|last| last.size.bytes == 0) {
+/// Which segment is begun: another one takes the place of a last one that has no post, and those that have none behind
+/// it are deleted. Starts that end at once would leave one each.
+fn drop_empty(disk: &Disk, folder: &Path, found: &mut Vec<Found>, expected: &Expected) -> Result<u64, Fault> {
+    let known = expected.begun.unwrap_or(0).max(expected.reach);
+    let is_empty = |last: &mut Found| last.size.bytes == 0 && last.size.number > known;
+    while let Some(last) = found.pop_if(is_empty) {
         remove(disk, folder, last.size.number)?;
     }
-    Ok(())
+    let replaced = found.pop_if(|last| last.size.bytes == 0 && last.size.number == known);
+    let behind = found.last().map_or(1, |last| last.size.number + 1);
+    Ok(replaced.map_or(behind.max(expected.reach), |last| last.size.number))
 }
 
 /// Durable when this returns: not every file system keeps the order of deletions over a loss of power.
 fn remove(disk: &Disk, folder: &Path, number: u64) -> Result<(), Fault> {
     disk.remove(&segment::path(folder, number))?;
     disk.sync_folder(folder)
-}
-
-fn find(folder: &Path, number: u64) -> Result<Found, Fault> {
-    let (mut reader, mut next) = Reader::open(&segment::path(folder, number), Which::Journal, number, None)?;
-    let mut size = Size {
-        number,
-        bytes: 0,
-        first: None,
-    };
-    loop {
-        match next {
-            Next::Record {
-                kind: POST | COPY,
-                bytes,
-                ..
-            } => {
-                size.bytes += bytes.len() as u64;
-                size.first = size.first.or_else(|| Some(post_of(bytes)?.0));
-            }
-            Next::Record { .. } => {}
-            Next::Closed | Next::Stop => {
-                let closed = next == Next::Closed;
-                return Ok(Found {
-                    size,
-                    end: reader.at,
-                    closed,
-                    has_marks: reader.has_marks,
-                });
-            }
-        }
-        next = reader.next()?;
-    }
 }

@@ -10,6 +10,15 @@ use tokio::sync::oneshot;
 
 /// How long what nobody waits for stays unsynced: so a machine's end takes no more, where posts are only written.
 const IDLE: Duration = Duration::from_secs(1);
+/// How long nobody waits for anything before the last record is marked.
+const QUIET: Duration = Duration::from_millis(100);
+
+/// What the syncer has to do.
+enum Due {
+    Sync,
+    Mark,
+    End,
+}
 
 #[derive(Default)]
 pub struct Waiters {
@@ -73,7 +82,7 @@ impl Shared {
 
     /// The same, for who has the journal alone.
     pub(super) fn try_sync(&self) -> Result<(), Fault> {
-        let (ended, file, path, number, at, named, ticket) = {
+        let (ended, file, path, number, at, length, named, ticket) = {
             let mut place = lock(&self.place);
             let ended = std::mem::take(&mut place.ended);
             let segment = &place.segment;
@@ -83,6 +92,7 @@ impl Shared {
                 segment.path.clone(),
                 segment.number,
                 segment.at,
+                segment.length(),
                 place.named,
                 place.ticket,
             )
@@ -97,7 +107,7 @@ impl Shared {
         {
             let mut place = lock(&self.place);
             if place.segment.number == number {
-                place.segment.note_durable(at);
+                place.segment.note_durable(at, length);
                 place.named = true;
             }
         }
@@ -131,36 +141,75 @@ impl Shared {
         }
     }
 
-    /// Returns once there is something to sync; false where the journal is closed.
-    fn wait(&self) -> bool {
+    /// Returns once there is something to do.
+    fn wait(&self) -> Due {
         let mut waiters = lock(&self.waiters);
+        let mut waited = Duration::ZERO;
         loop {
             if waiters.ending {
-                return false;
+                return Due::End;
             }
             if !waiters.list.is_empty() {
-                return true;
+                return Due::Sync;
             }
             waiters.idle = true;
-            let waited = self
+            let pause = if waited < IDLE { QUIET } else { IDLE };
+            let (woken, why) = self
                 .work
-                .wait_timeout(waiters, IDLE)
+                .wait_timeout(waiters, pause)
                 .unwrap_or_else(PoisonError::into_inner);
-            waiters = waited.0;
+            waiters = woken;
             waiters.idle = false;
-            if waited.1.timed_out() && self.is_behind() {
-                return !waiters.ending;
+            if waiters.ending || !why.timed_out() {
+                continue;
+            }
+            waited += pause;
+            // Who writes just now keeps nobody waiting here.
+            let Ok(place) = self.place.try_lock() else {
+                continue;
+            };
+            if waited >= IDLE && self.durable.load(SeqCst) < place.ticket {
+                return Due::Sync;
+            }
+            if place.segment.needs_mark() {
+                return Due::Mark;
             }
         }
     }
 
-    fn is_behind(&self) -> bool {
-        self.durable.load(SeqCst) < lock(&self.place).ticket
+    /// Marks the last record, where nothing else is written. The mark itself need not be durable.
+    fn mark_last(&self) {
+        if let Err(fault) = lock(&self.place).segment.mark_last() {
+            self.disk.end(&fault);
+        }
+    }
+
+    /// Makes the segment that comes next, so that a turn has only to name it.
+    fn prepare(&self) {
+        let (number, forgotten) = {
+            let place = lock(&self.place);
+            (place.segment.number + 1, place.segment.forgotten())
+        };
+        let mut next = lock(&self.next);
+        if next.as_ref().is_some_and(|next| next.number >= number) {
+            return;
+        }
+        match super::prepare(&self.disk, &self.folder, number, self.durability, forgotten) {
+            Ok(made) => *next = Some(made),
+            Err(fault) => self.disk.end(&fault),
+        }
     }
 
     pub fn run(self: Arc<Self>) {
-        while self.wait() {
-            self.sync();
+        loop {
+            match self.wait() {
+                Due::Sync => {
+                    self.sync();
+                    self.prepare();
+                }
+                Due::Mark => self.mark_last(),
+                Due::End => return,
+            }
         }
     }
 }
@@ -172,6 +221,9 @@ impl Drop for Journal {
         self.shared.work.notify_one();
         if let Some(syncer) = self.syncer.take() {
             let _ = syncer.join();
+        }
+        if let Some(next) = lock(&self.shared.next).take() {
+            let _ = std::fs::remove_file(&next.path); // the next start does it too
         }
         self.shared.sync();
         let ended = lock(&self.shared.place).segment.end();

@@ -1,6 +1,8 @@
 //! What is kept comes back, over any calls and starts; `damage` and `syncs` have what goes wrong.
 
+mod changed;
 mod damage;
+mod held;
 mod power;
 mod syncs;
 
@@ -10,16 +12,22 @@ use crate::files::numbers::Numbers;
 use std::path::Path;
 use std::sync::atomic::{AtomicBool, AtomicUsize};
 use std::sync::mpsc;
-use std::time::Duration;
 
 fn open_from(disk: &Disk, path: &Path, durability: Durability, reach: u64) -> Result<Journal, Fault> {
-    Journal::open(
-        disk,
-        path,
-        durability,
-        Arc::new(Room::new(Path::new("/"))?),
-        reach,
-    )
+    open_begun(disk, path, durability, reach, None)
+}
+
+/// In a folder in which an earlier start has begun that segment.
+fn open_begun(
+    disk: &Disk,
+    path: &Path,
+    durability: Durability,
+    reach: u64,
+    begun: Option<u64>,
+) -> Result<Journal, Fault> {
+    let room = Arc::new(Room::new(Path::new("/"))?);
+    let by = (PathBuf::from("outbox/1.seg"), 7);
+    Journal::open(disk, path, durability, room, &Expected { reach, begun, by })
 }
 
 fn open_on(disk: &Disk, path: &Path, durability: Durability) -> Result<Journal, Fault> {
@@ -126,8 +134,7 @@ fn posts_come_back_in_order_and_copies_only_where_they_are_first() {
 #[test]
 fn a_segment_is_not_before_that_which_the_outbox_knows() {
     let folder = tempfile::tempdir().unwrap();
-    let room = || Arc::new(Room::new(folder.path()).unwrap());
-    let journal = Journal::open(&Disk::default(), folder.path(), Durability::Process, room(), 7).unwrap();
+    let journal = open_from(&Disk::default(), folder.path(), Durability::Process, 7).unwrap();
     journal.append(&post("a"));
     assert_eq!(texts(&journal, 7), ["a"]);
     journal.reach(7);

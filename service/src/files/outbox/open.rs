@@ -11,9 +11,9 @@ use crate::files::disk::Disk;
 use crate::files::judge::{is_torn, CHANGED};
 use crate::files::records::{Next, Reader, Which, HEADER};
 use crate::files::room::Room;
-use crate::files::{segment, Fault};
+use crate::files::{segment, Dropped, Fault};
 use crate::otlp::series::SeriesKey;
-use std::path::Path;
+use std::path::{Path, PathBuf};
 use std::sync::{Arc, Mutex};
 use tokio::sync::Notify;
 
@@ -37,11 +37,17 @@ impl Outbox {
         read_ends: ReadEnds,
         longest: u64,
     ) -> Result<Outbox, Fault> {
+        let disk = &disk.of_its_own();
         disk.make_folder(folder)?;
         let numbers = segment::numbers(folder)?;
         // Each is begun once the one before it is durable.
         segment::settle(disk, folder, numbers.last().copied().unwrap_or(0))?;
-        let (mut state, has_requests) = read_all(disk, folder, &numbers, epoch)?;
+        let Left {
+            mut state,
+            has_requests,
+            ended,
+            dropped,
+        } = read_all(disk, folder, &numbers, epoch)?;
         state.next_epoch = epoch.into();
         // A segment without a request is replaced: starts that end at once would leave one each.
         let number = numbers.last().map_or(1, |last| last + u64::from(has_requests));
@@ -55,16 +61,33 @@ impl Outbox {
             writer: Mutex::new(Writer::new(segment)),
             state: Mutex::new(state),
             arrived: Notify::new(),
+            ended,
+            dropped,
+            stuck: Mutex::new(None),
         };
         outbox.sweep()?;
         Ok(outbox)
     }
 }
 
-/// Reads the segments, and closes the last of them. Whether that one has requests, taken or not.
-fn read_all(disk: &Disk, folder: &Path, numbers: &[u64], epoch: &str) -> Result<(State, bool), Fault> {
+/// What was left.
+struct Left {
+    state: State,
+    /// Whether the last segment has requests, taken or not.
+    has_requests: bool,
+    ended: (PathBuf, u64),
+    dropped: Vec<Dropped>,
+}
+
+/// Reads the segments, and closes the last of them.
+fn read_all(disk: &Disk, folder: &Path, numbers: &[u64], epoch: &str) -> Result<Left, Fault> {
     let Some((last, earlier)) = numbers.split_last() else {
-        return Ok((State::new(epoch), false));
+        return Ok(Left {
+            state: State::new(epoch),
+            has_requests: false,
+            ended: (folder.into(), 0),
+            dropped: Vec::new(),
+        });
     };
     let mut batches = Vec::new();
     for number in earlier {
@@ -72,9 +95,12 @@ fn read_all(disk: &Disk, folder: &Path, numbers: &[u64], epoch: &str) -> Result<
     }
     let mut reading = Reading::open(folder, *last)?;
     let (mut state, end) = reading.read_last()?;
+    let mut dropped = Vec::new();
     if let Some(end) = end {
+        dropped.extend(segment::keep_aside(disk, &reading.reader.path, end)?);
         segment::close_at(disk, &reading.reader.path, end)?;
     }
+    let ended = (reading.reader.path.clone(), end.unwrap_or(reading.reader.at));
     let has_requests = !state.batches.is_empty();
     batches.extend(std::mem::take(&mut state.batches));
     state.bytes = 0;
@@ -93,7 +119,12 @@ fn read_all(disk: &Disk, folder: &Path, numbers: &[u64], epoch: &str) -> Result<
         state.wait(batch);
     }
     match next == state.next {
-        true => Ok((state, has_requests)),
+        true => Ok(Left {
+            state,
+            has_requests,
+            ended,
+            dropped,
+        }),
         false => Err(lost(folder, numbers, &reading.reader)),
     }
 }
@@ -114,15 +145,18 @@ fn skip_taken(folder: &Path, mut batch: Batch, acknowledged: u64) -> Result<Batc
             number: batch.first,
             since: batch.since,
         };
-        let length = rows::item_length(
-            &path,
-            &Front {
-                waiting,
-                segment: batch.segment,
-                at: batch.at,
-            },
-        )?;
-        (batch.first, batch.count, batch.at) = (batch.first + 1, batch.count - 1, batch.at + length);
+        let (segment, at) = (batch.segment, batch.at);
+        let front = Front { waiting, segment, at };
+        let (taken, at) = match rows::sound_length(&path, &front) {
+            Ok(length) => (1, batch.at + length),
+            // One that the sink has was changed: the next one is looked for.
+            Err(Fault::Damaged { .. }) => {
+                let next = rows::find_item(&path, batch.at..batch.end, acknowledged + 1)?;
+                (acknowledged + 1 - batch.first, next.unwrap_or(batch.at))
+            }
+            Err(fault) => return Err(fault),
+        };
+        (batch.first, batch.count, batch.at) = (batch.first + taken, batch.count - taken, at);
     }
     Ok(batch)
 }
@@ -253,6 +287,24 @@ impl Reading {
         }
     }
 
+    /// The items of a group of the last segment, which may be torn. Where they are durable and one was changed, all else is
+    /// known by the commit: the delivery stops at that one, and says so.
+    fn last_items(&mut self, head: &GroupHead) -> Result<Items, Fault> {
+        let from = self.reader.at;
+        let torn = match self.items(head, true)? {
+            Items::Torn(torn) => torn,
+            whole => return Ok(whole),
+        };
+        let Err(changed) = is_torn(&self.reader.path, torn) else {
+            return Ok(Items::Torn(torn));
+        };
+        self.reader.seek(from)?;
+        match self.items(head, false) {
+            Ok(whole @ Items::Whole { .. }) => Ok(whole),
+            _ => Err(changed),
+        }
+    }
+
     /// The state that the last segment tells, and where it has to be closed, where it was not.
     fn read_last(&mut self) -> Result<(State, Option<u64>), Fault> {
         let Next::Record {
@@ -279,11 +331,8 @@ impl Reading {
                     bytes,
                 } => {
                     let head = self.head(at, &bytes)?;
-                    match self.items(&head, true)? {
-                        Items::Torn(torn) => {
-                            is_torn(&self.reader.path, torn)?;
-                            return Ok((state, Some(at)));
-                        }
+                    match self.last_items(&head)? {
+                        Items::Torn(_) => return Ok((state, Some(at))),
                         whole => state.apply(self.group(head, whole, &mut keys, at)?),
                     }
                 }

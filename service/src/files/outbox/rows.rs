@@ -251,13 +251,37 @@ pub fn change_of(kind: u8, bytes: &[u8], keys: &[SeriesKey]) -> Option<Change> {
 
 /// The body of a waiting request, as it was committed.
 pub fn read_item(path: &Path, front: &Front) -> Result<Vec<u8>, Fault> {
-    let read = records::read_at(path, front.at)?.filter(|(kind, _, _)| *kind == ITEM);
-    let body = read.and_then(|(_, bytes, _)| {
-        let mut rest = &bytes[..];
-        take_number(&mut rest).filter(|number| *number == front.waiting.number)?;
-        inflated(rest)
-    });
-    body.ok_or_else(|| changed(path, front))
+    let packed = read_packed(path, front)?.0;
+    inflated(&packed[8..]).ok_or_else(|| changed(path, front))
+}
+
+/// The length of its record, of which each byte is as it was.
+pub fn sound_length(path: &Path, front: &Front) -> Result<u64, Fault> {
+    Ok(read_packed(path, front)?.1)
+}
+
+fn read_packed(path: &Path, front: &Front) -> Result<(Vec<u8>, u64), Fault> {
+    let number = front.waiting.number.to_le_bytes();
+    let read = records::read_at(path, front.at)?;
+    let read = read.filter(|(kind, bytes, _)| *kind == ITEM && bytes.starts_with(&number));
+    let (_, bytes, length) = read.ok_or_else(|| changed(path, front))?;
+    Ok((bytes, length))
+}
+
+/// Where the record of a request begins, between these places; `None` where none is whole.
+pub fn find_item(path: &Path, places: Range<u64>, number: u64) -> Result<Option<u64>, Fault> {
+    let mut bytes = vec![0; (places.end - places.start) as usize];
+    let read = std::fs::File::open(path).and_then(|file| file.read_exact_at(&mut bytes, places.start));
+    read.map_err(io_fault(path))?;
+    let begins = |at: &usize| {
+        let rest = &bytes[*at..];
+        let is_its = rest.get(HEAD - 1) == Some(&ITEM) && rest[HEAD..].starts_with(&number.to_le_bytes());
+        let head = rest.first_chunk::<HEAD>().filter(|_| is_its)?;
+        let body = rest.get(HEAD..records::whole_length(head)?)?;
+        records::is_sound(head, body).then_some(())
+    };
+    let found = (0..bytes.len()).find(|at| begins(at).is_some());
+    Ok(found.map(|at| places.start + at as u64))
 }
 
 /// The length of its record.

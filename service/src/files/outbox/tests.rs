@@ -71,7 +71,7 @@ fn view(outbox: &Outbox) -> String {
 
 /// A copy of a folder, with another last segment.
 fn copied(from: &Path, last: &[u8]) -> tempfile::TempDir {
-    let to = tempfile::tempdir().unwrap();
+    let to = crate::files::power::place();
     for number in segment::numbers(from).unwrap() {
         std::fs::copy(segment::path(from, number), segment::path(to.path(), number)).unwrap();
     }

@@ -62,10 +62,13 @@ fn what_was_durable_is_there_and_of_the_rest_the_first_posts() {
             let (again, left) = (at(&format!("again-{calls}")), at(&format!("left-{calls}")));
             copy(&at("left"), &again);
             let shadow = Arc::new(Mutex::new(Shadow::of(&again)));
-            let opened = open_from(&disk(&shadow, calls), &again, durability, posted.reach);
+            // The first start has noted its segment.
+            let open =
+                |disk: &Disk, folder: &Path| open_begun(disk, folder, durability, posted.reach, Some(1));
+            let opened = open(&disk(&shadow, calls), &again);
             let is_whole = opened.map(kill).is_ok();
             lock(&shadow).lose_power(&left, &mut chance);
-            let journal = open_from(&Disk::default(), &left, durability, posted.reach);
+            let journal = open(&Disk::default(), &left);
             let journal = journal.unwrap_or_else(|fault| panic!("seed {seed} call {calls}: {fault}"));
             let found = texts(&journal, posted.reach);
             assert!(

@@ -242,8 +242,11 @@ fn what_was_copied_is_durable_before_its_first_place_is_deleted() {
             .iter()
             .rposition(|one| *one == (call, segment::path(folder.path(), number)))
     };
+    let copied = calls
+        .iter()
+        .position(|one| *one == (Call::Write, segment::path(folder.path(), 2)));
     assert!(position(Call::Sync, 2).unwrap() < position(Call::Remove, 1).unwrap());
-    assert!(position(Call::Write, 2).unwrap() < position(Call::Sync, 2).unwrap());
+    assert!(copied.unwrap() < position(Call::Sync, 2).unwrap());
 }
 
 #[test]
@@ -267,5 +270,39 @@ fn what_an_earlier_run_wrote_is_synced_before_it_is_believed() {
     for number in [1, 2] {
         let path = segment::path(folder.path(), number);
         assert!(synced.lock().unwrap().contains(&path), "{path:?}");
+    }
+}
+
+/// Else whoever asks how the service is waits for the disk too, and nobody sees that it stalls.
+#[test]
+fn sizes_are_told_while_a_write_stalls_and_how_long_it_does() {
+    let folder = tempfile::tempdir().unwrap();
+    let stalls = Arc::new(AtomicBool::new(false));
+    let stalling = stalls.clone();
+    let disk = Disk::failing(move |call, _| {
+        while call == Call::Write && stalling.load(SeqCst) {
+            std::thread::sleep(Duration::from_millis(1));
+        }
+        Ok(())
+    });
+    let journal = Arc::new(open_on(&disk, folder.path(), Durability::Process).unwrap());
+    append(&journal, "a");
+    let before = journal.size();
+    assert_eq!(journal.under_way(), Duration::ZERO);
+    stalls.store(true, SeqCst);
+    let writes = journal.clone();
+    let writing = std::thread::spawn(move || append(&writes, "b"));
+    while journal.under_way() < Duration::from_millis(30) {
+        std::thread::sleep(Duration::from_millis(1));
+    }
+    let (asks, (tell, told)) = (journal.clone(), mpsc::channel());
+    std::thread::spawn(move || tell.send(asks.size()));
+    let size = told.recv_timeout(Duration::from_secs(5));
+    stalls.store(false, SeqCst);
+    writing.join().unwrap();
+    assert_eq!(size, Ok(before), "nobody waits for the write");
+    assert!(journal.size().0 > before.0);
+    while journal.under_way() > Duration::ZERO {
+        std::thread::sleep(Duration::from_millis(1));
     }
 }

@@ -1,6 +1,7 @@
 //! Groups that are cut or changed, and calls on the disk that fail.
 
 use super::*;
+use crate::files::records::MARK_LENGTHS;
 
 #[tokio::test]
 async fn a_group_that_is_cut_anywhere_is_not_there() {
@@ -20,12 +21,14 @@ async fn a_group_that_is_cut_anywhere_is_not_there() {
     let after = view(&outbox);
     kill(outbox);
     let all = std::fs::read(last_segment(folder.path())).unwrap();
+    // Behind its last record is the mark of it.
+    let all = &all[..all.len() - MARK_LENGTHS[0]];
     for cut in begin..=all.len() {
         for zeros in [0, 600] {
             let found = [&all[..cut], &vec![0; zeros]].concat();
             let torn = copied(folder.path(), &found);
             // Where its last bytes are zeros, zeros make it whole.
-            let expected = if found.starts_with(&all) { &after } else { &before };
+            let expected = if found.starts_with(all) { &after } else { &before };
             assert_eq!(view(&open(torn.path())), *expected, "{cut} {zeros}");
         }
     }
@@ -48,38 +51,62 @@ fn a_group_whose_middle_was_lost_is_not_there_though_its_commit_is() {
     outbox.commit(&[body(&[("a", 1)], &noise)], 2).unwrap();
     kill(outbox);
     let mut all = std::fs::read(last_segment(folder.path())).unwrap();
+    all.truncate(all.len() - MARK_LENGTHS[0]);
     assert!(all.len() > 2000);
     all[1024..1536].fill(0);
     let torn = copied(folder.path(), &all);
     assert_eq!(view(&open(torn.path())), before);
 }
 
+/// How a changed segment is found: at the start, or at the delivery of the request that was changed.
+async fn is_named(path: &Path, first: &[u8]) -> bool {
+    let outbox = match open_on(&Disk::default(), path, "e", SEGMENT) {
+        Err(Fault::Damaged { .. }) => return true,
+        opened => opened.unwrap(),
+    };
+    assert_eq!(outbox.waiting().0, 1);
+    let is_stuck = async {
+        while outbox.stuck().is_none() {
+            tokio::time::sleep(Duration::from_millis(1)).await;
+        }
+    };
+    let read = tokio::select! {
+        read = outbox.first() => Ok(read),
+        () = is_stuck => Err(()),
+    };
+    let stuck = outbox.stuck();
+    assert_eq!(outbox.find_changed().unwrap().len(), usize::from(stuck.is_some()));
+    kill(outbox);
+    match read {
+        Ok(read) => assert_eq!(read.unwrap().1, first),
+        Err(_) => assert!(
+            stuck.as_ref().is_some_and(|it| it.contains("request 1")),
+            "{stuck:?}"
+        ),
+    }
+    stuck.is_some()
+}
+
 #[tokio::test]
 async fn a_changed_byte_is_named_at_the_start_or_at_the_delivery_and_nothing_is_deleted() {
-    let folder = tempfile::tempdir().unwrap();
+    let folder = crate::files::power::place();
     let outbox = open(folder.path());
-    outbox.commit(&[body(&[("a", 1)], "first")], 2).unwrap();
+    let first = body(&[("a", 1)], "first");
+    outbox.commit(std::slice::from_ref(&first), 2).unwrap();
     outbox.own(HashMap::from([(key_of("a"), "me".into())])).unwrap();
     outbox.quarantine("me").unwrap();
-    let end = std::fs::metadata(last_segment(folder.path())).unwrap().len() as usize;
-    outbox.lift("me").unwrap();
+    let end = std::fs::metadata(last_segment(folder.path())).unwrap().len() as usize - MARK_LENGTHS[0];
     kill(outbox);
     let path = last_segment(folder.path());
     let all = std::fs::read(&path).unwrap();
-    let named = |path: &Path| {
-        matches!(
-            open_on(&Disk::default(), path, "e", SEGMENT).err(),
-            Some(Fault::Damaged { .. })
-        )
-    };
     for at in 0..end {
         let mut changed = all.clone();
         changed[at] ^= 4;
-        std::fs::write(&path, &changed).unwrap();
-        assert!(named(folder.path()), "byte {at}");
-        assert_eq!(std::fs::read(&path).unwrap(), changed);
+        let copy = copied(folder.path(), &changed);
+        assert!(is_named(copy.path(), &first).await, "byte {at}");
+        let left = std::fs::read(segment::path(copy.path(), 1)).unwrap();
+        assert!(left.starts_with(&changed[..end]), "byte {at}");
     }
-    std::fs::write(&path, &all).unwrap();
     drop(open(folder.path()));
     // The first segment is closed now, and its bodies are passed over.
     let all = std::fs::read(&path).unwrap();
@@ -87,15 +114,59 @@ async fn a_changed_byte_is_named_at_the_start_or_at_the_delivery_and_nothing_is_
         let mut changed = all.clone();
         changed[at] ^= 4;
         std::fs::write(&path, &changed).unwrap();
-        if !named(folder.path()) {
-            let outbox = open(folder.path());
-            let first = outbox.first().await;
-            let sound = first
-                .as_ref()
-                .is_ok_and(|first| first.1 == body(&[("a", 1)], "first"));
-            assert!(sound || matches!(first, Err(Fault::Damaged { .. })), "byte {at}");
-        }
+        is_named(folder.path(), &first).await;
     }
+}
+
+#[tokio::test]
+async fn a_changed_request_stops_its_delivery_alone_until_its_file_is_back() {
+    let folder = crate::files::power::place();
+    let outbox = open(folder.path());
+    let bodies = ["one", "two", "three"].map(|text| body(&[(text, 1)], text));
+    outbox.commit(&bodies, 2).unwrap();
+    let places = ["one", "two", "three"].map(|text| {
+        let (all, packed) = (
+            std::fs::read(last_segment(folder.path())).unwrap(),
+            rows::deflated(&body(&[(text, 1)], text)),
+        );
+        all.windows(packed.len()).position(|part| part == packed).unwrap()
+    });
+    assert_eq!(take(&outbox).await.0, 1);
+    kill(outbox);
+    let path = last_segment(folder.path());
+    let sound = std::fs::read(&path).unwrap();
+    let with_change_at = |at: usize| {
+        let mut changed = sound.clone();
+        changed[at] ^= 1;
+        let copy = copied(folder.path(), &changed);
+        let outbox = Arc::new(open(copy.path()));
+        outbox.commit(&[body(&[("four", 2)], "four")], 3).unwrap();
+        assert_eq!((outbox.waiting().0, outbox.journal()), (3, 3), "the rest goes on");
+        (copy, outbox)
+    };
+    let (copy, outbox) = with_change_at(places[1] + 3);
+    let named = outbox.find_changed().unwrap();
+    assert!(
+        matches!(&named[..], [one] if one.to_string().contains("request 2")),
+        "{named:?}"
+    );
+    let waits = outbox.clone();
+    let second = tokio::spawn(async move { take(&waits).await });
+    while outbox.stuck().is_none() {
+        tokio::time::sleep(Duration::from_millis(1)).await;
+    }
+    let file = File::options()
+        .write(true)
+        .open(segment::path(copy.path(), 1))
+        .unwrap();
+    let part = places[1]..places[1] + 10;
+    std::os::unix::fs::FileExt::write_all_at(&file, &sound[part.clone()], part.start as u64).unwrap();
+    assert_eq!(second.await.unwrap(), (2, bodies[1].clone()));
+    assert_eq!((take(&outbox).await.0, outbox.stuck()), (3, None));
+    // The length of the first, which the sink has.
+    let (_copy, outbox) = with_change_at(places[0] - 17);
+    assert!(outbox.find_changed().unwrap().is_empty());
+    assert_eq!(take(&outbox).await, (2, bodies[1].clone()));
 }
 
 #[test]
@@ -197,4 +268,32 @@ fn outbox_view_behind(outbox: &Outbox, commits: u64) -> bool {
             .series()
             .get(&key_of("a"))
             .is_some_and(|known| known.frontier == commits)
+}
+
+#[test]
+fn what_asks_is_answered_while_a_write_stalls() {
+    let folder = tempfile::tempdir().unwrap();
+    let stalls = Arc::new(AtomicBool::new(false));
+    let stalling = stalls.clone();
+    let disk = Disk::failing(move |call, _| {
+        while call == Call::Write && stalling.load(SeqCst) {
+            std::thread::sleep(Duration::from_millis(1));
+        }
+        Ok(())
+    });
+    let outbox = Arc::new(open_on(&disk, folder.path(), "e", SEGMENT).unwrap());
+    let before = view(&outbox);
+    stalls.store(true, SeqCst);
+    let commits = outbox.clone();
+    let committing = std::thread::spawn(move || commits.commit(&[body(&[("a", 1)], "")], 2));
+    while outbox.under_way() < Duration::from_millis(30) {
+        std::thread::sleep(Duration::from_millis(1));
+    }
+    let (asks, (tell, told)) = (outbox.clone(), std::sync::mpsc::channel());
+    std::thread::spawn(move || tell.send(view(&asks)));
+    let seen = told.recv_timeout(Duration::from_secs(5));
+    stalls.store(false, SeqCst);
+    committing.join().unwrap().unwrap();
+    assert_eq!(seen, Ok(before));
+    assert_eq!(outbox.under_way(), Duration::ZERO);
 }

@@ -1,0 +1,123 @@
+//! Slots that are gone, and a journal and an outbox of which one is older.
+
+use super::*;
+
+#[test]
+fn a_slot_that_was_made_and_is_gone_is_refused_by_name_until_it_is_back() {
+    let place = tempfile::tempdir().unwrap();
+    let folder = open(place.path()).unwrap();
+    folder.set_slots(3).unwrap();
+    for number in [2, 0, 1] {
+        drop(folder.slot(number).unwrap());
+    }
+    folder.set_slots(1).unwrap();
+    for number in [0, 2] {
+        let (slot, moved) = (
+            place.path().join(format!("slot-{number}")),
+            place.path().join("moved"),
+        );
+        for name in ["", "outbox"] {
+            std::fs::rename(slot.join(name), &moved).unwrap();
+            let fault = folder.outbox(number).err().unwrap().to_string();
+            assert!(
+                fault.contains(&format!("slot-{number}/outbox")) && fault.contains("back"),
+                "{fault}"
+            );
+            std::fs::rename(&moved, slot.join(name)).unwrap();
+        }
+        assert!(folder.slots_with_files().unwrap().contains(&number));
+        drop(folder.outbox(number).unwrap());
+    }
+    let journal = place.path().join("slot-0/journal");
+    let moved = place.path().join("moved");
+    std::fs::rename(&journal, &moved).unwrap();
+    let fault = folder.slot(0).err().unwrap().to_string();
+    assert!(
+        fault.contains("slot-0/journal/000000000001.seg") && fault.contains("missing"),
+        "{fault}"
+    );
+    std::fs::remove_dir_all(&journal).unwrap();
+    std::fs::rename(&moved, &journal).unwrap();
+    folder.slot(0).unwrap();
+}
+
+fn post(text: &str) -> Post {
+    Post {
+        sender: "s".into(),
+        foreign: 0,
+        body: text.to_string().into(),
+    }
+}
+
+fn copied(from: &Path, to: &Path) {
+    let done = std::process::Command::new("cp")
+        .arg("-a")
+        .args([from, to])
+        .status();
+    assert!(done.unwrap().success());
+}
+
+/// Three checkpoints, with a post behind each; the folder's slot is copied ahead of each.
+fn with_three_commits(place: &Path) {
+    let folder = open(place).unwrap();
+    let (journal, outbox) = folder.slot(0).unwrap();
+    for number in 1..4 {
+        copied(&place.join("slot-0"), &place.join(format!("copy-{number}")));
+        journal.append(&post("a"));
+        let (next, _) = journal.turn();
+        outbox.commit(&[], next).unwrap();
+        journal.forget(next).unwrap();
+        journal.append(&post("b"));
+    }
+    drop((journal, outbox));
+}
+
+#[test]
+fn an_older_journal_or_outbox_is_refused_by_the_name_of_what_is_older() {
+    let place = tempfile::tempdir().unwrap();
+    with_three_commits(place.path());
+    let at = |name: &str| place.path().join(name);
+    for number in 1..4 {
+        for (part, named) in [
+            ("journal", "journal/000000000004.seg"),
+            ("outbox", "slot-0/outbox/0000000000"),
+        ] {
+            std::fs::rename(at("slot-0"), at("kept")).unwrap();
+            copied(&at("kept"), &at("slot-0"));
+            std::fs::remove_dir_all(at("slot-0").join(part)).unwrap();
+            copied(
+                &at(&format!("copy-{number}")).join(part),
+                &at("slot-0").join(part),
+            );
+            let fault = open(place.path()).unwrap().slot(0).err().unwrap().to_string();
+            assert!(fault.contains(named), "{number} {part}: {fault}");
+            std::fs::remove_dir_all(at("slot-0")).unwrap();
+            std::fs::rename(at("kept"), at("slot-0")).unwrap();
+        }
+    }
+    open(place.path()).unwrap().slot(0).unwrap();
+}
+
+/// Else a journal's segment is asked for that was rightly deleted.
+#[test]
+fn an_outbox_that_was_cut_is_named_wherever_it_was_cut() {
+    let place = crate::files::power::place();
+    with_three_commits(place.path());
+    let at = |name: &str| place.path().join(name);
+    let last = at("slot-0/outbox/000000000001.seg");
+    let whole = std::fs::read(&last).unwrap();
+    std::fs::rename(at("slot-0"), at("kept")).unwrap();
+    let version = std::fs::read(at("version")).unwrap();
+    let mut refused = 0;
+    for length in 0..whole.len() {
+        std::fs::write(at("version"), &version).unwrap();
+        copied(&at("kept"), &at("slot-0"));
+        std::fs::write(&last, &whole[..length]).unwrap();
+        if let Err(fault) = open(place.path()).unwrap().slot(0) {
+            refused += 1;
+            assert!(fault.to_string().contains("slot-0/outbox/"), "{length}: {fault}");
+        }
+        std::fs::remove_dir_all(at("slot-0")).unwrap();
+    }
+    assert!(refused > whole.len() / 2, "{refused} of {}", whole.len());
+}

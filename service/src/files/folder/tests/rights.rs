@@ -1,0 +1,96 @@
+//! What this user can't have, and what is no folder.
+
+use super::*;
+
+fn unusable(path: &Path) -> String {
+    match open(path).err().unwrap() {
+        FolderFault::Unusable { path, what } => format!("{} {what}", path.display()),
+        other => panic!("{other}"),
+    }
+}
+
+#[test]
+fn what_is_no_folder_is_refused_by_name_and_stays() {
+    let place = tempfile::tempdir().unwrap();
+    let file = place.path().join("file");
+    std::fs::write(&file, "a").unwrap();
+    let text = unusable(&file);
+    assert!(
+        text.contains("file is a file, and --data has to name a folder"),
+        "{text}"
+    );
+    let text = unusable(&file.join("below"));
+    assert!(text.contains("has a part that is a file"), "{text}");
+    assert_eq!(std::fs::read(&file).unwrap(), b"a");
+    let folder = place.path().join("folder");
+    drop(open(&folder).unwrap());
+    std::fs::remove_file(folder.join("lock")).unwrap();
+    std::fs::create_dir(folder.join("lock")).unwrap();
+    let text = unusable(&folder);
+    assert!(
+        text.contains("lock is a folder, and has to be a file: remove it"),
+        "{text}"
+    );
+}
+
+/// Run by the next test in a process of its own, by a user who is not root.
+#[test]
+#[ignore]
+fn has_no_rights() {
+    let Some(path) = std::env::var_os("TOTXEGUN_TEST_FOLDER") else {
+        return;
+    };
+    println!("refused: {}", unusable(Path::new(&path)));
+}
+
+#[test]
+fn a_folder_without_rights_is_refused_by_name() {
+    use std::os::unix::process::CommandExt;
+    const NOBODY: u32 = 65534;
+    let place = tempfile::tempdir().unwrap();
+    let all_may =
+        |path: &Path, mode| std::fs::set_permissions(path, std::fs::Permissions::from_mode(mode)).unwrap();
+    all_may(place.path(), 0o755);
+    let folder = place.path().join("folder");
+    drop(open(&folder).unwrap().slot(0).unwrap());
+    let is_root = std::fs::metadata("/proc/self").unwrap().uid() == 0;
+    let refused = |path: &Path| {
+        let mut this = std::process::Command::new("/proc/self/exe");
+        this.args([
+            "--exact",
+            "--ignored",
+            "--nocapture",
+            "files::folder::tests::rights::has_no_rights",
+        ]);
+        if is_root {
+            this.uid(NOBODY);
+        }
+        let ended = this.env("TOTXEGUN_TEST_FOLDER", path).output().unwrap();
+        String::from_utf8_lossy(&ended.stdout).into_owned()
+    };
+    let journal = folder.join("slot-0/journal");
+    for (closed, named) in [(&folder, "folder can't"), (&journal, "slot-0/journal can't")] {
+        all_may(&folder, 0o777);
+        for (path, mode) in [
+            ("lock", 0o666),
+            ("version", 0o666),
+            ("slot-0", 0o777),
+            ("slot-0/outbox", 0o777),
+        ] {
+            all_may(&folder.join(path), mode);
+        }
+        for file in std::fs::read_dir(folder.join("slot-0/outbox")).unwrap() {
+            all_may(&file.unwrap().path(), 0o666);
+        }
+        all_may(closed, 0o555);
+        let text = refused(&folder);
+        assert!(text.contains(named) && text.contains("chown -R"), "{text}");
+    }
+    all_may(&folder, 0o700);
+    all_may(place.path(), 0o555);
+    let text = refused(&place.path().join("new"));
+    assert!(
+        text.contains("new can't be read and written") && text.contains("chown -R"),
+        "{text}"
+    );
+}

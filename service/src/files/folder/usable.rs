@@ -1,0 +1,91 @@
+//! Whether this user can have a folder: a fault here is none of the disk, and nothing is changed by it.
+
+use super::{io_fault, Fault, FolderFault};
+use nix::errno::Errno;
+use nix::unistd::{access, AccessFlags};
+use std::io::ErrorKind;
+use std::os::unix::fs::MetadataExt;
+use std::path::Path;
+
+/// Passes where there is nothing yet, too.
+pub fn look_at(folder: &Path) -> Result<(), FolderFault> {
+    match std::fs::metadata(folder) {
+        Ok(about) if about.is_dir() => {}
+        Ok(_) => return Err(no_folder(folder)),
+        Err(error) if error.kind() == ErrorKind::NotFound => return Ok(()),
+        Err(error) => return Err(named(io_fault(folder)(error), folder)),
+    }
+    has_rights(folder)?;
+    for name in ["lock", "version"] {
+        let path = folder.join(name);
+        if path.is_dir() {
+            return Err(unusable(&path, "is a folder, and has to be a file: remove it"));
+        }
+    }
+    for entry in std::fs::read_dir(folder).map_err(io_fault(folder))? {
+        let name = entry.map_err(io_fault(folder))?.file_name();
+        let is_ours = |name: &str| ["lock", "version", "dead"].contains(&name) || name.starts_with("slot-");
+        if name.to_str().is_some_and(is_ours) {
+            all_have_rights(&folder.join(name))?;
+        }
+    }
+    Ok(())
+}
+
+/// A file, or a folder with all in it.
+fn all_have_rights(path: &Path) -> Result<(), FolderFault> {
+    has_rights(path)?;
+    if path.is_dir() {
+        for entry in std::fs::read_dir(path).map_err(io_fault(path))? {
+            all_have_rights(&entry.map_err(io_fault(path))?.path())?;
+        }
+    }
+    Ok(())
+}
+
+fn has_rights(path: &Path) -> Result<(), FolderFault> {
+    let mut wanted = AccessFlags::R_OK | AccessFlags::W_OK;
+    if path.is_dir() {
+        wanted |= AccessFlags::X_OK;
+    }
+    match access(path, wanted) {
+        // Gone since it was listed.
+        Ok(()) | Err(Errno::ENOENT) => Ok(()),
+        Err(error) => Err(named(io_fault(path)(error.into()), path)),
+    }
+}
+
+fn unusable(path: &Path, what: &str) -> FolderFault {
+    FolderFault::Unusable {
+        path: path.into(),
+        what: what.into(),
+    }
+}
+
+fn no_folder(path: &Path) -> FolderFault {
+    unusable(path, "is a file, and --data has to name a folder: give another")
+}
+
+/// What an operator can mend is said; all else is a fault of the disk.
+pub fn named(fault: Fault, folder: &Path) -> FolderFault {
+    let Fault::Io { path, source } = fault else {
+        return fault.into();
+    };
+    match source.kind() {
+        ErrorKind::PermissionDenied => unusable(
+            &path,
+            &format!(
+                "can't be read and written by the user of this process (its id is {user}): give it to that user, as by \
+                 `chown -R {user} {}`, or give another --data",
+                folder.display(),
+                user = std::fs::metadata("/proc/self").map_or(0, |about| about.uid())
+            ),
+        ),
+        ErrorKind::NotADirectory => unusable(&path, "has a part that is a file, and --data has to name a folder: give another"),
+        ErrorKind::ReadOnlyFilesystem => unusable(
+            &path,
+            "is on a file system that can only be read: mount it for writing, or give another --data",
+        ),
+        _ => Fault::Io { path, source }.into(),
+    }
+}

@@ -1,0 +1,141 @@
+//! What the file `version` says.
+
+use super::{io_fault, Fault, MOST_SLOTS};
+use std::collections::BTreeMap;
+use std::fs::File;
+use std::os::unix::fs::MetadataExt;
+use std::path::Path;
+use std::time::UNIX_EPOCH;
+
+/// Of the folder: which files there are, and where. A folder is of the second once it had another number of slots than 1.
+const VERSION: u32 = 2;
+
+/// Its lines.
+#[derive(Clone, Default)]
+pub struct Version {
+    pub epoch: String,
+    pub lock: Identity,
+    /// None in a folder of version 1, which has one.
+    pub slots: Option<u16>,
+    /// The journal's segment that the last start of a slot has begun: so far the slot was made, durably.
+    pub begun: BTreeMap<u16, u64>,
+}
+
+/// By which a file is told from its copies.
+#[derive(Clone, Copy, Default)]
+pub struct Identity {
+    pub inode: u64,
+    /// In nanoseconds since 1970. No copy of a file gets it. None where the file system does not know it, or an earlier
+    /// totxegun wrote `version`.
+    pub born: Option<u128>,
+}
+
+impl Identity {
+    pub fn of(file: &File) -> std::io::Result<Identity> {
+        let about = file.metadata()?;
+        let born = about
+            .created()
+            .ok()
+            .and_then(|at| at.duration_since(UNIX_EPOCH).ok());
+        Ok(Identity {
+            inode: about.ino(),
+            born: born.map(|since| since.as_nanos()),
+        })
+    }
+
+    pub fn may_be(self, other: Identity) -> bool {
+        let born_apart = self.born.zip(other.born).is_some_and(|(one, other)| one != other);
+        self.inode == other.inode && !born_apart
+    }
+}
+
+impl Version {
+    pub fn text(&self) -> String {
+        let Version {
+            epoch,
+            lock,
+            slots,
+            begun,
+        } = self;
+        let inode = lock.inode;
+        let text = match slots {
+            None => format!("totxegun 1\nepoch {epoch}\nlock {inode}\n"),
+            Some(slots) => format!("totxegun {VERSION}\nepoch {epoch}\nlock {inode}\nslots {slots}\n"),
+        };
+        // The last lines: an earlier totxegun passes over them.
+        let born = lock.born.map(|born| format!("born {born}\n"));
+        let begun: Vec<String> = begun
+            .iter()
+            .map(|(slot, segment)| format!(" {slot}:{segment}"))
+            .collect();
+        let begun = (!begun.is_empty()).then(|| format!("begun{}\n", begun.concat()));
+        text + &born.unwrap_or_default() + &begun.unwrap_or_default()
+    }
+
+    pub fn read(folder: &Path) -> Result<Option<Version>, Fault> {
+        let path = folder.join("version");
+        let text = match std::fs::read(&path) {
+            Err(error) if error.kind() == std::io::ErrorKind::NotFound => return Ok(None),
+            text => text.map_err(io_fault(&path))?,
+        };
+        let damaged = |what: String| {
+            Err(Fault::Damaged {
+                path: path.clone(),
+                at: 0,
+                what,
+            })
+        };
+        let text = String::from_utf8_lossy(&text);
+        let mut lines = text.lines();
+        let mut value = |name: &str| {
+            lines
+                .next()?
+                .strip_prefix(name)?
+                .strip_prefix(' ')
+                .map(String::from)
+        };
+        let version: Option<u32> = value("totxegun").and_then(|version| version.parse().ok());
+        match version {
+            Some(1..=VERSION) => {}
+            Some(version) if version > VERSION => {
+                return damaged(format!(
+                    "the folder is of format version {version}, and this totxegun reads up to {VERSION}: start the later totxegun that wrote it"
+                ))
+            }
+            _ => return damaged("is no version of a folder of totxegun: put a copy of this file in its place".into()),
+        }
+        let epoch = value("epoch")
+            .filter(|epoch| epoch.len() == 16 && epoch.bytes().all(|byte| byte.is_ascii_hexdigit()));
+        let inode = value("lock").and_then(|inode| inode.parse().ok());
+        let slots = match version {
+            Some(1) => Some(None),
+            _ => value("slots")
+                .and_then(|slots| slots.parse().ok())
+                .filter(|slots| (1..=MOST_SLOTS).contains(slots))
+                .map(Some),
+        };
+        let last = |name: &str| text.lines().find_map(|line| line.strip_prefix(name));
+        let born = last("born ").and_then(|born| born.parse().ok());
+        let begun = last("begun ").map_or(Some(BTreeMap::new()), |begun| {
+            let of_slot = |one: &str| {
+                Some((
+                    one.split_once(':')?.0.parse().ok()?,
+                    one.split_once(':')?.1.parse().ok()?,
+                ))
+            };
+            begun.split(' ').map(of_slot).collect()
+        });
+        match (epoch, inode, slots, begun) {
+            (Some(epoch), Some(inode), Some(slots), Some(begun)) => Ok(Some(Version {
+                epoch,
+                lock: Identity { inode, born },
+                slots,
+                begun,
+            })),
+            _ => damaged(
+                "has no epoch, no inode of the lock, no number of slots, or says otherwise what was begun: put a copy of this file in its place"
+                    .into(),
+            ),
+        }
+    }
+}

@@ -1,0 +1,141 @@
+//! What the segments of an earlier run are, and what of them was changed since: a loss of power leaves only what was
+//! not durable otherwise than it was written.
+
+use super::reading::post_of;
+use super::{held, Expected, Size, COPY, HELD, POST};
+use crate::files::judge::{is_torn, CHANGED};
+use crate::files::records::{Next, Reader, Which};
+use crate::files::{segment, Fault};
+use std::path::{Path, PathBuf};
+
+const NO_HEADER: &str =
+    "has no header, and had one: it was changed, cut or emptied. Nothing was deleted: put a copy of \
+                         this file in its place, or move the folder away and start with a new one";
+
+/// How a segment was found.
+pub(super) struct Found {
+    pub size: Size,
+    /// Where its last whole record ends.
+    pub end: u64,
+    pub closed: bool,
+    pub has_marks: bool,
+    has_header: bool,
+    length: u64,
+    made: u64,
+    pub forgotten: u64,
+    pub held: held::List,
+}
+
+pub(super) fn find(folder: &Path, number: u64) -> Result<Found, Fault> {
+    let path = segment::path(folder, number);
+    let length = std::fs::metadata(&path)
+        .map_err(crate::files::disk::io_fault(&path))?
+        .len();
+    let (mut reader, mut next) = Reader::open(&path, Which::Journal, number, None)?;
+    let has_header = matches!(next, Next::Record { .. });
+    let mut size = Size {
+        number,
+        bytes: 0,
+        first: None,
+    };
+    let mut held = held::List::new();
+    loop {
+        match next {
+            Next::Record {
+                at,
+                kind: HELD,
+                bytes,
+            } => {
+                size.bytes += bytes.len() as u64;
+                let list = held::list_of(&bytes);
+                held = list.ok_or_else(|| reader.damaged(at, "is no list that was written here"))?;
+            }
+            Next::Record {
+                kind: POST | COPY,
+                bytes,
+                ..
+            } => {
+                size.bytes += bytes.len() as u64;
+                size.first = size.first.or_else(|| Some(post_of(bytes)?.0));
+            }
+            Next::Record { .. } => {}
+            Next::Closed | Next::Stop => {
+                return Ok(Found {
+                    size,
+                    end: reader.at,
+                    closed: next == Next::Closed,
+                    has_marks: reader.has_marks,
+                    has_header,
+                    length,
+                    made: reader.made,
+                    forgotten: reader.forgotten,
+                    held,
+                })
+            }
+        }
+        next = reader.next()?;
+    }
+}
+
+/// Passes where what is there is what an end of the process or a loss of power may leave.
+pub(super) fn check(folder: &Path, found: &[Found], expected: &Expected) -> Result<(), Fault> {
+    is_not_behind(found, expected)?;
+    let reach = expected.reach.max(1);
+    let mut needed: Vec<u64> = found.iter().map(|one| one.size.number).collect();
+    needed.retain(|number| *number >= reach);
+    // Each of them is there for good, up to the last one that is known.
+    let known = expected.begun.map_or(0, |begun| begun.max(reach));
+    if let Some(missing) = (reach..=known).find(|number| !needed.contains(number)) {
+        return Err(segment::missing(folder, missing));
+    }
+    segment::check_row(folder, &needed)?;
+    if needed.first().is_some_and(|first| *first > reach) {
+        return Err(segment::missing(folder, reach));
+    }
+    found.iter().try_for_each(|one| one.check(folder, expected))?;
+    let first = found.iter().find(|one| one.size.number == reach);
+    first.map_or(Ok(()), |first| held::check(folder, &first.held))
+}
+
+/// An older outbox would have posts counted again that are in a group.
+fn is_not_behind(found: &[Found], expected: &Expected) -> Result<(), Fault> {
+    let forgotten = found.iter().map(|one| one.forgotten).max().unwrap_or(0);
+    if forgotten <= expected.reach {
+        return Ok(());
+    }
+    let (path, at) = expected.by.clone();
+    let what = format!(
+        "this outbox is older than the journal beside it, or was cut here: by the journal all posts before its segment \
+         {forgotten} are in groups, and the last group here ends before segment {}. Nothing was deleted: put all of the \
+         folder outbox back, or move the folder away and start with a new one",
+        expected.reach
+    );
+    Err(Fault::Damaged { path, at, what })
+}
+
+impl Found {
+    fn check(&self, folder: &Path, expected: &Expected) -> Result<(), Fault> {
+        let path = segment::path(folder, self.size.number);
+        let damaged = |path: PathBuf, at, what: String| Err(Fault::Damaged { path, at, what });
+        if self.closed || self.size.number < expected.reach {
+            return Ok(());
+        }
+        if !self.has_header && expected.begun.is_some() {
+            return damaged(path, self.end, NO_HEADER.into());
+        }
+        if self.length < self.made {
+            let (length, made) = (self.length, self.made);
+            let what = format!(
+                "is cut here: it had {made} bytes. Nothing was deleted: put a copy of this file in its place, or move the \
+                 folder away and start with a new one"
+            );
+            return damaged(path, length, what);
+        }
+        is_torn(&path, self.end)?;
+        // Each start closes all that is there, durably, before it begins another.
+        match expected.begun.is_some_and(|begun| self.size.number < begun) {
+            true => damaged(path, self.end, CHANGED.into()),
+            false => Ok(()),
+        }
+    }
+}

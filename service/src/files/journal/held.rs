@@ -1,0 +1,320 @@
+//! Posts of quarantined senders: a checkpoint moves them out of the segments, each sender's into a file of its own,
+//! `SENDER.held`, once and as a stream.
+//!
+//! The file has a header and the posts as the journal had them. How much of it counts is said by the segment from which
+//! posts are replayed, in one record: a move before a commit that does not come counts for nothing, since the segments
+//! still have these posts, and a sender whose points were flushed is in the next segment's record no more.
+
+use super::reading::post_of;
+use super::{lock, Journal, Post, Shared, HELD, POST};
+use crate::files::disk::io_fault;
+use crate::files::records::{self, Next, Reader, Which};
+use crate::files::Fault;
+use std::collections::{BTreeMap, BTreeSet};
+use std::fs::File;
+use std::io;
+use std::path::{Path, PathBuf};
+
+/// Of each sender what counts of its file.
+pub(super) type List = BTreeMap<String, Part>;
+
+#[derive(Clone, Copy, Debug, Default, PartialEq, Eq)]
+pub(super) struct Part {
+    posts: u64,
+    end: u64,
+}
+
+/// What is held of quarantined senders, beside the segments.
+#[derive(Clone, Copy, Debug, Default, PartialEq, Eq)]
+pub struct Held {
+    pub senders: u64,
+    pub posts: u64,
+    pub bytes: u64,
+}
+
+/// Files that are written side by side, and bytes that wait for a write.
+const OPEN: usize = 64;
+const PIECE: usize = 256 << 10;
+
+impl Journal {
+    /// At a checkpoint, behind the flush and the turn to `next`, and once all before it is durable: notes what is held of
+    /// these quarantined senders. Posts of theirs in the segments from `first` to before `next` are moved to their own
+    /// files; nothing is read where none has posted since it was moved. Of a sender that is quarantined no more nothing
+    /// is held. Durable when this returns, and it counts once `next` is the first segment that is replayed.
+    pub fn hold(&self, quarantined: &BTreeSet<String>, first: u64, next: u64) -> Result<(), Fault> {
+        let shared = &*self.shared;
+        let mut list = lock(&shared.held).get(&first).cloned().unwrap_or_default();
+        list.retain(|sender, _| quarantined.contains(sender));
+        let due: BTreeSet<&String> = {
+            let place = lock(&shared.place);
+            quarantined
+                .iter()
+                .filter(|sender| !place.moved.contains(*sender))
+                .collect()
+        };
+        if !due.is_empty() {
+            let mut moving = Moving::new(shared, &mut list);
+            shared.posts(first, next, false, &mut |since, post| {
+                if due.contains(&post.sender) {
+                    moving.append(since, &post)?;
+                }
+                Ok(true)
+            })?;
+            moving.finish()?;
+        }
+        shared.note_held(next, list)?;
+        self.settle_copies();
+        lock(&shared.place).moved.extend(due.into_iter().cloned());
+        Ok(())
+    }
+
+    /// What is held. Never waits for the disk.
+    pub fn held(&self) -> Held {
+        let lists = lock(&self.shared.held);
+        let mut held = Held::default();
+        for part in lists.last_key_value().iter().flat_map(|(_, list)| list.values()) {
+            held.senders += 1;
+            held.posts += part.posts;
+            held.bytes += part.end;
+        }
+        held
+    }
+
+    /// Deletes the files of which nothing counts from this segment on.
+    pub(super) fn forget_held(&self, before: u64) -> Result<(), Fault> {
+        let shared = &*self.shared;
+        let wanted: BTreeSet<PathBuf> = {
+            let mut lists = lock(&shared.held);
+            lists.retain(|segment, _| *segment >= before);
+            lists
+                .values()
+                .flat_map(List::keys)
+                .map(|sender| path(&shared.folder, sender))
+                .collect()
+        };
+        for entry in std::fs::read_dir(&shared.folder).map_err(io_fault(&shared.folder))? {
+            let path = entry.map_err(io_fault(&shared.folder))?.path();
+            let is_held = path.extension().is_some_and(|extension| extension == "held");
+            if is_held && !wanted.contains(&path) {
+                shared.disk.remove(&path)?;
+            }
+        }
+        Ok(())
+    }
+}
+
+impl Shared {
+    /// In the segment `next`, which has to be the last.
+    fn note_held(&self, next: u64, list: List) -> Result<(), Fault> {
+        if list.is_empty() {
+            return Ok(());
+        }
+        let rows: Vec<_> = list
+            .iter()
+            .map(|(sender, part)| (sender, part.posts, part.end))
+            .collect();
+        let bytes = serde_json::to_vec(&rows)
+            .map_err(io::Error::from)
+            .map_err(io_fault(&self.folder))?;
+        let mut record = Vec::new();
+        records::put(&mut record, HELD, &[&bytes]);
+        let mut place = lock(&self.place);
+        if place.segment.number != next {
+            let source = io::Error::other("the journal turned while posts of quarantined senders were moved");
+            return Err(io_fault(&place.segment.path)(source));
+        }
+        place.segment.put(&[&record])?;
+        place.ticket += 1;
+        place.kept = place.ticket;
+        drop(place);
+        lock(&self.held).insert(next, list);
+        Ok(())
+    }
+}
+
+fn path(folder: &Path, sender: &str) -> PathBuf {
+    folder.join(format!("{sender}.held"))
+}
+
+/// What a record says.
+pub(super) fn list_of(bytes: &[u8]) -> Option<List> {
+    let rows: Vec<(String, u64, u64)> = serde_json::from_slice(bytes).ok()?;
+    let part = |(sender, posts, end)| (sender, Part { posts, end });
+    Some(rows.into_iter().map(part).collect())
+}
+
+/// Gives the posts that count: whether `each` wants more.
+pub(super) fn posts(
+    folder: &Path,
+    list: &List,
+    each: &mut impl FnMut(u64, Post) -> Result<bool, Fault>,
+) -> Result<bool, Fault> {
+    for (sender, part) in list {
+        if !posts_of(folder, sender, part, each)? {
+            return Ok(false);
+        }
+    }
+    Ok(true)
+}
+
+fn posts_of(
+    folder: &Path,
+    sender: &str,
+    part: &Part,
+    each: &mut impl FnMut(u64, Post) -> Result<bool, Fault>,
+) -> Result<bool, Fault> {
+    let (mut reader, first) = Reader::open(&path(folder, sender), Which::Held, 0, Some(part.end))?;
+    let mut left = part.posts;
+    let mut next = if first == Next::Stop {
+        first
+    } else {
+        reader.next()?
+    };
+    while let Next::Record {
+        at,
+        kind: POST,
+        bytes,
+    } = next
+    {
+        let read = post_of(bytes).filter(|(_, post)| post.sender == sender);
+        let (since, post) = read.ok_or_else(|| reader.damaged(at, "is no post of its sender"))?;
+        left = left.saturating_sub(1);
+        if !each(since, post)? {
+            return Ok(false);
+        }
+        next = reader.next()?;
+    }
+    match (left, reader.at == part.end) {
+        (0, true) => Ok(true),
+        _ => Err(reader.damaged(reader.at, crate::files::judge::CHANGED)),
+    }
+}
+
+/// Passes where the files of the first segment's record are there, and as long.
+pub(super) fn check(folder: &Path, list: &List) -> Result<(), Fault> {
+    for (sender, part) in list {
+        let path = path(folder, sender);
+        let length = match std::fs::metadata(&path) {
+            Err(error) if error.kind() == io::ErrorKind::NotFound => 0,
+            about => about.map_err(io_fault(&path))?.len(),
+        };
+        if length < part.end {
+            let what = format!(
+                "this file is missing or was cut: it had {} posts of a quarantined sender, {} bytes. Nothing was deleted: put \
+                 it back, or move the folder away and start with a new one",
+                part.posts, part.end
+            );
+            let at = length;
+            return Err(Fault::Damaged { path, at, what });
+        }
+    }
+    Ok(())
+}
+
+/// Posts on their way to their senders' files.
+struct Moving<'a> {
+    shared: &'a Shared,
+    list: &'a mut List,
+    open: BTreeMap<String, Writer>,
+    is_new: bool,
+}
+
+struct Writer {
+    file: File,
+    path: PathBuf,
+    at: u64,
+    waiting: Vec<u8>,
+}
+
+impl<'a> Moving<'a> {
+    fn new(shared: &'a Shared, list: &'a mut List) -> Moving<'a> {
+        Moving {
+            shared,
+            list,
+            open: BTreeMap::new(),
+            is_new: false,
+        }
+    }
+
+    fn append(&mut self, since: u64, post: &Post) -> Result<(), Fault> {
+        if !self.open.contains_key(&post.sender) {
+            if self.open.len() >= OPEN {
+                self.sync()?;
+            }
+            let writer = self.writer(&post.sender)?;
+            self.open.insert(post.sender.clone(), writer);
+        }
+        let Some(writer) = self.open.get_mut(&post.sender) else {
+            return Ok(());
+        };
+        let numbers = post.numbers(since);
+        let parts = [numbers.as_flattened(), post.sender.as_bytes(), &post.body];
+        let before = writer.waiting.len() as u64;
+        records::put(&mut writer.waiting, POST, &parts);
+        let part = self.list.entry(post.sender.clone()).or_default();
+        part.end = part.end.max(writer.at + before) + writer.waiting.len() as u64 - before;
+        part.posts += 1;
+        self.shared.room.use_up(writer.waiting.len() as u64 - before);
+        if writer.waiting.len() >= PIECE {
+            writer.write(self.shared)?;
+        }
+        Ok(())
+    }
+
+    /// Behind what counts of a file. What is there of one of which nothing counts goes.
+    fn writer(&mut self, sender: &str) -> Result<Writer, Fault> {
+        let path = path(&self.shared.folder, sender);
+        let (file, at, waiting) = match self.list.get(sender) {
+            Some(part) => {
+                let mut options = File::options();
+                let file = options
+                    .read(true)
+                    .write(true)
+                    .open(&path)
+                    .map_err(io_fault(&path))?;
+                (file, part.end, Vec::new())
+            }
+            None => {
+                if path.exists() {
+                    self.shared.disk.remove(&path)?;
+                }
+                self.is_new = true;
+                let file = self.shared.disk.create(&path)?;
+                (file, 0, records::header(Which::Held, 0))
+            }
+        };
+        Ok(Writer {
+            file,
+            path,
+            at,
+            waiting,
+        })
+    }
+
+    fn sync(&mut self) -> Result<(), Fault> {
+        for mut writer in std::mem::take(&mut self.open).into_values() {
+            writer.write(self.shared)?;
+            self.shared.disk.sync(&writer.file, &writer.path)?;
+        }
+        Ok(())
+    }
+
+    fn finish(mut self) -> Result<(), Fault> {
+        self.sync()?;
+        match self.is_new {
+            true => self.shared.disk.sync_folder(&self.shared.folder),
+            false => Ok(()),
+        }
+    }
+}
+
+impl Writer {
+    fn write(&mut self, shared: &Shared) -> Result<(), Fault> {
+        shared
+            .disk
+            .write_at(&self.file, &self.path, &[&self.waiting], self.at)?;
+        self.at += self.waiting.len() as u64;
+        self.waiting.clear();
+        Ok(())
+    }
+}

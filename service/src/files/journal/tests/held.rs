@@ -1,0 +1,294 @@
+//! Posts of quarantined senders, in files of their own.
+
+use super::*;
+use crate::files::power::{copy, place, seeds, Shadow};
+use std::sync::atomic::AtomicU64;
+
+fn of(sender: &str, text: &str) -> Post {
+    Post {
+        sender: sender.into(),
+        foreign: text.len() as u64,
+        body: Bytes::from(text.to_string()),
+    }
+}
+
+fn all(journal: &Journal, first: u64) -> Vec<Post> {
+    let mut all = Vec::new();
+    journal
+        .posts(first, u64::MAX, |post| {
+            all.push(post);
+            true
+        })
+        .unwrap();
+    all
+}
+
+/// A checkpoint, as a keeper makes it: the first segment that counts behind it.
+fn checkpoint(journal: &Journal, held: &BTreeSet<String>, first: u64) -> u64 {
+    let (next, _) = journal.turn();
+    journal.shared.sync();
+    journal.hold(held, first, next).unwrap();
+    next
+}
+
+fn names(senders: &[&str]) -> BTreeSet<String> {
+    senders.iter().map(|sender| sender.to_string()).collect()
+}
+
+fn file(folder: &Path, sender: &str) -> PathBuf {
+    folder.join(format!("{sender}.held"))
+}
+
+#[test]
+fn posts_of_quarantined_senders_are_moved_once_and_are_there_until_they_are_flushed() {
+    let folder = place();
+    let (written, counted) = (Arc::new(AtomicU64::new(0)), Arc::new(AtomicU64::new(0)));
+    let count = counted.clone();
+    let disk = Disk::failing(move |call, path: &Path| {
+        let is_held = path.extension().is_some_and(|it| it == "held");
+        count.fetch_add(u64::from(is_held && call != Call::Remove), SeqCst);
+        Ok(())
+    });
+    let open = |reach| open_begun(&disk, folder.path(), Durability::Process, reach, None).unwrap();
+    let journal = open(1);
+    let held = [of("a", "1"), of("a.held", "22"), of("a", "333")];
+    for post in &held {
+        journal.append(post);
+    }
+    journal.append(&of("b", "4444"));
+    let quarantined = names(&["a", "a.held", "nobody"]);
+    let mut first = 1;
+    let expected = [&held[0], &held[2], &held[1]].map(Clone::clone);
+    for round in 0..4 {
+        let next = checkpoint(&journal, &quarantined, first);
+        let before: Vec<_> = all(&journal, first)
+            .into_iter()
+            .filter(|it| it.sender != "b")
+            .collect();
+        assert_eq!(before.len(), 3, "also before the commit, and once");
+        journal.append(&of("b", "5"));
+        journal.forget(next).unwrap();
+        first = next;
+        assert_eq!(all(&journal, first), [&expected[..], &[of("b", "5")]].concat());
+        assert_eq!((journal.held().senders, journal.held().posts), (2, 3));
+        match round {
+            0 => written.store(counted.load(SeqCst), SeqCst),
+            _ => assert_eq!(
+                counted.load(SeqCst),
+                written.load(SeqCst),
+                "a flush costs nothing for them"
+            ),
+        }
+    }
+    kill(journal);
+    let journal = open(first);
+    assert_eq!(all(&journal, first), [&expected[..], &[of("b", "5")]].concat());
+    // Released, and posts again; then quarantined anew.
+    journal.append(&of("a.held", "66"));
+    let next = checkpoint(&journal, &names(&["a"]), first);
+    assert!(
+        all(&journal, first).contains(&held[1]),
+        "its owners are looked for behind the commit"
+    );
+    journal.forget(next).unwrap();
+    assert_eq!(all(&journal, next), [held[0].clone(), held[2].clone()]);
+    assert!(!file(folder.path(), "a.held").exists() && file(folder.path(), "a").exists());
+    journal.append(&of("a", "7777777"));
+    first = checkpoint(&journal, &quarantined, next);
+    journal.forget(first).unwrap();
+    assert_eq!(
+        all(&journal, first),
+        [held[0].clone(), held[2].clone(), of("a", "7777777")]
+    );
+    let next = checkpoint(&journal, &names(&[]), first);
+    journal.forget(next).unwrap();
+    assert_eq!((all(&journal, next), journal.held()), (vec![], Held::default()));
+    assert!(!file(folder.path(), "a").exists());
+}
+
+#[test]
+fn more_senders_than_files_are_open_at_a_time_and_long_posts_are_moved() {
+    let folder = place();
+    let journal = open(folder.path());
+    let senders: Vec<String> = (0..150).map(|number| format!("s{number}")).collect();
+    for round in 0..3 {
+        for sender in &senders {
+            journal.append(&of(sender, &"x".repeat(round * 3000)));
+        }
+    }
+    let long = of("s7", &"y".repeat(1 << 20));
+    journal.append(&long);
+    let next = checkpoint(&journal, &senders.iter().cloned().collect(), 1);
+    journal.forget(next).unwrap();
+    kill(journal);
+    let journal = open_from(&Disk::default(), folder.path(), Durability::Process, next).unwrap();
+    let found = all(&journal, next);
+    assert_eq!(found.len(), 451);
+    for sender in &senders {
+        let of_it: Vec<u64> = found
+            .iter()
+            .filter(|it| it.sender == *sender)
+            .map(|it| it.foreign)
+            .collect();
+        assert_eq!(of_it[..3], [0, 3000, 6000], "{sender}");
+    }
+    assert!(found.contains(&long) && journal.held().posts == 451);
+}
+
+/// The outbox has no group of the checkpoint: the segments still have the posts.
+#[test]
+fn what_was_moved_before_a_commit_that_did_not_come_counts_once() {
+    let folder = place();
+    let journal = open(folder.path());
+    let held = names(&["a"]);
+    journal.append(&of("a", "1"));
+    let first = checkpoint(&journal, &held, 1);
+    journal.forget(first).unwrap();
+    // It was released, and has posted again.
+    journal.append(&of("a", "22"));
+    checkpoint(&journal, &held, first);
+    kill(journal);
+    for _ in 0..2 {
+        let journal = open_from(&Disk::default(), folder.path(), Durability::Process, first).unwrap();
+        assert_eq!(all(&journal, first), [of("a", "1"), of("a", "22")]);
+        let next = checkpoint(&journal, &held, first);
+        assert_eq!(all(&journal, next), [of("a", "1"), of("a", "22")]);
+        kill(journal);
+    }
+}
+
+#[test]
+fn a_file_of_a_sender_that_is_gone_cut_or_changed_is_named() {
+    let folder = place();
+    let journal = open(folder.path());
+    for text in ["1", "22"] {
+        journal.append(&of("a", text));
+    }
+    let first = checkpoint(&journal, &names(&["a"]), 1);
+    journal.forget(first).unwrap();
+    kill(journal);
+    let path = file(folder.path(), "a");
+    let sound = bytes(&path);
+    let named = || {
+        let opened = open_from(&Disk::default(), folder.path(), Durability::Process, first);
+        let read = opened.and_then(|journal| {
+            let read = journal.posts(first, u64::MAX, |_| true);
+            kill(journal);
+            read
+        });
+        read.err()
+            .is_some_and(|fault| fault.to_string().contains("a.held"))
+    };
+    for at in 0..sound.len() {
+        let mut changed = sound.clone();
+        changed[at] ^= 4;
+        std::fs::write(&path, &changed).unwrap();
+        assert!(named(), "byte {at}");
+        std::fs::write(&path, &sound[..at]).unwrap();
+        assert!(named(), "cut at {at}");
+    }
+    std::fs::remove_file(&path).unwrap();
+    assert!(named());
+    std::fs::write(&path, &sound).unwrap();
+    assert!(!named());
+}
+
+/// What each sender has in the journal, in its order.
+type Queues = BTreeMap<String, Vec<String>>;
+
+fn queues(journal: &Journal, first: u64) -> Queues {
+    let mut queues = Queues::new();
+    for post in all(journal, first) {
+        let text = String::from_utf8(post.body.to_vec()).unwrap();
+        queues.entry(post.sender).or_default().push(text);
+    }
+    queues
+}
+
+/// A run of checkpoints, of which the power is lost in the last one: the first segment that counts, what it has, and
+/// how much of that was durable.
+fn run(folder: &Path, left: &Path, chance: &mut Numbers) -> (u64, Queues) {
+    std::fs::create_dir(folder).unwrap();
+    let shadow = Arc::new(Mutex::new(Shadow::of(folder)));
+    let calls = Arc::new(AtomicU64::new(u64::MAX));
+    let (tell, told) = mpsc::channel();
+    let ended = tell.clone();
+    let disk = crate::files::power::disk_behind(&shadow, calls.clone());
+    let disk = disk.ending(move |_| {
+        let _ = ended.send(());
+    });
+    let journal = Arc::new(open_on(&disk, folder, Durability::Disk).unwrap());
+    let (mut first, mut queues, mut held) = (1, Queues::new(), BTreeSet::new());
+    for round in 0..2 + chance.below(4) {
+        for step in 0..chance.below(8) {
+            let sender = ["a", "b", "c"][chance.below(3) as usize].to_string();
+            if !held.contains(&sender) {
+                let text = format!(
+                    "{round}-{step}{:a>width$}",
+                    "",
+                    width = chance.below(1500) as usize
+                );
+                journal.append(&of(&sender, &text));
+                queues.entry(sender).or_default().push(text);
+            }
+        }
+        let other = ["a", "b", "c"][chance.below(3) as usize].to_string();
+        if !held.remove(&other) {
+            held.insert(other);
+        }
+        first = checkpoint(&journal, &held, first);
+        queues.retain(|sender, _| held.contains(sender));
+        journal.forget(first).unwrap();
+    }
+    let posted = of("d", "the last one");
+    journal.append(&posted);
+    queues.entry("d".into()).or_default().push("the last one".into());
+    journal.shared.sync();
+    let next = journal.turn().0;
+    journal.shared.sync();
+    held.insert("d".into());
+    calls.store(chance.below(12), SeqCst);
+    let holds = journal.clone();
+    std::thread::spawn(move || {
+        let _ = holds.hold(&held, first, next); // the power is lost in it, or behind it
+        let _ = tell.send(());
+    });
+    told.recv().unwrap();
+    calls.store(0, SeqCst);
+    lock(&shadow).lose_power(left, chance);
+    std::mem::forget(journal);
+    (first, queues)
+}
+
+#[test]
+fn whenever_the_power_is_lost_each_post_that_is_held_is_there_once() {
+    for seed in 0..seeds(12) {
+        let place = place();
+        let at = |name: &str| place.path().join(name);
+        let mut chance = Numbers(seed);
+        let (first, expected) = run(&at("run"), &at("left"), &mut chance);
+        for calls in 0.. {
+            let (again, left) = (at(&format!("again-{calls}")), at(&format!("left-{calls}")));
+            copy(&at("left"), &again);
+            let shadow = Arc::new(Mutex::new(Shadow::of(&again)));
+            let open =
+                |disk: &Disk, folder: &Path| open_begun(disk, folder, Durability::Disk, first, Some(1));
+            let opened = open(&crate::files::power::disk(&shadow, calls), &again);
+            let is_whole = opened.map(kill).is_ok();
+            lock(&shadow).lose_power(&left, &mut chance);
+            let journal = open(&Disk::default(), &left);
+            let journal = journal.unwrap_or_else(|fault| panic!("seed {seed} call {calls}: {fault}"));
+            journal.forget(first).unwrap();
+            assert_eq!(queues(&journal, first), expected, "seed {seed} call {calls}");
+            let next = checkpoint(&journal, &names(&["a", "b", "c", "d"]), first);
+            assert_eq!(queues(&journal, next), expected, "seed {seed} call {calls}");
+            kill(journal);
+            for folder in [again, left] {
+                std::fs::remove_dir_all(folder).unwrap();
+            }
+            if is_whole {
+                break;
+            }
+        }
+    }
+}

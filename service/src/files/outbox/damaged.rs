@@ -1,0 +1,68 @@
+//! Waiting requests that were changed: the delivery stops at the first of them until its file is put back. All else goes
+//! on, and so does each start.
+
+use super::rows;
+use super::state::{Batch, Front};
+use super::{lock, Outbox, Waiting};
+use crate::files::{segment, Fault};
+use std::time::Duration;
+
+/// How long until it is looked whether the file was put back.
+const LOOK_AGAIN: Duration = Duration::from_millis(if cfg!(test) { 20 } else { 10_000 });
+
+impl Outbox {
+    /// Why the first waiting request can't be delivered, where it was changed.
+    pub fn stuck(&self) -> Option<String> {
+        lock(&self.stuck).clone()
+    }
+
+    /// Notes that the first waiting request was changed, or was not: in the log once.
+    pub(super) async fn note_changed(&self, fault: &Fault) {
+        let text = fault.to_string();
+        if lock(&self.stuck).replace(text.clone()).as_ref() != Some(&text) {
+            tracing::error!("the delivery of {} stops: {text}", self.folder.display());
+        }
+        tokio::time::sleep(LOOK_AGAIN).await;
+    }
+
+    pub(super) fn note_sound(&self) {
+        if lock(&self.stuck).take().is_some() {
+            tracing::info!("the delivery of {} goes on", self.folder.display());
+        }
+    }
+
+    /// Reads each waiting request, and gives a fault for each that can't be delivered.
+    pub fn find_changed(&self) -> Result<Vec<Fault>, Fault> {
+        let batches: Vec<Batch> = lock(&self.state).batches.iter().cloned().collect();
+        let mut changed = Vec::new();
+        for batch in batches {
+            self.find_changed_of(batch, &mut changed)?;
+        }
+        Ok(changed)
+    }
+
+    fn find_changed_of(&self, mut batch: Batch, changed: &mut Vec<Fault>) -> Result<(), Fault> {
+        let path = segment::path(&self.folder, batch.segment);
+        while batch.count > 0 {
+            let (number, since) = (batch.first, batch.since);
+            let front = Front {
+                waiting: Waiting { number, since },
+                segment: batch.segment,
+                at: batch.at,
+            };
+            let (mut next, fault) = match rows::read_item(&path, &front) {
+                Ok(_) => (Some(batch.at + rows::sound_length(&path, &front)?), None),
+                Err(fault @ Fault::Damaged { .. }) => (None, Some(fault)),
+                Err(fault) => return Err(fault),
+            };
+            changed.extend(fault);
+            (batch.first, batch.count) = (batch.first + 1, batch.count - 1);
+            if next.is_none() && batch.count > 0 {
+                next = rows::find_item(&path, batch.at..batch.end, batch.first)?;
+            }
+            // Where none is found each of the others is as that one.
+            batch.at = next.unwrap_or(batch.at);
+        }
+        Ok(())
+    }
+}
