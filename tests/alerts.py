@@ -169,6 +169,7 @@ class Causes:
 
     def of_sink(self):
         self.sees("SinkBehind", "a sink that is down", lambda: self.in_mood("busy"), lambda: self.sink.mood(["well"]))
+        self.sees("SinkDenies", "a sink that lets nobody in", lambda: self.in_mood("deny"), lambda: self.sink.mood(["well"]))
         self.sees("DeadRequests", "a request that is refused", lambda: self.in_mood("refuse"),
                   lambda: self.settle_letters("resend"))
         self.sees("Fault", "a point that the sink rejects", lambda: self.in_mood("part"), lambda: self.settle_letters("drop"))

@@ -38,6 +38,8 @@ PLACES = {
     "usr/share/man/man1/totxegun-gateway.1": 0o644,
     "usr/share/man/man1/totxegun-play.1": 0o644,
     "usr/share/bash-completion/completions/totxegun": 0o644,
+    "usr/share/fish/vendor_completions.d/totxegun.fish": 0o644,
+    "usr/share/zsh/vendor-completions/_totxegun": 0o644,
     "lib/systemd/system/totxegun.service": 0o644,
     "etc/totxegun/totxegun.env": 0o600,
     "usr/share/doc/totxegun/README.md": 0o644,

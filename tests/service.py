@@ -397,7 +397,7 @@ class SqliteSink:
 
 class OtlpSink:
     """A sink of OTLP over HTTP that takes each key once. How it answers goes by its moods, one drawn for each request:
-    `well`, `late`, `busy` (503), `refuse` (400), `silent` (no answer), `lose` (takes, and its answer is lost)."""
+    `well`, `late`, `busy` (503), `refuse` (400), `deny` (401), `silent` (no answer), `lose` (takes, and its answer is lost)."""
 
     def __init__(self, seed=0):
         self.chance = random.Random(f"sink {seed}")
@@ -442,7 +442,7 @@ class OtlpSink:
         if mood in ("silent", "lose"):
             request.close_connection = True
             return
-        request.send_response({"busy": 503, "refuse": 400}.get(mood, 200))
+        request.send_response({"busy": 503, "refuse": 400, "deny": 401}.get(mood, 200))
         if mood == "busy":
             request.send_header("Retry-After", "0")
         request.send_header("Content-Length", "2")

@@ -1,6 +1,6 @@
 #!/usr/bin/env python3
 """Writes what a package has beside the programs, from the command line's own definition: the manual pages, the settings,
-and the completion of bash.
+and what shells complete by.
 
     tools/pages.py TOTXEGUN FOLDER
 
@@ -244,6 +244,8 @@ def main(words):
         sys.exit(f"tools/pages.py: {why}")
     files["totxegun.env"] = settings(serve, texts)
     files["totxegun.bash"] = printed(program, "completion")
+    files["_totxegun"] = printed(program, "zsh")
+    files["totxegun.fish"] = printed(program, "fish")
     os.makedirs(folder, exist_ok=True)
     for name, text in files.items():
         with open(f"{folder}/{name}", "w", encoding="utf-8") as file:

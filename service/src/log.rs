@@ -2,7 +2,16 @@
 //!
 //! Who reads a log may stand still, and whoever writes to it then does so too: that must be nobody who serves. So lines
 //! wait for the thread, up to a bound. Of those that find no room, and of those that can't be written, a line in their
-//! place says how many there were.
+//! place says how many there were. `form` is how a line is written, `shown` what is shown of others' texts.
+
+mod form;
+mod seldom;
+mod shown;
+mod time;
+
+pub use form::{Events, Form};
+pub use seldom::Seldom;
+pub use shown::{all_shown, cut, shown};
 
 use prometheus::IntCounter;
 use std::backtrace::{Backtrace, BacktraceStatus};
@@ -11,6 +20,7 @@ use std::io::{self, Write};
 use std::panic::PanicHookInfo;
 use std::sync::{Arc, Condvar, Mutex, MutexGuard, OnceLock, PoisonError};
 use std::time::{Duration, Instant};
+use tracing::Level;
 
 /// The most bytes of lines that wait; those that are being written are as many at most.
 const MOST_WAITING: usize = 1 << 20;
@@ -25,6 +35,7 @@ pub struct Log {
     changed: Condvar,
     /// Lines that the log has not.
     lost: IntCounter,
+    form: Form,
 }
 
 #[derive(Default)]
@@ -41,8 +52,8 @@ struct Lines {
 }
 
 /// Starts the thread. What the process says at its end goes the same way from then on, also of a panic.
-pub fn start(lost: IntCounter) -> io::Result<Arc<Log>> {
-    let log = Arc::new(Log::new(lost));
+pub fn start(lost: IntCounter, form: Form) -> io::Result<Arc<Log>> {
+    let log = Arc::new(Log::new(lost, form));
     let writing = log.clone();
     std::thread::Builder::new()
         .name("log".into())
@@ -54,11 +65,12 @@ pub fn start(lost: IntCounter) -> io::Result<Arc<Log>> {
 /// Says on standard error why the program ends or waits, or what it could not do. The status counts also where that
 /// can't be written: the log may be on the disk that failed.
 pub fn complain(what: Arguments) {
-    let line = format!("totxegun: {what}\n");
+    let what = what.to_string();
     let Some(log) = LOG.get() else {
-        let _ = io::stderr().write_all(line.as_bytes());
+        let _ = io::stderr().write_all(Form::default().note(Level::ERROR, &what).as_bytes());
         return;
     };
+    let line = log.form.note(Level::ERROR, &what);
     let until = Instant::now() + LAST_LINES;
     log.wait_until_written(until); // so that there is room
     log.put(line.as_bytes());
@@ -81,11 +93,12 @@ fn tell_panic(panic: &PanicHookInfo) {
 }
 
 impl Log {
-    fn new(lost: IntCounter) -> Log {
+    fn new(lost: IntCounter, form: Form) -> Log {
         Log {
             state: Mutex::default(),
             changed: Condvar::new(),
             lost,
+            form,
         }
     }
 
@@ -108,7 +121,11 @@ impl Log {
     }
 
     fn write_to(&self, out: impl Write) {
-        let mut output = Output { out, missing: 0 };
+        let mut output = Output {
+            out,
+            form: self.form,
+            missing: 0,
+        };
         loop {
             let lines = self.next();
             self.lost.inc_by(output.write(&lines));
@@ -140,21 +157,10 @@ impl Lines {
     }
 }
 
-/// `tracing` writes a line by one call.
-impl Write for &Log {
-    fn write(&mut self, line: &[u8]) -> io::Result<usize> {
-        self.put(line);
-        Ok(line.len())
-    }
-
-    fn flush(&mut self) -> io::Result<()> {
-        Ok(())
-    }
-}
-
 /// Where lines go.
 struct Output<W> {
     out: W,
+    form: Form,
     /// Behind the last line that was written.
     missing: u64,
 }
@@ -182,8 +188,9 @@ impl<W: Write> Output<W> {
     fn say_missing(&mut self) -> io::Result<()> {
         let missing = self.missing;
         if missing > 0 {
-            let note = format!("totxegun: lines of the log that are missing here: {missing}\n");
-            self.out.write_all(note.as_bytes())?;
+            let note = format!("lines of the log that are missing here: {missing}");
+            self.out
+                .write_all(self.form.note(Level::WARN, &note).as_bytes())?;
             self.missing = 0;
         }
         Ok(())

@@ -55,7 +55,7 @@ fn asked(address: &str, method: &str, path: &str, body: &str) -> Option<(u16, St
     let length = body.len();
     write!(
         stream,
-        "{method} {path} HTTP/1.1\r\nHost: x\r\nx-sender: A\r\nContent-Type: application/json\r\n\
+        "{method} {path} HTTP/1.1\r\nHost: 127.0.0.1\r\nx-sender: A\r\nContent-Type: application/json\r\n\
          Content-Length: {length}\r\nConnection: close\r\n\r\n{body}"
     )
     .ok()?;

@@ -1,5 +1,6 @@
 //! Asks the running service at its operator's address.
 
+use crate::log::all_shown;
 use anyhow::{anyhow, bail, Context, Result};
 use std::io::{Error, ErrorKind, Read, Write};
 use std::net::{TcpStream, ToSocketAddrs};
@@ -45,9 +46,12 @@ fn reply(address: &str, method: &str, path: &str, patience: Duration) -> Result<
     let mut stream = connected(address).with_context(|| {
         format!("no service answers at {address}: start it, or give its operator's address by --operate")
     })?;
-    let request = format!(
-        "{method} {path} HTTP/1.1\r\nHost: {address}\r\nContent-Length: 0\r\nConnection: close\r\n\r\n"
-    );
+    // By its number: a name that it does not know of itself is one that a page may have given it.
+    let host = stream
+        .peer_addr()
+        .map_or(address.to_string(), |place| place.to_string());
+    let request =
+        format!("{method} {path} HTTP/1.1\r\nHost: {host}\r\nContent-Length: 0\r\nConnection: close\r\n\r\n");
     stream
         .write_all(request.as_bytes())
         .with_context(|| format!("the service at {address} is gone"))?;
@@ -165,10 +169,11 @@ fn parsed(bytes: &[u8]) -> Result<Reply> {
 
 fn message(body: &[u8]) -> String {
     let read: serde_json::Value = serde_json::from_slice(body).unwrap_or_default();
-    match read["message"].as_str() {
-        Some(message) => message.to_string(),
-        None => String::from_utf8_lossy(body).into_owned(),
-    }
+    let text = match read["message"].as_str() {
+        Some(message) => message.into(),
+        None => String::from_utf8_lossy(body),
+    };
+    all_shown(&text)
 }
 
 #[cfg(test)]

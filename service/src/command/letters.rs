@@ -22,10 +22,14 @@ pub enum Command {
         #[command(flatten)]
         at: Address,
     },
-    /// Sends one again under its own key; it is kept unless the sink takes it
+    /// Sends one again under its own key, or all; what the sink does not take is kept
     Resend {
         /// As `totxegun dead list` shows it
-        key: String,
+        #[arg(required_unless_present = "all")]
+        key: Option<String>,
+        /// All, one after the other, until the sink does not answer
+        #[arg(long, conflicts_with = "key")]
+        all: bool,
         #[command(flatten)]
         at: Address,
     },
@@ -37,6 +41,8 @@ pub enum Command {
         at: Address,
     },
 }
+
+const NONE: &str = "the sink has refused nothing for good";
 
 #[derive(Deserialize)]
 struct Letter {
@@ -54,7 +60,10 @@ impl Command {
                 let body = client::ask(&at.operate, "GET", &format!("/dead/{}", checked(&key)?))?;
                 Ok(with_end(body))
             }
-            Command::Resend { key, at } => resend(&key, &at),
+            Command::Resend {
+                key: Some(key), at, ..
+            } => resend(&key, &at),
+            Command::Resend { key: None, at, .. } => resend_all(&at),
             Command::Drop { key, at } => {
                 client::ask(&at.operate, "POST", &format!("/dead/{}/drop", checked(&key)?))?;
                 Ok(line(format_args!("done: {key} is thrown away")))
@@ -68,9 +77,9 @@ fn list(at: &Address, form: Form) -> Result<Vec<u8>> {
     if form.json {
         return Ok(with_end(body));
     }
-    let letters: Vec<Letter> = serde_json::from_slice(&body).context(client::OTHER_VERSION)?;
+    let letters = read(&body)?;
     if letters.is_empty() {
-        return Ok(line("the sink has refused nothing for good"));
+        return Ok(line(NONE));
     }
     let now = std::time::SystemTime::now()
         .duration_since(std::time::UNIX_EPOCH)?
@@ -83,9 +92,51 @@ fn list(at: &Address, form: Form) -> Result<Vec<u8>> {
     Ok(table.to_string().into())
 }
 
-fn resend(key: &str, at: &Address) -> Result<Vec<u8>> {
+fn read(body: &[u8]) -> Result<Vec<Letter>> {
+    serde_json::from_slice(body).context(client::OTHER_VERSION)
+}
+
+fn sent(key: &str, at: &Address) -> Result<Resent> {
     let body = client::ask(&at.operate, "POST", &format!("/dead/{}/resend", checked(key)?))?;
-    let resent: Resent = serde_json::from_slice(&body).context(client::OTHER_VERSION)?;
+    serde_json::from_slice(&body).context(client::OTHER_VERSION)
+}
+
+/// Those that no sink takes, being a part of what it has, are left.
+fn resend_all(at: &Address) -> Result<Vec<u8>> {
+    let letters = read(&client::ask(&at.operate, "GET", "/dead")?)?;
+    let (mut taken, mut left) = (0, Vec::new());
+    for Letter { key, .. } in letters.iter().filter(|letter| !is_part(&letter.key)) {
+        let resent = sent(key, at)?;
+        match resent.reason {
+            None => taken += 1,
+            Some(reason) if resent.later => {
+                bail!("{}: the sink did not take {key}: {reason}", so_far(taken))
+            }
+            Some(reason) => left.push(format!("{key}: {reason}")),
+        }
+    }
+    match left.first() {
+        None if letters.is_empty() => Ok(line(NONE)),
+        None => Ok(line(format_args!("done: {}", so_far(taken)))),
+        Some(first) => bail!(
+            "{}; it refused, or took in part, {}: {first}",
+            so_far(taken),
+            values::counted(left.len() as u64, "request")
+        ),
+    }
+}
+
+fn so_far(taken: u64) -> String {
+    format!("the sink has taken {}", values::counted(taken, "request"))
+}
+
+/// What is kept of a request that the sink has.
+fn is_part(key: &str) -> bool {
+    key.contains("-partial")
+}
+
+fn resend(key: &str, at: &Address) -> Result<Vec<u8>> {
+    let resent = sent(key, at)?;
     match resent.reason {
         None => Ok(line(format_args!("done: the sink has {key}"))),
         Some(reason) if resent.taken => {

@@ -252,6 +252,9 @@ mod tests {
             ("quarantine", "<NAME>"),
             ("quarantine a/b", "<NAME>"),
             ("dead burn", "burn"),
+            ("dead resend", "<KEY>"),
+            ("dead resend 0-a-1 --all", "--all"),
+            ("serve --data d --log-json=x", "--log-json"),
         ] {
             let error =
                 Line::try_parse_from([&["totxegun"], &words.split(' ').collect::<Vec<_>>()[..]].concat());

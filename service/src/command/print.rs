@@ -1,15 +1,22 @@
 //! `totxegun print`: what is made from the command line's own definition. A package has it as the completion of bash,
-//! and in its pages and settings.
+//! zsh and fish, and in its pages and settings.
 
 use super::Line;
 use anyhow::Result;
 use clap::{Arg, Command, CommandFactory, ValueEnum};
+use clap_complete::{generate, Shell};
 use serde::Serialize;
+
+const NAME: &str = "totxegun";
 
 #[derive(Clone, Copy, ValueEnum)]
 pub enum What {
     /// What bash completes the command line by
     Completion,
+    /// The same of zsh
+    Zsh,
+    /// The same of fish
+    Fish,
     /// Each command with its options, as JSON
     Options,
 }
@@ -18,9 +25,9 @@ pub fn run(what: What) -> Result<Vec<u8>> {
     let mut line = visible(&Line::command());
     let mut text = Vec::new();
     match what {
-        What::Completion => {
-            clap_complete::generate(clap_complete::Shell::Bash, &mut line, "totxegun", &mut text);
-        }
+        What::Completion => generate(Shell::Bash, &mut line, NAME, &mut text),
+        What::Zsh => generate(Shell::Zsh, &mut line, NAME, &mut text),
+        What::Fish => generate(Shell::Fish, &mut line, NAME, &mut text),
         What::Options => {
             line.build();
             serde_json::to_writer_pretty(&mut text, &Described::of(&line))?;
@@ -115,6 +122,27 @@ impl Word {
             heading: arg.get_help_heading().map(str::to_string),
             required: arg.is_required_set(),
             help: arg.get_help().map(ToString::to_string).unwrap_or_default(),
+        }
+    }
+}
+
+#[cfg(test)]
+mod tests {
+    use super::*;
+
+    #[test]
+    fn each_shell_is_told_of_each_command_and_option() {
+        for (what, begins) in [
+            (What::Completion, "_totxegun() {"),
+            (What::Zsh, "#compdef totxegun"),
+            (What::Fish, "complete -c totxegun"),
+        ] {
+            let text = String::from_utf8(run(what).unwrap()).unwrap();
+            assert!(text.starts_with(begins), "{}", &text[..80]);
+            for word in ["serve", "quarantine", "resend", "flush-every", "log-json"] {
+                assert!(text.contains(word), "{begins}: {word}");
+            }
+            assert!(!text.contains("Prints what a package is made with"));
         }
     }
 }

@@ -79,6 +79,9 @@ pub struct Options {
     /// Writes the first N reasons why points are foreign to the log, for each sender
     #[arg(long, env = "TOTXEGUN_LOG_FOREIGN", value_name = "N", default_value_t = 0, value_parser = value_parser!(u32).range(..=1000))]
     log_foreign: u32,
+    /// Writes each line of the log as a JSON object, with `time`, `level`, `text` and what it is about
+    #[arg(long, env = "TOTXEGUN_LOG_JSON")]
+    log_json: bool,
     /// The most memory that all posts may take until they are answered
     #[arg(long, env = "TOTXEGUN_MOST_BYTES", value_name = "BYTES", default_value = "256MiB", value_parser = most_bytes)]
     most_bytes: u64,
@@ -201,14 +204,10 @@ impl Options {
     pub fn run(self) -> Result<(), Failure> {
         init::take_signals().context("signals can't be received")?; // before there are threads
         let metrics = Arc::new(Metrics::new().context("metrics")?);
-        let log =
-            log::start(metrics.log_lines_lost.clone()).context("no thread could be started for the log")?;
-        tracing_subscriber::fmt()
-            .with_writer(log)
-            .with_target(false)
-            .log_internal_errors(false) // it tells them on standard error by itself
-            .finish()
-            .with(told())
+        let log = log::start(metrics.log_lines_lost.clone(), log::Form::new(self.log_json))
+            .context("no thread could be started for the log")?;
+        tracing_subscriber::registry()
+            .with(log::Events(log).with_filter(told()))
             .init();
         let most_files = raise_open_files();
         tracing::info!("{Versions}");

@@ -1,11 +1,13 @@
 //! Tables that people read.
 
+use crate::log::all_shown;
 use std::fmt;
 
 /// How wide a column is at most. One text of megabytes makes no line as long, nor has a format room for its width.
 const WIDEST: usize = 1000;
 
-/// Columns as wide as their widest text, up to a bound.
+/// Columns as wide as their widest text, up to a bound. Texts come from senders and sinks: nothing of them is obeyed by a
+/// terminal.
 pub struct Table {
     rows: Vec<Vec<String>>,
 }
@@ -19,15 +21,8 @@ impl Table {
 
     pub fn row<T: AsRef<str>>(&mut self, texts: &[T]) {
         self.rows
-            .push(texts.iter().map(|text| shown(text.as_ref())).collect());
+            .push(texts.iter().map(|text| all_shown(text.as_ref())).collect());
     }
-}
-
-/// Texts come from senders and sinks: what a terminal would obey is shown, not sent to it.
-fn shown(text: &str) -> String {
-    text.chars()
-        .map(|letter| if letter.is_control() { '\u{FFFD}' } else { letter })
-        .collect()
 }
 
 impl fmt::Display for Table {
@@ -62,7 +57,7 @@ mod tests {
     fn columns_are_as_wide_as_their_texts() {
         let mut table = Table::new(&["a", "b"]);
         table.row(&["long", "x\u{1b}[2J"]);
-        assert_eq!(table.to_string(), "a     b\nlong  x\u{FFFD}[2J\n");
+        assert_eq!(table.to_string(), "a     b\nlong  x [2J\n");
     }
 
     #[test]

@@ -78,17 +78,26 @@ pub async fn throw_away<S: AsyncRead + AsyncWrite + Unpin>(wire: &mut Wire<S>) {
     let _ = tokio::time::timeout(LEFT_TIME, reading).await; // who takes longer loses the answer
 }
 
-/// Unpacks a body. What grows over `most` ends there, and takes no more memory than a body that does not.
+/// How gzip begins, and neither JSON nor a message of protobuf.
+const GZIP: &[u8] = &[0x1f, 0x8b];
+
+/// Unpacks a body. What grows over `most` ends there, and takes no more memory than a body that does not. Python's gRPC
+/// (1.51) packs some messages twice.
 pub fn unpack(packed: Bytes, packing: Packing, most: usize, hold: &mut Hold) -> Result<Bytes, Refusal> {
     match packing {
         Packing::Plain => Ok(packed),
-        Packing::Gzip => {
-            hold.set(2 * packed.len() + most)?;
-            let plain = gunzip(&packed, most)?;
-            hold.set(plain.capacity())?;
-            Ok(plain.into())
-        }
+        Packing::Gzip => match unpacked(&packed, most, hold)? {
+            packed if packed.starts_with(GZIP) => unpacked(&packed, most, hold),
+            plain => Ok(plain),
+        },
     }
+}
+
+fn unpacked(packed: &[u8], most: usize, hold: &mut Hold) -> Result<Bytes, Refusal> {
+    hold.set(2 * packed.len() + most)?;
+    let plain = gunzip(packed, most)?;
+    hold.set(plain.capacity())?;
+    Ok(plain.into())
 }
 
 fn gunzip(packed: &[u8], most: usize) -> Result<Vec<u8>, Refusal> {
@@ -128,32 +137,44 @@ pub(super) mod tests {
         packer.finish().unwrap().into()
     }
 
-    fn unpacked(packed: Bytes, most: usize) -> Result<Bytes, u16> {
+    fn read(packed: Bytes, most: usize) -> Result<Bytes, u16> {
         unpack(packed, Packing::Gzip, MOST, &mut Budget::new(most).hold()).map_err(|refusal| refusal.status())
     }
 
     #[test]
     fn a_packed_body_is_read_up_to_the_limit() {
         let longest = vec![b'a'; MOST];
-        assert_eq!(unpacked(gzip(&longest), 64 << 20), Ok(Bytes::from(longest)));
-        assert_eq!(unpacked(gzip(&vec![0; MOST + 1]), 64 << 20), Err(413));
-        assert_eq!(unpacked(gzip(b""), 64 << 20), Ok(Bytes::new()));
+        assert_eq!(read(gzip(&longest), 64 << 20), Ok(Bytes::from(longest)));
+        assert_eq!(read(gzip(&vec![0; MOST + 1]), 64 << 20), Err(413));
+        assert_eq!(read(gzip(b""), 64 << 20), Ok(Bytes::new()));
+    }
+
+    #[test]
+    fn what_is_packed_twice_is_unpacked_twice() {
+        assert_eq!(
+            read(gzip(&gzip(b"text")), 64 << 20),
+            Ok(Bytes::from_static(b"text"))
+        );
+        assert_eq!(read(gzip(&gzip(&vec![0; MOST + 1])), 64 << 20), Err(413));
+        assert_eq!(read(gzip(&gzip(b"text")[..9]), 64 << 20), Err(400));
+        let three = gzip(&gzip(&gzip(b"text")));
+        assert_eq!(read(three, 64 << 20), Ok(gzip(b"text")));
     }
 
     #[test]
     fn what_is_no_gzip_is_refused() {
         let whole = gzip(b"some text that is longer than a head");
-        assert_eq!(unpacked(whole.slice(..whole.len() - 1), 64 << 20), Err(400));
-        assert_eq!(unpacked(Bytes::from_static(b"{}"), 64 << 20), Err(400));
+        assert_eq!(read(whole.slice(..whole.len() - 1), 64 << 20), Err(400));
+        assert_eq!(read(Bytes::from_static(b"{}"), 64 << 20), Err(400));
         let mut trailing = whole.to_vec();
         trailing.extend_from_slice(b"more");
-        assert_eq!(unpacked(trailing.into(), 64 << 20), Err(400));
+        assert_eq!(read(trailing.into(), 64 << 20), Err(400));
     }
 
     #[test]
     fn two_packed_parts_are_one_body() {
         let both = [gzip(b"[1,"), gzip(b"2]")].concat();
-        assert_eq!(unpacked(both.into(), 64 << 20), Ok(Bytes::from_static(b"[1,2]")));
+        assert_eq!(read(both.into(), 64 << 20), Ok(Bytes::from_static(b"[1,2]")));
     }
 
     #[test]
@@ -165,7 +186,7 @@ pub(super) mod tests {
         others.set(MOST).unwrap();
         let refused = unpack(gzip(b"{}"), Packing::Gzip, MOST, &mut budget.hold()).unwrap_err();
         assert_eq!(refused.status(), 503, "others may give it back");
-        assert_eq!(unpacked(gzip(b"{}"), MOST), Err(413), "there is never so much");
+        assert_eq!(read(gzip(b"{}"), MOST), Err(413), "there is never so much");
     }
 
     /// What is received of a body that comes in parts, and is broken off behind them.

@@ -1,8 +1,9 @@
 //! How connections of an address are accepted, in a bounded number; and those of the operators' address: each serves many
-//! requests, slow and idle ones are closed. The senders' are in `front`.
+//! requests, slow and idle ones are closed, and these at once where others wait. The senders' are in `front`.
 
 use super::pace::{Overdue, Pace, Watched};
 use super::{Intake, Taker, Threads};
+use crate::log::Seldom;
 use crate::switch::Switch;
 use hyper::server::conn::Http;
 use hyper::service::service_fn;
@@ -22,6 +23,11 @@ const READ_AHEAD: usize = 64 << 10;
 
 /// How long to wait where the system has no connection to give, for want of file descriptors.
 const NO_CONNECTION: Duration = Duration::from_millis(100);
+/// That it has none is told once a second at most, of all addresses together.
+static TOLD: Seldom = Seldom::new();
+
+/// How often it is looked whether an operator's connection is overdue.
+const LOOK: Duration = Duration::from_secs(1);
 
 /// The answer to a head that did not come whole. How it would be answered is not known yet, so it is JSON.
 const LATE: &[u8] =
@@ -91,7 +97,10 @@ impl Room {
             match listener.accept().await {
                 Ok((stream, _)) => return (stream, place),
                 Err(error) => {
-                    tracing::warn!("no connection could be accepted: {error}");
+                    if TOLD.is_due() {
+                        let reason = error.to_string();
+                        tracing::warn!(reason, "no connection could be accepted: {reason}");
+                    }
                     tokio::time::sleep(NO_CONNECTION).await;
                 }
             }
@@ -170,22 +179,27 @@ pub async fn serve<H: Handler>(
     handler: Arc<H>,
     stop: watch::Receiver<bool>,
 ) {
-    let stopped = stop.clone();
+    let room = Room::new(limits.connections);
+    let (stopped, of_room) = (stop.clone(), room.clone());
     let begin = |open: &mut JoinSet<()>, stream: TcpStream, held: Held| {
-        open.spawn(connection(
+        let serving = connection(
             stream,
-            held,
+            of_room.clone(),
             limits.clone(),
             handler.clone(),
             stopped.clone(),
-        ));
+        );
+        open.spawn(async move {
+            serving.await;
+            drop(held);
+        });
     };
-    accept(listener, Room::new(limits.connections), stop, begin).await;
+    accept(listener, room, stop, begin).await;
 }
 
 async fn connection<H: Handler>(
     stream: TcpStream,
-    _held: Held,
+    room: Arc<Room>,
     limits: Limits,
     handler: Arc<H>,
     mut stop: watch::Receiver<bool>,
@@ -221,7 +235,7 @@ async fn connection<H: Handler>(
                 closing = true;
                 std::pin::Pin::new(&mut served).graceful_shutdown();
             }
-            _ = tokio::time::sleep(limits.head / 4) => match pace.overdue(&limits) {
+            _ = tokio::time::sleep(LOOK.min(limits.head / 4)) => match pace.overdue(&limits, room.is_full()) {
                 None => {}
                 Some(Overdue::Idle) => break,
                 Some(Overdue::Head) => {
@@ -235,3 +249,6 @@ async fn connection<H: Handler>(
     let mut stream = served.into_parts().io;
     let _ = stream.shutdown().await; // who has gone needs no end
 }
+
+#[cfg(test)]
+mod tests;

@@ -30,7 +30,7 @@ pub async fn connection<T: Taker>(stream: TcpStream, shared: Arc<Shared<T>>) {
             Ok(asked) => served(&mut wire, intake, asked, &mut waiting).await,
             Err(refusal) => {
                 intake.count(&refusal);
-                refused(&mut wire, &refusal, waiting.idle).await;
+                refused(&mut wire, &refusal, &mut waiting).await;
                 false
             }
         };
@@ -43,10 +43,10 @@ pub async fn connection<T: Taker>(stream: TcpStream, shared: Arc<Shared<T>>) {
 }
 
 /// Answers what has no head that can be read. How it would be answered is not known, so it is JSON.
-async fn refused(wire: &mut Wire<TcpStream>, refusal: &Refusal, patience: Duration) {
+async fn refused(wire: &mut Wire<TcpStream>, refusal: &Refusal, waiting: &mut Waiting) {
     let outcome = Outcome::from(refusal);
     let sent = wire.answer(|out| answer::write(out, &outcome, Encoding::Json, Connection::Closed));
-    let _ = within(patience, sent).await; // who does not read it has gone
+    waiting.is_sent(sent).await;
 }
 
 /// Serves a request. Whether a next one may follow.
@@ -67,7 +67,7 @@ async fn served<T: Taker>(
         false => answer::write,
     };
     let sent = wire.answer(|out| write(out, &outcome, asked.encoding, connection));
-    matches!(within(waiting.idle, sent).await, Some(Ok(()))) && connection != Connection::Closed
+    waiting.is_sent(sent).await && connection != Connection::Closed
 }
 
 /// The next head. None where none comes any more.
@@ -117,7 +117,6 @@ enum Came {
 /// How long a connection waits. One timer serves all its requests: it looks now and then how often it has looked.
 struct Waiting {
     period: Duration,
-    idle: Duration,
     looks: u32,
     most_idle: u32,
     look: Pin<Box<Sleep>>,
@@ -129,19 +128,22 @@ struct Waiting {
 
 impl Waiting {
     fn new<T>(shared: &Shared<T>) -> Waiting {
-        let Shared { limits, stop, .. } = shared;
-        let period = (limits.head / LOOKS).max(Duration::from_millis(1));
+        let limits = &shared.limits;
+        Waiting::of(limits.head, limits.idle, shared.stop.clone(), shared.room.clone())
+    }
+
+    fn of(head: Duration, idle: Duration, stop: watch::Receiver<bool>, room: Arc<Room>) -> Waiting {
+        let period = (head / LOOKS).max(Duration::from_millis(1));
         let mut switch = stop.clone();
         Waiting {
             period,
-            idle: limits.idle,
             looks: 0,
-            most_idle: (limits.idle.as_millis() / period.as_millis()) as u32,
+            most_idle: (idle.as_millis() / period.as_millis()) as u32,
             look: Box::pin(tokio::time::sleep(period)),
             stop: Box::pin(async move { switch.wait_true().await }),
-            stopped: stop.clone(),
+            stopped: stop,
             ending: false,
-            room: shared.room.clone(),
+            room,
         }
     }
 
@@ -161,6 +163,19 @@ impl Waiting {
         match self.room.is_full() {
             true => 1,
             false => self.most_idle,
+        }
+    }
+
+    /// Whether an answer is sent. Who does not read it is waited for no longer than who sends nothing.
+    async fn is_sent(&mut self, sending: impl Future<Output = std::io::Result<()>>) -> bool {
+        let mut sending = pin!(sending);
+        let mut looks = 0;
+        loop {
+            match within(self.period, sending.as_mut()).await {
+                Some(sent) => return sent.is_ok(),
+                None if looks >= self.most_idle() => return false,
+                None => looks += 1,
+            }
         }
     }
 
@@ -233,8 +248,10 @@ mod tests {
         while tokio::time::timeout(short, stream.writable()).await.is_ok() {
             let _ = stream.try_write(&[0; 64 << 10]); // until all buffers are full
         }
+        let (_going, stop) = watch::channel(false);
+        let mut waiting = Waiting::of(short, short, stop, Room::new(1));
         let mut wire = Wire::new(stream);
-        let refused = refused(&mut wire, &Refusal::Malformed, short);
+        let refused = refused(&mut wire, &Refusal::Malformed, &mut waiting);
         assert!(tokio::time::timeout(400 * short, refused).await.is_ok());
     }
 }

@@ -9,6 +9,7 @@ mod body;
 pub mod connections;
 pub mod front;
 pub(crate) mod head;
+mod listen;
 mod pace;
 pub(crate) mod refusal;
 mod threads;
@@ -17,6 +18,7 @@ mod wire;
 
 pub(crate) use body::MOST;
 pub use connections::Limits;
+pub use listen::listen;
 pub use threads::Threads;
 pub use weight::Budget;
 pub(crate) use weight::Hold;

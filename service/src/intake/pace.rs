@@ -5,9 +5,12 @@ use std::io::{IoSlice, Result};
 use std::pin::Pin;
 use std::sync::{Arc, Mutex, PoisonError};
 use std::task::{ready, Context, Poll};
-use std::time::Instant;
+use std::time::{Duration, Instant};
 use tokio::io::{AsyncRead, AsyncWrite, ReadBuf};
 use tokio::net::TcpStream;
+
+/// How long who idles has its place where others wait for it.
+const SHORT: Duration = Duration::from_secs(1);
 
 #[derive(Clone, Copy, Debug)]
 enum Phase {
@@ -15,6 +18,8 @@ enum Phase {
     New { since: Instant },
     /// Nothing of a next request came yet.
     Idle { since: Instant },
+    /// Nobody takes what is left of an answer.
+    Unread { since: Instant },
     /// A part of a head came.
     Head { since: Instant },
     /// A request is under way: its own times are bounded where it is read.
@@ -53,19 +58,33 @@ impl Pace {
         matches!(self.set(|phase| phase), Phase::New { .. })
     }
 
-    pub fn overdue(&self, limits: &Limits) -> Option<Overdue> {
+    /// Who idles, or reads nothing of an answer, is so much sooner where others wait for its place.
+    pub fn overdue(&self, limits: &Limits, is_full: bool) -> Option<Overdue> {
+        let (idle, unread) = match is_full {
+            true => (limits.idle.min(SHORT), limits.idle.min(limits.head / 4)),
+            false => (limits.idle, limits.idle),
+        };
         match self.set(|phase| phase) {
-            Phase::New { since } | Phase::Idle { since } if since.elapsed() >= limits.idle => {
-                Some(Overdue::Idle)
-            }
+            Phase::New { since } | Phase::Idle { since } if since.elapsed() >= idle => Some(Overdue::Idle),
+            Phase::Unread { since } if since.elapsed() >= unread => Some(Overdue::Idle),
             Phase::Head { since } if since.elapsed() >= limits.head => Some(Overdue::Head),
             _ => None,
         }
     }
 
+    /// Whether all that was to be sent now has gone.
+    fn sent(&self, all: bool) {
+        let since = Instant::now();
+        self.set(|phase| match (phase, all) {
+            (Phase::Idle { .. }, false) => Phase::Unread { since },
+            (Phase::Idle { .. } | Phase::Unread { .. }, true) => Phase::Idle { since },
+            (other, _) => other,
+        });
+    }
+
     fn bytes_came(&self) {
         self.set(|phase| match phase {
-            Phase::New { .. } | Phase::Idle { .. } => Phase::Head {
+            Phase::New { .. } | Phase::Idle { .. } | Phase::Unread { .. } => Phase::Head {
                 since: Instant::now(),
             },
             other => other,
@@ -79,7 +98,7 @@ impl Pace {
     }
 }
 
-/// A connection whose reads its pace sees.
+/// A connection whose reads and writes its pace sees.
 pub struct Watched {
     stream: TcpStream,
     pace: Arc<Pace>,
@@ -106,9 +125,17 @@ impl AsyncRead for Watched {
     }
 }
 
+impl Watched {
+    fn saw(&self, written: Poll<Result<usize>>) -> Poll<Result<usize>> {
+        self.pace.sent(written.is_ready());
+        written
+    }
+}
+
 impl AsyncWrite for Watched {
     fn poll_write(mut self: Pin<&mut Self>, context: &mut Context<'_>, from: &[u8]) -> Poll<Result<usize>> {
-        Pin::new(&mut self.stream).poll_write(context, from)
+        let written = Pin::new(&mut self.stream).poll_write(context, from);
+        self.saw(written)
     }
 
     fn poll_write_vectored(
@@ -116,7 +143,8 @@ impl AsyncWrite for Watched {
         context: &mut Context<'_>,
         from: &[IoSlice<'_>],
     ) -> Poll<Result<usize>> {
-        Pin::new(&mut self.stream).poll_write_vectored(context, from)
+        let written = Pin::new(&mut self.stream).poll_write_vectored(context, from);
+        self.saw(written)
     }
 
     fn is_write_vectored(&self) -> bool {
@@ -135,7 +163,6 @@ impl AsyncWrite for Watched {
 #[cfg(test)]
 mod tests {
     use super::*;
-    use std::time::Duration;
 
     #[test]
     fn only_what_waits_for_the_sender_is_overdue() {
@@ -145,22 +172,40 @@ mod tests {
             idle: Duration::from_secs(60),
         };
         let pace = Pace::new();
-        assert_eq!(pace.overdue(&at_once), None);
+        assert_eq!(pace.overdue(&at_once, false), None);
         assert!(pace.is_new());
         pace.bytes_came();
         assert!(!pace.is_new());
-        assert_eq!(pace.overdue(&at_once), Some(Overdue::Head));
+        assert_eq!(pace.overdue(&at_once, false), Some(Overdue::Head));
         pace.request_begins();
         pace.bytes_came();
-        assert_eq!(pace.overdue(&at_once), None);
+        assert_eq!(pace.overdue(&at_once, false), None);
         pace.request_ends();
-        assert_eq!(pace.overdue(&at_once), None);
+        assert_eq!(pace.overdue(&at_once, false), None);
+        let idle = Duration::ZERO;
         assert_eq!(
-            pace.overdue(&Limits {
-                idle: Duration::ZERO,
-                ..at_once
-            }),
+            pace.overdue(&Limits { idle, ..at_once }, false),
             Some(Overdue::Idle)
         );
+    }
+
+    #[test]
+    fn who_does_not_read_idles() {
+        let limits = Limits {
+            connections: 1,
+            head: Duration::ZERO,
+            idle: Duration::from_secs(60),
+        };
+        let pace = Pace::new();
+        let is_overdue = |is_full| pace.overdue(&limits, is_full).is_some();
+        pace.request_begins();
+        pace.sent(false);
+        assert!(!is_overdue(true), "its request is under way");
+        pace.request_ends();
+        assert!(!is_overdue(true), "it may send a next one");
+        pace.sent(false);
+        assert!(is_overdue(true) && !is_overdue(false));
+        pace.sent(true);
+        assert!(!is_overdue(true), "it reads");
     }
 }

@@ -5,7 +5,10 @@ use std::io::Read;
 use std::sync::atomic::{AtomicBool, Ordering::Relaxed};
 
 fn log() -> Arc<Log> {
-    Arc::new(Log::new(IntCounter::new("lost", "lost").unwrap()))
+    Arc::new(Log::new(
+        IntCounter::new("lost", "lost").unwrap(),
+        Form::default(),
+    ))
 }
 
 fn line(number: usize) -> String {

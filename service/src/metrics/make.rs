@@ -54,7 +54,7 @@ pub fn metrics() -> Result<Metrics> {
             "deliveries_total",
             "Tries to deliver, by outcome",
             "outcome",
-            &["taken", "partial", "again", "refused"],
+            &["taken", "partial", "again", "denied", "refused"],
         )?,
         forgotten_series: maker.counter(
             "forgotten_series_total",

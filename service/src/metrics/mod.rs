@@ -33,7 +33,7 @@ pub struct Metrics {
     pub checkpoints: IntCounterVec,
     pub rounds_closed: IntCounter,
     pub forwarded_requests: IntCounter,
-    /// By `outcome`: `taken`, `partial`, `again`, `refused`.
+    /// By `outcome`: `taken`, `partial`, `again`, `denied` (it is sent again too), `refused`.
     pub deliveries: IntCounterVec,
     pub forgotten_series: IntCounter,
     pub log_lines_lost: IntCounter,
@@ -141,7 +141,8 @@ impl Metrics {
         }
         let mut page = Vec::new();
         if let Err(error) = TextEncoder::new().encode(&self.registry.gather(), &mut page) {
-            tracing::warn!("the metrics page is not whole: {error}");
+            let reason = error.to_string();
+            tracing::warn!(reason, "the metrics page is not whole: {reason}");
         }
         page
     }
@@ -213,6 +214,7 @@ mod tests {
             "totxegun_posts_total{status=\"503\"} 1",
             "totxegun_deliveries_total{outcome=\"taken\"} 0",
             "totxegun_deliveries_total{outcome=\"partial\"} 0",
+            "totxegun_deliveries_total{outcome=\"denied\"} 0",
             "totxegun_checkpoints_total{outcome=\"failed\"} 0",
             "totxegun_dead_requests 0",
             "totxegun_quarantined_senders 0",

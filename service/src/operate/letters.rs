@@ -1,6 +1,7 @@
 //! The dead letters: shown, sent again under their own keys, thrown away.
 //!
-//! The running service alone sends one again: it has the folder and the sink, so no key is under way twice, and a
+//! The running service alone sends one again: it has the folder and the sink, and holds the key, which a delivery may have
+//! too, so no key is under way twice. A
 //! letter is thrown away only once the sink has it. A service that ends in between sends it again under the same key.
 
 use super::{message, reply, Desk, JSON};
@@ -19,6 +20,9 @@ pub struct Resent {
     /// The sink's reason where it did not take it, or not all of it.
     #[serde(default, skip_serializing_if = "Option::is_none")]
     pub reason: Option<String>,
+    /// It may take it later: now it fails, lets nobody in, or does not answer.
+    #[serde(default, skip_serializing_if = "std::ops::Not::not")]
+    pub later: bool,
 }
 
 impl Desk {
@@ -62,7 +66,7 @@ impl Desk {
     }
 
     pub(super) async fn resend(&self, key: &str) -> Response<Body> {
-        let _one = self.resending.lock().await;
+        let _held = self.sink.keys().hold(sent_as(key)).await;
         let body = match self.body_of(key).await {
             Ok(Some(body)) => body,
             Ok(None) => return message(404, "no such request"),
@@ -71,8 +75,8 @@ impl Desk {
         let Some(request) = forwarded(key, body) else {
             return self.of_part(key).await;
         };
-        let reason = match self.sink.deliver(&request).await {
-            Fate::Taken => None,
+        let (reason, later) = match self.sink.deliver(&request).await {
+            Fate::Taken => (None, false),
             Fate::TakenPartly {
                 rejected,
                 reason,
@@ -81,20 +85,22 @@ impl Desk {
                 let reason = of_part(rejected, &reason, left.is_some());
                 return self.keep_part(key, left.unwrap_or(request.body), reason).await;
             }
-            Fate::Again { reason, .. } | Fate::Failed { reason, .. } | Fate::Refused { reason } => {
-                Some(reason)
+            Fate::Refused { reason } => (Some(reason), false),
+            Fate::Again { reason, .. } | Fate::Failed { reason, .. } | Fate::Denied { reason, .. } => {
+                (Some(reason), true)
             }
         };
         if reason.is_none() {
             if let Err(fault) = self.throw_away(key).await {
                 return faulty(&fault);
             }
-            tracing::info!("the sink has taken {key}, which was put aside");
+            tracing::info!(key, "the sink has taken {key}, which was put aside");
         }
         let resent = Resent {
             key: key.into(),
             taken: reason.is_none(),
             reason,
+            later,
         };
         reply(200, JSON, serde_json::json!(resent).to_string())
     }
@@ -127,6 +133,7 @@ impl Desk {
             key: key.into(),
             taken: true,
             reason: Some(reason),
+            later: false,
         };
         reply(200, JSON, serde_json::json!(resent).to_string())
     }
@@ -148,7 +155,8 @@ fn forwarded(name: &str, body: Vec<u8>) -> Option<Forwarded> {
 
 /// Nothing but `dead/` is concerned, so the service goes on.
 fn faulty(fault: &Fault) -> Response<Body> {
-    tracing::warn!("dead/: {fault}");
+    let reason = fault.to_string();
+    tracing::warn!(reason, "dead/: {reason}");
     message(500, &fault.to_string())
 }
 

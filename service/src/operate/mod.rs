@@ -1,11 +1,13 @@
 //! The operator's address: orders to the keeper, what the service says of itself, the dead letters.
 //!
-//! It is another address than the senders', loopback by default: who can post can't operate.
+//! It is another address than the senders', loopback by default: who can post can't operate. What a browser sends for a
+//! page of somebody else is turned away by `web`.
 
 mod letters;
 mod orders;
 mod status;
 mod totals;
+mod web;
 
 pub use letters::Resent;
 pub use status::{BooksStatus, RoundedSeriesStatus, RoundedStatus, SlotStatus, Status, Stock};
@@ -43,12 +45,12 @@ pub struct Desk {
     pub budget: Arc<Budget>,
     /// Where senders post.
     pub listen: String,
+    /// Where operators ask, as it was given.
+    pub operate: String,
     pub data: String,
     /// So many fit.
     pub most_series: usize,
     pub begun: Instant,
-    /// One letter is sent again at a time.
-    pub resending: tokio::sync::Mutex<()>,
 }
 
 /// What a slot has for the sink.
@@ -96,11 +98,23 @@ impl Route {
     }
 }
 
+impl Route {
+    /// Whether it is asked for by any name, as by a scrape or a probe, and nothing is changed by it.
+    fn is_for_all(&self) -> bool {
+        matches!(self, Route::Metrics | Route::Health | Route::Ready)
+    }
+}
+
 impl Handler for Desk {
     async fn answer(self: Arc<Self>, request: Request<Body>) -> Response<Body> {
         match Route::of(request.uri().path()) {
             None => message(404, "no such path"),
-            Some((method, route)) if is_met(&method, request.method()) => self.go(route).await,
+            Some((method, route)) if is_met(&method, request.method()) => {
+                match web::stranger(&request, &self.operate) {
+                    Some(why) if !route.is_for_all() => message(403, &why),
+                    _ => self.go(route).await,
+                }
+            }
             Some((method, _)) => {
                 let mut response = message(405, "wrong method");
                 let allow = if method == Method::POST {

@@ -30,6 +30,15 @@ fn refused(message: &Message, what: impl std::fmt::Display) -> Refused {
     Refused::Unreadable(format!("not protobuf of OTLP: {}: {what}", message.name))
 }
 
+/// A part of a message that is there several times. To other readers of protobuf it is a message by itself, so a field
+/// that is cut at its end does not go on in the next part.
+pub(super) fn part<'a>(of: &Message, bytes: &'a [u8]) -> Result<&'a [u8], Refused> {
+    let mut fields = Fields::of(bytes);
+    let whole = fields.try_for_each(|field| field.map(drop));
+    whole.map_err(|malformed| refused(of, malformed))?;
+    Ok(bytes)
+}
+
 struct Writer<'a, 'r> {
     out: Output<'r>,
     /// Of the messages that are under way, each behind the one around it.
@@ -280,7 +289,9 @@ impl<'a, 'r> Writer<'a, 'r> {
         depth: usize,
     ) -> Result<(), Refused> {
         let mut whole = Vec::new();
-        parts.for_each(|part| whole.extend_from_slice(part));
+        for bytes in parts {
+            whole.extend_from_slice(part(of, bytes)?);
+        }
         let may_copy = self.may_copy.checked_sub(whole.len());
         let may_copy = may_copy.ok_or_else(|| refused(of, "too much is there in parts"))?;
         let mut writer = Writer::new(self.out.take(), may_copy);

@@ -153,7 +153,7 @@ static RESOURCE_METRICS: Message = Message {
     ],
 };
 
-static RESOURCE: Message = Message {
+pub static RESOURCE: Message = Message {
     name: "Resource",
     fields: &[field!("attributes", "attributes", 1, Kind::ResourceAttributes)],
     one_of: &[],
@@ -357,7 +357,7 @@ const fn any_value(list: Kind) -> [Field; 7] {
     ]
 }
 
-static ANY_VALUE: Message = Message {
+pub static ANY_VALUE: Message = Message {
     name: "AnyValue",
     fields: &any_value(Kind::Part(&ARRAY_VALUE)),
     one_of: ONE_VALUE,

@@ -1,7 +1,8 @@
 //! `--sender-from`: the name of a sender out of its resource, where it does not name itself.
 
+use super::from_protobuf::part;
 use super::json::{Document, Value};
-use super::schema::ONE_VALUE;
+use super::schema::{Message, ANY_VALUE, ONE_VALUE, RESOURCE};
 use super::wire::{Fields, Payload};
 use super::{Encoding, Reading, Refused};
 use crate::slot::is_sender;
@@ -31,16 +32,23 @@ pub fn sender(header: String, encoding: Encoding, body: &[u8], reading: &Reading
         return Ok(header);
     };
     let name = match encoding {
-        Encoding::Json => one_name(in_json(Document::parse(body)?.root(), attribute), attribute)?,
+        Encoding::Json => {
+            let document = Document::parse(body)?;
+            one_name(in_json(document.root(), attribute).map(Ok), attribute)?
+        }
         Encoding::Protobuf => one_name(in_protobuf(body, attribute), attribute)?,
     };
     Ok(name.unwrap_or(header))
 }
 
-fn one_name<'d>(all: impl Iterator<Item = Found<'d>>, attribute: &str) -> Result<Option<String>, Refused> {
+fn one_name<'d>(
+    all: impl Iterator<Item = Result<Found<'d>, Refused>>,
+    attribute: &str,
+) -> Result<Option<String>, Refused> {
     let refused = |why: String| Err(Refused::Unreadable(format!("no sender: {why}")));
     let mut first: Option<Found<'d>> = None;
     for found in all {
+        let found = found?;
         match &first {
             _ if found == Found::NoText => return refused(format!("the resource's {attribute} is no text")),
             Some(other) if *other != found => {
@@ -123,25 +131,32 @@ fn bytes_of(message: &[u8], number: u32) -> impl Iterator<Item = &[u8]> {
     })
 }
 
-fn in_protobuf<'d>(body: &'d [u8], attribute: &'d str) -> impl Iterator<Item = Found<'d>> {
+/// The parts of a message, of which there is one as a rule: each is whole by itself, as where the request is read.
+fn parts<'m>(of: &Message, message: &'m [u8], number: u32) -> Result<Vec<&'m [u8]>, Refused> {
+    bytes_of(message, number).map(|bytes| part(of, bytes)).collect()
+}
+
+fn in_protobuf<'d>(body: &'d [u8], attribute: &'d str) -> impl Iterator<Item = Result<Found<'d>, Refused>> {
     bytes_of(body, 1).map(move |resource| {
-        let mut pairs = bytes_of(resource, 1).flat_map(|resource| bytes_of(resource, 1));
+        let parts = parts(&RESOURCE, resource, 1)?.into_iter();
+        let mut pairs = parts.flat_map(|resource| bytes_of(resource, 1));
         let pair = pairs.find(|pair| bytes_of(pair, 1).last() == Some(attribute.as_bytes()));
         match pair {
-            None => Found::Nothing,
-            Some(pair) => text_of(pair).map_or(Found::NoText, |text| name(Cow::Borrowed(text))),
+            None => Ok(Found::Nothing),
+            Some(pair) => Ok(text_of(pair)?.map_or(Found::NoText, |text| name(Cow::Borrowed(text)))),
         }
     })
 }
 
 /// The text that an attribute's value is: of all that it may be, the last that is there counts.
-fn text_of(pair: &[u8]) -> Option<&str> {
+fn text_of(pair: &[u8]) -> Result<Option<&str>, Refused> {
     let is_value = |field: &(u32, Payload<'_>)| ONE_VALUE.iter().any(|number| u32::from(*number) == field.0);
-    let fields = bytes_of(pair, 2).flat_map(Fields::of).filter_map(Result::ok);
-    match fields.filter(is_value).last()? {
-        (1, Payload::Bytes(text)) => std::str::from_utf8(text).ok(),
+    let parts = parts(&ANY_VALUE, pair, 2)?.into_iter();
+    let fields = parts.flat_map(Fields::of).filter_map(Result::ok);
+    Ok(match fields.filter(is_value).last() {
+        Some((1, Payload::Bytes(text))) => std::str::from_utf8(text).ok(),
         _ => None,
-    }
+    })
 }
 
 #[cfg(test)]
@@ -231,11 +246,41 @@ mod tests {
             let resources = [&[0x0a, resource.len() as u8][..], &resource].concat();
             let body = [&[0x0a, resources.len() as u8][..], &resources].concat();
             in_protobuf(&body, "id")
-                .map(|found| format!("{found:?}"))
+                .map(|found| format!("{:?}", found.unwrap()))
                 .collect::<String>()
         };
         assert_eq!(with(&[&text[..], int].concat()), "NoText");
         assert_eq!(with(&[&int[..], text].concat()), "Name(\"a\")");
+    }
+
+    /// Else it would be taken under another name than the one that it has for who reads it whole.
+    #[test]
+    fn a_resource_that_is_cut_names_nobody() {
+        let field = |number: u8, bytes: &[u8]| [&[number << 3 | 2, bytes.len() as u8], bytes].concat();
+        let text = field(1, b"shop-1");
+        let reading = Reading {
+            sender_from: Some("id".to_string()),
+            ..Reading::default()
+        };
+        let named = |resource: &[u8]| {
+            let body = field(1, resource);
+            let named = sender(NO_NAME.to_string(), Encoding::Protobuf, &body, &reading);
+            named.map_err(|refused| refused.to_string())
+        };
+        let pair = |value: &[u8]| field(1, &[&field(1, b"id")[..], value].concat());
+        for cut in 1..text.len() {
+            let value = [field(2, &text[..cut]), field(2, &text[cut..])].concat();
+            let why = named(&field(1, &pair(&value))).unwrap_err();
+            assert_eq!(why, "not protobuf of OTLP: AnyValue: cut within a field", "{cut}");
+        }
+        let whole = pair(&field(2, &text));
+        for cut in 1..whole.len() {
+            let parts = [field(1, &whole[..cut]), field(1, &whole[cut..])].concat();
+            let why = named(&parts).unwrap_err();
+            assert_eq!(why, "not protobuf of OTLP: Resource: cut within a field", "{cut}");
+        }
+        let parts = [field(1, b""), field(1, &whole), field(1, b"")].concat();
+        assert_eq!(named(&parts).unwrap(), "shop-1");
     }
 
     #[test]

@@ -6,6 +6,7 @@
 
 use crate::files::Outbox;
 use crate::intake::Taker;
+use crate::log::{all_shown, cut, shown};
 use crate::otlp::series::SeriesKey;
 use crate::otlp::{foreign_points, series_of_point, Explained, Outcome};
 use bytes::Bytes;
@@ -120,7 +121,7 @@ impl<T: Taker> Remarks<T> {
         foreign_points(body, |point| {
             let reason = reason(&point);
             if reasons.insert(reason.clone()) {
-                tracing::warn!("points of {sender} are not taken: {reason}");
+                tracing::warn!(sender, reason, "points of {sender} are not taken: {reason}");
             }
             reasons.len() >= self.log_foreign
         });
@@ -140,7 +141,8 @@ impl<T: Taker> Remarks<T> {
         let Some(owner) = self.owners.owner(&series) else {
             return;
         };
-        tracing::warn!("{}", other_writer(sender, &owner, &series));
+        let line = other_writer(sender, &owner, &series);
+        tracing::warn!(sender, owner, series = shown(&series.0, SERIES_SHOWN), "{line}");
         self.told().series.insert(series);
     }
 }
@@ -149,23 +151,16 @@ impl<T: Taker> Remarks<T> {
 fn reason(point: &Explained) -> String {
     let name = cut(&point.metric, NAME_SHOWN);
     let why = point.foreign.as_deref().unwrap_or_default();
-    format!("{} `{name}`: {why}", point.kind).replace(char::is_control, " ")
+    all_shown(&format!("{} `{name}`: {why}", point.kind))
 }
 
 /// That a sender posts to another's series: one line as well.
 fn other_writer(sender: &str, owner: &str, series: &SeriesKey) -> String {
-    let series = cut(&series.0, SERIES_SHOWN).replace(char::is_control, " ");
+    let series = shown(&series.0, SERIES_SHOWN);
     format!(
         "posts of {sender} are refused, since the series is {owner}'s: give each process a name and a \
          service.instance.id of its own. The series is {series}"
     )
-}
-
-/// The first characters of a text.
-fn cut(text: &str, most: usize) -> &str {
-    text.char_indices()
-        .nth(most)
-        .map_or(text, |(end, _)| &text[..end])
 }
 
 impl<T: Taker> Taker for Remarks<T> {

@@ -127,10 +127,10 @@ impl Parts {
             metrics: self.metrics,
             budget: self.budget,
             listen: senders.shown(),
+            operate: settings.operate.clone(),
             data: settings.data.display().to_string(),
             most_series: settings.most_series,
             begun: Instant::now(),
-            resending: tokio::sync::Mutex::new(()),
         };
         Running {
             intake: tokio::spawn(senders.serve(limits, intake, self.threads.clone(), intake_stopped)),

@@ -3,7 +3,7 @@
 use super::Ended;
 use crate::grpc;
 use crate::intake::connections::{spread, Limits, Shared};
-use crate::intake::{front, Intake, Taker, Threads};
+use crate::intake::{front, listen, Intake, Taker, Threads};
 use anyhow::anyhow;
 use std::io::ErrorKind;
 use std::sync::Arc;
@@ -11,7 +11,7 @@ use tokio::net::TcpListener;
 use tokio::sync::watch;
 
 pub(super) async fn bind(option: &str, address: &str) -> Result<TcpListener, Ended> {
-    Ok(TcpListener::bind(address).await.map_err(|error| {
+    Ok(listen(address).await.map_err(|error| {
         let what = match error.kind() {
             ErrorKind::AddrInUse => format!("end what listens there, or give another {option}"),
             ErrorKind::InvalidInput => "write HOST:PORT".to_string(),

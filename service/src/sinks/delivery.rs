@@ -11,9 +11,9 @@ use std::sync::{Arc, Mutex, PoisonError};
 use std::time::{Duration, Instant};
 use tokio::sync::watch;
 
-/// How long a request is sent again at which the sink fails. What OTLP says is to send it no more; but a sink says so
-/// also while a part of it is down, and then each request of that time would be put aside. For ever would hold up all
-/// behind a request that no sink can take, until the disk is full.
+/// How long a request is sent again at which the sink fails, or does not let this service in. What OTLP says is to send
+/// it no more; but a sink says so also while a part of it is down, or a token has expired, and then each request of that
+/// time would be put aside. For ever would hold up all behind a request that no sink can take, until the disk is full.
 const FAILING: Duration = Duration::from_secs(24 * 3600);
 
 /// The state of a delivery, for `status`.
@@ -149,24 +149,27 @@ impl<S: Store> Run<S> {
     async fn settle(&self, request: Forwarded) -> Result<(), End> {
         let mut failing = None;
         loop {
+            let key = request.key();
+            let held = self.unless_stopped(self.sink.keys().hold(&key)).await?;
             let fate = self.unless_stopped(self.sink.deliver(&request)).await?;
+            let outcome = match fate {
+                Fate::Denied { .. } => "denied",
+                _ => "again",
+            };
             match self.with_patience(fate, &mut failing) {
                 Fate::Taken => {
-                    self.files.let_go(request.key(), request.body).await?;
+                    self.files.let_go(key, request.body).await?;
                     self.ended("taken");
                     return Ok(());
                 }
                 Fate::Again { reason, after } => {
-                    let tries = self.failed(&request, reason);
+                    drop(held);
+                    let tries = self.failed(&key, reason, outcome);
                     let wait = backoff::wait(tries, after);
                     self.unless_stopped(tokio::time::sleep(wait)).await?;
                 }
-                Fate::Refused { reason } | Fate::Failed { reason, .. } => {
-                    let (sink, key) = (self.sink.name(), request.key());
-                    tracing::error!("{sink} refused request {key} for good: {reason}; it is kept in dead/");
-                    self.files.keep(key, reason, request.body).await?;
-                    self.ended("refused");
-                    return Ok(());
+                Fate::Refused { reason } | Fate::Failed { reason, .. } | Fate::Denied { reason, .. } => {
+                    return Ok(self.put_aside(request, reason).await?);
                 }
                 Fate::TakenPartly {
                     rejected,
@@ -177,15 +180,28 @@ impl<S: Store> Run<S> {
         }
     }
 
+    async fn put_aside(&self, request: Forwarded, reason: String) -> Result<(), Fault> {
+        let (sink, key) = (self.sink.name(), request.key());
+        tracing::error!(
+            sink,
+            key,
+            reason,
+            "{sink} refused request {key} for good: {reason}; it is kept in dead/"
+        );
+        self.files.keep(key, reason, request.body).await?;
+        self.ended("refused");
+        Ok(())
+    }
+
     /// What the sink fails at is sent again, until it has done so for long, one time after the other.
     fn with_patience(&self, fate: Fate, failing: &mut Option<Instant>) -> Fate {
         match fate {
-            Fate::Failed { reason, after }
+            Fate::Failed { reason, after } | Fate::Denied { reason, after }
                 if failing.get_or_insert_with(Instant::now).elapsed() < self.failing =>
             {
                 Fate::Again { reason, after }
             }
-            Fate::Failed { .. } => fate,
+            Fate::Failed { .. } | Fate::Denied { .. } => fate,
             other => {
                 *failing = None;
                 other
@@ -213,6 +229,9 @@ impl<S: Store> Run<S> {
     ) -> Result<(), Fault> {
         let (sink, key) = (self.sink.name(), request.key());
         tracing::warn!(
+            sink,
+            key,
+            reason,
             "{sink} took request {key} but rejected {rejected} of its points: {reason}; it is kept in dead/"
         );
         let reason = of_part(rejected, &reason, left.is_some());
@@ -228,13 +247,18 @@ impl<S: Store> Run<S> {
     }
 
     /// Notes a try that failed. How many it were.
-    fn failed(&self, request: &Forwarded, reason: String) -> u64 {
-        self.metrics.deliveries.with_label_values(&["again"]).inc();
+    fn failed(&self, key: &str, reason: String, outcome: &str) -> u64 {
+        self.metrics.deliveries.with_label_values(&[outcome]).inc();
         let mut state = self.state.lock().unwrap_or_else(PoisonError::into_inner);
         state.tries += 1;
         if state.trouble.is_none() {
-            let (sink, key) = (self.sink.name(), request.key());
-            tracing::warn!("{sink} has not taken request {key}: {reason}; it is sent again");
+            let sink = self.sink.name();
+            tracing::warn!(
+                sink,
+                key,
+                reason,
+                "{sink} has not taken request {key}: {reason}; it is sent again"
+            );
         }
         state.trouble = Some(reason);
         state.tries
@@ -244,11 +268,8 @@ impl<S: Store> Run<S> {
         self.metrics.deliveries.with_label_values(&[outcome]).inc();
         let mut state = self.state.lock().unwrap_or_else(PoisonError::into_inner);
         if state.trouble.is_some() {
-            tracing::info!(
-                "{} answers again; attempts that failed: {}",
-                self.sink.name(),
-                state.tries
-            );
+            let (sink, tries) = (self.sink.name(), state.tries);
+            tracing::info!(sink, tries, "{sink} answers again; attempts that failed: {tries}");
         }
         *state = Delivery::default();
     }

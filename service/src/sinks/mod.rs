@@ -6,6 +6,7 @@ mod address;
 mod attributes;
 mod backoff;
 mod delivery;
+mod keys;
 mod otlp;
 mod part;
 pub mod postgres;
@@ -14,6 +15,7 @@ pub mod sqlite;
 
 pub use address::{Address, BadAddress};
 pub use delivery::{deliver, of_part, Delivery};
+pub use keys::{Held, Keys};
 pub use otlp::header_of;
 
 use std::future::Future;
@@ -41,6 +43,11 @@ pub enum Fate {
     /// The sink says that it has failed, not whether that passes. It is sent again for a while, not before so long, and
     /// then put aside.
     Failed {
+        reason: String,
+        after: Option<Duration>,
+    },
+    /// The sink does not let this service in (any more): it is treated as one that has failed, and counted apart.
+    Denied {
         reason: String,
         after: Option<Duration>,
     },
@@ -89,6 +96,9 @@ pub trait Sink: Send + Sync {
     /// What it is, for `status`: `sqlite PATH`, `otlp URL`, `postgres USER@HOST:PORT/DB`. It shows no header and no
     /// password.
     fn name(&self) -> String;
+
+    /// Who sends a request holds its key until its fate is dealt with.
+    fn keys(&self) -> &Keys;
 }
 
 /// Opens a sink. What may mend itself (a file that is locked, a server that is down) is no fault here: deliveries

@@ -1,6 +1,8 @@
 //! A part of a request: the points that a sink could not add, as a request of their own.
 
 use super::Fate;
+use crate::log;
+use crate::otlp::series::ForwardedPoint;
 use serde_json::Value;
 use std::collections::BTreeSet;
 
@@ -9,6 +11,15 @@ use std::collections::BTreeSet;
 pub(super) const OTHER_REQUEST: &str =
     "its key is that of another request, which was taken: the folder was put back \
     over itself, or runs twice";
+
+/// How much of a series is shown, in characters.
+const SERIES_SHOWN: usize = 300;
+
+/// A point for an error: its span, and its series as far as that is short.
+pub(super) fn shown(point: &ForwardedPoint) -> String {
+    let series = log::shown(&point.series.0, SERIES_SHOWN);
+    format!("({}, {}] of {series}", point.start, point.end)
+}
 
 /// What of a request was not added although the rest was.
 #[derive(Debug, Default, PartialEq, Eq)]

@@ -1,7 +1,9 @@
 //! Connections as senders treat them: in pieces, many requests at once, half closed, gone.
 
 use crate::support::{json, post, Served, BODY, LATE};
+use std::time::Duration;
 use tokio::io::AsyncWriteExt;
+use totxegun::intake::Limits;
 use totxegun::otlp::Outcome;
 
 #[tokio::test]
@@ -181,4 +183,27 @@ async fn a_sender_that_asks_for_the_end_gets_it_behind_its_answer() {
         .await;
     assert_eq!(late.answer().await.status, 415);
     assert!(late.ends().await, "whether the body comes is not known");
+}
+
+/// Else it would keep its place from who waits for one.
+#[tokio::test]
+async fn a_sender_that_does_not_read_its_answer_is_closed_where_another_waits() {
+    let limits = Limits {
+        connections: 1,
+        head: Duration::from_secs(8), // who reads has two seconds
+        idle: Duration::from_secs(600),
+    };
+    // More than the system keeps for a sender that keeps little itself.
+    let long = Outcome::Refused {
+        status: 400,
+        message: "x".repeat(8 << 20),
+    };
+    let served = Served::limited(limits, LATE, long, 64 << 20).await;
+    let deaf = tokio::net::TcpSocket::new_v4().unwrap();
+    deaf.set_recv_buffer_size(4096).unwrap();
+    let mut deaf = deaf.connect(served.address).await.unwrap();
+    deaf.write_all(&json(BODY.as_bytes())).await.unwrap();
+    deaf.readable().await.unwrap();
+    assert_eq!(served.ask(&json(BODY.as_bytes())).await.status, 400);
+    drop(deaf);
 }

@@ -63,6 +63,15 @@ impl Served {
         most_bytes: usize,
         connections: usize,
     ) -> Served {
+        let limits = Limits {
+            connections,
+            head: patience,
+            idle: 3 * patience,
+        };
+        Served::limited(limits, patience, outcome, most_bytes).await
+    }
+
+    pub async fn limited(limits: Limits, patience: Duration, outcome: Outcome, most_bytes: usize) -> Served {
         let kept = Arc::new(Kept {
             posts: Mutex::new(Vec::new()),
             outcome,
@@ -73,11 +82,6 @@ impl Served {
             .with_patience(patience);
         let listener = TcpListener::bind("127.0.0.1:0").await.unwrap();
         let address = listener.local_addr().unwrap();
-        let limits = Limits {
-            connections,
-            head: patience,
-            idle: 3 * patience,
-        };
         let (stop, stopped) = watch::channel(false);
         let threads = Arc::new(Threads::new(2).unwrap());
         let shared = Shared::new(limits, Arc::new(intake), stopped);

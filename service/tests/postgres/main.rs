@@ -1,5 +1,6 @@
 //! The PostgreSQL sink against a server of its own. Without `initdb` nothing is tried, and a line says so.
 
+mod lost;
 mod rivals;
 mod server;
 mod speed;

@@ -1,7 +1,10 @@
 //! The program itself: who has a series, kills, how many series fit, what an operator is told.
 
+mod letters;
+mod lines;
 mod log;
 mod memory;
+mod pages;
 mod support;
 mod told;
 

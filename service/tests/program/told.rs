@@ -147,6 +147,30 @@ fn may_mount() -> bool {
     tried.is_ok_and(|status| status.success())
 }
 
+/// As a unit with `ProtectSystem=strict` has all folders but its own.
+#[test]
+fn a_sink_in_a_folder_that_is_sealed_is_told_with_what_opens_it() {
+    if !may_mount() {
+        eprintln!("skipped: no right to mount");
+        return;
+    }
+    let place = Place::new();
+    let folder = place.folder.path().join("totals");
+    std::fs::create_dir(&folder).unwrap();
+    let mut command = Command::new("unshare");
+    let script = "mount -t tmpfs tmpfs \"$1\" && mount -o remount,ro \"$1\" && shift && exec \"$@\"";
+    command.args(["--mount", "sh", "-c", script, "sh"]);
+    command.arg(&folder).arg(PROGRAM);
+    let sink = format!("sqlite:{}", folder.join("metrics.db").display());
+    let service = place.begin_by(command, &["--sink", &sink]);
+    until("it is ready", || service.is_ready());
+    let log = place.log();
+    assert!(
+        log.contains(&format!("`ReadWritePaths={}`", folder.display())),
+        "{log}"
+    );
+}
+
 #[test]
 fn a_disk_without_room_is_told() {
     if !may_mount() {

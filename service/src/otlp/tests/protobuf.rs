@@ -127,3 +127,39 @@ fn parts_may_be_in_parts() {
         [r#"[[],"","",[],"","","sum",[{"key":"k","value":{"intValue":"7"}}]]"#]
     );
 }
+
+/// Other readers of protobuf refuse it: each part is a message by itself, and what is cut at its end does not go on in
+/// the next one.
+#[test]
+fn a_part_that_is_cut_is_refused() {
+    let in_parts = |number: u32, whole: &[u8], cut: usize| {
+        let (first, second) = whole.split_at(cut);
+        [bytes(number, first), bytes(number, second)].concat()
+    };
+    let text = bytes(1, b"shop-1");
+    let value_in_parts = |cut| {
+        let pair = [bytes(1, b"k"), in_parts(2, &text, cut)].concat();
+        sum(&[point(&bytes(7, &pair))])
+    };
+    let points = [bytes(1, &point(b"")), vec![0x10, 1]].concat();
+    let sum_in_parts = |cut| within_request(&in_parts(7, &points, cut));
+    let group = [&[0x7b][..], &bytes(2, b"x"), &[0x7c], &points].concat();
+    let is_refused = |body: Vec<u8>, why: &str| match prepared(Encoding::Protobuf, body) {
+        Ok(_) => panic!("it was taken"),
+        Err(refused) => assert!(refused.to_string().contains(why), "{refused}"),
+    };
+    for cut in 1..text.len() {
+        is_refused(value_in_parts(cut), "AnyValue: cut within a field");
+    }
+    for cut in 1..points.len() - 2 {
+        is_refused(sum_in_parts(cut), "Sum: cut within a field");
+    }
+    is_refused(within_request(&in_parts(7, &group, 3)), "Sum: cut within a field");
+    for whole in [
+        value_in_parts(0),
+        value_in_parts(text.len()),
+        sum_in_parts(points.len() - 2),
+    ] {
+        assert_eq!(read(whole).series.len(), 1);
+    }
+}

@@ -1,10 +1,12 @@
 //! What becomes of requests, by a sink that answers by a script and files that are in memory.
 
 use super::*;
+use crate::sinks::Keys;
 use std::collections::VecDeque;
 use std::pin::Pin;
 
 mod files;
+mod held;
 
 /// Says these fates, then `Taken`.
 #[derive(Default)]
@@ -12,6 +14,7 @@ struct Script {
     fates: Mutex<VecDeque<Fate>>,
     came: Mutex<Vec<Forwarded>>,
     at: Mutex<Vec<Instant>>,
+    held: Keys,
 }
 
 impl Sink for Script {
@@ -29,6 +32,10 @@ impl Sink for Script {
 
     fn name(&self) -> String {
         "script".into()
+    }
+
+    fn keys(&self) -> &Keys {
+        &self.held
     }
 }
 
@@ -137,6 +144,14 @@ async fn run_until(
         fates: Mutex::new(fates.into()),
         ..Script::default()
     });
+    run_at(sink, memory, stop).await
+}
+
+async fn run_at(
+    sink: Arc<Script>,
+    memory: &Memory,
+    stop: watch::Receiver<bool>,
+) -> (Tried, Result<(), Fault>) {
     let metrics = Arc::new(Metrics::new().expect("metrics"));
     let state = Arc::new(Mutex::new(Delivery::default()));
     let run = Run {

@@ -4,13 +4,15 @@
 //! |---|---|
 //! | 2xx | is taken; where a partial success names rejected points, taken in part |
 //! | 408, 425, 429, 502, 503, 504 | is sent again, by `Retry-After` where it is there |
-//! | any other 5xx | is sent again so for a while, and then refused for good |
+//! | 401, 403, any other 5xx | is sent again so for a while, and then refused for good |
 //! | any other | is refused for good |
 //!
 //! OTLP names 429, 502, 503 and 504 as those to repeat. 408 and 425 say the same of themselves: nothing was taken. The
-//! other 5xx are of a sink that failed, which may pass (`delivery`).
+//! other 5xx are of a sink that failed, which may pass (`delivery`); 401 and 403 are of a token that has expired, as a
+//! rule, and then each request would be refused until somebody sees it.
 
 use super::without_query;
+use crate::log;
 use crate::otlp::{partial_success, Encoding, ExportMetricsServiceResponse};
 use crate::sinks::Fate;
 use hyper::body::HttpBody;
@@ -63,6 +65,10 @@ pub(super) async fn fate(response: Response<Body>, sent: Encoding, deadline: Ins
     match head.status.as_u16() {
         200..=299 => taken(body, encoding),
         408 | 425 | 429 | 502..=504 => Fate::Again {
+            reason: join(&head.status.to_string(), &message(body, encoding)),
+            after: asked(&head.headers),
+        },
+        401 | 403 => Fate::Denied {
             reason: join(&head.status.to_string(), &message(body, encoding)),
             after: asked(&head.headers),
         },
@@ -153,10 +159,8 @@ fn message(body: Read, encoding: Encoding) -> String {
     shown(&told.unwrap_or_else(|| String::from_utf8_lossy(&bytes).into_owned()))
 }
 
-/// One short line of a text that anybody may have written.
 fn shown(text: &str) -> String {
-    let line: String = text.trim().chars().take(LONGEST_MESSAGE).collect();
-    line.replace(|one: char| one.is_control(), " ")
+    log::shown(text, LONGEST_MESSAGE)
 }
 
 fn join(status: &str, more: &str) -> String {

@@ -9,7 +9,7 @@ mod tests;
 #[cfg(test)]
 mod tls_tests;
 
-use super::{Fate, Forwarded, Sink};
+use super::{Fate, Forwarded, Keys, Sink};
 use crate::otlp::{protobuf_of_forwarded, Encoding};
 use bytes::Bytes;
 use hyper::header::{HeaderMap, HeaderName, HeaderValue, CONTENT_ENCODING, CONTENT_TYPE, USER_AGENT};
@@ -58,6 +58,7 @@ pub struct OtlpSink {
     headers: HeaderMap,
     client: connect::Client,
     patience: Duration,
+    keys: Keys,
 }
 
 impl OtlpSink {
@@ -82,6 +83,7 @@ impl OtlpSink {
             headers,
             client,
             patience: PATIENCE,
+            keys: Keys::default(),
         })
     }
 
@@ -151,6 +153,10 @@ impl Sink for OtlpSink {
 
     fn name(&self) -> String {
         format!("otlp {}", without_query(&self.url.to_string()))
+    }
+
+    fn keys(&self) -> &Keys {
+        &self.keys
     }
 }
 

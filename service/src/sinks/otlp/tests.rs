@@ -135,6 +135,17 @@ async fn a_sink_that_fails_says_not_whether_it_passes() {
     }
 }
 
+/// As a rule a token has expired: the next one lets it in again.
+#[tokio::test]
+async fn who_is_not_let_in_is_not_refused_for_good() {
+    for status in ["401 Unauthorized", "403 Forbidden"] {
+        match fate_of(status, "", r#"{"message":"expired"}"#).await {
+            Fate::Denied { reason, after: None } => assert!(reason.contains("expired"), "{reason}"),
+            other => panic!("{status}: {other:?}"),
+        }
+    }
+}
+
 #[tokio::test]
 async fn retry_after_is_read() {
     let date = httpdate::fmt_http_date(std::time::SystemTime::now() + Duration::from_secs(90));
@@ -166,16 +177,7 @@ async fn retry_after_is_read() {
 
 #[tokio::test]
 async fn what_will_not_change_is_refused() {
-    for status in [
-        "400 Bad Request",
-        "401 X",
-        "403 X",
-        "404 X",
-        "409 X",
-        "413 X",
-        "415 X",
-        "422 X",
-    ] {
+    for status in ["400 Bad Request", "404 X", "409 X", "413 X", "415 X", "422 X"] {
         match fate_of(
             status,
             "content-type: application/json\r\n",

@@ -88,6 +88,7 @@ fn sink(port: u16, roots: rustls::RootCertStore) -> OtlpSink {
         headers: HeaderMap::new(),
         client: connect::client_of(roots),
         patience: Duration::from_secs(10),
+        keys: Keys::default(),
     }
 }
 

@@ -1,7 +1,11 @@
 //! What can be wrong with the server, and what to do about it.
 
+use crate::log;
 use crate::otlp::series::NotForwarded;
 use tokio_postgres::error::DbError;
+
+/// The most characters of what a server says: it may quote what a sender wrote.
+const LONGEST: usize = 1000;
 
 #[derive(Debug, thiserror::Error)]
 pub enum PostgresFault {
@@ -41,7 +45,8 @@ pub(super) fn shown(error: &tokio_postgres::Error) -> String {
     let detail = said
         .detail()
         .map_or(String::new(), |detail| format!(" ({detail})"));
-    let text = format!("{}{detail} [{}]", said.message(), said.code().code());
+    let text = log::shown(&format!("{}{detail}", said.message()), LONGEST);
+    let text = format!("{text} [{}]", said.code().code());
     match what_to_do(said) {
         Some(what) => format!("{what}: {text}"),
         None => text,

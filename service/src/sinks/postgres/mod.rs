@@ -22,12 +22,13 @@ pub use address::Server;
 pub use fault::PostgresFault;
 
 use super::part::Left;
-use super::{Fate, Forwarded, Sink};
+use super::{Fate, Forwarded, Keys, Sink};
 use fault::NotTaken;
 use rows::OfSeries;
 use session::Session;
 use std::future::Future;
 use std::pin::Pin;
+use std::sync::atomic::{AtomicBool, Ordering::Relaxed};
 use std::time::Duration;
 use tokio::sync::Mutex;
 use tokio::time::timeout;
@@ -42,24 +43,32 @@ pub struct PostgresSink {
     name: String,
     /// One delivery at a time. It is taken out while it is used: one that was left half-way is closed.
     session: Mutex<Option<Session>>,
+    /// Whether this run has seen the schema: where it is gone then, somebody took it away.
+    was_there: AtomicBool,
     patience: Duration,
+    keys: Keys,
 }
 
 impl PostgresSink {
     /// Makes the schema where there is none. A server that does not answer now is asked again at each delivery; a
     /// schema that must not be written (of a later version, of another program) is an error.
     pub fn open(server: &Server) -> anyhow::Result<PostgresSink> {
-        if let Err(fault) = try_once(server)? {
+        let tried = try_once(server)?;
+        let was_there = tried.is_ok();
+        if let Err(fault) = tried {
             if fault.is_lasting() {
                 return Err(fault.into());
             }
-            tracing::warn!("{fault}; it is tried again at each delivery");
+            let reason = fault.to_string();
+            tracing::warn!(reason, "{reason}; it is tried again at each delivery");
         }
         Ok(PostgresSink {
             server: server.clone(),
             name: server.to_string(),
             session: Mutex::new(None),
+            was_there: AtomicBool::new(was_there),
             patience: PATIENCE,
+            keys: Keys::default(),
         })
     }
 
@@ -78,8 +87,9 @@ impl PostgresSink {
     ) -> Result<Option<Left>, NotTaken> {
         let mut session = match place.take() {
             Some(session) if !session.client.is_closed() => session,
-            _ => Session::open(&self.server).await?,
+            _ => Session::open(&self.server, self.was_there.load(Relaxed)).await?,
         };
+        self.was_there.store(true, Relaxed);
         let taken = store::take(&mut session, &self.name, request, all).await;
         if matches!(taken, Ok(_) | Err(NotTaken::Refused(_))) {
             *place = Some(session);
@@ -121,7 +131,7 @@ fn try_once(server: &Server) -> anyhow::Result<Result<(), PostgresFault>> {
         .build()?;
     let server = server.clone();
     let open = async move {
-        match timeout(AT_START, Session::open(&server)).await {
+        match timeout(AT_START, Session::open(&server, false)).await {
             Ok(opened) => opened.map(drop),
             Err(_) => Err(PostgresFault::told(
                 &server.to_string(),
@@ -143,6 +153,10 @@ impl Sink for PostgresSink {
 
     fn name(&self) -> String {
         format!("postgres {}", self.name)
+    }
+
+    fn keys(&self) -> &Keys {
+        &self.keys
     }
 }
 
@@ -173,7 +187,9 @@ mod tests {
             name: server.to_string(),
             server,
             session: Mutex::new(None),
+            was_there: AtomicBool::new(false),
             patience: Duration::from_millis(300),
+            keys: Keys::default(),
         };
         let request = |slot| Forwarded {
             slot,

@@ -1,11 +1,12 @@
 //! What of a request is not added, at first and when it comes again.
 
 use super::fault::NotTaken;
-use super::rows::{shown, OfSeries};
+use super::rows::OfSeries;
 use super::series::Known;
 use super::store::Writing;
 use super::values::Numeric;
 use crate::otlp::series::{self, ForwardedPoint, SeriesKey};
+use crate::sinks::part::shown;
 use crate::sinks::part::{Left, OTHER_REQUEST};
 use crate::sinks::Forwarded;
 use std::collections::HashSet;

@@ -2,6 +2,7 @@
 
 use super::fault::NotTaken;
 use crate::otlp::series::{self, ForwardedPoint, SeriesKey, Value};
+use crate::sinks::part::shown;
 use sha2::{Digest, Sha256};
 use std::collections::BTreeMap;
 
@@ -125,12 +126,6 @@ pub(super) fn overlaps(point: &ForwardedPoint, start: impl ToString, end: impl T
     let (start, end) = (start.to_string(), end.to_string());
     let shown = shown(point);
     format!("the span {shown} overlaps ({start}, {end}], which is there already")
-}
-
-/// A point for an error: its span, and its series as far as that is short.
-pub(super) fn shown(point: &ForwardedPoint) -> String {
-    let series: String = point.series.0.chars().take(300).collect();
-    format!("({}, {}] of {series}", point.start, point.end)
 }
 
 #[cfg(test)]

@@ -23,7 +23,7 @@ struct Found {
 }
 
 /// Brings the schema to the last version, or says why it must not be touched.
-pub(super) async fn migrate(client: &mut Client, server: &str) -> Result<(), PostgresFault> {
+pub(super) async fn migrate(client: &mut Client, server: &str, was_there: bool) -> Result<(), PostgresFault> {
     let fault = |error| PostgresFault::of(server, &error);
     if check(client, server).await?.version == KNOWN {
         return Ok(());
@@ -37,6 +37,9 @@ pub(super) async fn migrate(client: &mut Client, server: &str) -> Result<(), Pos
     let found = check(&transaction, server).await?;
     if found.version == KNOWN {
         return transaction.commit().await.map_err(fault);
+    }
+    if found.version == 0 {
+        tell_of_lost(&transaction, server, was_there).await?;
     }
     if !found.is_there {
         transaction
@@ -54,6 +57,28 @@ pub(super) async fn migrate(client: &mut Client, server: &str) -> Result<(), Pos
     tracing::info!(
         "{server}: the schema totxegun was brought from version {} to {KNOWN}",
         found.version
+    );
+    Ok(())
+}
+
+/// Says so where the tables are made although there were some: these are under another name, or gone.
+async fn tell_of_lost(
+    client: &impl GenericClient,
+    server: &str,
+    was_there: bool,
+) -> Result<(), PostgresFault> {
+    let query = "select nspname::text from pg_namespace where nspname <> 'totxegun' and 5 = (select count(*) from pg_class
+        where relnamespace = pg_namespace.oid and relname in ('version', 'request', 'series', 'series_total', 'span'))
+        order by nspname limit 1";
+    let found = client.query_opt(query, &[]).await;
+    let found = found.map_err(|error| PostgresFault::of(server, &error))?;
+    let how = match found.map(|row| row.get::<_, String>(0)) {
+        Some(other) => format!("is not there, and {other} has its tables"),
+        None if was_there => "is gone".to_string(),
+        None => return Ok(()),
+    };
+    tracing::warn!(
+        "{server}: the schema totxegun {how}: a fresh one is made, which lacks what was delivered so far"
     );
     Ok(())
 }

@@ -45,10 +45,11 @@ pub(super) struct Statements {
 }
 
 impl Session {
-    pub(super) async fn open(server: &Server) -> Result<Session, PostgresFault> {
+    /// `was_there` says that the schema has been seen before.
+    pub(super) async fn open(server: &Server, was_there: bool) -> Result<Session, PostgresFault> {
         let name = server.to_string();
         let (mut client, connection) = connect(server).await?;
-        schema::migrate(&mut client, &name).await?;
+        schema::migrate(&mut client, &name, was_there).await?;
         let fault = |error| PostgresFault::of(&name, &error);
         client.batch_execute(PLANS).await.map_err(fault)?;
         let statements = Statements::prepare(&client).await.map_err(fault)?;

@@ -1,6 +1,7 @@
 //! What can be wrong with the file, and what to do about it.
 
 use crate::otlp::series::NotForwarded;
+use nix::sys::statvfs::FsFlags;
 use rusqlite::ErrorCode;
 use std::path::{Path, PathBuf};
 
@@ -60,12 +61,19 @@ impl SqliteFault {
     }
 }
 
-fn what(code: ErrorCode, path: &Path) -> Option<&'static str> {
+fn what(code: ErrorCode, path: &Path) -> Option<String> {
     let folder = path
         .parent()
         .filter(|folder| !folder.as_os_str().is_empty())
         .unwrap_or(Path::new("."));
-    Some(match code {
+    let is_of_rights = matches!(
+        code,
+        ErrorCode::ReadOnly | ErrorCode::PermissionDenied | ErrorCode::CannotOpen
+    );
+    if is_of_rights && is_read_only(folder) {
+        return Some(sealed(folder));
+    }
+    let what = match code {
         ErrorCode::DatabaseBusy | ErrorCode::DatabaseLocked => {
             "another process has it locked: end what writes to it"
         }
@@ -73,13 +81,30 @@ fn what(code: ErrorCode, path: &Path) -> Option<&'static str> {
         ErrorCode::ReadOnly | ErrorCode::PermissionDenied => {
             "it can't be written: let the service's user write the file and its folder"
         }
-        ErrorCode::CannotOpen if !folder.is_dir() => "its folder is missing: make it",
+        ErrorCode::CannotOpen if !folder.is_dir() => {
+            "its folder is missing (or hidden from a unit, as /home is): make it"
+        }
         ErrorCode::CannotOpen => "it can't be opened: let the service's user write the file and its folder",
         ErrorCode::DatabaseCorrupt => "it is damaged: put a copy back, or move it and its -wal away",
         ErrorCode::NotADatabase => "it is no SQLite database: name another file, or move it away",
         ErrorCode::SystemIoFailure => "reading or writing failed: look at the disk",
         _ => return None,
-    })
+    };
+    Some(what.to_string())
+}
+
+/// A unit with `ProtectSystem=strict`, as the one that is shipped, may write its own folder alone.
+fn is_read_only(folder: &Path) -> bool {
+    let found = nix::sys::statvfs::statvfs(folder);
+    found.is_ok_and(|found| found.flags().contains(FsFlags::ST_RDONLY))
+}
+
+fn sealed(folder: &Path) -> String {
+    let folder = folder.display();
+    format!(
+        "{folder} is read-only for this process: under systemd, add `ReadWritePaths={folder}` and `User=` with its owner to \
+         the unit (`systemctl edit totxegun`); else mount it writable"
+    )
 }
 
 /// Why a request was not taken.
@@ -95,5 +120,30 @@ pub(super) enum NotTaken {
 impl From<NotForwarded> for NotTaken {
     fn from(error: NotForwarded) -> NotTaken {
         NotTaken::Refused(error.to_string())
+    }
+}
+
+#[cfg(test)]
+mod tests {
+    use super::*;
+
+    /// Where this is read-only, as in most containers.
+    #[test]
+    fn a_sealed_folder_is_told_with_what_opens_it() {
+        let sealed = Path::new("/sys/fs/cgroup");
+        if !is_read_only(sealed) {
+            return;
+        }
+        for code in [ErrorCode::CannotOpen, ErrorCode::ReadOnly] {
+            let what = what(code, &sealed.join("metrics.db")).unwrap();
+            assert!(what.contains("`ReadWritePaths=/sys/fs/cgroup`"), "{what}");
+        }
+    }
+
+    #[test]
+    fn what_opens_a_folder_is_named() {
+        let what = sealed(Path::new("/srv/totals"));
+        assert!(what.starts_with("/srv/totals is read-only"), "{what}");
+        assert!(!is_read_only(&std::env::temp_dir()));
     }
 }

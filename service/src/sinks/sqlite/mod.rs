@@ -15,23 +15,26 @@ mod tests;
 pub use fault::SqliteFault;
 pub use whole::Exact;
 
-use super::{Fate, Forwarded, Sink};
+use super::{Fate, Forwarded, Keys, Sink};
 use fault::NotTaken;
 use std::future::Future;
 use std::path::{Path, PathBuf};
 use std::pin::Pin;
+use std::sync::mpsc::{self, RecvTimeoutError};
 use std::thread::JoinHandle;
-use store::Store;
-use tokio::sync::{mpsc, oneshot};
+use std::time::Duration;
+use store::{Found, Store};
+use tokio::sync::oneshot;
 
-/// Requests that wait for the thread. A slot sends one at a time: further ones wait at the channel.
-const WAITING: usize = 8;
+/// How often it is looked whether the log still is there, where nothing is written.
+const LOOK: Duration = Duration::from_secs(1);
 
 pub struct SqliteSink {
     path: PathBuf,
-    /// There until this is dropped.
+    /// There until this is dropped. A slot sends one request at a time, so no more wait than there are slots.
     jobs: Option<mpsc::Sender<Job>>,
     thread: Option<JoinHandle<()>>,
+    keys: Keys,
 }
 
 struct Job {
@@ -46,18 +49,22 @@ impl SqliteSink {
         let mut writer = Writer {
             path: path.into(),
             store: None,
+            is_told: false,
         };
         if let Err(fault) = writer.store() {
             if fault.is_lasting() {
                 return Err(fault);
             }
-            tracing::warn!("{fault}; it is opened again at each delivery");
+            let reason = fault.to_string();
+            tracing::warn!(reason, "{reason}; it is opened again at each delivery");
         }
-        let (jobs, mut received) = mpsc::channel::<Job>(WAITING);
-        let write = move || {
-            while let Some(job) = received.blocking_recv() {
+        let (jobs, received) = mpsc::channel::<Job>();
+        let write = move || loop {
+            match received.recv_timeout(LOOK) {
                 // Nobody waits where the service ends. The key says the next time that it was taken.
-                let _ = job.done.send(writer.take(&job.request));
+                Ok(job) => drop(job.done.send(writer.take(&job.request))),
+                Err(RecvTimeoutError::Timeout) => writer.look(),
+                Err(RecvTimeoutError::Disconnected) => return,
             }
         };
         let thread = std::thread::Builder::new()
@@ -71,6 +78,7 @@ impl SqliteSink {
             path: path.into(),
             jobs: Some(jobs),
             thread: Some(thread),
+            keys: Keys::default(),
         })
     }
 
@@ -87,7 +95,7 @@ impl SqliteSink {
             ))
         };
         let Some(jobs) = &self.jobs else { return ended() };
-        if jobs.send(job).await.is_err() {
+        if jobs.send(job).is_err() {
             return ended();
         }
         fate.await.unwrap_or_else(|_| ended())
@@ -101,6 +109,10 @@ impl Sink for SqliteSink {
 
     fn name(&self) -> String {
         format!("sqlite {}", self.path.display())
+    }
+
+    fn keys(&self) -> &Keys {
+        &self.keys
     }
 }
 
@@ -118,24 +130,60 @@ impl Drop for SqliteSink {
 struct Writer {
     path: PathBuf,
     store: Option<Store>,
+    /// Whether it was said that a log can't be saved.
+    is_told: bool,
 }
 
 impl Writer {
     fn store(&mut self) -> Result<&mut Store, SqliteFault> {
-        let store = match self.store.take() {
-            Some(store) if store.is_in_place() => store,
-            // Else rows would go into a file that has no name any more.
-            Some(gone) => {
-                drop(gone);
-                tracing::error!(
-                    "{} was deleted or replaced: the file of this name lacks what was delivered so far",
-                    self.path.display()
-                );
-                Store::open(&self.path)?
-            }
+        let open = match self.store.take() {
+            Some(store) => self.sound(store)?,
+            None => None,
+        };
+        let store = match open {
+            Some(store) => store,
             None => Store::open(&self.path)?,
         };
         Ok(self.store.insert(store))
+    }
+
+    /// An open file, unless its rows would go where nobody reads them. What is only in a log that was deleted is copied
+    /// into the file first, and stays open until it can be.
+    fn sound(&mut self, store: Store) -> Result<Option<Store>, SqliteFault> {
+        let path = self.path.display();
+        match store.found() {
+            Found::Whole => return Ok(Some(store)),
+            Found::Gone => tracing::error!(
+                "{path} was deleted or replaced: the file of this name lacks what was delivered so far"
+            ),
+            Found::WithoutLog => match store.settle() {
+                Ok(()) => tracing::error!(
+                    "{path}-wal or -shm was deleted or replaced: what it had was copied into the file"
+                ),
+                Err(fault) => {
+                    self.store = Some(store);
+                    return Err(fault);
+                }
+            },
+        }
+        Ok(None)
+    }
+
+    /// Saves what a log has that was deleted. A file that is gone itself is made again only where there is something to
+    /// put into it: somebody may be moving it.
+    fn look(&mut self) {
+        if !self.is(Found::WithoutLog) {
+            return;
+        }
+        let fault = self.store().err();
+        if let Some(reason) = fault.filter(|_| !self.is_told).map(|fault| fault.to_string()) {
+            tracing::error!(reason, "its -wal was deleted, and can't be saved: {reason}");
+        }
+        self.is_told = self.is(Found::WithoutLog);
+    }
+
+    fn is(&self, found: Found) -> bool {
+        self.store.as_ref().is_some_and(|store| store.found() == found)
     }
 
     fn take(&mut self, request: &Forwarded) -> Fate {
@@ -144,11 +192,16 @@ impl Writer {
             .map_err(NotTaken::from)
             .and_then(|store| store.take(request))
         {
+            // It is written where nobody will read it: the key says what there is to be done.
+            Ok(_) if !self.is(Found::Whole) => Fate::again(format!(
+                "{} or its -wal was deleted meanwhile: it is opened again",
+                self.path.display()
+            )),
             Ok(None) => Fate::Taken,
             Ok(Some(left)) => left.fate(&request.body),
             Err(NotTaken::Refused(reason)) => Fate::refused(reason),
             Err(NotTaken::Fault(fault)) => {
-                if !fault.leaves_the_file_whole() {
+                if !fault.leaves_the_file_whole() && !self.is(Found::WithoutLog) {
                     self.store = None;
                 }
                 Fate::again(fault.to_string())

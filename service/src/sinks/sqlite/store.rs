@@ -4,7 +4,7 @@ use super::fault::{NotTaken, SqliteFault};
 use super::schema::{self, STEPS};
 use super::whole::Whole;
 use crate::otlp::series::{self, ForwardedPoint, SeriesKey};
-use crate::sinks::part::Left;
+use crate::sinks::part::{shown, Left};
 use crate::sinks::Forwarded;
 use rusqlite::{params, Connection, OpenFlags, OptionalExtension, Transaction, TransactionBehavior};
 use std::collections::HashMap;
@@ -27,8 +27,10 @@ const CACHED: usize = 100_000;
 pub(super) struct Store {
     path: PathBuf,
     pub(super) connection: Connection,
-    /// Device and number of the file.
+    /// Device and number of the file,
     place: (u64, u64),
+    /// and of those beside it that are there while it is open: its log, and what its readers share.
+    beside: [Option<(u64, u64)>; 2],
     /// Row numbers of series. Only what is committed is in it.
     series: HashMap<SeriesKey, i64>,
     /// It changes when another process has written.
@@ -66,14 +68,24 @@ impl Store {
             path: path.into(),
             connection,
             place,
+            beside: beside(path),
             series: HashMap::new(),
             data_version: 0,
         })
     }
 
-    /// Whether the file of this name still is the one that is open.
-    pub(super) fn is_in_place(&self) -> bool {
-        place(&self.path) == Some(self.place)
+    /// Whether the files of these names still are those that are open.
+    pub(super) fn found(&self) -> Found {
+        match place(&self.path) == Some(self.place) {
+            true if beside(&self.path) == self.beside => Found::Whole,
+            true => Found::WithoutLog,
+            false => Found::Gone,
+        }
+    }
+
+    /// Copies into the file what is in the log, which may have no name any more.
+    pub(super) fn settle(&self) -> Result<(), SqliteFault> {
+        settle(&self.connection, &self.path)
     }
 
     /// Takes a request that is not taken yet, but for spans that overlap: these are left.
@@ -130,6 +142,24 @@ fn settle(connection: &Connection, path: &Path) -> Result<(), SqliteFault> {
         return Err(SqliteFault::told(path, what));
     }
     Ok(())
+}
+
+/// What is found where the open files were.
+#[derive(Clone, Copy, Debug, PartialEq, Eq)]
+pub(super) enum Found {
+    Whole,
+    /// What is beside the file was deleted or replaced. Rows would go into a log that nobody reads.
+    WithoutLog,
+    /// The file itself was: rows would go into a file that has no name.
+    Gone,
+}
+
+fn beside(path: &Path) -> [Option<(u64, u64)>; 2] {
+    ["-wal", "-shm"].map(|end| {
+        let mut name = path.as_os_str().to_os_string();
+        name.push(end);
+        place(Path::new(&name))
+    })
 }
 
 fn place(path: &Path) -> Option<(u64, u64)> {
@@ -272,10 +302,4 @@ impl Writing<'_> {
     fn of<T>(&self, call: impl FnOnce(&Transaction) -> rusqlite::Result<T>) -> Result<T, NotTaken> {
         call(&self.transaction).map_err(|error| not_taken(self.path, error))
     }
-}
-
-/// A point for an error: its span, and its series as far as that is short.
-fn shown(point: &ForwardedPoint) -> String {
-    let series: String = point.series.0.chars().take(300).collect();
-    format!("({}, {}] of {series}", point.start, point.end)
 }

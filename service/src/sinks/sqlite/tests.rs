@@ -121,6 +121,7 @@ fn writer(path: &Path) -> Writer {
     Writer {
         path: path.into(),
         store: None,
+        is_told: false,
     }
 }
 

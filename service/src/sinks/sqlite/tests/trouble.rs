@@ -68,6 +68,42 @@ fn a_file_that_is_moved_is_not_written_on() {
     assert_eq!(trial.totals(), only("a", 2, 1));
 }
 
+/// Else it would go into a log without a name, and be lost with the process.
+#[test]
+fn a_log_that_is_deleted_loses_nothing() {
+    for (gone, is_written) in [
+        (&["-wal"][..], true),
+        (&["-shm"], true),
+        (&["-wal", "-shm"], true),
+        (&["-wal"], false),
+    ] {
+        let mut trial = Trial::new();
+        trial.taken(1, sum("a", 10, 20, 1));
+        for end in gone {
+            std::fs::remove_file(trial.folder.path().join(format!("totals.db{end}"))).expect("it is there");
+        }
+        match is_written {
+            true => trial.taken(2, sum("a", 20, 30, 2)),
+            false => trial.writer.look(),
+        }
+        // Killed behind it: its files as they lie there, opened by another process.
+        let copy = tempfile::tempdir().expect("a folder");
+        for name in ["totals.db", "totals.db-wal"] {
+            std::fs::copy(trial.folder.path().join(name), copy.path().join(name)).expect("a copy");
+        }
+        let copied = Trial {
+            writer: writer(&copy.path().join("totals.db")),
+            folder: copy,
+        };
+        let expected = if is_written {
+            only("a", 3, 2)
+        } else {
+            only("a", 1, 1)
+        };
+        assert_eq!(copied.totals(), expected, "{gone:?}");
+    }
+}
+
 #[test]
 fn a_missing_folder_is_told_and_waited_for() {
     let mut trial = Trial::new();

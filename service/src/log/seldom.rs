@@ -1,0 +1,44 @@
+//! What may happen at any rate, and is told now and then.
+
+use std::sync::{Mutex, PoisonError};
+use std::time::{Duration, Instant};
+
+const BETWEEN: Duration = Duration::from_secs(1);
+
+/// Once a second at most.
+pub struct Seldom(Mutex<Option<Instant>>);
+
+impl Seldom {
+    pub const fn new() -> Seldom {
+        Seldom(Mutex::new(None))
+    }
+
+    /// Whether it may be told now.
+    pub fn is_due(&self) -> bool {
+        self.is_due_at(Instant::now())
+    }
+
+    fn is_due_at(&self, now: Instant) -> bool {
+        let mut last = self.0.lock().unwrap_or_else(PoisonError::into_inner); // any value of it is sound
+        let is_due = last.is_none_or(|last| now >= last + BETWEEN);
+        if is_due {
+            *last = Some(now);
+        }
+        is_due
+    }
+}
+
+#[cfg(test)]
+mod tests {
+    use super::*;
+
+    #[test]
+    fn once_a_second() {
+        let (seldom, begun) = (Seldom::new(), Instant::now());
+        let told = |millis| seldom.is_due_at(begun + Duration::from_millis(millis));
+        assert_eq!(
+            [0, 1, 999, 1000, 1500, 2000, 9000].map(told),
+            [true, false, false, true, false, true, true]
+        );
+    }
+}

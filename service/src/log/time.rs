@@ -1,0 +1,53 @@
+//! When a line was written.
+
+use std::time::{Duration, SystemTime};
+
+const DAY: u64 = 86_400;
+
+/// Now, as RFC 3339 writes it, in UTC and microseconds.
+pub fn now() -> String {
+    let since = SystemTime::now().duration_since(SystemTime::UNIX_EPOCH);
+    written(since.unwrap_or_default()) // no clock is set before 1970
+}
+
+fn written(since_1970: Duration) -> String {
+    let (seconds, micros) = (since_1970.as_secs(), since_1970.subsec_micros());
+    let (year, month, day) = date(seconds / DAY);
+    let (hour, minute, second) = (seconds / 3600 % 24, seconds / 60 % 60, seconds % 60);
+    format!("{year:04}-{month:02}-{day:02}T{hour:02}:{minute:02}:{second:02}.{micros:06}Z")
+}
+
+/// The date so many days from 1970 on. Years are counted from March on: a leap day is the last one of its year, and
+/// each 400 years are 146,097 days.
+fn date(days: u64) -> (u64, u64, u64) {
+    let since_0 = days + 719_468;
+    let (era, day) = (since_0 / 146_097, since_0 % 146_097);
+    let year = (day - day / 1460 + day / 36_524 - day / 146_096) / 365;
+    let of_year = day - (365 * year + year / 4 - year / 100);
+    let from_march = (5 * of_year + 2) / 153;
+    let of_month = of_year - (153 * from_march + 2) / 5 + 1;
+    let (month, is_next) = match from_march {
+        0..10 => (from_march + 3, 0),
+        _ => (from_march - 9, 1),
+    };
+    (400 * era + year + is_next, month, of_month)
+}
+
+#[cfg(test)]
+mod tests {
+    use super::*;
+
+    /// As another library counts days, over 800 years.
+    #[test]
+    fn dates_are_those_of_the_calendar() {
+        let months = "Jan Feb Mar Apr May Jun Jul Aug Sep Oct Nov Dec";
+        for day in 0..800 * 366 {
+            let time = Duration::from_secs(day * DAY + 86_399) + Duration::from_micros(42);
+            let other = httpdate::fmt_http_date(SystemTime::UNIX_EPOCH + time);
+            let parts: Vec<&str> = other.split([' ', ',']).collect();
+            let month = months.split(' ').position(|month| month == parts[3]).unwrap() + 1;
+            let expected = format!("{}-{month:02}-{}T23:59:59.000042Z", parts[4], parts[2]);
+            assert_eq!(written(time), expected);
+        }
+    }
+}

@@ -1,0 +1,65 @@
+//! One key is sent once at a time: the delivery and an operator may have the same request, where a run was killed before
+//! the outbox knew that it lies in `dead/`.
+
+use std::collections::HashSet;
+use std::sync::{Mutex, MutexGuard, PoisonError};
+use tokio::sync::Notify;
+
+/// The keys that are under way at a sink.
+#[derive(Default)]
+pub struct Keys {
+    held: Mutex<HashSet<String>>,
+    freed: Notify,
+}
+
+/// A key that nobody else sends meanwhile.
+pub struct Held<'k> {
+    keys: &'k Keys,
+    key: String,
+}
+
+impl Keys {
+    /// Waits until nobody else has the key.
+    pub async fn hold(&self, key: &str) -> Held<'_> {
+        loop {
+            let freed = self.freed.notified(); // before it is looked, so that no end is missed
+            if self.held().insert(key.to_string()) {
+                let key = key.to_string();
+                return Held { keys: self, key };
+            }
+            freed.await;
+        }
+    }
+
+    fn held(&self) -> MutexGuard<'_, HashSet<String>> {
+        self.held.lock().unwrap_or_else(PoisonError::into_inner) // a set is sound at any time
+    }
+}
+
+impl Drop for Held<'_> {
+    fn drop(&mut self) {
+        self.keys.held().remove(&self.key);
+        self.keys.freed.notify_waiters();
+    }
+}
+
+#[cfg(test)]
+mod tests {
+    use super::*;
+    use crate::work::within;
+    use std::time::Duration;
+
+    #[tokio::test]
+    async fn a_key_has_one_holder() {
+        let keys = Keys::default();
+        let (one, other) = (keys.hold("a").await, keys.hold("b").await);
+        let soon = Duration::from_millis(50);
+        assert!(within(soon, keys.hold("a")).await.is_none());
+        drop(other);
+        assert!(within(soon, keys.hold("a")).await.is_none());
+        let (next, ()) = tokio::join!(keys.hold("a"), async { drop(one) });
+        assert!(within(soon, keys.hold("a")).await.is_none());
+        drop(next);
+        assert!(within(soon, keys.hold("a")).await.is_some());
+    }
+}

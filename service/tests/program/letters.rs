@@ -1,0 +1,161 @@
+//! Letters that are sent again.
+
+use crate::support::{points, until, Place, Service};
+use std::io::{BufRead, BufReader, ErrorKind, Read, Write};
+use std::net::{TcpListener, TcpStream};
+use std::time::Duration;
+
+/// A sink of OTLP whose answers the test gives.
+struct Sink {
+    listener: TcpListener,
+    address: String,
+}
+
+/// A request that waits for its answer.
+struct Asked {
+    stream: TcpStream,
+    key: String,
+    body: Vec<u8>,
+}
+
+impl Sink {
+    fn new() -> Sink {
+        let listener = TcpListener::bind("127.0.0.1:0").unwrap();
+        let address = format!("http://{}/v1/metrics", listener.local_addr().unwrap());
+        Sink { listener, address }
+    }
+
+    fn next(&self) -> Asked {
+        let mut next = None;
+        self.listener.set_nonblocking(true).unwrap();
+        until("the sink is asked", || {
+            next = self.listener.accept().ok();
+            next.is_some()
+        });
+        let stream = next.unwrap().0;
+        stream.set_nonblocking(false).unwrap();
+        Asked::read(stream)
+    }
+
+    fn is_asked(&self) -> bool {
+        self.listener.set_nonblocking(true).unwrap();
+        match self.listener.accept() {
+            Ok(_) => true,
+            Err(error) => {
+                assert_eq!(error.kind(), ErrorKind::WouldBlock);
+                false
+            }
+        }
+    }
+
+    /// Answers so many, by these statuses and then by 200: their keys.
+    fn answers(&self, count: usize, statuses: &[&str]) -> Vec<String> {
+        let statuses = statuses.iter().copied().chain(std::iter::repeat("200 OK"));
+        let asked = statuses.take(count).map(|status| self.next().answer(status));
+        asked.collect()
+    }
+}
+
+impl Asked {
+    fn read(stream: TcpStream) -> Asked {
+        let mut reader = BufReader::new(stream);
+        let (mut key, mut length, mut line) = (String::new(), 0, String::new());
+        while reader.read_line(&mut line).unwrap() > 2 {
+            let (name, value) = line.split_once(' ').unwrap();
+            match name {
+                "idempotency-key:" => key = value.trim().to_string(),
+                "content-length:" => length = value.trim().parse().unwrap(),
+                _ => {}
+            }
+            line.clear();
+        }
+        let mut body = vec![0; length];
+        reader.read_exact(&mut body).unwrap();
+        Asked {
+            stream: reader.into_inner(),
+            key,
+            body,
+        }
+    }
+
+    fn answer(mut self, status: &str) -> String {
+        let text = format!("HTTP/1.1 {status}\r\ncontent-length: 0\r\nconnection: close\r\n\r\n");
+        self.stream.write_all(text.as_bytes()).unwrap();
+        self.key
+    }
+}
+
+fn put_letter(place: &Place, key: &str, body: &[u8]) {
+    let head = serde_json::json!({"key": key, "since": 1, "reason": "400", "bytes": body.len()});
+    let letter = [format!("{head}\n").as_bytes(), body].concat();
+    std::fs::write(place.data().join(format!("dead/{key}.json")), letter).unwrap();
+}
+
+fn service(place: &Place, sink: &Sink) -> Service {
+    let service = place.begin(&["--sink", &sink.address]);
+    until("it is ready", || service.is_ready());
+    service
+}
+
+/// As where a run was killed before the outbox knew that the request lies in `dead/`.
+#[test]
+fn a_letter_that_is_being_delivered_is_not_sent_meanwhile() {
+    let (place, sink) = (Place::new(), Sink::new());
+    let service = service(&place, &sink);
+    let posted = service.post_until_answered("A", &points(&["a"], 100, 5));
+    assert_eq!(posted.0, 200, "{posted:?}");
+    let delivered = sink.next();
+    let key = delivered.key.clone();
+    put_letter(&place, &key, &delivered.body);
+    std::thread::scope(|scope| {
+        let resent = scope.spawn(|| service.said(&["dead", "resend", &key]));
+        for _ in 0..20 {
+            std::thread::sleep(Duration::from_millis(50));
+            assert!(!sink.is_asked(), "one key was sent twice at once");
+        }
+        delivered.answer("200 OK");
+        assert_eq!(sink.next().answer("200 OK"), key);
+        assert_eq!(resent.join().unwrap(), format!("done: the sink has {key}\n"));
+    });
+    assert_eq!(
+        service.said(&["dead", "list"]),
+        "the sink has refused nothing for good\n"
+    );
+}
+
+#[test]
+fn all_letters_are_sent_until_the_sink_fails() {
+    let (place, sink) = (Place::new(), Sink::new());
+    let service = service(&place, &sink);
+    let resend = ["dead", "resend", "--all"];
+    assert_eq!(service.said(&resend), "the sink has refused nothing for good\n");
+    let keys = ["0-a-1", "0-a-2", "0-a-3"];
+    for key in keys.iter().chain(&["0-a-4-partial"]) {
+        put_letter(&place, key, b"{}");
+    }
+    std::thread::scope(|scope| {
+        let said = scope.spawn(|| service.said(&resend));
+        let asked = sink.answers(2, &["200 OK", "503 Service Unavailable"]);
+        let said = said.join().unwrap();
+        assert!(
+            said.contains("the sink has taken 1 request: the sink did not take 0-a-"),
+            "{said}"
+        );
+        assert_eq!(asked.len(), 2);
+    });
+    std::thread::scope(|scope| {
+        let said = scope.spawn(|| service.said(&resend));
+        sink.answers(2, &["400 Bad Request"]);
+        let said = said.join().unwrap();
+        assert!(
+            said.contains("the sink has taken 1 request; it refused, or took in part, 1 request: 0-a-"),
+            "{said}"
+        );
+    });
+    std::thread::scope(|scope| {
+        let said = scope.spawn(|| service.said(&resend));
+        sink.answers(1, &[]);
+        assert_eq!(said.join().unwrap(), "done: the sink has taken 1 request\n");
+    });
+    assert!(service.said(&["dead", "list"]).contains("0-a-4-partial"));
+}

@@ -1,0 +1,93 @@
+//! What programs may ask of the operator's address, and a web page may not.
+
+use crate::support::{points, Place, Service};
+use std::process::Command;
+
+/// All that changes something, or has something of the senders.
+const GUARDED: [(&str, &str); 9] = [
+    ("POST", "/flush"),
+    ("POST", "/quarantine/A"),
+    ("POST", "/lift/A"),
+    ("POST", "/dead/0-a-1/resend"),
+    ("POST", "/dead/0-a-1/drop"),
+    ("GET", "/dead"),
+    ("GET", "/dead/0-a-1"),
+    ("GET", "/totals"),
+    ("GET", "/status"),
+];
+
+fn curl(service: &Service, method: &str, path: &str, headers: &[&str]) -> (u16, String) {
+    let mut command = Command::new("curl");
+    command.args(["-sS", "-X", method, "-w", "\n%{http_code}"]);
+    for header in headers {
+        command.args(["-H", header]);
+    }
+    let output = command.arg(format!("http://{}{path}", service.operate)).output();
+    let text = String::from_utf8(output.unwrap().stdout).unwrap();
+    let (body, status) = text.rsplit_once('\n').unwrap();
+    (status.parse().unwrap(), body.to_string())
+}
+
+#[test]
+fn a_page_changes_nothing_and_reads_nothing() {
+    let place = Place::new();
+    let service = place.serve();
+    for (header, why) in [
+        ("Origin: https://evil.example", "it has an Origin"),
+        ("Origin: null", "it has an Origin"),
+        ("Sec-Fetch-Site: cross-site", "it has a Sec-Fetch-Site"),
+        ("Sec-Fetch-Site: same-origin", "it has a Sec-Fetch-Site"),
+        (
+            "Host: evil.example:4319",
+            "`evil.example:4319` is no name of this address",
+        ),
+    ] {
+        for (method, path) in GUARDED {
+            let (status, body) = curl(&service, method, path, &[header]);
+            assert_eq!(status, 403, "{header}: {method} {path}: {body}");
+            assert!(body.contains(why), "{body}");
+        }
+    }
+    assert_eq!(service.status()["slots"][0]["quarantined"], serde_json::json!([]));
+    assert_eq!(service.end(), Some(0));
+}
+
+#[test]
+fn programs_ask_as_before() {
+    let place = Place::new();
+    let service = place.serve();
+    assert_eq!(service.post("A", &points(&["a"], 100, 5)).unwrap().0, 200);
+    let port = service.operate.rsplit_once(':').unwrap().1;
+    let by_name = format!("Host: localhost:{port}");
+    for headers in [&[][..], &[&*by_name], &["Sec-Fetch-Site: none"], &["Host: [::1]"]] {
+        for (path, wanted) in [
+            ("/flush", 200),
+            ("/quarantine/B", 200),
+            ("/lift/B", 200),
+            ("/dead/0-a-1/drop", 404),
+        ] {
+            let (status, body) = curl(&service, "POST", path, headers);
+            assert_eq!(status, wanted, "{headers:?}: {path}: {body}");
+        }
+        assert_eq!(curl(&service, "GET", "/dead", headers), (200, "[]".into()));
+    }
+    service.drain();
+    let prometheus = [
+        "User-Agent: Prometheus/2.42.0",
+        "Accept: application/openmetrics-text;version=1.0.0,text/plain;version=0.0.4",
+        "X-Prometheus-Scrape-Timeout-Seconds: 10",
+    ];
+    for path in ["/metrics", "/totals"] {
+        assert_eq!(curl(&service, "GET", path, &prometheus).0, 200, "{path}");
+    }
+    // A scrape by another name, as between containers, and a probe.
+    for path in ["/metrics", "/health", "/ready"] {
+        assert_eq!(
+            curl(&service, "GET", path, &["Host: totxegun:4319"]).0,
+            200,
+            "{path}"
+        );
+    }
+    let said = service.said(&["flush"]);
+    assert_eq!(said, "done: there was nothing to put into the outbox\n");
+}
