@@ -111,7 +111,8 @@ fn a_sender_is_quarantined_in_all_books(rt: HostRuntime) -> Result<(), Fail> {
     Ok(())
 }
 
-// What can't be read says why, and the reader has nothing then. A report has a line for each series.
+// What can't be read says why, and the reader has nothing then. A report has a line for each
+// series.
 #[test]
 fn what_can_not_be_read_or_written(rt: HostRuntime) -> Result<(), Fail> {
     let alloc = rt.alloc();

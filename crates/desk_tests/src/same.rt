@@ -71,7 +71,8 @@ impl Side {
     }
 }
 
-// Each answer is the same, with its position and frontier; of the posts some are taken and some not.
+// Each answer is the same, with its position and frontier; of the posts some are taken and some
+// not.
 #[test]
 fn posts_over_many_books_are_answered_as_by_one(rt: HostRuntime) -> Result<(), Fail> {
     let alloc = rt.alloc();
