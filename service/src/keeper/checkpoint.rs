@@ -12,7 +12,6 @@ use crate::core::{Book, Refused};
 use crate::files::{Fault, Ticket};
 use crate::slot::Slot;
 use crate::work::blocking;
-use std::collections::BTreeSet;
 use std::time::{Duration, Instant};
 
 /// How long until a checkpoint is tried again for which there was no memory, and how often one is tried.
@@ -123,14 +122,15 @@ fn turn(slot: &Slot) -> Group {
     }
 }
 
-/// Journal first, then outbox: a group is committed once all its posts are on the disk.
+/// Journal first, then outbox: a group is committed once all its posts are on the disk, and so is what no flush takes.
 pub(super) fn commit(slot: &Slot, bodies: &[Vec<u8>], group: Group) -> Result<u64, Fault> {
     let Group { posts, next, turned } = group;
     let first = slot.outbox.journal();
     slot.journal.settle(turned);
     let held = slot.outbox.quarantined();
     if !held.is_empty() {
-        copy_posts_of(slot, &held, first, next)?;
+        // These senders post nothing meanwhile, so their order is kept although other posts go on.
+        slot.journal.hold(&held, first, next)?;
     }
     let requests = bodies.len() as u64;
     slot.outbox.commit(bodies, next)?;
@@ -140,23 +140,4 @@ pub(super) fn commit(slot: &Slot, bodies: &[Vec<u8>], group: Group) -> Result<u6
     slot.journal.forget(next)?;
     slot.metrics.checkpoints.with_label_values(&["done"]).inc();
     Ok(requests)
-}
-
-/// Points of quarantined senders outlive a checkpoint: their posts are copied into the new segment. These senders
-/// post nothing meanwhile, so their order is kept although other posts go on. The copies are durable when this
-/// returns: behind the commit the first ones count no more.
-fn copy_posts_of(slot: &Slot, held: &BTreeSet<String>, first: u64, next: u64) -> Result<(), Fault> {
-    let journal = &slot.journal;
-    let mut kept = Vec::new();
-    journal.posts(first, next, |post| {
-        if held.contains(&post.sender) {
-            kept.push(post);
-        }
-        true
-    })?;
-    for post in &kept {
-        journal.append_copy(post);
-    }
-    journal.settle_copies();
-    Ok(())
 }
