@@ -6,7 +6,7 @@ use super::table::Table;
 use super::{json, values, Failure, Form};
 use crate::files::{Dropped, Durability, Fault, Folder, FolderFault, Journal, Outbox};
 use crate::service::slot_of;
-use anyhow::{anyhow, bail, Context};
+use anyhow::{bail, Context};
 use clap::Args;
 use nix::fcntl::{flock, FlockArg};
 use nix::sys::signal::{SigSet, Signal};

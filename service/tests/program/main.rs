@@ -1,5 +1,6 @@
 //! The program itself: who has a series, kills, how many series fit, what an operator is told.
 
+mod held;
 mod letters;
 mod lines;
 mod log;
@@ -9,7 +10,7 @@ mod support;
 mod told;
 
 use std::time::Duration;
-use support::{points, until, Load, Place, NO_SINK};
+use support::{points, Load, Place, NO_SINK};
 
 fn refused(why: &str) -> (u16, String) {
     (400, format!("{{\"code\":3,\"message\":\"{why}\"}}"))
@@ -138,7 +139,14 @@ fn a_folder_with_more_series_than_fit_is_refused_by_name() {
 fn a_book_without_memory_takes_no_posts_and_forwards_all_that_it_took() {
     let place = Place::new();
     let sink = format!("sqlite:{}", place.folder.path().join("sink.db").display());
-    let words = ["--sink", &sink, "--most-series", "20000", "--book-memory", "64MiB"];
+    let words = [
+        "--sink",
+        &sink,
+        "--most-series",
+        "20000",
+        "--book-memory",
+        "64MiB",
+    ];
     let service = place.serve_with(&words);
     let long = "x".repeat(4_000);
     let mut taken: Vec<String> = Vec::new();
