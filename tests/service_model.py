@@ -62,8 +62,8 @@ class Rules:
     fresh_books_are_primed: bool = True
     # Then the posts that no group has, in the order of the journal, those of quarantined senders last.
     replay_has_the_journals_order: bool = True
-    # At a checkpoint the posts of quarantined senders, which no flush takes, are copied into the new segment.
-    quarantined_posts_are_copied: bool = True
+    # At a checkpoint the posts of quarantined senders, which no flush takes, are held by the new segment.
+    quarantined_posts_are_held: bool = True
     # A request is acknowledged in the outbox once the sink has said that it has it.
     sink_answers_before_the_ack: bool = True
     # What an earlier run wrote is synced at the start, before anybody is told of it.
@@ -147,7 +147,7 @@ class Record(NamedTuple):
     segment: int
     post: int
     # Copied from an earlier segment: it counts only where its segment is the first that is replayed.
-    is_copy: bool
+    is_held: bool
     sync: int
 
 
@@ -407,20 +407,21 @@ def turn_late(rules, state):
 
 
 def turned(rules, state):
-    """A new segment, in which the next posts have their places: it begins with copies of what no flush takes."""
+    """A new segment, in which the next posts have their places: it holds what no flush takes. Where these posts lie, in the
+    segment or in files that it names, is all one here: they count where it is the first that is replayed."""
     segment = state.segment + 1
-    copies = ()
-    if state.books.is_quarantined and rules.quarantined_posts_are_copied:
-        copies = tuple(Record(segment, record.post, True, Sync.QUEUED) for record in replayed(state.outbox, state.journal)
-                       if POSTS[record.post].sender == QUARANTINED)
-    return state._replace(segment=segment, journal=state.journal + copies, checkpoint=state.checkpoint._replace(step=Step.TURNED))
+    held = ()
+    if state.books.is_quarantined and rules.quarantined_posts_are_held:
+        held = tuple(Record(segment, record.post, True, Sync.QUEUED) for record in replayed(state.outbox, state.journal)
+                     if POSTS[record.post].sender == QUARANTINED)
+    return state._replace(segment=segment, journal=state.journal + held, checkpoint=state.checkpoint._replace(step=Step.TURNED))
 
 
 def commit(rules, state):
     """What was taken is written as one group, which names the segment from which posts are in no group."""
     if not state.checkpoint or state.checkpoint.step != Step.TURNED:
         return
-    needed = (one for one in state.journal if one.segment < state.segment or one.is_copy)
+    needed = (one for one in state.journal if one.segment < state.segment or one.is_held)
     if rules.journal_before_outbox and any(record.sync in (Sync.QUEUED, Sync.WRITTEN) for record in needed):
         return
     outbox = state.outbox._replace(requests=state.outbox.requests + state.checkpoint.group, journal=state.segment)
@@ -531,7 +532,7 @@ def noted(state, is_quarantined):
 def replayed(outbox, journal):
     """The records that count."""
     return tuple(record for record in journal if record.segment >= outbox.journal
-                 and (not record.is_copy or record.segment == outbox.journal))
+                 and (not record.is_held or record.segment == outbox.journal))
 
 
 def fresh_books(rules, outbox, journal):

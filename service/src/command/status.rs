@@ -1,8 +1,9 @@
 //! `totxegun status`: how the running service is.
 
 use super::{ask::Shown, client, table::Table, values, with_end};
+use crate::files::Held;
 use crate::operate::{RoundedStatus, SlotStatus, Status, Stock};
-use crate::slot::NO_ROOM;
+use crate::slot::{NO_ANSWER, NO_ROOM};
 use anyhow::{Context, Result};
 
 pub fn run(shown: &Shown) -> Result<Vec<u8>> {
@@ -33,6 +34,9 @@ fn text(status: &Status) -> String {
         0 => lines.row(&["refused for good", &dead]),
         _ => lines.row(&["refused for good", &format!("{dead}: see `totxegun dead list`")]),
     }
+    for slot in status.slots.iter().filter(|slot| slot.held.posts > 0) {
+        lines.row(&["kept back", &held(&slot.held)]);
+    }
     for rounded in &status.rounded {
         lines.row(&["rounded", &rounding(rounded)]);
     }
@@ -50,8 +54,15 @@ fn unavailable(status: &Status) -> Option<String> {
     let why = status.slots.iter().find_map(|slot| slot.unavailable.as_deref())?;
     Some(match why {
         NO_ROOM => format!("{why}: make room on the disk of {}", status.data),
+        NO_ANSWER => format!("{why}: look at the disk of {}", status.data),
         why => why.to_string(),
     })
+}
+
+fn held(held: &Held) -> String {
+    let posts = values::counted(held.posts, "post");
+    let senders = values::counted(held.senders, "quarantined sender");
+    format!("{posts} of {senders}, {}", values::bytes_shown(held.bytes))
 }
 
 fn books(status: &Status) -> String {
@@ -127,6 +138,9 @@ fn stock(stock: &Stock) -> String {
 }
 
 fn trouble(slot: &SlotStatus) -> Option<String> {
+    if let Some(why) = &slot.stuck {
+        return Some(format!("\nthe delivery of slot {} stops: {why}\n", slot.slot));
+    }
     let why = slot.trouble.as_ref()?;
     Some(format!(
         "\nthe sink has not taken a request of slot {} in {}: {why}\n",
@@ -150,11 +164,13 @@ mod tests {
             unavailable: None,
             series: 0,
             quarantined: quarantined.iter().map(ToString::to_string).collect(),
+            held: Held::default(),
             journal: stock(),
             waiting: 0,
             outbox: stock(),
             tries: 0,
             trouble: None,
+            stuck: None,
         };
         Status {
             version: "0".into(),
@@ -194,6 +210,12 @@ mod tests {
             "totxegun 0        not ready, up 2 s, process 1\n\
              posts get 503     no room for the journal: make room on the disk of /data\n",
         );
+        told.slots[0].unavailable = Some(NO_ANSWER.into());
+        begins(
+            &told,
+            "totxegun 0        not ready, up 2 s, process 1\n\
+             posts get 503     the disk does not answer: look at the disk of /data\n",
+        );
         let text = text(&told);
         let books = "books             13 for 100000 series, 1.0 MiB of 1.0 GiB";
         assert!(text.lines().any(|line| line.trim_end() == books), "{text}");
@@ -208,6 +230,23 @@ mod tests {
             line(&["-"]).unwrap(),
             format!("{slot}1 sender: - (who names none)")
         );
+    }
+
+    #[test]
+    fn what_is_kept_back_and_what_is_stuck_is_shown() {
+        let mut told = status(&["A"]);
+        let (senders, posts, bytes) = (1, 3, 2048);
+        told.slots[0].held = Held {
+            senders,
+            posts,
+            bytes,
+        };
+        told.slots[0].stuck = Some("1.seg, byte 9: was changed".into());
+        let text = text(&told);
+        let kept = "kept back         3 posts of 1 quarantined sender, 2.0 KiB";
+        assert!(text.lines().any(|line| line.trim_end() == kept), "{text}");
+        let stuck = "\nthe delivery of slot 0 stops: 1.seg, byte 9: was changed\n";
+        assert!(text.ends_with(stuck), "{text}");
     }
 
     fn rounded(rule: &str, greatest: Vec<RoundedSeriesStatus>) -> RoundedStatus {

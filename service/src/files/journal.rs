@@ -2,7 +2,7 @@
 //!
 //! | kind | bytes |
 //! |---|---|
-//! | 16 post, 17 copy | seconds since 1970 (u64), foreign points (u64), length of the sender's name (u64), name, body |
+//! | 16 post, 17 copy (of 0.5.0) | seconds since 1970 (u64), foreign points (u64), length of the sender's name (u64), name, body |
 //! | 18 held | JSON: of each quarantined sender its name, how many of its posts are in its own file, and where they end there |
 //!
 //! A record is written in place, under one short lock, so that the order in the file is the order of the calls. One
@@ -101,7 +101,7 @@ struct Place {
     ticket: u64,
     /// Segments that were ended, and not synced since.
     ended: Vec<(Arc<File>, PathBuf)>,
-    /// The ticket of the last turn or copy: earlier segments are not deleted before it is durable.
+    /// The ticket of the last turn, or note of what is held: earlier segments are not deleted before it is durable.
     kept: u64,
     /// Quarantined senders whose posts are in their own files, and who have posted nothing since.
     moved: BTreeSet<String>,
@@ -128,33 +128,21 @@ impl Expected {
 
 impl Journal {
     pub fn append(&self, post: &Post) -> Ticket {
-        self.put(POST, post)
-    }
-
-    /// Copies a post of an earlier segment into this one: it counts only where this segment is the first that is replayed.
-    pub fn append_copy(&self, post: &Post) -> Ticket {
-        self.put(COPY, post)
-    }
-
-    fn put(&self, kind: u8, post: &Post) -> Ticket {
         let shared = &*self.shared;
         let now = seconds();
         let name = post.sender.as_bytes();
         let numbers = post.numbers(now);
         let numbers = numbers.as_flattened();
-        let head = records::head(kind, &[numbers, name, &post.body]);
+        let head = records::head(POST, &[numbers, name, &post.body]);
         let length = (head.len() + numbers.len() + name.len() + post.body.len()) as u64;
         shared.room.use_up(length);
         let mut place = lock(&shared.place);
-        // In parts: a copy of a long body costs as much as a part of its write.
+        // In parts: a long body that is put together first costs as much as a part of its write.
         if let Err(fault) = place.segment.put(&[&head, numbers, name, &post.body]) {
             shared.disk.end(&fault);
         }
         place.ticket += 1;
-        match kind {
-            COPY => place.kept = place.ticket,
-            _ => drop(place.moved.remove(&post.sender)),
-        }
+        place.moved.remove(&post.sender);
         if let Some(size) = lock(&shared.sizes).last_mut() {
             size.bytes += length;
             size.first.get_or_insert(now);
@@ -203,17 +191,17 @@ impl Journal {
         }
     }
 
-    /// Makes the last copies durable, whatever was asked for posts: what they are copies of may be so for long.
-    pub fn settle_copies(&self) {
+    /// Makes the last turn and the last note of what is held durable, whatever was asked for posts.
+    fn settle_kept(&self) {
         let kept = lock(&self.shared.place).kept;
         self.settle(Ticket(kept));
     }
 
-    /// Deletes the segments before this, once what was copied out of them is durable.
+    /// Deletes the segments before this, once what is held of them is durable.
     pub fn forget(&self, before: u64) -> Result<(), Fault> {
         let shared = &*self.shared;
         let last = lock(&shared.place).segment.number;
-        self.settle_copies();
+        self.settle_kept();
         let mut numbers = segment::numbers(&shared.folder)?;
         numbers.retain(|number| *number < before && *number < last);
         if !numbers.is_empty() {

@@ -122,13 +122,16 @@ fn turn(slot: &Slot) -> Group {
     }
 }
 
-/// Journal first, then outbox: a group is committed once all its posts are on the disk.
+/// Journal first, then outbox: a group is committed once all its posts are on the disk, and so is what no flush takes.
 pub(super) fn commit(slot: &Slot, bodies: &[Vec<u8>], group: Group) -> Result<u64, Fault> {
     let Group { posts, next, turned } = group;
     let first = slot.outbox.journal();
     slot.journal.settle(turned);
-    // No flush takes their points: after the commit these count in files of their own.
-    slot.journal.hold(&slot.outbox.quarantined(), first, next)?;
+    let held = slot.outbox.quarantined();
+    if !held.is_empty() {
+        // These senders post nothing meanwhile, so their order is kept although other posts go on.
+        slot.journal.hold(&held, first, next)?;
+    }
     let requests = bodies.len() as u64;
     slot.outbox.commit(bodies, next)?;
     slot.count_grouped(posts);

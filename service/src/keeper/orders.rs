@@ -23,7 +23,7 @@ impl Keeper {
 
     /// In the book first, and then durable: a start quarantines who is noted.
     async fn quarantine(&mut self, sender: String) -> Result<Done, Trouble> {
-        // What was taken while the book was filled is in no group yet, and would be copied too.
+        // What was taken while the book was filled is in no group yet, and would be held too.
         if !self.carried.is_empty() {
             if let Err(refused) = self.checkpoint().await? {
                 return Ok(not_now(refused));

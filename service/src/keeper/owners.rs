@@ -16,7 +16,7 @@ pub(super) fn find_owners(slot: &Slot, first: u64, end: u64) -> Result<(), Fault
 }
 
 /// The same where the last commit came without the owners: the segments before `end` are there still. Each is read as
-/// the first one, in which copies count too.
+/// the first one, in which what is held of quarantined senders counts too.
 pub(super) fn find_owners_left(slot: &Slot, end: u64) -> Result<(), Fault> {
     let segments = (end.saturating_sub(LEFT_SEGMENTS)..end).rev();
     find_in(slot, segments.map(|segment| (segment, segment + 1)))

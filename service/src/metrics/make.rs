@@ -3,8 +3,8 @@
 use super::rounding::RoundingBySeries;
 use super::{Levels, Metrics};
 use prometheus::{
-    CounterVec, GaugeVec, Histogram, HistogramOpts, IntCounter, IntCounterVec, IntGauge, IntGaugeVec, Opts,
-    Registry, Result,
+    CounterVec, Gauge, GaugeVec, Histogram, HistogramOpts, IntCounter, IntCounterVec, IntGauge, IntGaugeVec,
+    Opts, Registry, Result,
 };
 use std::collections::HashSet;
 use std::sync::Mutex;
@@ -111,6 +111,13 @@ fn levels(maker: &Maker) -> Result<Levels> {
             "quarantined_senders",
             "Senders whose points are kept back and whose posts are refused",
         )?,
+        held_posts: maker.gauge("held_posts", "Posts of quarantined senders that are kept back")?,
+        held_bytes: maker.gauge("held_bytes", "Bytes on disk of these posts")?,
+        delivery_stuck: maker.gauge(
+            "delivery_stuck",
+            "1 while a request that waits can't be delivered since its file was changed",
+        )?,
+        disk_call_seconds: maker.call_seconds()?,
         disk_free_bytes: maker.gauge(
             "disk_free_bytes",
             "Bytes that are free on the file system of the folder",
@@ -158,6 +165,13 @@ impl Maker {
 
     fn gauge(&self, name: &str, help: &str) -> Result<IntGauge> {
         let made = IntGauge::new(format!("totxegun_{name}"), help)?;
+        self.0.register(Box::new(made.clone()))?;
+        Ok(made)
+    }
+
+    fn call_seconds(&self) -> Result<Gauge> {
+        let help = "How long the call of the disk that began first has been under way, 0 where none is";
+        let made = Gauge::new("totxegun_disk_call_seconds", help)?;
         self.0.register(Box::new(made.clone()))?;
         Ok(made)
     }

@@ -7,7 +7,9 @@ pub use rounding::{RoundedSeries, SeriesOfRule};
 
 use crate::otlp::{Rounded, Rounding};
 use prometheus::core::Collector;
-use prometheus::{CounterVec, Encoder, GaugeVec, IntCounter, IntCounterVec, IntGauge, Registry, TextEncoder};
+use prometheus::{
+    CounterVec, Encoder, Gauge, GaugeVec, IntCounter, IntCounterVec, IntGauge, Registry, TextEncoder,
+};
 use rounding::RoundingBySeries;
 use std::collections::HashSet;
 use std::sync::{Mutex, PoisonError};
@@ -59,6 +61,11 @@ pub struct Levels {
     pub outbox_age_seconds: IntGauge,
     pub dead_requests: IntGauge,
     pub quarantined_senders: IntGauge,
+    pub held_posts: IntGauge,
+    pub held_bytes: IntGauge,
+    /// 0 or 1.
+    pub delivery_stuck: IntGauge,
+    pub disk_call_seconds: Gauge,
     pub disk_free_bytes: IntGauge,
     pub series: IntGauge,
     pub most_series: IntGauge,
@@ -218,6 +225,10 @@ mod tests {
             "totxegun_checkpoints_total{outcome=\"failed\"} 0",
             "totxegun_dead_requests 0",
             "totxegun_quarantined_senders 0",
+            "totxegun_held_posts 0",
+            "totxegun_held_bytes 0",
+            "totxegun_delivery_stuck 0",
+            "totxegun_disk_call_seconds 0",
             "totxegun_ready 0",
             "totxegun_log_lines_lost_total 0",
             concat!(

@@ -1,6 +1,7 @@
 //! What the service says of itself: in JSON for `totxegun status`, in gauges for Prometheus.
 
 use super::{Desk, Left};
+use crate::files::Held;
 use crate::metrics::RoundedSeries;
 use serde::{Deserialize, Serialize};
 use std::sync::PoisonError;
@@ -81,6 +82,9 @@ pub struct SlotStatus {
     pub unavailable: Option<String>,
     pub series: usize,
     pub quarantined: Vec<String>,
+    /// Posts of quarantined senders that no flush takes, in files of their own.
+    #[serde(default)]
+    pub held: Held,
     pub journal: Stock,
     /// Requests that the sink does not have.
     pub waiting: u64,
@@ -89,6 +93,9 @@ pub struct SlotStatus {
     pub tries: u64,
     /// Why the last try was not taken.
     pub trouble: Option<String>,
+    /// Why the first waiting request can't be delivered: its file was changed.
+    #[serde(default)]
+    pub stuck: Option<String>,
 }
 
 /// Bytes on disk, and how old the oldest part is.
@@ -160,6 +167,7 @@ impl Desk {
         let at_work = std::iter::once(SlotStatus {
             unavailable: self.unavailable().map(String::from),
             journal: Stock::new(journal, since),
+            held: self.slot.held(),
             ..SlotStatus::of(&self.left)
         });
         let former = self.former.iter().map(SlotStatus::of);
@@ -185,13 +193,25 @@ impl Desk {
         levels.dead_requests.set(self.dead.count() as i64);
         let quarantined = sum(|slot| slot.quarantined.len() as u64);
         levels.quarantined_senders.set(quarantined);
-        if let Some(free) = free_bytes(&self.data) {
-            levels.disk_free_bytes.set(free as i64);
-        }
+        levels.held_posts.set(sum(|slot| slot.held.posts));
+        levels.held_bytes.set(sum(|slot| slot.held.bytes));
+        let is_stuck = slots.iter().any(|slot| slot.stuck.is_some());
+        levels.delivery_stuck.set(i64::from(is_stuck));
+        self.read_disk();
         levels.series.set(sum(|slot| slot.series as u64));
         let (used, most) = crate::core::memory_used();
         levels.book_memory_bytes.set(used as i64);
         levels.book_memory_most_bytes.set(most as i64);
+    }
+
+    fn read_disk(&self) {
+        let levels = &self.metrics.levels;
+        levels.disk_call_seconds.set(self.slot.disk_call().as_secs_f64());
+        // A disk that stalls may not say either how much it has.
+        let free = self.slot.disk_answers().then(|| free_bytes(&self.data));
+        if let Some(free) = free.flatten() {
+            levels.disk_free_bytes.set(free as i64);
+        }
     }
 }
 
@@ -210,11 +230,13 @@ impl SlotStatus {
             unavailable: None,
             series: outbox.series_count(),
             quarantined: outbox.quarantined().into_iter().collect(),
+            held: Held::default(),
             journal: Stock::new(0, None),
             waiting,
             outbox: Stock::new(bytes, first.map(|first| first.since)),
             tries: delivery.tries,
             trouble: delivery.trouble,
+            stuck: outbox.stuck(),
         }
     }
 }

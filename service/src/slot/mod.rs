@@ -1,7 +1,9 @@
 //! The book with its journal and outbox, and the way of a post through them.
 //!
-//! `request` is that way, `verdict` what is said of a post and when, `phase` whether posts are taken.
+//! `request` is that way, `verdict` what is said of a post and when, `phase` whether posts are taken, `disk` whether the
+//! disk answers.
 
+mod disk;
 mod phase;
 mod request;
 mod verdict;
@@ -9,7 +11,7 @@ mod verdict;
 pub(crate) use phase::Phase;
 
 use crate::core::{Core, Refused};
-use crate::files::{Folder, Journal, Outbox};
+use crate::files::{Folder, Held, Journal, Outbox};
 use crate::metrics::Metrics;
 use crate::otlp::Outcome;
 use bytes::Bytes;
@@ -20,6 +22,8 @@ use tokio::sync::{Notify, Semaphore};
 
 /// What is kept free of the disk is all that is left of it.
 pub const NO_ROOM: &str = "no room for the journal";
+/// A call of the disk takes long.
+pub const NO_ANSWER: &str = "the disk does not answer";
 
 /// How many long bodies are read at a time: while it is read, one takes several times its length.
 const READERS: usize = 2;
@@ -39,6 +43,7 @@ pub struct Slot {
     ungrouped: AtomicU64,
     /// A post was refused because there are too many series.
     pub(crate) crowded: Notify,
+    told: disk::Told,
 }
 
 impl Slot {
@@ -61,6 +66,7 @@ impl Slot {
             readers: Semaphore::new(READERS),
             ungrouped: AtomicU64::new(0),
             crowded: Notify::new(),
+            told: disk::Told::default(),
         })
     }
 
@@ -79,6 +85,8 @@ impl Slot {
         match self.phase() {
             Phase::Recovering => Some("recovering"),
             Phase::Stopping => Some("stopping"),
+            // Before its room, for which the disk is asked.
+            Phase::Serving if !self.disk_answers() => Some(NO_ANSWER),
             Phase::Serving if self.folder.has_room() => None,
             Phase::Serving => Some(NO_ROOM),
         }
@@ -97,6 +105,11 @@ impl Slot {
     /// Bytes of the journal's segments, and when the first of their posts was appended (seconds since 1970).
     pub fn journal_size(&self) -> (u64, Option<u64>) {
         self.journal.size()
+    }
+
+    /// What is kept back of quarantined senders.
+    pub fn held(&self) -> Held {
+        self.journal.held()
     }
 
     /// The book, for who shows what it has.

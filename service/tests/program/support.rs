@@ -29,7 +29,7 @@ impl Place {
         self.folder.path().join("data")
     }
 
-    fn sink(&self) -> String {
+    pub fn sink(&self) -> String {
         format!("sqlite:{}", self.folder.path().join("sink.db").display())
     }
 
@@ -46,15 +46,14 @@ impl Place {
             .append(true)
             .open(self.folder.path().join("log.txt"))
             .unwrap();
+        let every: &[&str] = match words.contains(&"--flush-every") {
+            true => &[],
+            false => &["--flush-every", "200ms"],
+        };
         let child = command
-            .args([
-                "serve",
-                "--flush-every",
-                "200ms",
-                "--durable",
-                "process",
-                "--data",
-            ])
+            .arg("serve")
+            .args(every)
+            .args(["--durable", "process", "--data"])
             .arg(self.data())
             .args(["--listen", &listen, "--operate", &operate])
             .args(words)

@@ -10,6 +10,7 @@ use super::{lock, Journal, Post, Shared, HELD, POST};
 use crate::files::disk::io_fault;
 use crate::files::records::{self, Next, Reader, Which};
 use crate::files::Fault;
+use serde::{Deserialize, Serialize};
 use std::collections::{BTreeMap, BTreeSet};
 use std::fs::File;
 use std::io;
@@ -25,7 +26,7 @@ pub(super) struct Part {
 }
 
 /// What is held of quarantined senders, beside the segments.
-#[derive(Clone, Copy, Debug, Default, PartialEq, Eq)]
+#[derive(Clone, Copy, Debug, Default, PartialEq, Eq, Serialize, Deserialize)]
 pub struct Held {
     pub senders: u64,
     pub posts: u64,
@@ -63,7 +64,7 @@ impl Journal {
             moving.finish()?;
         }
         shared.note_held(next, list)?;
-        self.settle_copies();
+        self.settle_kept();
         lock(&shared.place).moved.extend(due.into_iter().cloned());
         Ok(())
     }

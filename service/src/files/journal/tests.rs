@@ -50,6 +50,20 @@ fn append(journal: &Journal, text: &str) {
     journal.append(&post(text));
 }
 
+/// As totxegun 0.5.0 wrote posts of quarantined senders into the next segment.
+fn append_copy(journal: &Journal, text: &str) {
+    let post = post(text);
+    let (numbers, name) = (post.numbers(seconds()), post.sender.as_bytes());
+    let mut record = Vec::new();
+    records::put(&mut record, COPY, &[numbers.as_flattened(), name, &post.body]);
+    let mut place = lock(&journal.shared.place);
+    place.segment.put(&[&record]).unwrap();
+    place.ticket += 1;
+    if let Some(size) = lock(&journal.shared.sizes).last_mut() {
+        size.bytes += record.len() as u64;
+    }
+}
+
 fn texts(journal: &Journal, first: u64) -> Vec<String> {
     let mut texts = Vec::new();
     let each = |found: Post| {
@@ -101,7 +115,8 @@ fn posts_come_back_in_order_and_copies_only_where_they_are_first() {
     journal.append(&post("bb"));
     let (second, before) = journal.turn();
     assert_eq!((second, journal.now()), (2, before));
-    assert!(journal.append_copy(&post("bb")) > before);
+    append_copy(&journal, "bb");
+    assert!(journal.now() > before);
     journal.append(&post("ccc"));
     let check = |journal: &Journal| {
         assert_eq!(texts(journal, 1), ["a", "bb", "ccc"]);
@@ -162,7 +177,7 @@ fn it_is_as_a_list_in_memory_over_any_calls_and_starts() {
                     model.push((segment, false, text));
                 }
                 4 => {
-                    journal.append_copy(&post(&text));
+                    append_copy(&journal, &text);
                     model.push((segment, true, text));
                 }
                 5 => segment = journal.turn().0,

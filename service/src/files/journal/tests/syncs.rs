@@ -100,18 +100,18 @@ fn what_an_earlier_run_wrote_is_written_anew_before_it_is_believed() {
     assert_eq!(texts(&journal, 2), ["b", "c"]);
 }
 
-/// The posts that they are copies of may be durable for long.
+/// The posts that it is of may be durable for long.
 #[test]
-fn copies_are_durable_before_they_count_where_posts_are_only_written() {
+fn what_is_held_is_durable_before_it_counts_where_posts_are_only_written() {
     let folder = tempfile::tempdir().unwrap();
     let journal = open(folder.path());
     let durable = || journal.shared.durable.load(SeqCst);
     let ticket = journal.append(&post("a"));
-    journal.turn();
-    let copied = journal.append_copy(&post("a"));
+    let (next, _) = journal.turn();
     assert!(durable() < ticket.0);
-    journal.settle_copies();
-    assert!(durable() >= copied.0);
+    journal.hold(&[post("a").sender].into(), 1, next).unwrap();
+    assert_eq!(journal.held().posts, 1);
+    assert_eq!(durable(), journal.now().0);
 }
 
 #[test]
@@ -154,7 +154,7 @@ async fn after_a_failed_sync_nobody_is_told_and_nothing_is_tried_again() {
 
 /// Behind a sync that failed the next one says yes to what the disk has not, whoever asks for it.
 #[tokio::test(flavor = "multi_thread")]
-async fn after_a_failed_sync_of_copies_nobody_is_told_either() {
+async fn after_a_failed_sync_of_what_is_held_nobody_is_told_either() {
     let folder = tempfile::tempdir().unwrap();
     let fails = Arc::new(AtomicBool::new(false));
     let failing = fails.clone();
@@ -167,10 +167,10 @@ async fn after_a_failed_sync_of_copies_nobody_is_told_either() {
     );
     let disk = disk.ending(move |fault| tell.send(fault.to_string()).unwrap());
     let journal = Arc::new(open_on(&disk, folder.path(), Durability::Disk).unwrap());
-    journal.append_copy(&post("a"));
+    journal.turn();
     fails.store(true, SeqCst);
     let settling = journal.clone();
-    std::thread::spawn(move || settling.settle_copies());
+    std::thread::spawn(move || settling.settle_kept());
     while fails.load(SeqCst) {
         tokio::time::sleep(Duration::from_millis(1)).await;
     }
@@ -223,7 +223,7 @@ fn a_failed_write_ends_the_process_with_a_named_line() {
 }
 
 #[test]
-fn what_was_copied_is_durable_before_its_first_place_is_deleted() {
+fn what_is_held_is_durable_before_its_first_place_is_deleted() {
     let folder = tempfile::tempdir().unwrap();
     let calls = Arc::new(Mutex::new(Vec::new()));
     let seen = calls.clone();
@@ -234,7 +234,7 @@ fn what_was_copied_is_durable_before_its_first_place_is_deleted() {
     let journal = open_on(&disk, folder.path(), Durability::Process).unwrap();
     journal.append(&post("a"));
     journal.turn();
-    journal.append_copy(&post("a"));
+    journal.hold(&[post("a").sender].into(), 1, 2).unwrap();
     journal.forget(2).unwrap();
     let calls = calls.lock().unwrap();
     let position = |call, number| {
@@ -242,11 +242,11 @@ fn what_was_copied_is_durable_before_its_first_place_is_deleted() {
             .iter()
             .rposition(|one| *one == (call, segment::path(folder.path(), number)))
     };
-    let copied = calls
+    let noted = calls
         .iter()
         .position(|one| *one == (Call::Write, segment::path(folder.path(), 2)));
     assert!(position(Call::Sync, 2).unwrap() < position(Call::Remove, 1).unwrap());
-    assert!(copied.unwrap() < position(Call::Sync, 2).unwrap());
+    assert!(noted.unwrap() < position(Call::Sync, 2).unwrap());
 }
 
 #[test]

@@ -1,0 +1,87 @@
+//! What is kept back of a quarantined sender costs a checkpoint nothing, and comes out whole.
+
+use crate::support::{points, Place, Service};
+
+const POSTS: u64 = 24;
+const LENGTH: usize = 1 << 20;
+const LITTLE: u64 = 1 << 20;
+const ROUNDS: u64 = 10;
+
+/// What a process has written so far, and the most memory that it has had, in bytes.
+fn written_and_memory(service: &Service) -> (u64, u64) {
+    let of = |file: &str, name: &str| -> u64 {
+        let text = std::fs::read_to_string(format!("/proc/{}/{file}", service.pid())).unwrap();
+        let row = text.lines().find_map(|line| line.strip_prefix(name)).unwrap();
+        row.trim().trim_end_matches(" kB").parse().unwrap()
+    };
+    (of("io", "wchar:"), of("status", "VmHWM:") << 10)
+}
+
+fn flush(service: &Service) {
+    let (status, text) = service.order("/flush");
+    assert_eq!(status, 200, "{text}");
+}
+
+fn held(service: &Service) -> (u64, u64, u64) {
+    let held = &service.status()["slots"][0]["held"];
+    let of = |name: &str| held[name].as_u64().unwrap();
+    (of("senders"), of("posts"), of("bytes"))
+}
+
+#[test]
+fn posts_of_a_quarantined_sender_cost_a_checkpoint_nothing_and_come_out_whole() {
+    let place = Place::new();
+    let sink = place.sink();
+    let words = ["--flush-every", "1h", "--sink", &sink];
+    let mut service = place.serve_with(&words);
+    for number in 0..POSTS {
+        let body = points(&["a"], 100 + number * 10, 1) + &" ".repeat(LENGTH);
+        assert_eq!(service.post("A", &body).unwrap(), (200, "{}".into()));
+    }
+    assert_eq!(service.order("/quarantine/A").0, 200);
+    let before_all = written_and_memory(&service);
+    flush(&service);
+    let (senders, posts, bytes) = held(&service);
+    assert_eq!((senders, posts), (1, POSTS));
+    assert!((POSTS * LENGTH as u64..(POSTS + 1) * LENGTH as u64).contains(&bytes));
+    let before = written_and_memory(&service);
+    assert!(before.0 - before_all.0 < bytes + LITTLE, "they are moved once");
+    for round in 0..ROUNDS {
+        let body = points(&["b"], 100 + round * 10, 1);
+        assert_eq!(service.post("B", &body).unwrap(), (200, "{}".into()));
+        flush(&service);
+    }
+    let behind = written_and_memory(&service);
+    assert!(behind.0 - before.0 < LITTLE, "{} bytes", behind.0 - before.0);
+    assert!(
+        behind.1 - before_all.1 < bytes / 2,
+        "{} bytes",
+        behind.1 - before_all.1
+    );
+    let journal = &service.status()["slots"][0]["journal"];
+    assert!(journal["bytes"].as_u64().unwrap() < LITTLE, "{journal}");
+    let page = service.metrics();
+    for line in [
+        format!("totxegun_held_posts {POSTS}"),
+        format!("totxegun_held_bytes {bytes}"),
+    ] {
+        assert!(page.lines().any(|found| found == line), "{line} in\n{page}");
+    }
+    let said = service.said(&["status"]);
+    assert!(
+        said.contains("24 posts of 1 quarantined sender, 24.0 MiB"),
+        "{said}"
+    );
+    service.kill();
+    let service = place.serve_with(&words);
+    assert_eq!(held(&service), (1, POSTS, bytes));
+    assert_eq!(service.post("A", &points(&["a"], 9000, 1)).unwrap().0, 403);
+    assert_eq!(service.order("/lift/A").0, 200);
+    service.drain();
+    assert_eq!(held(&service), (0, 0, 0));
+    assert!(!place.data().join("slot-0/journal/A.held").exists());
+    service.has_no_fault();
+    assert_eq!(service.end(), Some(0));
+    let wanted = [("a".to_string(), POSTS as i64), ("b".to_string(), ROUNDS as i64)];
+    assert_eq!(place.totals(), wanted.into());
+}
