@@ -147,10 +147,7 @@ async fn a_replay_that_meets_a_limit_makes_room_and_goes_on() {
     assert_eq!(message(&too_large), (503, "too large"));
     run.abort().await;
     // As where a kill came between a flush and the commit of its group.
-    let folder = totxegun::files::Folder::open(
-        &place.folder.path().join("data"),
-        totxegun::files::Durability::Process,
-    );
+    let folder = totxegun::files::Folder::open(&place.data(), totxegun::files::Durability::Process);
     let (journal, outbox) = folder.unwrap().slot(0).unwrap();
     for (start, value) in [(20, 5), (30, -7)] {
         journal.append(&totxegun::files::Post {

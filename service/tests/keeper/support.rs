@@ -2,6 +2,7 @@
 
 use bytes::Bytes;
 use std::collections::BTreeMap;
+use std::path::PathBuf;
 use std::sync::Arc;
 use std::time::{Duration, Instant};
 use tokio::sync::watch;
@@ -18,7 +19,7 @@ const PATIENCE: Duration = Duration::from_secs(120);
 
 /// A folder.
 pub struct Place {
-    pub folder: tempfile::TempDir,
+    folder: Option<tempfile::TempDir>,
     /// How many fit: it may be others at each start.
     pub most_series: usize,
 }
@@ -26,9 +27,13 @@ pub struct Place {
 impl Place {
     pub fn new() -> Place {
         Place {
-            folder: tempfile::tempdir().unwrap(),
+            folder: Some(tempfile::tempdir().unwrap()),
             most_series: 100_000,
         }
+    }
+
+    pub fn data(&self) -> PathBuf {
+        self.folder.as_ref().unwrap().path().join("data")
     }
 
     pub fn settings(&self) -> Settings {
@@ -45,7 +50,7 @@ impl Place {
     pub async fn run_with(&self, settings: Settings) -> Run {
         // Shown where a test fails.
         let _ = tracing_subscriber::fmt().with_test_writer().try_init();
-        let folder = Arc::new(Folder::open(&self.folder.path().join("data"), Durability::Process).unwrap());
+        let folder = Arc::new(Folder::open(&self.data(), Durability::Process).unwrap());
         let (journal, outbox) = folder.slot(0).unwrap();
         let (outbox, metrics) = (Arc::new(outbox), Arc::new(Metrics::new().unwrap()));
         let core = Core::new(self.most_series).unwrap();
@@ -63,6 +68,15 @@ impl Place {
         };
         run.ready().await;
         run
+    }
+}
+
+/// Where a test fails its folder stays: a keeper that is still at work in it would end the process before that is told.
+impl Drop for Place {
+    fn drop(&mut self) {
+        if std::thread::panicking() {
+            let _kept = self.folder.take().map(tempfile::TempDir::into_path);
+        }
     }
 }
 

@@ -6,6 +6,7 @@ mod lines;
 mod log;
 mod memory;
 mod pages;
+mod stuck;
 mod support;
 mod told;
 

@@ -1,0 +1,60 @@
+//! A request that waits and was changed on disk: its delivery stops, by name, until the file is put back.
+
+use crate::support::{points, until, Place, NO_SINK};
+use std::path::PathBuf;
+
+/// A record is its length, a checksum over the rest, its kind, and bytes.
+const ITEM: u8 = 18;
+
+/// Where the first request of a segment ends.
+fn end_of_request(bytes: &[u8]) -> Option<usize> {
+    let mut at = 0;
+    loop {
+        let length = bytes.get(at..at + 4)?;
+        let end = at + 8 + u32::from_le_bytes(length.try_into().ok()?) as usize;
+        if bytes.get(at + 8) == Some(&ITEM) {
+            return Some(end);
+        }
+        at = end;
+    }
+}
+
+fn file_of_request(place: &Place) -> (PathBuf, Vec<u8>, usize) {
+    let files = std::fs::read_dir(place.data().join("slot-0/outbox")).unwrap();
+    let mut found = files.filter_map(|file| {
+        let path = file.unwrap().path();
+        let bytes = std::fs::read(&path).unwrap();
+        let end = end_of_request(&bytes)?;
+        Some((path, bytes, end))
+    });
+    found.next().unwrap()
+}
+
+#[test]
+fn a_changed_request_is_told_and_its_delivery_goes_on_once_it_is_put_back() {
+    let place = Place::new();
+    let service = place.serve_with(&["--sink", NO_SINK]);
+    assert_eq!(service.post("A", &points(&["a"], 100, 5)).unwrap().0, 200);
+    assert_eq!(service.order("/flush").0, 200);
+    assert_eq!(service.end(), Some(0));
+    let (path, sound, end) = file_of_request(&place);
+    let mut changed = sound.clone();
+    changed[end - 1] ^= 1;
+    std::fs::write(&path, &changed).unwrap();
+    let service = place.serve();
+    until("it is told", || !service.status()["slots"][0]["stuck"].is_null());
+    assert!(service.metrics().contains("totxegun_delivery_stuck 1"));
+    let said = service.said(&["status"]);
+    assert!(
+        said.contains("the delivery of slot 0 stops: ") && said.contains(path.to_str().unwrap()),
+        "{said}"
+    );
+    assert_eq!(service.post("A", &points(&["a"], 110, 6)).unwrap().0, 200);
+    std::fs::write(&path, &sound).unwrap();
+    service.drain();
+    assert!(service.status()["slots"][0]["stuck"].is_null());
+    assert!(service.metrics().contains("totxegun_delivery_stuck 0"));
+    service.has_no_fault();
+    assert_eq!(service.end(), Some(0));
+    assert_eq!(place.totals(), [("a".to_string(), 11)].into());
+}
