@@ -25,12 +25,14 @@ import urllib.parse
 from checks import Checks
 from loopback import free_port
 from service import JSON, OtlpSink, Service, ask, in_json, wait_until
+from shipped import own_disk
 
 HERE = os.path.dirname(os.path.abspath(__file__))
 OPERATE = os.path.join(os.path.dirname(HERE), "operate")
 SECONDS = 120
-# Of memory: nobody else writes there meanwhile.
+# Of memory; and a disk of its own where it may have one, so that nobody else writes there meanwhile.
 FOLDERS = "/dev/shm" if os.access("/dev/shm", os.W_OK) else None
+DISK = 2 << 30
 # What a file of the test takes of the disk, and what is left when the alert fires.
 FILL, NEARLY_FULL = 96 << 20, 48 << 20
 SERIES = 20
@@ -280,7 +282,8 @@ def main(program):
     if checks.has("alerts and dashboard", *missing):
         promtool(checks, "the rules are rules", "check", "rules", "alerts.yml")
         promtool(checks, "they fire and clear when they should", "test", "rules", f"{HERE}/alerts_by_time.yml")
-        with tempfile.TemporaryDirectory(prefix="alerts-", dir=FOLDERS) as folder:
+        with tempfile.TemporaryDirectory(prefix="alerts-", dir=FOLDERS) as folder, contextlib.ExitStack() as stack:
+            own_disk(stack, folder, DISK)
             run(checks, program, folder)
     return checks.end()
 

@@ -28,7 +28,7 @@ from service import JSON, OtlpSink, Service, ask, wait_until
 from shipped import flush_all, gateway_at, run_script
 
 POSTS = 10_000
-SECONDS = 3600
+SECONDS, PATIENCE = 3600, 120
 SENDERS = [f"sender-{number}" for number in range(5)]
 # Of each sender; in all fewer than a book takes.
 SERIES = 60
@@ -177,7 +177,10 @@ class Bare:
         self.port = self.orders = gateway_at(stack, program, self.back_end.port).port
 
     def post(self, body, headers):
-        return ask(self.port, "POST", "/v1/metrics", body, headers)
+        status, text = ask(self.port, "POST", "/v1/metrics", body, headers, PATIENCE)
+        if status is None:
+            raise OSError(f"the gateway does not answer: {text} to {body[:200]}")
+        return status, text
 
     def flushed(self):
         """The requests that a flush forwards."""
@@ -203,7 +206,7 @@ class Served:
 
     def post(self, body, headers):
         if self.connection is None:
-            self.connection = http.client.HTTPConnection("127.0.0.1", self.service.listen, timeout=20)
+            self.connection = http.client.HTTPConnection("127.0.0.1", self.service.listen, timeout=PATIENCE)
         self.connection.request("POST", "/v1/metrics", body, headers)
         answer = self.connection.getresponse()
         text = answer.read()

@@ -82,6 +82,8 @@ class Building:
                     raise Failed("not proved")
             with open(mark_of(crate), "wb") as file:
                 file.write(mark)
+            if crate.is_static:
+                write_proof(made_by(crate))  # the service is built with it, and says what is written there
         return "proved"
 
 
@@ -118,11 +120,11 @@ def hand_over(crate):
     if crate.is_program:
         install(made_by(crate), crate.name)
         path = f"bin/{crate.name}"
+        write_proof(f"{ROOT}/{path}")
     elif crate.is_static:
         path = os.path.relpath(made_by(crate), ROOT)
     else:
         return None
-    write_proof(f"{ROOT}/{path}")
     return path
 
 

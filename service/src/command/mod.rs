@@ -10,6 +10,7 @@ mod letters;
 mod print;
 mod reading;
 mod serve;
+mod settings;
 mod status;
 mod table;
 mod totals;

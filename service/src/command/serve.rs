@@ -1,6 +1,7 @@
 //! `totxegun serve`: its options, and its run.
 
 use super::reading::OfReading;
+use super::settings::Names;
 use super::values::{bytes_shown, place, size, time, time_or_never, MayBeNever};
 use super::version::Versions;
 use super::Failure;
@@ -10,8 +11,8 @@ use crate::log;
 use crate::metrics::Metrics;
 use crate::service::{self, init, Settings};
 use crate::sinks::{header_of, Address};
-use anyhow::{bail, Context};
-use clap::{value_parser, Args};
+use anyhow::{anyhow, bail, Context};
+use clap::{value_parser, Args, CommandFactory};
 use std::path::{Path, PathBuf};
 use std::sync::Arc;
 use std::time::Duration;
@@ -88,8 +89,8 @@ pub struct Options {
     /// How many connections senders may have at a time
     #[arg(long, env = "TOTXEGUN_MOST_CONNECTIONS", value_name = "N", default_value_t = 1024, value_parser = value_parser!(u32).range(1..=100_000))]
     most_connections: u32,
-    /// How many threads serve senders
-    #[arg(long, env = "TOTXEGUN_THREADS", value_name = "N", default_value_t = 2, value_parser = value_parser!(u16).range(1..=64))]
+    /// How many threads serve senders: each reads its posts, so as many as there are processors
+    #[arg(long, env = "TOTXEGUN_THREADS", value_name = "N", default_value_t = 4, value_parser = value_parser!(u16).range(1..=64))]
     threads: u16,
     // What is behind a group stands under its heading: so the groups come last.
     #[command(flatten)]
@@ -193,6 +194,22 @@ fn machine_memory() -> u64 {
     total.min(most.unwrap_or(u64::MAX))
 }
 
+/// Refuses a setting that no option reads, and warns of those whose options are gone.
+fn look_at_names() -> Result<(), Failure> {
+    let set = std::env::vars_os().map(|(name, _)| name.to_string_lossy().into_owned());
+    let names = Names::of(&super::Line::command(), set);
+    for name in names.gone {
+        tracing::warn!(
+            name,
+            "{name} is set, and is no setting any more: it changes nothing"
+        );
+    }
+    match names.unknown {
+        Some(unknown) => Err(Failure::Line(anyhow!(unknown))),
+        None => Ok(()),
+    }
+}
+
 /// What gets into the log. Libraries warn of single frames and headers that a sender may send at any rate.
 fn told() -> Targets {
     Targets::new()
@@ -211,6 +228,7 @@ impl Options {
             .init();
         let most_files = raise_open_files();
         tracing::info!("{Versions}");
+        look_at_names()?;
         let mut building = tokio::runtime::Builder::new_multi_thread();
         building
             .worker_threads(BACKGROUND)

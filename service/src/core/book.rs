@@ -99,7 +99,7 @@ impl Reader {
 
 impl Drop for Reader {
     fn drop(&mut self) {
-        // SAFETY: the handle is live, and nobody has it behind this.
+        // SAFETY: the handle is live, and nobody has it after this.
         unsafe { reader_free(&mut self.0) };
     }
 }
@@ -169,7 +169,7 @@ impl Desk {
 
 impl Drop for Desk {
     fn drop(&mut self) {
-        // SAFETY: the handle is live, and nobody has it behind this.
+        // SAFETY: the handle is live, and nobody has it after this.
         unsafe { desk_free(&mut self.0) };
     }
 }
@@ -199,7 +199,7 @@ impl Flushes {
 
 impl Drop for Flushes {
     fn drop(&mut self) {
-        // SAFETY: the handle is live, and nobody has it behind this.
+        // SAFETY: the handle is live, and nobody has it after this.
         unsafe { flushes_free(&mut self.0) };
     }
 }

@@ -20,14 +20,20 @@ use std::sync::{Arc, Mutex, MutexGuard, PoisonError};
 
 /// A book takes 10,000 series, and a series goes to one by a hash: so many on average leave room for the uneven.
 const SERIES_OF_A_BOOK: usize = 8_000;
+/// Rounds are closed after so many posts, more where there are many series, since it takes some microseconds for each;
+/// but no more than a quarter of what a book has room for. And after so many points, since a round keeps them.
+const LEAST_POSTS: usize = 2_000;
+const MOST_POSTS: usize = 16_000;
+const SERIES_FOR_A_POST: usize = 5;
+const LEAST_POINTS: usize = 50_000;
+const POINTS_FOR_A_SERIES: usize = 20;
+/// While what was taken is live no round can be closed: it is tried again after so many posts.
+const POSTS_UNTIL_ANOTHER_TRY: u64 = 500;
+
 /// How many series of each book are taken at once where memory is short.
 const SMALL: usize = 10;
 /// What may be asked for.
 pub const MOST_SERIES: usize = 1_000_000;
-
-/// A round is closed behind so many posts or points: what ended is forgotten then, which takes some milliseconds.
-const ENTRIES_OF_A_ROUND: u64 = 2_000;
-const POINTS_OF_A_ROUND: u64 = 50_000;
 
 /// The book with its lock, and what reads posts.
 pub struct Core {
@@ -43,6 +49,9 @@ pub struct Book {
     /// Since rounds were closed last: posts, and ends of what was taken.
     entries: u64,
     points: u64,
+    /// When rounds are closed.
+    most_entries: u64,
+    most_points: u64,
     rounds_closed: usize,
 }
 
@@ -145,6 +154,8 @@ impl Book {
             books,
             entries: 0,
             points: 0,
+            most_entries: LEAST_POSTS as u64,
+            most_points: LEAST_POINTS as u64,
             rounds_closed: 0,
         })
     }
@@ -163,7 +174,7 @@ impl Book {
         admitted?;
         self.entries += 1;
         self.points += read.points;
-        if self.entries >= ENTRIES_OF_A_ROUND || self.points >= POINTS_OF_A_ROUND {
+        if self.entries >= self.most_entries || self.points >= self.most_points {
             self.close_rounds();
         }
         Ok(())
@@ -171,8 +182,16 @@ impl Book {
 
     /// What is over is forgotten, and sums begin at what they are.
     fn close_rounds(&mut self) {
-        self.rounds_closed += self.desk.close_rounds(1);
-        (self.entries, self.points) = (0, 0);
+        let closed = self.desk.close_rounds(1);
+        self.rounds_closed += closed;
+        let series = self.desk.series();
+        self.most_points = (POINTS_FOR_A_SERIES * series).max(LEAST_POINTS) as u64;
+        self.most_entries = (series / SERIES_FOR_A_POST).clamp(LEAST_POSTS, MOST_POSTS) as u64;
+        match closed {
+            0 => self.most_entries = self.entries + POSTS_UNTIL_ANOTHER_TRY,
+            _ => self.entries = 0,
+        }
+        self.points = 0;
     }
 
     /// Takes all that may be forwarded, or nothing. Until it is settled or given back no round can be closed.
@@ -232,7 +251,7 @@ impl Book {
     }
 
     fn end(&mut self, taken: Flushed, end: fn(&mut Desk, &mut Flushes) -> u32) -> Result<(), Refused> {
-        // Each is ended, also behind one that says no, which none does.
+        // Each is ended, also after one that says no, which none does.
         let ended = taken.parts.into_iter().map(|(mut flushes, _)| {
             let status = end(&mut self.desk, &mut flushes);
             check(Answer::of_status(status)).map(drop)
@@ -266,7 +285,7 @@ impl Book {
         std::mem::take(&mut self.rounds_closed)
     }
 
-    /// What each of its books has, one behind the other.
+    /// What each of its books has, one after the other.
     pub fn report(&mut self) -> Result<Vec<u8>, Refused> {
         let mut flushes = Flushes::new().ok_or(Refused::NoMemory)?;
         let mut all = Vec::new();

@@ -179,7 +179,7 @@ fn each_block_fails<T>(does_without: bool, mut call: impl FnMut() -> Result<T, R
             Ok(done) if all_were_given => return (blocks, done),
             // A reader keeps what it has room for.
             Ok(_) => assert!(does_without, "a block was refused, and it was done all the same"),
-            Err(refused) => assert_eq!(refused, Refused::NoMemory, "behind {blocks} blocks"),
+            Err(refused) => assert_eq!(refused, Refused::NoMemory, "after {blocks} blocks"),
         }
     }
     unreachable!()
@@ -244,7 +244,7 @@ fn check_quarantine(core: &Core) -> Result<(), Refused> {
 
 /// Where memory is short: what was written stays written, and the rest is in the book.
 #[test]
-fn what_is_written_in_parts_is_there_once_also_behind_faults() {
+fn what_is_written_in_parts_is_there_once_also_after_faults() {
     let core = Core::new(24_000).unwrap();
     let known = names("s", 120);
     assert_eq!(post(&core, "A", &points(&known, 10, 5)), Ok(0));
@@ -302,6 +302,59 @@ fn posts_are_read_alike_on_both_sides() {
                 fresh.lock().settle(flushed).unwrap();
             }
         }
+    }
+}
+
+/// How long it holds the lock. Run it alone: cargo test --lib how_long_the_lock_is_held -- --ignored --nocapture
+#[test]
+#[ignore]
+fn how_long_the_lock_is_held() {
+    use std::time::{Duration, Instant};
+    for count in [1_000, 10_000, 100_000] {
+        let core = Core::new(count).unwrap();
+        let all = names("s", count);
+        let began = Instant::now();
+        for part in all.chunks(250) {
+            assert_eq!(post(&core, "A", &points(part, 10, 1)), Ok(0));
+        }
+        eprintln!("{count} series: made in {:?}", began.elapsed());
+        let (mut reading, mut admitting, mut longest) = (Duration::ZERO, Duration::ZERO, Duration::ZERO);
+        const POSTS: u32 = 4_000;
+        for number in 0..POSTS {
+            let first = number as usize * 20 % (count - 20);
+            let start = 20 + u64::from(number) * 10;
+            let body = points(&all[first..first + 20], start, 1);
+            let began = Instant::now();
+            let mut read = core.read("A".into(), body.into()).unwrap();
+            let read_at = Instant::now();
+            core.lock().admit(&mut read).unwrap();
+            (reading, admitting) = (reading + (read_at - began), admitting + read_at.elapsed());
+            longest = longest.max(read_at.elapsed());
+        }
+        eprintln!(
+            "  a post: read {:?}, admitted {:?}, longest {longest:?}",
+            reading / POSTS,
+            admitting / POSTS
+        );
+        let began = Instant::now();
+        let mut flushed = core.lock().take_all().unwrap();
+        let took = began.elapsed();
+        let texts = flushed.texts().unwrap();
+        let wrote = began.elapsed() - took;
+        let bytes: usize = texts.iter().map(Vec::len).sum();
+        core.lock().settle(flushed).unwrap();
+        let settled = began.elapsed() - took - wrote;
+        eprintln!(
+            "  taken in {took:?}, {} texts of {bytes} bytes in {wrote:?}, settled in {settled:?}",
+            texts.len()
+        );
+        let began = Instant::now();
+        core.lock().close_rounds();
+        eprintln!(
+            "  rounds closed in {:?}; memory {:?}",
+            began.elapsed(),
+            memory_used()
+        );
     }
 }
 

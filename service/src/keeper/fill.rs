@@ -95,7 +95,7 @@ impl<S: Fn() -> bool> Filling<'_, S> {
     }
 
     /// A post that is refused for good now was in a group before: that is a fault, and nothing would be better for a
-    /// service that stops there. One that a limit refuses is put behind a flush.
+    /// service that stops there. One that a limit refuses is put after a flush.
     fn replay_one(&mut self, post: &Post) -> Result<(), Trouble> {
         self.say_progress();
         let mut put = self.put(post);

@@ -88,7 +88,7 @@ pub struct Keeper {
     /// A sender was released, so that there is something to flush.
     released: bool,
     next_checkpoint: Instant,
-    /// How many checkpoints were put off, one behind the other.
+    /// How many checkpoints were put off, one after the other.
     put_off: u32,
     next_look_at_ages: Instant,
 }

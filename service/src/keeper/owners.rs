@@ -44,7 +44,7 @@ fn find_in(slot: &Slot, ranges: impl Iterator<Item = (u64, u64)>) -> Result<(), 
     Ok(())
 }
 
-/// These are faults of this program, and a late repeat to such a series may be taken behind a start.
+/// These are faults of this program, and a late repeat to such a series may be taken after a start.
 fn report(slot: &Slot, misread: u64, unknown: &HashSet<SeriesKey>) {
     let faults = &slot.metrics.faults;
     if misread > 0 {

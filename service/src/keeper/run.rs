@@ -10,7 +10,7 @@ use tokio::time::MissedTickBehavior;
 
 /// How often it is looked whether a checkpoint is due.
 const LOOK: Duration = Duration::from_millis(50);
-/// A checkpoint comes early behind so many posts: a start puts in again what is in no group.
+/// A checkpoint comes early after so many posts: a start puts in again what is in no group.
 const MANY_POSTS: u64 = 300_000;
 /// How often it is looked whether there are series to forget where there are too many, and how often some are.
 const BETWEEN_LOOKS_AT_AGES: Duration = Duration::from_secs(1);
@@ -25,7 +25,7 @@ enum Event {
 }
 
 impl Keeper {
-    /// Returns once all that was taken is in the outbox behind `stop`, or where it can't go on. A stop that comes
+    /// Returns once all that was taken is in the outbox after `stop`, or where it can't go on. A stop that comes
     /// during the start leaves posts in the journal alone: the next start puts them in.
     pub async fn run(mut self, mut stop: watch::Receiver<bool>) -> Result<(), Trouble> {
         let ended = self.serve(&mut stop).await;

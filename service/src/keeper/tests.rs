@@ -46,7 +46,7 @@ impl Run {
         }
     }
 
-    /// A point of a series behind those before.
+    /// A point of a series after those before.
     async fn post(&self, number: u64) -> Outcome {
         self.slot.post("A".into(), point("a", number).into()).await
     }
@@ -177,9 +177,9 @@ async fn a_checkpoint_waits_for_a_post_that_is_written() {
     run.end().await;
 }
 
-/// The door is looked at again under the lock: what is taken behind the last checkpoint would be in no group.
+/// The door is looked at again under the lock: what is taken after the last checkpoint would be in no group.
 #[tokio::test(flavor = "multi_thread")]
-async fn nothing_is_taken_behind_the_last_checkpoint() {
+async fn nothing_is_taken_after_the_last_checkpoint() {
     let place = tempfile::tempdir().unwrap();
     let run = Run::begin(place.path(), Disk::default()).await;
     assert_eq!(run.post(1).await, Outcome::taken(0));

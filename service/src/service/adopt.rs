@@ -2,7 +2,7 @@
 //!
 //! First each slot comes to rest, with a book of its own: all that was taken is in its outbox. Then slot 0 adopts the
 //! series of the others. Then the number 1 is written, in one step. Each start leaves out of an outbox the series whose
-//! owners had another slot by the number that is written: before that step what was adopted; behind it, all that is not
+//! owners had another slot by the number that is written: before that step what was adopted; after it, all that is not
 //! slot 0's. So a kill leaves the old number or the new one, and never a mix. Requests that wait stay where they are,
 //! and are delivered under their keys.
 

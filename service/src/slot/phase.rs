@@ -1,4 +1,4 @@
-//! Whether posts are taken. It is looked at again under the lock of the book, so none is taken behind the last checkpoint.
+//! Whether posts are taken. It is looked at again under the lock of the book, so none is taken after the last checkpoint.
 
 use std::sync::{Mutex, PoisonError};
 

@@ -63,17 +63,17 @@ async fn late_repeats_are_refused_over_restarts() {
     assert!(run.stop().await.is_empty());
 }
 
-async fn refused(run: &Run, behind: &str) {
+async fn refused(run: &Run, after: &str) {
     let repeat = run.post("A", point("a", 10, 20, 5)).await;
     assert_eq!(
         message(&repeat),
         (400, "out of order: point 0, frontier 20"),
-        "behind {behind}"
+        "after {after}"
     );
     let repeat = run.post("A", point("b", 10, 20, 6)).await;
-    assert_eq!(repeat.status(), 400, "behind {behind}");
+    assert_eq!(repeat.status(), 400, "after {after}");
     let other = run.post("B", point("a", 20, 30, 5)).await;
-    assert_eq!(message(&other), (400, "other writer: point 0"), "behind {behind}");
+    assert_eq!(message(&other), (400, "other writer: point 0"), "after {after}");
 }
 
 #[tokio::test(flavor = "multi_thread")]
@@ -165,7 +165,7 @@ async fn a_replay_that_meets_a_limit_makes_room_and_goes_on() {
     assert_eq!(sums(&run.stop().await), [("a", i64::MAX - 2)]);
 }
 
-/// Senders that post one behind the other until it ends: how many posts each has now, behind those that it had.
+/// Senders that post one after the other until it ends: how many posts each has now, after those that it had.
 async fn load(run: &Arc<Run>, had: &[u64], ends: &Arc<AtomicBool>) -> Vec<u64> {
     let mut tasks = tokio::task::JoinSet::new();
     for (sender, had) in had.iter().copied().enumerate() {

@@ -4,9 +4,8 @@ use crate::support::{points, Place, Service};
 use std::process::Command;
 
 /// All that changes something, or has something of the senders.
-const GUARDED: [(&str, &str); 10] = [
+const GUARDED: [(&str, &str); 9] = [
     ("POST", "/flush"),
-    ("POST", "/renew"),
     ("POST", "/quarantine/A"),
     ("POST", "/lift/A"),
     ("POST", "/dead/0-a-1/resend"),

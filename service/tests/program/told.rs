@@ -27,6 +27,51 @@ fn a_quarantined_sender_that_names_none_is_shown() {
 }
 
 #[test]
+fn an_operator_sees_the_books() {
+    let place = Place::new();
+    let service = place.serve();
+    assert_eq!(service.post("A", &points(&["a", "b"], 100, 5)).unwrap().0, 200);
+    let (status, report) = service.asked_for("/report").unwrap();
+    assert_eq!(
+        (status, report.matches("owner A frontier 100").count()),
+        (200, 2),
+        "{report}"
+    );
+    assert!(
+        report.ends_with("end\n") && report.matches("end\n").count() == 1,
+        "{report}"
+    );
+    assert_eq!(service.order("/renew").0, 404);
+    let books = &service.status()["books"];
+    assert_eq!(
+        (&books["count"], &books["most_series"]),
+        (&13.into(), &100_000.into())
+    );
+    assert!(
+        books["most_memory_bytes"].as_u64() > books["memory_bytes"].as_u64(),
+        "{books}"
+    );
+    let said = service.said(&["status"]);
+    assert!(
+        said.lines().any(|line| line.contains(" 13 for 100000 series, ")),
+        "{said}"
+    );
+    let page = service.metrics();
+    let value = |name: &str| {
+        let line = page
+            .lines()
+            .find_map(|line| line.strip_prefix(&format!("{name} ")));
+        line.unwrap_or_else(|| panic!("{name} in\n{page}"))
+            .parse::<f64>()
+            .unwrap()
+    };
+    assert!(value("totxegun_book_memory_bytes") > 0.0);
+    assert!(value("totxegun_book_memory_most_bytes") > value("totxegun_book_memory_bytes"));
+    assert_eq!(value("totxegun_rounds_closed_total"), 0.0);
+    assert_eq!(service.end(), Some(0));
+}
+
+#[test]
 fn a_wrong_key_is_that_of_no_request() {
     let place = Place::new();
     let service = place.serve();

@@ -193,6 +193,7 @@ async fn a_kill_at_any_call_loses_and_doubles_nothing() {
 
 #[tokio::test(flavor = "multi_thread")]
 async fn a_quarantine_and_too_many_series_are_named_and_change_nothing() {
+    const FEW: usize = 1_000;
     let place = place();
     let path = place.path().join("data");
     filled(&path, 2, 2);
@@ -203,7 +204,7 @@ async fn a_quarantine_and_too_many_series_are_named_and_change_nothing() {
             .unwrap()
     };
     open().quarantine("s1").unwrap();
-    let text = adopted(&path, MOST).await.unwrap_err().to_string();
+    let text = adopted(&path, FEW).await.unwrap_err().to_string();
     assert!(
         text.contains("(s1)") && text.contains("0.5.0 with --slots 2"),
         "{text}"
@@ -214,19 +215,19 @@ async fn a_quarantine_and_too_many_series_are_named_and_change_nothing() {
         owner: Some("s1".into()),
         seen: number as u64,
     };
-    let many = (0..MOST).map(|number| {
+    let many = (0..FEW).map(|number| {
         let key = format!("[[],\"\",\"\",[],\"m{number}\",\"\",\"sum\",[]]");
         (SeriesKey(key.into()), series(number))
     });
     open().adopt(many.collect()).unwrap();
     assert_eq!(slot_of("s1", 2), 1, "so they stay there");
-    let text = adopted(&path, MOST).await.unwrap_err().to_string();
+    let text = adopted(&path, FEW).await.unwrap_err().to_string();
     assert!(
-        text.contains("100012 series") && text.contains("--most-series"),
+        text.contains("1012 series") && text.contains("--most-series"),
         "{text}"
     );
     assert_eq!(Folder::open(&path, Durability::Process).unwrap().slots(), 2);
-    adopted(&path, MOST + WAIT as usize).await.unwrap();
+    adopted(&path, FEW + WAIT as usize).await.unwrap();
     assert_eq!(Folder::open(&path, Durability::Process).unwrap().slots(), 1);
 }
 
