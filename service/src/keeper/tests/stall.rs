@@ -1,8 +1,17 @@
-//! A disk that stalls: who comes later is told at once, and all goes on behind it.
+//! A disk that stalls: who comes later is told at once, and all goes on after it.
 
 use super::*;
 use crate::otlp::series::{forwarded, Value};
 use crate::slot::NO_ANSWER;
+
+/// The disk answers again, also where a check fails: the end of a test waits for it.
+struct Thaw(Arc<AtomicBool>);
+
+impl Drop for Thaw {
+    fn drop(&mut self) {
+        self.0.store(false, SeqCst);
+    }
+}
 
 /// Posts on a disk of which one kind of call stalls in one folder: those under way wait, later ones are turned away.
 async fn stall(stalled: Call, folder: &'static str) {
@@ -18,6 +27,7 @@ async fn stall(stalled: Call, folder: &'static str) {
     let data = Folder::open_on(disk, &place.path().join("data"), Durability::Disk).unwrap();
     let run = Run::begin_in(data, settings()).await;
     assert_eq!(run.post(1).await, Outcome::taken(0));
+    let thaw = Thaw(stalls.clone());
     stalls.store(true, SeqCst);
     let began = Instant::now();
     let (slot, orders) = (run.slot.clone(), run.orders.clone());
@@ -51,8 +61,7 @@ async fn stall(stalled: Call, folder: &'static str) {
     let call = run.slot.disk_call();
     let took = asks.elapsed();
     let waits = !first.is_finished();
-    // Before a check that may fail: an end of the test waits for the disk.
-    stalls.store(false, SeqCst);
+    drop(thaw);
     assert!(waits && call >= Duration::from_secs(2), "{call:?}");
     assert!(took < Duration::from_secs(1), "{took:?}");
     first.await.unwrap();
@@ -62,19 +71,24 @@ async fn stall(stalled: Call, folder: &'static str) {
     let last = if folder == "outbox" { 2 } else { 3 };
     assert_eq!(run.post(last).await, Outcome::taken(0));
     run.flush().await;
+    assert_eq!(sum_of_all(&run.slot).await, last as i64);
+    run.end().await;
+}
+
+/// What the outbox has, as a sink takes it.
+async fn sum_of_all(slot: &Slot) -> i64 {
     let mut sum = 0;
-    while run.slot.outbox.waiting().0 > 0 {
-        let (waiting, body) = run.slot.outbox.first().await.unwrap();
+    while slot.outbox.waiting().0 > 0 {
+        let (waiting, body) = slot.outbox.first().await.unwrap();
         for point in forwarded(&body).unwrap() {
             let Value::Sum(value) = point.value else {
                 panic!("{point:?}")
             };
             sum += value;
         }
-        run.slot.outbox.acknowledge(waiting.number).unwrap();
+        slot.outbox.acknowledge(waiting.number).unwrap();
     }
-    assert_eq!(sum, last as i64);
-    run.end().await;
+    sum
 }
 
 #[tokio::test(flavor = "multi_thread", worker_threads = 4)]
