@@ -1,4 +1,4 @@
-//! A disk that stalls: who comes later is told at once, and all goes on behind it.
+//! A disk that stalls: who comes later is told at once, and all goes on after it.
 
 use super::*;
 use crate::otlp::series::{forwarded, Value};
