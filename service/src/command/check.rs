@@ -43,7 +43,7 @@ struct Found {
     slots: u16,
     segments: u64,
     journal_bytes: u64,
-    /// Posts that are in no group: a fresh gateway gets them.
+    /// Posts that are in no group: a fresh book gets them.
     posts: u64,
     post_bytes: u64,
     senders: usize,

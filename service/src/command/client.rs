@@ -72,7 +72,7 @@ pub fn another(address: &str) -> String {
     format!("what listens at {address} is no operator's address of totxegun: give that by --operate")
 }
 
-/// What comes until the connection ends. Who waits is told so once: an order waits for a gateway that is not there.
+/// What comes until the connection ends. Who waits is told so once: an order waits until the book is filled.
 fn answer(stream: TcpStream, patience: Duration, tell: impl FnOnce()) -> std::io::Result<Vec<u8>> {
     let begun = Instant::now();
     let soon = patience.min(SOON);

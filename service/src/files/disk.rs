@@ -160,7 +160,7 @@ impl Disk {
         self.make_folder(path)?;
         for (number, folder) in path.ancestors().skip(1).enumerate() {
             let synced = self.sync_folder(folder);
-            // An earlier start may have ended behind making it. Of a folder that others made it may not be allowed.
+            // An earlier start may have ended after making it. Of a folder that others made it may not be allowed.
             if number < made {
                 synced?;
             }

@@ -106,6 +106,8 @@ impl Folder {
                 let epoch = folder.renew_epoch()?;
                 if known.is_some() {
                     tracing::warn!(
+                        folder = %path.display(),
+                        epoch,
                         "{} was copied or put back, so its epoch is {epoch} now",
                         path.display()
                     );

@@ -1,4 +1,4 @@
-//! The journal: each post that the gateway took, in the order of its sender, in segments.
+//! The journal: each post that the book took, in the order of its sender, in segments.
 //!
 //! | kind | bytes |
 //! |---|---|
@@ -33,13 +33,13 @@ const POST: u8 = records::OWN;
 const COPY: u8 = records::OWN + 1;
 const HELD: u8 = records::OWN + 2;
 
-/// A post that the gateway took.
+/// A post that the book took.
 #[derive(Clone, Debug, PartialEq, Eq)]
 pub struct Post {
     pub sender: String,
-    /// How many of its points the gateway counted as foreign.
+    /// How many of its points the book counted as foreign.
     pub foreign: u64,
-    /// As the gateway was given it.
+    /// As the book was given it.
     pub body: Bytes,
 }
 
@@ -89,7 +89,7 @@ struct Shared {
     waiters: Mutex<Waiters>,
     work: Condvar,
     syncing: Mutex<()>,
-    /// The next segment, durable, which has no name yet. Locked behind `place`.
+    /// The next segment, durable, which has no name yet. Locked after `place`.
     next: Mutex<Option<Segment>>,
 }
 

@@ -1,4 +1,4 @@
-//! The outbox: what the gateway forwarded, in groups that are there wholly or not at all, until the sink has it.
+//! The outbox: what the service forwarded, in groups that are there wholly or not at all, until the sink has it.
 //!
 //! What is written is a `Change`; the same change is then made in memory, as a start makes it when it reads. The
 //! bytes are described in `rows`.
@@ -73,7 +73,7 @@ pub struct Outbox {
     stuck: Mutex<Option<String>>,
 }
 
-/// The ends of the points, as the gateway's own request tells them.
+/// The ends of the points, as the book's own request tells them.
 fn ends(body: &[u8]) -> Result<Vec<(SeriesKey, u64)>, NotForwarded> {
     Ok(series::forwarded(body)?
         .into_iter()

@@ -29,7 +29,7 @@ pub(super) struct Shadow {
     synced: HashMap<u64, Vec<u8>>,
     /// Files that were deleted, as they were then.
     deleted: HashMap<u64, Vec<u8>>,
-    /// The names at the last sync of the folder, and behind each change since.
+    /// The names at the last sync of the folder, and after each change since.
     names: Vec<Names>,
 }
 
@@ -109,7 +109,7 @@ fn mixed(synced: &[u8], now: &[u8], chance: &mut Numbers) -> Vec<u8> {
     mixed
 }
 
-/// A disk that is seen, and gone behind so many calls.
+/// A disk that is seen, and gone after so many calls.
 pub(super) fn disk(shadow: &Arc<Mutex<Shadow>>, calls: u64) -> Disk {
     disk_behind(shadow, Arc::new(AtomicU64::new(calls)))
 }

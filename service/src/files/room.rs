@@ -119,7 +119,11 @@ impl Room {
                 left
             }
             Err(error) => {
-                tracing::error!("the disk can't be asked for its room, so posts are refused: {error}");
+                let reason = error.to_string();
+                tracing::error!(
+                    reason,
+                    "the disk can't be asked for its room, so posts are refused: {reason}"
+                );
                 0
             }
         };
@@ -133,6 +137,9 @@ impl Room {
         }
         match is_full {
             true => tracing::warn!(
+                free_bytes = free,
+                kept_bytes = kept,
+                files,
                 "the disk has {} MiB free and room for {files} files: {} MiB and {FILES} files are kept to deliver what was \
                  taken, so posts get 503 until there is more",
                 free >> 20,

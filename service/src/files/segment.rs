@@ -140,7 +140,7 @@ pub fn keep_aside(disk: &Disk, path: &Path, at: u64) -> Result<Option<Dropped>, 
     let stem = path.file_stem().unwrap_or_default().to_string_lossy();
     let mut kept = path.with_file_name(format!("{stem}-{at}.torn"));
     let mut number = 1;
-    // An earlier start may have ended behind it.
+    // An earlier start may have ended after it.
     while std::fs::read(&kept).is_ok_and(|there| there != rest) {
         number += 1;
         kept = path.with_file_name(format!("{stem}-{at}-{number}.torn"));
@@ -148,20 +148,15 @@ pub fn keep_aside(disk: &Disk, path: &Path, at: u64) -> Result<Option<Dropped>, 
     if !kept.exists() {
         disk.put_file(&kept, &rest)?;
     }
-    let bytes = rest.len() as u64;
-    tracing::warn!(
-        "{}, byte {at}: {bytes} bytes are no whole record, as a loss of power leaves it, so they do not count; they \
-         are kept in {}",
-        path.display(),
-        kept.display()
-    );
-    let file = path.into();
-    Ok(Some(Dropped {
-        file,
+    let dropped = Dropped {
+        file: path.into(),
         at,
-        bytes,
+        bytes: rest.len() as u64,
         kept,
-    }))
+    };
+    let (file, kept) = (dropped.file.display(), dropped.kept.display());
+    tracing::warn!(%file, offset = at, bytes = dropped.bytes, %kept, "{dropped}");
+    Ok(Some(dropped))
 }
 
 /// Closes the last segment of an earlier run at `at`. What was torn behind becomes zeros, and the file stays as long:

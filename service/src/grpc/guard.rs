@@ -1,5 +1,5 @@
 //! Ends a connection that floods: too long a block of headers, or too many frames that cost the sender nothing. A ping for
-//! each message that came is none of these: gRPC's client for Go measures the connection so, behind each answer. Nor is an
+//! each message that came is none of these: gRPC's client for Go measures the connection so, after each answer. Nor is an
 //! empty frame that ends a call, one for each.
 //!
 //! The library's own bounds on these are younger than the release that is used here, so the frames are counted where

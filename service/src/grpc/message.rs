@@ -50,7 +50,7 @@ pub async fn receive(body: &mut Body, hold: &mut Hold) -> Result<Message, Refusa
     }
 }
 
-/// Reads what still comes behind a refusal and throws it away, within bounds.
+/// Reads what still comes after a refusal and throws it away, within bounds.
 pub async fn throw_away(body: &mut Body) {
     let reading = async {
         let mut left = LEFT_BYTES;

@@ -10,7 +10,7 @@ use std::io::Read;
 use std::time::Duration;
 use tokio::io::{AsyncRead, AsyncWrite};
 
-/// A body's most bytes, packed and unpacked: what the gateway reads.
+/// A body's most bytes, packed and unpacked: what the book reads.
 pub const MOST: usize = 4 << 20;
 
 /// How long, and how much, is still read of a request that was refused.
@@ -47,7 +47,7 @@ pub async fn receive<S: AsyncRead + AsyncWrite + Unpin>(
     Ok(whole.into())
 }
 
-/// The next part behind `have` bytes. A vector that grows has up to twice its bytes.
+/// The next part after `have` bytes. A vector that grows has up to twice its bytes.
 async fn next<S: AsyncRead + AsyncWrite + Unpin>(
     wire: &mut Wire<S>,
     have: usize,
@@ -63,7 +63,7 @@ async fn next<S: AsyncRead + AsyncWrite + Unpin>(
     Ok(Some(part))
 }
 
-/// Reads what still comes behind a refusal and throws it away: a connection that is closed over unread bytes may
+/// Reads what still comes after a refusal and throws it away: a connection that is closed over unread bytes may
 /// take the answer with it.
 pub async fn throw_away<S: AsyncRead + AsyncWrite + Unpin>(wire: &mut Wire<S>) {
     let reading = async {
@@ -189,7 +189,7 @@ pub(super) mod tests {
         assert_eq!(read(gzip(b"{}"), MOST), Err(413), "there is never so much");
     }
 
-    /// What is received of a body that comes in parts, and is broken off behind them.
+    /// What is received of a body that comes in parts, and is broken off after them.
     async fn received(framed: Framing, parts: &[&[u8]], most: usize) -> Result<Bytes, u16> {
         let budget = Budget::new(most);
         let (mut sender, stream) = tokio::io::duplex(16 << 10);

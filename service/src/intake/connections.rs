@@ -83,8 +83,12 @@ impl Room {
             return Some(place);
         }
         if let (false, Ok(address)) = (self.was_full.swap(true, Relaxed), listener.local_addr()) {
-            let most = self.most;
-            tracing::warn!("all {most} connections are taken that {address} may have: further ones wait");
+            let (most, address) = (self.most, address.to_string());
+            tracing::warn!(
+                address,
+                connections = most,
+                "all {most} connections are taken that {address} may have: further ones wait"
+            );
         }
         let place = self.places.clone().acquire_owned().await.ok(); // it is never closed
         self.is_full.store(false, Relaxed);
@@ -108,7 +112,7 @@ impl Room {
     }
 }
 
-/// Accepts until `stop` is true or its sender is gone, and returns behind the end of the last connection.
+/// Accepts until `stop` is true or its sender is gone, and returns after the end of the last connection.
 async fn accept(
     listener: TcpListener,
     room: Arc<Room>,
@@ -147,7 +151,7 @@ impl<T: Taker> Shared<T> {
 }
 
 /// Serves senders, with each connection on one of the threads, until `stop` is true or its sender is gone: then nothing
-/// more is accepted, requests that are under way are answered, and it returns behind the last of them.
+/// more is accepted, requests that are under way are answered, and it returns after the last of them.
 pub async fn spread<T: Taker, F: Future<Output = ()> + Send + 'static>(
     listener: TcpListener,
     shared: Arc<Shared<T>>,

@@ -152,7 +152,7 @@ impl Waiting {
         self.looks = 0;
     }
 
-    /// Whether a next request may come behind an answer.
+    /// Whether a next request may come after an answer.
     fn may_go_on(&self) -> bool {
         let is_stopped = *self.stopped.borrow() || self.stopped.has_changed().is_err();
         !is_stopped && !self.room.is_full()

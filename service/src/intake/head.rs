@@ -76,7 +76,7 @@ pub fn read(input: &[u8]) -> Result<Option<(usize, Asked)>, Refusal> {
 }
 
 impl Head {
-    /// Looks at a head in the gateway's order: the path, the method, the sender, the content.
+    /// Looks at a head in order: the path, the method, the sender, the content.
     fn read(request: &Request) -> Result<Head, Refusal> {
         if !request.path.is_some_and(is_of_metrics) {
             return Err(Refusal::NoSuchPath);
@@ -87,7 +87,7 @@ impl Head {
         let sender = sender(request.headers)?;
         let encoding = encoding(request.headers).ok_or(Refusal::ContentType)?;
         let packing = packing(request.headers)?;
-        // Such a body is empty, and an empty one of protobuf is a request of no points: what comes behind would be lost.
+        // Such a body is empty, and an empty one of protobuf is a request of no points: what comes after would be lost.
         if !has_length(request.headers) {
             return Err(Refusal::NoLength);
         }

@@ -36,11 +36,11 @@ use tokio::io::{AsyncRead, AsyncWrite};
 use tokio::sync::Semaphore;
 use wire::Wire;
 
-/// How long a body may take behind its head.
+/// How long a body may take after its head.
 const PATIENCE: Duration = Duration::from_secs(60);
 
 /// A body up to this long is read in place; a longer one on a thread beside the runtime's, so that no short post waits
-/// behind it. A packed one that may be short is unpacked in place as far as that.
+/// after it. A packed one that may be short is unpacked in place as far as that.
 const SHORT: usize = 64 << 10;
 
 /// How many times its length a packed body is thought to have at least.

@@ -1,4 +1,4 @@
-//! Why the intake answers a request itself, before any gateway is asked.
+//! Why the intake answers a request itself, before the book is asked.
 
 use crate::otlp::{Outcome, Refused};
 

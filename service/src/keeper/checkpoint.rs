@@ -53,9 +53,14 @@ impl Keeper {
 
     fn put_off(&mut self, refused: Refused) -> Result<(), Trouble> {
         self.put_off += 1;
-        let (number, tries) = (self.slot.number(), self.put_off);
+        let (slot, tries, reason) = (self.slot.number(), self.put_off, refused.to_string());
         self.slot.metrics.checkpoints.with_label_values(&["failed"]).inc();
-        tracing::error!("slot {number}: a checkpoint is put off for the {tries}. time: {refused}");
+        tracing::error!(
+            slot,
+            tries,
+            reason,
+            "slot {slot}: a checkpoint is put off for the {tries}. time: {reason}"
+        );
         match tries < TRIES {
             true => Ok(()),
             false => Err(Trouble::NoMemory),

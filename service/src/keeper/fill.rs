@@ -107,11 +107,14 @@ impl<S: Fn() -> bool> Filling<'_, S> {
             Ok(foreign) if foreign == post.foreign => {}
             Err(refused) if refused.status() == 503 => return Err(self.not_filled(post, refused)),
             other => {
+                let (slot, sender, foreign) = (self.slot.number(), &post.sender, post.foreign);
+                let reason = format!("{other:?}");
                 tracing::error!(
-                    "slot {}: a post of {} with {} foreign points was taken before, and comes to {other:?} now",
-                    self.slot.number(),
-                    post.sender,
-                    post.foreign
+                    slot,
+                    sender,
+                    foreign,
+                    reason,
+                    "slot {slot}: a post of {sender} with {foreign} foreign points was taken before, and comes to {reason} now"
                 );
                 self.slot.metrics.faults.with_label_values(&["replay"]).inc();
             }
@@ -157,8 +160,12 @@ impl<S: Fn() -> bool> Filling<'_, S> {
     fn say_progress(&mut self) {
         if self.shown.elapsed() >= PROGRESS {
             self.shown = Instant::now();
-            let (number, posts) = (self.slot.number(), self.filled.posts);
-            tracing::info!("slot {number}: the book has {posts} posts of the journal so far");
+            let (slot, posts) = (self.slot.number(), self.filled.posts);
+            tracing::info!(
+                slot,
+                posts,
+                "slot {slot}: the book has {posts} posts of the journal so far"
+            );
         }
     }
 }

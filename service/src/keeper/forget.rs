@@ -61,17 +61,21 @@ fn forget(slot: &Arc<Slot>, age: Duration) -> Result<Vec<Vec<u8>>, Trouble> {
     drop(old); // without the lock: it has much to give back
     let pause = &slot.metrics.checkpoint_pause_seconds;
     pause.observe(began.elapsed().as_secs_f64());
+    let number = slot.number();
     tracing::info!(
-        "slot {}: {forgotten} series are forgotten for their age",
-        slot.number()
+        slot = number,
+        series_count = forgotten,
+        "slot {number}: {forgotten} series are forgotten for their age"
     );
     Ok(filled.carried)
 }
 
 fn stays(slot: &Slot, why: &dyn Display) {
+    let (slot, reason) = (slot.number(), why.to_string());
     tracing::error!(
-        "slot {}: series were to be forgotten, and the book stays as it is: {why}",
-        slot.number()
+        slot,
+        reason,
+        "slot {slot}: series were to be forgotten, and the book stays as it is: {reason}"
     );
 }
 

@@ -3,7 +3,9 @@
 //! A post is read for this alone. The book's own count of foreign points shows whether it was read as the book reads it.
 
 use crate::files::{Fault, Post};
+use crate::log::shown;
 use crate::otlp::series::{posted, SeriesKey};
+use crate::remarks::SERIES_SHOWN;
 use crate::slot::Slot;
 use std::collections::{HashMap, HashSet};
 
@@ -47,20 +49,23 @@ fn find_in(slot: &Slot, ranges: impl Iterator<Item = (u64, u64)>) -> Result<(), 
 /// These are faults of this program, and a late repeat to such a series may be taken after a start.
 fn report(slot: &Slot, misread: u64, unknown: &HashSet<SeriesKey>) {
     let faults = &slot.metrics.faults;
+    let number = slot.number();
     if misread > 0 {
         faults.with_label_values(&["reading"]).inc_by(misread);
         tracing::error!(
-            "slot {}: {misread} posts are read otherwise than by the book",
-            slot.number()
+            slot = number,
+            posts = misread,
+            "slot {number}: {misread} posts are read otherwise than by the book"
         );
     }
     if let Some(one) = unknown.iter().next() {
         faults.with_label_values(&["owner"]).inc_by(unknown.len() as u64);
-        let count = unknown.len();
+        let (count, series) = (unknown.len(), shown(&one.0, SERIES_SHOWN));
         tracing::error!(
-            "slot {}: {count} series were forwarded and are in no post, such as {}",
-            slot.number(),
-            one.0
+            slot = number,
+            series_count = count,
+            series,
+            "slot {number}: {count} series were forwarded and are in no post, such as {series}"
         );
     }
 }

@@ -81,10 +81,12 @@ impl Keeper {
         self.slot.set_ungrouped(posts);
         let took = began.elapsed();
         self.slot.metrics.recovery_seconds.observe(took.as_secs_f64());
+        let (slot, series) = (self.slot.number(), self.slot.outbox.series_count());
         tracing::info!(
-            "slot {} goes on after {took:?}; series: {}, posts of the journal: {posts}",
-            self.slot.number(),
-            self.slot.outbox.series_count()
+            slot,
+            series_count = series,
+            posts,
+            "slot {slot} goes on after {took:?}; series: {series}, posts of the journal: {posts}"
         );
         Ok(true)
     }
@@ -132,13 +134,18 @@ impl Keeper {
     /// Refuses posts from now on, and makes a last checkpoint.
     async fn finish(&mut self) -> Result<(), Trouble> {
         self.slot.stop();
-        let number = self.slot.number();
+        let slot = self.slot.number();
         match self.checkpoint().await? {
-            Ok(_) => tracing::info!("slot {number}: all that was taken is in the outbox"),
-            Err(refused) => tracing::warn!(
-                "slot {number}: the last flush did not come to its end: {refused}. Nothing is lost: the next start puts in \
-                 what the journal has"
-            ),
+            Ok(_) => tracing::info!(slot, "slot {slot}: all that was taken is in the outbox"),
+            Err(refused) => {
+                let reason = refused.to_string();
+                tracing::warn!(
+                    slot,
+                    reason,
+                    "slot {slot}: the last flush did not come to its end: {reason}. Nothing is lost: the next start puts in \
+                     what the journal has"
+                );
+            }
         }
         Ok(())
     }

@@ -1,21 +1,13 @@
-//! What senders are answered, and what the gateway's answers say.
+//! What senders are answered, and what the answers of receivers say.
 
 use super::json::{write_text, Document, Value};
 use super::messages::{ExportMetricsPartialSuccess, ExportMetricsServiceResponse, Status};
-use super::number::{gateway_whole, mapped_whole};
+use super::number::mapped_whole;
 use super::{Encoding, Outcome};
 use prost::Message;
 
-/// The gateway's own words for points that it did not take.
+/// What is said of points that the book did not take.
 pub(super) const OUTSIDE: &str = "points outside the profile";
-
-/// How many points an answer of the gateway says were not taken, where it says so.
-pub fn rejected(answer: &[u8]) -> Option<u64> {
-    let document = Document::parse(answer).ok()?;
-    let [partial] = document.root().named(["partialSuccess"])?;
-    let [rejected] = partial?.named(["rejectedDataPoints"])?;
-    u64::try_from(gateway_whole(rejected?)?).ok()
-}
 
 /// What a receiver's answer in JSON says beside its success, by either name of a field; null is nothing.
 pub fn partial_success(answer: &[u8]) -> Option<ExportMetricsPartialSuccess> {

@@ -1,4 +1,4 @@
-//! What becomes of each point of a request in the gateway's form, in words.
+//! What becomes of each point of a request in the book's form, in words.
 
 use super::json::{Document, Value};
 use super::series::{visit, Seen, SeriesKey};
@@ -20,7 +20,7 @@ pub struct Explained {
     pub foreign: Option<String>,
 }
 
-/// The points of a body, in order; `None` where the gateway refuses it whole.
+/// The points of a body, in order; `None` where the book refuses it whole.
 pub fn explained(body: &[u8]) -> Option<Vec<Explained>> {
     let document = Document::parse(body).ok()?;
     let mut all = Vec::new();
@@ -41,7 +41,7 @@ pub fn foreign_points(body: &[u8], mut is_enough: impl FnMut(Explained) -> bool)
     });
 }
 
-/// The series of a point that the gateway would take, counted from 0 among these alone.
+/// The series of a point that the book would take, counted from 0 among these alone.
 pub fn series_of_point(body: &[u8], place: u64) -> Option<SeriesKey> {
     let document = Document::parse(body).ok()?;
     let (mut taken, mut series) = (0, None);

@@ -1,23 +1,23 @@
-//! A request in JSON, written as the gateway reads it, or found to be so already.
+//! A request in JSON, written as the book reads it, or found to be so already.
 //!
-//! What the mapping allows and the gateway does not read is changed: `5.0`, names of enums, names of the
-//! `.proto` files. What neither reads as a value of its field stays a wrong value, so that the gateway counts
+//! What the mapping allows and the book does not read is changed: `5.0`, names of enums, names of the
+//! `.proto` files. What neither reads as a value of its field stays a wrong value, so that the book counts
 //! the points that it makes foreign.
 
 use super::json::{Document, Value};
-use super::number::{gateway_whole, is_plain, mapped_double, mapped_whole, whole_double, MAX_WHOLE_DOUBLE};
+use super::number::{book_whole, is_plain, mapped_double, mapped_whole, whole_double, MAX_WHOLE_DOUBLE};
 use super::output::{Output, Written, SHORT_LIST};
 use super::schema::{Kind, Message, KEY_VALUE, REQUEST};
 use super::{Reading, Refused};
 
 /// Why a walk ended before the end.
 enum Stop {
-    /// The gateway would read something otherwise than it is meant.
+    /// The book would read something otherwise than it is meant.
     Changed,
     Refused(Refused),
 }
 
-/// Whether the gateway reads the body as it is meant.
+/// Whether the book reads the body as it is meant.
 pub fn is_read_as_it_is(document: &Document<'_>, reading: &Reading) -> Result<bool, Refused> {
     if document.is_near_range() || reading.whole.has_no_unit() {
         return Ok(false);
@@ -251,7 +251,7 @@ impl Walk<'_, '_> {
     }
 
     fn whole(&mut self, value: Value<'_>) -> Result<(), Stop> {
-        let known = gateway_whole(value);
+        let known = book_whole(value);
         let meant = known.or_else(|| mapped_whole(value));
         if known.is_none() && meant.is_some() {
             self.changed()?;
@@ -266,7 +266,7 @@ impl Walk<'_, '_> {
     }
 
     fn double(&mut self, value: Value<'_>) -> Result<(), Stop> {
-        let known = gateway_whole(value).filter(|whole| whole.unsigned_abs() <= u128::from(MAX_WHOLE_DOUBLE));
+        let known = book_whole(value).filter(|whole| whole.unsigned_abs() <= u128::from(MAX_WHOLE_DOUBLE));
         let meant = mapped_double(value);
         if known.is_none() && meant.and_then(whole_double).is_some() {
             self.changed()?;

@@ -1,4 +1,4 @@
-//! A request in protobuf, written as the gateway reads it.
+//! A request in protobuf, written as the book reads it.
 //!
 //! It is never held as a tree of messages: each is looked through once, and then its fields are written in the order of
 //! its table. So the memory is that of the JSON, however many small messages the bytes are. `plain` writes at once what

@@ -1,4 +1,4 @@
-//! JSON texts, read as the gateway reads them: which bytes are JSON, and what a text's values are.
+//! JSON texts, read as the book reads them: which bytes are JSON, and what a text's values are.
 //!
 //! A text is read once into a list of places, 12 bytes for each value and name, and stays where it is. So the
 //! memory for a text is a small multiple of it whatever it says, and to pass over a value costs nothing.
@@ -7,10 +7,10 @@ mod parser;
 
 use std::borrow::Cow;
 
-/// How deep containers may be nested: the gateway reads no more.
+/// How deep containers may be nested: the book reads no more.
 pub const MAX_DEPTH: usize = 127;
 
-/// Why bytes are no JSON that the gateway reads.
+/// Why bytes are no JSON that the book reads.
 #[derive(Clone, Debug, PartialEq, Eq, thiserror::Error)]
 pub enum NotJson {
     #[error("not JSON: a byte that is not UTF-8 at {0}")]
@@ -221,7 +221,7 @@ pub fn is_text(bytes: &[u8]) -> bool {
     bytes.is_ascii() || std::str::from_utf8(bytes).is_ok()
 }
 
-/// Writes a text as the gateway does: only `"`, `\` and what is below 32 is escaped.
+/// Writes a text as the book does: only `"`, `\` and what is below 32 is escaped.
 pub fn write_text(out: &mut String, text: &str) {
     if plain_length(text.as_bytes()) == text.len() {
         out.push('"');

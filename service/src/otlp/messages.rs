@@ -51,7 +51,7 @@ pub struct Metric {
     pub data: Option<Data>,
 }
 
-/// The kinds of data that the gateway forwards.
+/// The kinds of data that the service forwards.
 #[derive(Clone, PartialEq, prost::Oneof)]
 pub enum Data {
     #[prost(message, tag = "7")]

@@ -1,8 +1,8 @@
 //! Requests and answers of OTLP, in protobuf and in JSON, and the series that a body has.
 //!
-//! `prepare` writes a request of either encoding as the gateway reads it: `from_protobuf` and `from_json` go
+//! `prepare` writes a request of either encoding as the book reads it: `from_protobuf` and `from_json` go
 //! by the tables of `schema`, over the readers `wire` and `json`; `usual` sees at once most JSON that goes on as it came;
-//! `whole` takes fractions as whole numbers of a finer unit. `series` reads bodies as the gateway does, and what it forwards.
+//! `whole` takes fractions as whole numbers of a finer unit. `series` reads bodies as the book does, and what it forwards.
 //! `answers` is what senders are answered.
 
 mod answers;
@@ -21,7 +21,6 @@ mod whole;
 mod wire;
 
 pub(crate) use answers::partial_success;
-pub use answers::rejected;
 pub use explain::{explained, foreign_points, series_of_point, Explained};
 pub(crate) use messages::ExportMetricsServiceResponse;
 pub use sender::{sender, NO_NAME};
@@ -169,7 +168,7 @@ impl Outcome {
     }
 }
 
-/// A forwarded request (JSON, as the gateway writes it) in protobuf.
+/// A forwarded request (JSON, as the book writes it) in protobuf.
 pub fn protobuf_of_forwarded(body: &[u8]) -> Result<Vec<u8>, series::NotForwarded> {
     series::protobuf_of_forwarded(body)
 }
@@ -180,7 +179,7 @@ pub(crate) fn a_request_of_test() -> Vec<u8> {
     tests::a_request()
 }
 
-/// Requests drawn at random in the gateway's form, each as it comes of protobuf and of JSON.
+/// Requests drawn at random in the book's form, each as it comes of protobuf and of JSON.
 #[cfg(test)]
 pub(crate) fn requests_of_test(many: usize) -> Vec<[Bytes; 2]> {
     tests::requests(many)

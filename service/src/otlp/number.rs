@@ -1,13 +1,13 @@
-//! Numbers: what the gateway reads as a whole number, and what the protobuf JSON mapping does.
+//! Numbers: what the book reads as a whole number, and what the protobuf JSON mapping does.
 
 use super::json::{Document, Value};
 
-/// A whole double is exact up to here, and the gateway takes none beyond.
+/// A whole double is exact up to here, and the book takes none beyond.
 pub const MAX_WHOLE_DOUBLE: u64 = 1 << 53;
 
-/// The whole number that the gateway reads: a JSON number without fraction or exponent, of 64 bits, or a text
+/// The whole number that the book reads: a JSON number without fraction or exponent, of 64 bits, or a text
 /// of an optional minus and digits.
-pub fn gateway_whole(value: Value<'_>) -> Option<i128> {
+pub fn book_whole(value: Value<'_>) -> Option<i128> {
     if let Some(number) = value.number() {
         if !is_plain(number) {
             return None;
@@ -54,7 +54,7 @@ pub fn mapped_double(value: Value<'_>) -> Option<f64> {
     }
 }
 
-/// The double as the whole number that it is, if the gateway takes it.
+/// The double as the whole number that it is, if the book takes it.
 pub fn whole_double(double: f64) -> Option<i64> {
     let whole = double as i64; // the nearest one, 0 of what is no number
     let is_exact = whole as f64 == double && whole.unsigned_abs() <= MAX_WHOLE_DOUBLE;

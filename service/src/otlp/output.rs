@@ -1,13 +1,13 @@
-//! A request as it is written for the gateway, of whichever encoding it came in.
+//! A request as it is written for the book, of whichever encoding it came in.
 
 use super::json::{is_plain_ascii, put_inside, put_text, Document};
 use super::number::whole_double;
 use super::Reading;
 use std::borrow::Cow;
 
-/// The longest attribute list that a series may have, as it is written. Each series is kept, told to fresh gateways and
+/// The longest attribute list that a series may have, as it is written. Each series is kept, told to fresh books and
 /// delivered with all that identifies it: a resource of megabytes that thousands of points share would be gigabytes, and a
-/// longest post's series alone would fit into no body that tells it to a gateway.
+/// longest post's series alone would fit into no body that tells it to a book.
 pub const LONGEST_LIST: usize = 16 << 10;
 /// A list that came in no more bytes is not too long either once it is written.
 pub const SHORT_LIST: usize = LONGEST_LIST / 2;
@@ -60,19 +60,19 @@ impl<'r> Output<'r> {
         }
     }
 
-    /// As a text, which may be any: below -2^63 a number is no whole one for the gateway.
+    /// As a text, which may be any: below -2^63 a number is no whole one for the book.
     pub fn whole(&mut self, whole: impl itoa::Integer) {
         self.text.push(b'"');
         self.whole_number(whole);
         self.text.push(b'"');
     }
 
-    /// As a number of 64 bits, which takes the gateway less time than a text.
+    /// As a number of 64 bits, which takes the book less time than a text.
     pub fn whole_number(&mut self, number: impl itoa::Integer) {
         self.push(itoa::Buffer::new().format(number));
     }
 
-    /// A whole double as a whole number; another as a text, which the gateway takes for no number.
+    /// A whole double as a whole number; another as a text, which the book takes for no number.
     pub fn double(&mut self, double: f64) {
         match whole_double(double) {
             Some(whole) => self.whole_number(whole),

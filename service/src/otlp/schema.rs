@@ -15,7 +15,7 @@ pub struct Message {
 }
 
 pub struct Field {
-    /// The name that the gateway reads (lowerCamelCase).
+    /// The name that the book reads (lowerCamelCase).
     pub name: &'static str,
     /// The same with its quotes and colon.
     pub written: &'static str,
@@ -371,7 +371,7 @@ static ARRAY_VALUE: Message = Message {
     refused: &[],
 };
 
-/// A value in a list. It may be no list itself, so what is written is no deeper than the gateway reads.
+/// A value in a list. It may be no list itself, so what is written is no deeper than the book reads.
 static SINGLE_VALUE: Message = Message {
     name: "AnyValue",
     fields: &any_value(Kind::Foreign(&ARRAY_VALUE)),

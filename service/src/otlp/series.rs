@@ -14,12 +14,12 @@ pub(super) use posted::{visit, Seen};
 pub use zeros::zeros;
 
 use super::json::{Document, Value as Json};
-use super::number::gateway_whole;
+use super::number::book_whole;
 use std::borrow::Borrow;
 use std::collections::HashMap;
 use std::sync::Arc;
 
-/// A series' identity as compact JSON, as the gateway writes it:
+/// A series' identity as compact JSON, as the book writes it:
 /// `[resource attributes,scope name,version,scope attributes,name,unit,kind,point attributes]`,
 /// attributes in key order, the kind `"sum"`, `"monotonic"` or a histogram's bounds.
 #[derive(Clone, Debug, PartialEq, Eq, Hash, PartialOrd, Ord)]
@@ -51,7 +51,7 @@ pub enum Kind {
     Histogram { bounds: Vec<i64> },
 }
 
-/// A point that the gateway forwarded.
+/// A point that the service forwarded.
 #[derive(Clone, Debug, PartialEq, Eq)]
 pub struct ForwardedPoint {
     pub series: SeriesKey,
@@ -73,10 +73,10 @@ pub enum Value {
 }
 
 #[derive(Debug, thiserror::Error)]
-#[error("not a request that the gateway forwards: {0}")]
+#[error("not a request that the service forwards: {0}")]
 pub struct NotForwarded(pub String);
 
-/// What a post has, read as the gateway reads it.
+/// What a post has, read as the book reads it.
 #[derive(Debug)]
 pub struct Posted {
     /// Each series with points of the profile, and where its last one ends.
@@ -119,7 +119,7 @@ fn kind_of(kind: Json<'_>) -> Option<Kind> {
         Some("monotonic") => Some(Kind::Monotonic),
         Some(_) => None,
         None => {
-            let bound = |bound| i64::try_from(gateway_whole(bound)?).ok();
+            let bound = |bound| i64::try_from(book_whole(bound)?).ok();
             let bounds = kind.elements()?.map(bound).collect::<Option<Vec<i64>>>()?;
             Some(Kind::Histogram { bounds })
         }

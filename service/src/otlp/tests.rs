@@ -1,4 +1,4 @@
-//! JSON and protobuf of senders, as the gateway gets them.
+//! JSON and protobuf of senders, as the book gets them.
 
 use super::messages::{ExportMetricsServiceResponse, Status};
 use super::series::posted;
@@ -64,7 +64,7 @@ fn within_request(metric: &[u8]) -> Vec<u8> {
 }
 
 #[test]
-fn json_that_the_gateway_reads_goes_on_as_it_came() {
+fn json_that_the_book_reads_goes_on_as_it_came() {
     let as_they_are = [
         "{}".to_string(),
         r#" {"resourceMetrics" : null , "other": [1.5e3]} "#.to_string(),
@@ -85,7 +85,7 @@ fn json_that_the_gateway_reads_goes_on_as_it_came() {
 }
 
 #[test]
-fn json_of_any_encoder_is_written_as_the_gateway_reads_it() {
+fn json_of_any_encoder_is_written_as_the_book_reads_it() {
     let point = r#"{"startTimeUnixNano":"1","timeUnixNano":"2","asInt":"5"}"#;
     let delta = sum(point);
     let histogram = |point: &str| request(&format!(r#"{{"histogram":{{"dataPoints":[{point}]}}}}"#));
@@ -159,7 +159,7 @@ fn json_of_any_encoder_is_written_as_the_gateway_reads_it() {
 }
 
 #[test]
-fn protobuf_is_written_as_the_gateway_reads_it() {
+fn protobuf_is_written_as_the_book_reads_it() {
     let number = [
         &[0x11][..],
         &1u64.to_le_bytes(),
@@ -350,15 +350,6 @@ fn answers_are_of_the_request_s_kind() {
             }
         );
     }
-    assert_eq!(
-        (
-            rejected(text),
-            rejected(b"{}"),
-            rejected(b"{"),
-            rejected(br#"{"partialSuccess":5}"#)
-        ),
-        (Some(7), None, None, None)
-    );
 }
 
 /// A request in JSON, as most encoders write it.

@@ -1,6 +1,6 @@
-//! JSON in the form that most senders write: the gateway reads it as it is meant, which one look over the bytes says.
+//! JSON in the form that most senders write: the book reads it as it is meant, which one look over the bytes says.
 //!
-//! Here is known what needs no thought: names as the gateway has them, each once, plain texts, short numbers. Of any
+//! Here is known what needs no thought: names as the book has them, each once, plain texts, short numbers. Of any
 //! other body nothing is said, and `from_json` looks at it.
 
 mod points;
@@ -18,7 +18,7 @@ const DIGITS: usize = 19;
 /// Digits of a whole number that is exact as a double.
 const DIGITS_OF_DOUBLE: usize = 15;
 
-/// Whether the gateway reads the body as it is meant, as far as that is seen at once. False says nothing.
+/// Whether the book reads the body as it is meant, as far as that is seen at once. False says nothing.
 pub fn is_usual(body: &[u8], reading: &Reading) -> bool {
     let mut look = Look {
         rest: body,
@@ -119,7 +119,7 @@ impl<'a> Look<'a> {
     fn number(&mut self, most: usize) -> Option<()> {
         let has_minus = self.is_next(b'-');
         match self.digits(most)? {
-            [b'0'] if has_minus => None, // to the gateway it is a double
+            [b'0'] if has_minus => None, // to the book it is a double
             [b'0', _, ..] => None,
             _ => Some(()),
         }
@@ -287,7 +287,7 @@ mod tests {
         }
     }
 
-    /// Why a look in full does not say that the gateway reads a body as it is meant.
+    /// Why a look in full does not say that the book reads a body as it is meant.
     fn otherwise(body: &[u8]) -> Option<String> {
         let document = match Document::parse(body) {
             Ok(document) => document,

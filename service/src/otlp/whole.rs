@@ -1,6 +1,6 @@
 //! `--whole`: what is measured in one unit is taken as whole numbers of a finer one.
 //!
-//! `rewrite` does it to a request in the gateway's form, so it is the same for both encodings. `decimal` has the
+//! `rewrite` does it to a request in the book's form, so it is the same for both encodings. `decimal` has the
 //! numbers: a double counts as its shortest decimal, which is what a program wrote or meant, and is multiplied
 //! exactly. `rounded` is what was rounded meanwhile.
 

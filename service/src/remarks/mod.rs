@@ -20,7 +20,7 @@ const REMEMBERED: usize = 1000;
 
 /// How much of a metric's name is told, and of all that identifies a series, in characters.
 const NAME_SHOWN: usize = 100;
-const SERIES_SHOWN: usize = 2000;
+pub(crate) const SERIES_SHOWN: usize = 2000;
 
 /// How many posts of a sender are read for reasons that are new.
 const MOST_READ: usize = 100;

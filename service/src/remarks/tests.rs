@@ -25,7 +25,7 @@ fn body(metrics: &str) -> Bytes {
     format!(r#"{{"resourceMetrics":[{{"scopeMetrics":[{{"metrics":[{metrics}]}}]}}]}}"#).into()
 }
 
-/// What is told behind these posts of `a`, and how many posts of it were read.
+/// What is told after these posts of `a`, and how many posts of it were read.
 async fn told(
     outcome: Outcome,
     owner: Option<&'static str>,
@@ -63,7 +63,7 @@ async fn the_first_reasons_of_a_sender_are_told() {
     assert_eq!(
         (reasons.len(), read),
         (1, 1),
-        "no post is read behind the last reason"
+        "no post is read after the last reason"
     );
     assert_eq!(told(foreign.clone(), None, 0, &posts).await, (vec![], 0, 0));
     assert_eq!(told(Outcome::taken(0), None, 9, &posts).await, (vec![], 0, 0));

@@ -32,7 +32,11 @@ pub(crate) fn slot_of(sender: &str, slots: u16) -> u16 {
 pub(crate) fn leave_others(outbox: &Outbox, number: u16, slots: u16) -> Result<(), Fault> {
     let left = outbox.leave(|owner| slot_of(owner, slots) != number)?;
     if left > 0 {
-        tracing::info!("slot {number}: {left} series are another slot's");
+        tracing::info!(
+            slot = number,
+            series_count = left,
+            "slot {number}: {left} series are another slot's"
+        );
     }
     Ok(())
 }
@@ -69,6 +73,7 @@ async fn adopt(
         return Ok(());
     }
     tracing::info!(
+        slots,
         "the folder has {slots} slots, as totxegun had them up to 0.5.0: their series come into one"
     );
     nobody_is_quarantined(folder, slots)?;
@@ -77,7 +82,11 @@ async fn adopt(
     }
     let moved = move_series(folder, slots, most_series)?;
     folder.set_slots(1)?;
-    tracing::info!("the number of slots was {slots} and is 1; series: {moved}");
+    tracing::info!(
+        slots,
+        series_count = moved,
+        "the number of slots was {slots} and is 1; series: {moved}"
+    );
     Ok(())
 }
 

@@ -112,7 +112,8 @@ pub async fn run(settings: Settings) -> Result<(), Ended> {
         return Ok(());
     }
     let parts = Parts::open(folder, &settings)?;
-    tracing::info!("data in {}, sink {}", settings.data.display(), parts.sink.name());
+    let (folder, sink) = (settings.data.display().to_string(), parts.sink.name());
+    tracing::info!(folder, sink, "data in {folder}, sink {sink}");
     let senders = Senders { senders, callers };
     tracing::info!(
         "senders post to {}, operators ask {}",

@@ -119,7 +119,7 @@ mod tests {
         }
     }
 
-    /// Parts of which the keeper ends so behind being told to.
+    /// Parts of which the keeper ends so after being told to.
     fn running(place: &Path, end: impl Future<Output = Result<(), Fault>> + Send + 'static) -> Running {
         let (stop_intake, _) = watch::channel(false);
         let (stop_keeper, mut stopped) = watch::channel(false);

@@ -63,7 +63,8 @@ impl Supervisor {
         let Some(to) = &self.to else { return };
         let told = UnixDatagram::unbound().and_then(|socket| socket.send_to_addr(text.as_bytes(), to));
         if let Err(error) = told {
-            tracing::warn!("the supervisor at NOTIFY_SOCKET can't be told: {error}");
+            let reason = error.to_string();
+            tracing::warn!(reason, "the supervisor at NOTIFY_SOCKET can't be told: {reason}");
         }
     }
 }

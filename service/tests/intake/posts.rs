@@ -171,7 +171,7 @@ async fn whoever_can_post_can_not_operate() {
 }
 
 #[tokio::test]
-async fn names_of_senders_are_the_gateways() {
+async fn names_of_senders_are_the_books() {
     let served = Served::start().await;
     let long = "a".repeat(65);
     for sender in [

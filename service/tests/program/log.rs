@@ -1,8 +1,10 @@
-//! A log that nobody can write, or that nobody reads.
+//! A log that nobody can write, or that nobody reads; and what its lines have as JSON.
 
+use crate::stuck::change_request;
 use crate::support::{points, signal, until, Place, Service, NO_SINK, PROGRAM};
 use nix::fcntl::OFlag;
 use nix::sys::stat::Mode;
+use serde_json::Value;
 use std::fs::File;
 use std::io::{ErrorKind, Read, Write};
 use std::os::unix::fs::OpenOptionsExt;
@@ -136,4 +138,67 @@ fn lines_that_find_no_room_are_counted_where_they_are_missing() {
     let rest = pipe.read_until(" ended");
     assert!(rest.lines().all(is_whole), "{rest}");
     assert_eq!(service.end(), Some(0));
+}
+
+/// The folder's place has a copy of it.
+fn copy_folder(place: &Place) {
+    let (data, copy) = (place.data(), place.folder.path().join("copy"));
+    let copied = Command::new("cp")
+        .arg("-a")
+        .args([&data, &copy])
+        .status()
+        .unwrap();
+    assert!(copied.success());
+    std::fs::remove_dir_all(&data).unwrap();
+    std::fs::rename(copy, data).unwrap();
+}
+
+/// A line of each level, beside its text.
+#[test]
+fn what_a_line_of_json_names_is_in_its_fields() {
+    let place = Place::new();
+    let service = place.serve_with(&["--sink", NO_SINK]);
+    assert_eq!(service.post("A", &points(&["a"], 100, 5)).unwrap().0, 200);
+    assert_eq!(service.order("/flush").0, 200);
+    assert_eq!(service.end(), Some(0));
+    std::fs::remove_file(place.folder.path().join("log.txt")).unwrap();
+    let file = change_request(&place).0;
+    copy_folder(&place);
+    let service = place.serve_with(&["--sink", NO_SINK, "--log-json"]);
+    until("the delivery stops", || {
+        !service.status()["slots"][0]["stuck"].is_null()
+    });
+    assert_eq!(service.end(), Some(0));
+    let log = place.log();
+    let lines: Vec<Value> = log
+        .lines()
+        .map(|line| serde_json::from_str(line).unwrap())
+        .collect();
+    let line = |part: &str| {
+        lines
+            .iter()
+            .find(|line| line["text"].as_str().unwrap().contains(part))
+            .unwrap()
+    };
+    let begun = line(" goes on after ");
+    assert_eq!(begun["level"], "INFO");
+    assert_eq!(begun["slot"], 0);
+    assert_eq!(begun["series_count"], 1);
+    assert_eq!(begun["posts"], 0);
+    let copied = line(" was copied or put back");
+    assert_eq!(copied["level"], "WARN");
+    assert_eq!(copied["folder"], place.data().to_str().unwrap());
+    assert!(copied["text"]
+        .as_str()
+        .unwrap()
+        .contains(copied["epoch"].as_str().unwrap()));
+    let stopped = line("the delivery of ");
+    assert_eq!(stopped["level"], "ERROR");
+    assert_eq!(
+        stopped["folder"],
+        place.data().join("slot-0/outbox").to_str().unwrap()
+    );
+    let reason = stopped["reason"].as_str().unwrap();
+    assert!(reason.contains(file.to_str().unwrap()), "{reason}");
+    assert!(stopped["text"].as_str().unwrap().ends_with(reason));
 }

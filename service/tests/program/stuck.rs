@@ -30,6 +30,15 @@ fn file_of_request(place: &Place) -> (PathBuf, Vec<u8>, usize) {
     found.next().unwrap()
 }
 
+/// Changes a byte of the first request that waits: its file, and what it had.
+pub fn change_request(place: &Place) -> (PathBuf, Vec<u8>) {
+    let (path, sound, end) = file_of_request(place);
+    let mut changed = sound.clone();
+    changed[end - 1] ^= 1;
+    std::fs::write(&path, &changed).unwrap();
+    (path, sound)
+}
+
 #[test]
 fn a_changed_request_is_told_and_its_delivery_goes_on_once_it_is_put_back() {
     let place = Place::new();
@@ -37,10 +46,7 @@ fn a_changed_request_is_told_and_its_delivery_goes_on_once_it_is_put_back() {
     assert_eq!(service.post("A", &points(&["a"], 100, 5)).unwrap().0, 200);
     assert_eq!(service.order("/flush").0, 200);
     assert_eq!(service.end(), Some(0));
-    let (path, sound, end) = file_of_request(&place);
-    let mut changed = sound.clone();
-    changed[end - 1] ^= 1;
-    std::fs::write(&path, &changed).unwrap();
+    let (path, sound) = change_request(&place);
     let service = place.serve();
     until("it is told", || !service.status()["slots"][0]["stuck"].is_null());
     assert!(service.metrics().contains("totxegun_delivery_stuck 1"));

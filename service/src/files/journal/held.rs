@@ -38,7 +38,7 @@ const OPEN: usize = 64;
 const PIECE: usize = 256 << 10;
 
 impl Journal {
-    /// At a checkpoint, behind the flush and the turn to `next`, and once all before it is durable: notes what is held of
+    /// At a checkpoint, after the flush and the turn to `next`, and once all before it is durable: notes what is held of
     /// these quarantined senders. Posts of theirs in the segments from `first` to before `next` are moved to their own
     /// files; nothing is read where none has posted since it was moved. Of a sender that is quarantined no more nothing
     /// is held. Durable when this returns, and it counts once `next` is the first segment that is replayed.

@@ -13,7 +13,7 @@ use std::sync::atomic::AtomicU64;
 use std::sync::{Arc, Condvar, Mutex};
 
 impl Journal {
-    /// Closes what an earlier run left, and begins a segment behind it, of a number not before the first that counts.
+    /// Closes what an earlier run left, and begins a segment after it, of a number not before the first that counts.
     pub(in crate::files) fn open(
         disk: &Disk,
         folder: &Path,
@@ -123,10 +123,16 @@ fn cut(
     }
     dropped.extend(segment::keep_aside(disk, &path, end)?);
     for later in found.drain(torn + 1..).rev() {
-        let number = later.size.number;
-        tracing::warn!("segment {number} of the journal follows a torn one, so none of it counts");
-        if later.size.bytes > 0 {
-            dropped.extend(segment::keep_aside(disk, &segment::path(folder, number), 0)?);
+        let (number, bytes) = (later.size.number, later.size.bytes);
+        let path = segment::path(folder, number);
+        let file = path.display().to_string();
+        tracing::warn!(
+            file,
+            bytes,
+            "segment {number} of the journal follows a torn one, so none of it counts"
+        );
+        if bytes > 0 {
+            dropped.extend(segment::keep_aside(disk, &path, 0)?);
         }
         // Each before the next one, and all before the torn one looks whole: no name may come back behind one that does
         // not, and what follows the torn one would count again.

@@ -72,7 +72,7 @@ impl Shared {
     }
 
     /// Makes all durable that was appended until now. Where that fails the process ends while nobody else can sync:
-    /// behind a sync that failed the next one says yes to what the disk has not.
+    /// after a sync that failed the next one says yes to what the disk has not.
     pub fn sync(&self) {
         let _one = lock(&self.syncing);
         if let Err(fault) = self.try_sync() {

@@ -20,14 +20,20 @@ impl Outbox {
     pub(super) async fn note_changed(&self, fault: &Fault) {
         let text = fault.to_string();
         if lock(&self.stuck).replace(text.clone()).as_ref() != Some(&text) {
-            tracing::error!("the delivery of {} stops: {text}", self.folder.display());
+            let folder = self.folder.display().to_string();
+            tracing::error!(
+                folder,
+                reason = text.as_str(),
+                "the delivery of {folder} stops: {text}"
+            );
         }
         tokio::time::sleep(LOOK_AGAIN).await;
     }
 
     pub(super) fn note_sound(&self) {
         if lock(&self.stuck).take().is_some() {
-            tracing::info!("the delivery of {} goes on", self.folder.display());
+            let folder = self.folder.display().to_string();
+            tracing::info!(folder, "the delivery of {folder} goes on");
         }
     }
 

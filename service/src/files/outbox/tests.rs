@@ -179,7 +179,7 @@ async fn what_waits_keeps_its_epoch() {
     assert_eq!(outbox.epoch(), "f");
 }
 
-/// Else a late repeat is counted again behind a renewal, where the clock was set by more than the age of a series.
+/// Else a late repeat is counted again after a renewal, where the clock was set by more than the age of a series.
 #[test]
 fn a_clock_that_is_set_forgets_no_series_of_this_run() {
     let folder = tempfile::tempdir().unwrap();

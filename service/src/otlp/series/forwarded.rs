@@ -1,4 +1,4 @@
-//! Requests that the gateway forwards, read strictly: their bytes are the gateway's own (docs/FORMATS.md,
+//! Requests that the service forwards, read strictly: their bytes are the book's own (docs/FORMATS.md,
 //! "JSON that is written"), and parts of keys are copied from them.
 
 use super::{ForwardedPoint, NotForwarded, SeriesKey, Value};
@@ -8,7 +8,7 @@ use crate::otlp::messages::{
     InstrumentationScope, KeyValue, Metric, Number, NumberDataPoint, Resource, ResourceMetrics, ScopeMetrics,
     Sum,
 };
-use crate::otlp::number::gateway_whole;
+use crate::otlp::number::book_whole;
 use prost::Message;
 use std::sync::Arc;
 
@@ -89,7 +89,7 @@ fn each<'d>(object: Json<'d>, name: &str, mut one: impl FnMut(Json<'d>) -> Found
 }
 
 fn whole<T: TryFrom<i128>>(value: Json<'_>, name: &str) -> Found<T> {
-    gateway_whole(value)
+    book_whole(value)
         .and_then(|whole| T::try_from(whole).ok())
         .ok_or_else(|| missing(name))
 }

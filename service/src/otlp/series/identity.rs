@@ -1,9 +1,9 @@
-//! What identifies a point, read as the gateway reads it and written as the gateway writes it. An error is of what
+//! What identifies a point, read as the book reads it and written as the book writes it. An error is of what
 //! no series may have; its points are foreign (docs/FORMATS.md, "Reading OTLP/JSON").
 
 use super::why::{What, Why};
 use crate::otlp::json::{write_text, Value};
-use crate::otlp::number::gateway_whole;
+use crate::otlp::number::book_whole;
 use std::borrow::Cow;
 use std::fmt::Write;
 
@@ -99,7 +99,7 @@ fn write_value<'d>(out: &mut String, value: Value<'d>, may_be_list: MayBeList) -
             let _ = write!(out, "{{\"boolValue\":{}}}", truth.truth().ok_or(wrong(truth))?);
         }
         [None, None, Some(whole), None, None, None, None] => {
-            let number = gateway_whole(whole).and_then(|whole| i64::try_from(whole).ok());
+            let number = book_whole(whole).and_then(|whole| i64::try_from(whole).ok());
             let _ = write!(out, "{{\"intValue\":\"{}\"}}", number.ok_or(wrong(whole))?);
         }
         [None, None, None, Some(list), None, None, None] if may_be_list == MayBeList::Yes => {

@@ -1,10 +1,10 @@
-//! The rules for one point of a sum or a histogram, as the gateway has them: where it ends, its part of a key, or why
+//! The rules for one point of a sum or a histogram, as the book has them: where it ends, its part of a key, or why
 //! it is foreign.
 
 use super::identity::write_attributes;
 use super::why::{What, Why};
 use crate::otlp::json::Value;
-use crate::otlp::number::{gateway_whole, MAX_WHOLE_DOUBLE};
+use crate::otlp::number::{book_whole, MAX_WHOLE_DOUBLE};
 use std::fmt::Write;
 
 const MAX_BOUNDS: usize = 255;
@@ -49,7 +49,7 @@ pub fn sum_point<'d>(key: &mut String, point: Value<'d>) -> Read<'d, u64> {
     let Some(value) = number else {
         return foreign(What::NoNumber, "asInt", None);
     };
-    match gateway_whole(value) {
+    match book_whole(value) {
         None => return foreign(What::NotWhole, "asInt", number),
         Some(whole) if whole < 0 && key.ends_with(MONOTONIC) => {
             return foreign(What::Negative, "asInt of a monotonic sum", number)
@@ -115,7 +115,7 @@ fn span<'d>(start: Option<Value<'d>>, end: Option<Value<'d>>, flags: Option<Valu
 /// A whole number that is not negative, 0 where it is absent.
 fn natural<'d>(field: &'static str, found: Option<Value<'d>>) -> Read<'d, u64> {
     let Some(value) = found else { return Ok(0) };
-    match gateway_whole(value) {
+    match book_whole(value) {
         None => foreign(What::NotWhole, field, found),
         Some(whole) if whole < 0 => foreign(What::Negative, field, found),
         Some(whole) => u64::try_from(whole).or_else(|_| foreign(What::TooLarge, field, found)),
@@ -132,7 +132,7 @@ fn write_bounds<'d>(key: &mut String, found: Option<Value<'d>>) -> Read<'d, usiz
             return foreign(What::NoList, "explicitBounds", found);
         };
         for value in elements {
-            let Some(bound) = gateway_whole(value) else {
+            let Some(bound) = book_whole(value) else {
                 return foreign(What::NotWhole, "a bound", Some(value));
             };
             if bounds == MAX_BOUNDS {

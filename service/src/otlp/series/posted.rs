@@ -1,4 +1,4 @@
-//! A body read as the gateway reads it: which series it has points of, and which points are foreign.
+//! A body read as the book reads it: which series it has points of, and which points are foreign.
 
 use super::identity::{text, write_attributes};
 use super::point::{histogram_point, sum_kind, sum_point};
@@ -20,7 +20,7 @@ pub struct Seen<'s, 'd> {
     pub found: Result<u64, Why<'d>>,
 }
 
-/// The series of a body that the gateway took; none where the gateway refuses the body whole.
+/// The series of a body that the book took; none where the book refuses the body whole.
 pub fn posted(body: &[u8]) -> Option<Posted> {
     let document = Document::parse(body).ok()?;
     let mut posted = Posted {
@@ -43,7 +43,7 @@ impl Posted {
     }
 }
 
-/// Shows each point of a body, in order; `None` where the gateway refuses the body whole.
+/// Shows each point of a body, in order; `None` where the book refuses the body whole.
 pub fn visit<'d>(document: &'d Document<'_>, each: impl FnMut(Seen<'_, 'd>)) -> Option<()> {
     let mut walk = Walk {
         each,

@@ -1,4 +1,4 @@
-//! Which points the gateway takes, and of which series they are.
+//! Which points the book takes, and of which series they are.
 
 use super::*;
 use crate::otlp::messages::{Data, ExportMetricsServiceRequest, Number};
@@ -237,7 +237,7 @@ fn containers_of_another_type_refuse_the_whole() {
 }
 
 #[test]
-fn a_key_is_what_the_gateway_writes() {
+fn a_key_is_what_the_book_writes() {
     let body = r#"{"resourceMetrics":[{"scopeMetrics":[{"metrics":[
         {"sum":{"dataPoints":[{"attributes":[{"value":{"intValue":"007"},"key":"b"},{"key":"a\u000a\/","value":{"arrayValue":{"values":[{},{"boolValue":true}]}}}],
         "asInt":1,"timeUnixNano":"7","startTimeUnixNano":"5"},{"asInt":1,"timeUnixNano":"7","startTimeUnixNano":"5"}],"isMonotonic":true,"aggregationTemporality":1},"unit":"s","name":"é"},

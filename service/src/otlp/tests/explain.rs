@@ -215,7 +215,7 @@ fn each_kind_of_foreign_point_has_its_reason() {
 }
 
 #[test]
-fn a_point_that_the_gateway_counts_is_found_again() {
+fn a_point_that_the_book_counts_is_found_again() {
     let body = request(&format!(
         r#"{{"name":"m","sum":{{"aggregationTemporality":1,"dataPoints":[{{{SPAN},"asInt":1}},{{}},{{{SPAN},"asInt":1,"attributes":[{{"key":"k"}}]}}]}}}}"#
     ));

@@ -20,13 +20,13 @@ fn attribute(value: &[u8]) -> Vec<u8> {
     bytes(7, &[bytes(1, b"k"), bytes(2, value)].concat())
 }
 
-/// What the gateway has of a request.
+/// What the book has of a request.
 fn read(body: Vec<u8>) -> Posted {
     let written = prepared(Encoding::Protobuf, body).unwrap();
     posted(&written).unwrap_or_else(|| panic!("{}", String::from_utf8_lossy(&written)))
 }
 
-/// Its point is foreign, however deep it is: what is written of it is no deeper than the gateway reads.
+/// Its point is foreign, however deep it is: what is written of it is no deeper than the book reads.
 #[test]
 fn a_list_in_a_list_makes_no_other_point_foreign() {
     for depth in 1..=46 {

@@ -173,7 +173,7 @@ impl Random {
     }
 }
 
-/// Requests in the gateway's form, each as it comes of protobuf and of JSON.
+/// Requests in the book's form, each as it comes of protobuf and of JSON.
 pub fn requests(many: usize) -> Vec<[Bytes; 2]> {
     let mut random = Random(11);
     let spelling = Spelling {

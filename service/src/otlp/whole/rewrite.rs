@@ -1,4 +1,4 @@
-//! A request in the gateway's form, with the metrics of the given units in finer ones.
+//! A request in the book's form, with the metrics of the given units in finer ones.
 //!
 //! A point that can't be had so stays foreign: what does not fit becomes a text with its unit, which no reader takes
 //! for a number. Nothing is changed in a metric that is foreign as a whole, but its unit.
@@ -14,7 +14,7 @@ use std::ops::Range;
 use std::sync::Arc;
 
 const DATA: [&str; 5] = ["sum", "histogram", "gauge", "exponentialHistogram", "summary"];
-/// How a request in the gateway's form has the name before its value.
+/// How a request in the book's form has the name before its value.
 const AS_DOUBLE: &str = "\"asDouble\":";
 /// How much of a metric's name stands in an answer.
 const NAME_SHOWN: usize = 100;

@@ -97,7 +97,7 @@ pub(super) fn rounded(text: &str, marks: Vec<Mark<'_>>) -> Result<Rounded, NotJs
         }
     });
     if whole.is_none() {
-        points.clear(); // the gateway refuses it whole
+        points.clear(); // the book refuses it whole
     }
     let by_rule = rules.0.into_iter().map(|of| (of.text.to_string(), of.sum));
     Ok(Rounded {

@@ -23,7 +23,7 @@ fn all(journal: &Journal, first: u64) -> Vec<Post> {
     all
 }
 
-/// A checkpoint, as a keeper makes it: the first segment that counts behind it.
+/// A checkpoint, as a keeper makes it: the first segment that counts after it.
 fn checkpoint(journal: &Journal, held: &BTreeSet<String>, first: u64) -> u64 {
     let (next, _) = journal.turn();
     journal.shared.sync();
@@ -88,7 +88,7 @@ fn posts_of_quarantined_senders_are_moved_once_and_are_there_until_they_are_flus
     let next = checkpoint(&journal, &names(&["a"]), first);
     assert!(
         all(&journal, first).contains(&held[1]),
-        "its owners are looked for behind the commit"
+        "its owners are looked for after the commit"
     );
     journal.forget(next).unwrap();
     assert_eq!(all(&journal, next), [held[0].clone(), held[2].clone()]);
@@ -274,7 +274,7 @@ fn run(folder: &Path, left: &Path, chance: &mut Numbers) -> (u64, Queues) {
     calls.store(chance.below(12), SeqCst);
     let holds = journal.clone();
     std::thread::spawn(move || {
-        let _ = holds.hold(&held, first, next); // the power is lost in it, or behind it
+        let _ = holds.hold(&held, first, next); // the power is lost in it, or after it
         let _ = tell.send(());
     });
     told.recv().unwrap();

@@ -1,4 +1,4 @@
-//! Losses of power, and another one at each call of the start behind.
+//! Losses of power, and another one at each call of the start that follows.
 
 use super::*;
 use crate::files::power::{copy, disk, place, seeds, Shadow};

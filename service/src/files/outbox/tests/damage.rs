@@ -219,7 +219,7 @@ fn after_a_failed_sync_no_segment_is_deleted_and_none_goes_on() {
         let outbox = open_on(&disk, folder.path(), "e", SEGMENT).unwrap();
         fails.store(true, SeqCst);
         assert!(!first(&outbox));
-        assert!(!second(&outbox), "behind a sync that failed");
+        assert!(!second(&outbox), "after a sync that failed");
     }
 }
 

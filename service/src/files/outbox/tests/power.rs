@@ -1,4 +1,4 @@
-//! Losses of power in the middle of any call, and another one at each call of the start behind.
+//! Losses of power in the middle of any call, and another one at each call of the start that follows.
 
 use super::*;
 use crate::files::power::{copy, disk, place, seeds, Shadow};
@@ -68,7 +68,7 @@ fn said(outbox: &Outbox) -> String {
     )
 }
 
-/// Of a run up to a loss of power: what may be said behind it.
+/// Of a run up to a loss of power: what may be said after it.
 fn run(at: impl Fn(&str) -> PathBuf, chance: &mut Numbers) -> Vec<String> {
     let steps = steps(chance);
     for name in ["run", "whole"] {

@@ -2,7 +2,7 @@
 
 use super::*;
 
-/// A request as the gateway forwards it, of that many series.
+/// A request as the service forwards it, of that many series.
 fn request(series: usize, end: u64) -> Vec<u8> {
     let point = |n: usize| {
         format!(

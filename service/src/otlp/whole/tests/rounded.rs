@@ -84,7 +84,7 @@ fn what_can_not_be_taken_makes_no_total_less_exact() {
     let found = rounded(request(&[early.clone(), taken, early.clone()]), &["s=us"]);
     let series: Vec<f64> = found.points.iter().map(|one| one.by).collect();
     assert_eq!((series, found.by_rule["s=1000000:us"].values), (vec![0.25], 3));
-    // Nothing is taken of a request that the gateway refuses whole.
+    // Nothing is taken of a request that the book refuses whole.
     let mark = Mark {
         at: 1,
         by: 0.5,
