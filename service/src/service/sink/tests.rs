@@ -25,7 +25,9 @@ impl Place {
     /// What `version` says of the sink.
     fn line(&self) -> Option<String> {
         let text = std::fs::read_to_string(self.version()).unwrap();
-        text.lines().find(|line| line.starts_with("sink ")).map(String::from)
+        text.lines()
+            .find(|line| line.starts_with("sink "))
+            .map(String::from)
     }
 
     /// A start, which ends at once.
