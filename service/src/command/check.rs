@@ -41,6 +41,8 @@ pub struct Options {
 #[derive(Debug, Default, PartialEq, Eq, Serialize)]
 struct Found {
     slots: u16,
+    /// Where it delivers to, as the last start has met it.
+    sink: Option<String>,
     segments: u64,
     journal_bytes: u64,
     /// Posts that are in no group: a fresh book gets them.
@@ -232,6 +234,7 @@ fn found(copy: &Path) -> Result<Found, Failure> {
     })?;
     let mut found = Found {
         slots: folder.slots(),
+        sink: folder.sink().map(|sink| sink.to_string()),
         dead: folder.dead()?.count(),
         ..Found::default()
     };
@@ -324,6 +327,7 @@ fn text(found: &Found, data: &Path) -> String {
     let mut row = |name: &str, text: String| table.row(&[name, text.as_str()]);
     let (bytes, counted) = (values::bytes_shown, values::counted);
     row("slots", found.slots.to_string());
+    row("sink", found.sink.clone().unwrap_or_else(|| "none yet".into()));
     row(
         "journal",
         format!(

@@ -62,6 +62,9 @@ pub struct Options {
     /// Where to deliver: sqlite:PATH, postgres://USER@HOST:PORT/DB, http://HOST:PORT/PATH or https://HOST/PATH [default: sqlite:DIR/metrics.db]
     #[arg(long, env = "TOTXEGUN_SINK", value_name = "ADDRESS", hide_env_values = true)]
     sink: Option<Address>,
+    /// Takes another sink than the folder has, for this start: what waits goes into the new one
+    #[arg(long)]
+    new_sink: bool,
     /// How long between two flushes
     #[arg(long, env = "TOTXEGUN_FLUSH_EVERY", value_name = "TIME", default_value = "10s", value_parser = time)]
     flush_every: Duration,
@@ -272,6 +275,7 @@ impl Options {
             listen_grpc: self.listen_grpc,
             operate: self.operate,
             sink,
+            new_sink: self.new_sink,
             durability: self.durable,
             every: self.flush_every,
             forget: self.forget_series.0,

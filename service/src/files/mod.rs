@@ -17,7 +17,7 @@ mod segment;
 pub use dead::Dead;
 #[cfg(test)]
 pub(crate) use disk::{Call, Disk};
-pub use folder::{Folder, FolderFault, MOST_SLOTS};
+pub use folder::{Folder, FolderFault, KnownSink, MOST_SLOTS};
 pub use journal::{Held, Journal, Post, Ticket};
 pub use outbox::{Outbox, Series};
 pub use segment::Dropped;

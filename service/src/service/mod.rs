@@ -7,6 +7,7 @@ pub mod init;
 mod parts;
 mod running;
 mod senders;
+mod sink;
 mod supervisor;
 
 pub(crate) use adopt::slot_of;
@@ -34,6 +35,8 @@ pub struct Settings {
     pub listen_grpc: Option<String>,
     pub operate: String,
     pub sink: Address,
+    /// It may be another than the folder has.
+    pub new_sink: bool,
     pub durability: Durability,
     pub every: Duration,
     pub forget: Option<Duration>,

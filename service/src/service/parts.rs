@@ -49,14 +49,17 @@ impl Parts {
         let (journal, outbox) = folder.slot(0)?;
         let former = former_slots(&folder)?;
         let dead = Arc::new(folder.dead()?);
-        let sink = sinks::open(&settings.sink).context("the sink can't be opened")?;
+        let outbox = Arc::new(outbox);
+        let mut outboxes = vec![outbox.clone()];
+        outboxes.extend(former.iter().map(|(_, outbox)| outbox.clone()));
+        let sink = super::sink::open(&folder, &settings.sink, settings.new_sink, outboxes)?;
         let core = Core::new(settings.most_series).with_context(|| {
             format!(
                 "a book for --most-series {} can't be made: give a greater --book-memory, or a smaller --most-series",
                 settings.most_series
             )
         })?;
-        let slot = Slot::new(0, folder, journal, Arc::new(outbox), metrics.clone(), core);
+        let slot = Slot::new(0, folder, journal, outbox, metrics.clone(), core);
         let (keeper, orders) = Keeper::new(slot.clone(), settings.keeping());
         let budget = Budget::new(settings.most_bytes);
         let threads = Threads::new(settings.threads).context("no threads could be started")?;

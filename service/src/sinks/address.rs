@@ -2,6 +2,7 @@
 
 use super::postgres::Server;
 use super::roots;
+use crate::files::KnownSink;
 use std::path::PathBuf;
 use std::str::FromStr;
 
@@ -16,6 +17,17 @@ pub enum Address {
         gzip: bool,
         headers: Vec<(String, String)>,
     },
+}
+
+impl Address {
+    /// Its kind and place, as a folder remembers them: no user, no password, no query.
+    pub fn known(&self) -> KnownSink {
+        match self {
+            Address::Sqlite(path) => KnownSink::new("sqlite", &path.to_string_lossy()),
+            Address::Postgres(server) => KnownSink::new("postgres", &server.place()),
+            Address::Otlp { url, .. } => KnownSink::new("otlp", url.split('?').next().unwrap_or(url)),
+        }
+    }
 }
 
 #[derive(Clone, Debug, PartialEq, Eq, thiserror::Error)]

@@ -101,12 +101,26 @@ pub trait Sink: Send + Sync {
     fn keys(&self) -> &Keys;
 }
 
+/// What remembers the sink: asked whenever one with an id is opened.
+pub trait Memory: Send + Sync {
+    /// Whether requests may go into the sink of this id, else why not; without one it is empty, or of a schema that had
+    /// none. `is_replaced` says that this run had it open and found it replaced, which was told.
+    fn admit(&self, id: Option<&str>, is_replaced: bool) -> Result<(), String>;
+}
+
+/// Remembers nothing.
+impl Memory for () {
+    fn admit(&self, _: Option<&str>, _: bool) -> Result<(), String> {
+        Ok(())
+    }
+}
+
 /// Opens a sink. What may mend itself (a file that is locked, a server that is down) is no fault here: deliveries
 /// are tried again until the sink takes them. What can't mend itself is one.
-pub fn open(address: &Address) -> anyhow::Result<Arc<dyn Sink>> {
+pub fn open(address: &Address, memory: Arc<dyn Memory>) -> anyhow::Result<Arc<dyn Sink>> {
     match address {
-        Address::Sqlite(path) => Ok(Arc::new(sqlite::SqliteSink::open(path)?)),
-        Address::Postgres(server) => Ok(Arc::new(postgres::PostgresSink::open(server)?)),
+        Address::Sqlite(path) => Ok(Arc::new(sqlite::SqliteSink::open(path, memory)?)),
+        Address::Postgres(server) => Ok(Arc::new(postgres::PostgresSink::open(server, memory)?)),
         Address::Otlp {
             url,
             protobuf,

@@ -1,5 +1,6 @@
 //! The PostgreSQL sink against a server of its own. Without `initdb` nothing is tried, and a line says so.
 
+mod another;
 mod lost;
 mod rivals;
 mod server;
@@ -20,7 +21,7 @@ fn request(number: u64, body: String) -> Forwarded {
 }
 
 fn open(address: &str) -> std::sync::Arc<dyn Sink> {
-    sinks::open(&address.parse().expect(address)).expect(address)
+    sinks::open(&address.parse().expect(address), std::sync::Arc::new(())).expect(address)
 }
 
 async fn taken(sink: &dyn Sink, number: u64, body: String) {
@@ -220,11 +221,14 @@ async fn what_is_told() {
     again(&*open(&by_password("right", "d1")), 2, body(), "read-only").await;
     let refuses = |database: &str, part: &str| {
         let address = server.by_socket(database).parse().expect("an address");
-        let error = sinks::open(&address).err().expect("it is refused").to_string();
+        let error = sinks::open(&address, std::sync::Arc::new(()))
+            .err()
+            .expect("it is refused")
+            .to_string();
         assert!(error.contains(part) && error.contains(database), "{error}");
     };
-    server.ask_of("d1", "update totxegun.version set version = 4");
-    refuses("d1", "schema 4; this one knows 3");
+    server.ask_of("d1", "update totxegun.version set version = 5");
+    refuses("d1", "schema 5; this one knows 4");
     again(&*lame, 2, body(), "version").await;
     again(&*lame, 2, body(), "later version").await;
     server.ask_of(

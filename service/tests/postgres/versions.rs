@@ -4,9 +4,10 @@ use crate::server::{sum, Server};
 use crate::{open, refused, taken};
 
 /// The steps, of which each version has made so many.
-const STEPS: [&str; 2] = [
+const STEPS: [&str; 3] = [
     include_str!("../../src/sinks/postgres/version1.sql"),
     include_str!("../../src/sinks/postgres/version2.sql"),
+    include_str!("../../src/sinks/postgres/version3.sql"),
 ];
 
 /// What a service of that time had written: one point of the series that `sum("a", ..)` has.
@@ -28,14 +29,14 @@ async fn a_database_of_an_earlier_version_is_brought_up() {
         let ask = |query: &str| server.ask_of(&database, query);
         ask("create schema totxegun");
         for step in &STEPS[..version] {
-            server.run_file(&database, step);
+            server.run_file(&database, &format!("begin;\n{step}\ncommit;"));
         }
         ask(&format!(
             "insert into totxegun.version values ('totxegun', {version})"
         ));
         ask(WRITTEN);
         let sink = open(&server.by_socket(&database));
-        assert_eq!(ask("select version from totxegun.version"), "3");
+        assert_eq!(ask("select version from totxegun.version"), "4");
         assert_eq!(ask("select count(*) from pg_constraint where contype = 'f' and connamespace = 'totxegun'::regnamespace"), "0");
         taken(&*sink, 1, sum("a", 100, 200, 5)).await;
         refused(&*sink, 2, sum("a", 150, 250, 1), "overlaps").await;

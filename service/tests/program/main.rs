@@ -1,5 +1,6 @@
 //! The program itself: who has a series, kills, how many series fit, what an operator is told.
 
+mod another;
 mod held;
 mod letters;
 mod lines;
@@ -127,7 +128,7 @@ fn a_folder_with_more_series_than_fit_is_refused_by_name() {
         log.contains("too many series") && log.contains("--most-series"),
         "{log}"
     );
-    let service = place.serve();
+    let service = place.serve_into_another();
     assert_eq!(service.post("A", &points(&names[..1], 110, 1)).unwrap().0, 200);
     service.drain();
     assert_eq!(service.end(), Some(0));

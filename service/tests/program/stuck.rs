@@ -47,7 +47,7 @@ fn a_changed_request_is_told_and_its_delivery_goes_on_once_it_is_put_back() {
     assert_eq!(service.order("/flush").0, 200);
     assert_eq!(service.end(), Some(0));
     let (path, sound) = change_request(&place);
-    let service = place.serve();
+    let service = place.serve_into_another();
     until("it is told", || !service.status()["slots"][0]["stuck"].is_null());
     assert!(service.metrics().contains("totxegun_delivery_stuck 1"));
     let said = service.said(&["status"]);

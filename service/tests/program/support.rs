@@ -73,6 +73,11 @@ impl Place {
         self.serve_with(&["--sink", &self.sink()])
     }
 
+    /// The same, of a folder that had another sink.
+    pub fn serve_into_another(&self) -> Service {
+        self.serve_with(&["--new-sink", "--sink", &self.sink()])
+    }
+
     pub fn serve_with(&self, words: &[&str]) -> Service {
         let service = self.begin(words);
         until("it is ready", || service.is_ready());

@@ -1,6 +1,6 @@
 //! What the file `version` says.
 
-use super::{io_fault, Fault, MOST_SLOTS};
+use super::{io_fault, Fault, KnownSink, MOST_SLOTS};
 use std::collections::BTreeMap;
 use std::fs::File;
 use std::os::unix::fs::MetadataExt;
@@ -19,6 +19,7 @@ pub struct Version {
     pub slots: Option<u16>,
     /// The journal's segment that the last start of a slot has begun: so far the slot was made, durably.
     pub begun: BTreeMap<u16, u64>,
+    pub sink: Option<KnownSink>,
 }
 
 /// By which a file is told from its copies.
@@ -56,6 +57,7 @@ impl Version {
             lock,
             slots,
             begun,
+            sink,
         } = self;
         let inode = lock.inode;
         let text = match slots {
@@ -69,7 +71,8 @@ impl Version {
             .map(|(slot, segment)| format!(" {slot}:{segment}"))
             .collect();
         let begun = (!begun.is_empty()).then(|| format!("begun{}\n", begun.concat()));
-        text + &born.unwrap_or_default() + &begun.unwrap_or_default()
+        let sink = sink.as_ref().map(KnownSink::line);
+        text + &born.unwrap_or_default() + &begun.unwrap_or_default() + &sink.unwrap_or_default()
     }
 
     pub fn read(folder: &Path) -> Result<Option<Version>, Fault> {
@@ -125,15 +128,17 @@ impl Version {
             };
             begun.split(' ').map(of_slot).collect()
         });
-        match (epoch, inode, slots, begun) {
-            (Some(epoch), Some(inode), Some(slots), Some(begun)) => Ok(Some(Version {
+        let sink = last("sink ").map_or(Some(None), |line| KnownSink::read(line).map(Some));
+        match (epoch, inode, slots, begun, sink) {
+            (Some(epoch), Some(inode), Some(slots), Some(begun), Some(sink)) => Ok(Some(Version {
                 epoch,
                 lock: Identity { inode, born },
                 slots,
                 begun,
+                sink,
             })),
             _ => damaged(
-                "has no epoch, no inode of the lock, no number of slots, or says otherwise what was begun: put a copy of this file in its place"
+                "has no epoch, no inode of the lock, no number of slots, or says otherwise what was begun or which sink it has: put a copy of this file in its place"
                     .into(),
             ),
         }

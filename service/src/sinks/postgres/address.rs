@@ -54,6 +54,17 @@ impl Server {
         Ok(Server(config))
     }
 
+    /// Where it is, whoever comes to it.
+    pub(crate) fn place(&self) -> String {
+        let host = match self.0.get_hosts().first() {
+            Some(Host::Tcp(host)) => host.clone(),
+            Some(Host::Unix(folder)) => folder.display().to_string(),
+            None => String::new(),
+        };
+        let port = self.0.get_ports().first().copied().unwrap_or(PORT);
+        format!("{host}:{port}/{}", self.0.get_dbname().unwrap_or_default())
+    }
+
     pub(super) fn wants_tls(&self) -> bool {
         self.0.get_ssl_mode() == SslMode::Require
     }
@@ -84,17 +95,12 @@ fn one_host(config: &Config) -> Result<(), &'static str> {
 
 impl std::fmt::Display for Server {
     fn fmt(&self, formatter: &mut std::fmt::Formatter<'_>) -> std::fmt::Result {
-        let host = match self.0.get_hosts().first() {
-            Some(Host::Tcp(host)) => host.clone(),
-            Some(Host::Unix(folder)) => folder.display().to_string(),
-            None => String::new(),
-        };
-        let port = self.0.get_ports().first().copied().unwrap_or(PORT);
-        let (user, database) = (
+        write!(
+            formatter,
+            "{}@{}",
             self.0.get_user().unwrap_or_default(),
-            self.0.get_dbname().unwrap_or_default(),
-        );
-        write!(formatter, "{user}@{host}:{port}/{database}")
+            self.place()
+        )
     }
 }
 

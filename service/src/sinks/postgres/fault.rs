@@ -15,6 +15,8 @@ pub enum PostgresFault {
     Foreign { server: String },
     #[error("the database of {server} is in {encoding}, which can't hold each text: make one with `encoding utf8`")]
     Encoding { server: String, encoding: String },
+    #[error("{0}")]
+    Another(String),
     #[error("{server}: {what}")]
     Server { server: String, what: String },
 }

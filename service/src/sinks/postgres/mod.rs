@@ -22,13 +22,14 @@ pub use address::Server;
 pub use fault::PostgresFault;
 
 use super::part::Left;
-use super::{Fate, Forwarded, Keys, Sink};
+use super::{Fate, Forwarded, Keys, Memory, Sink};
 use fault::NotTaken;
 use rows::OfSeries;
 use session::Session;
 use std::future::Future;
 use std::pin::Pin;
 use std::sync::atomic::{AtomicBool, Ordering::Relaxed};
+use std::sync::Arc;
 use std::time::Duration;
 use tokio::sync::Mutex;
 use tokio::time::timeout;
@@ -41,6 +42,7 @@ const AT_START: Duration = Duration::from_secs(6);
 pub struct PostgresSink {
     server: Server,
     name: String,
+    memory: Arc<dyn Memory>,
     /// One delivery at a time. It is taken out while it is used: one that was left half-way is closed.
     session: Mutex<Option<Session>>,
     /// Whether this run has seen the schema: where it is gone then, somebody took it away.
@@ -51,9 +53,9 @@ pub struct PostgresSink {
 
 impl PostgresSink {
     /// Makes the schema where there is none. A server that does not answer now is asked again at each delivery; a
-    /// schema that must not be written (of a later version, of another program) is an error.
-    pub fn open(server: &Server) -> anyhow::Result<PostgresSink> {
-        let tried = try_once(server)?;
+    /// schema that must not be written (of a later version, of another program, another than is remembered) is an error.
+    pub fn open(server: &Server, memory: Arc<dyn Memory>) -> anyhow::Result<PostgresSink> {
+        let tried = try_once(server, memory.clone())?;
         let was_there = tried.is_ok();
         if let Err(fault) = tried {
             if fault.is_lasting() {
@@ -65,6 +67,7 @@ impl PostgresSink {
         Ok(PostgresSink {
             server: server.clone(),
             name: server.to_string(),
+            memory,
             session: Mutex::new(None),
             was_there: AtomicBool::new(was_there),
             patience: PATIENCE,
@@ -87,7 +90,7 @@ impl PostgresSink {
     ) -> Result<Option<Left>, NotTaken> {
         let mut session = match place.take() {
             Some(session) if !session.client.is_closed() => session,
-            _ => Session::open(&self.server, self.was_there.load(Relaxed)).await?,
+            _ => Session::open(&self.server, &*self.memory, self.was_there.load(Relaxed)).await?,
         };
         self.was_there.store(true, Relaxed);
         let taken = store::take(&mut session, &self.name, request, all).await;
@@ -125,13 +128,13 @@ impl PostgresSink {
 }
 
 /// On a thread with a runtime of its own, since a start is not asynchronous.
-fn try_once(server: &Server) -> anyhow::Result<Result<(), PostgresFault>> {
+fn try_once(server: &Server, memory: Arc<dyn Memory>) -> anyhow::Result<Result<(), PostgresFault>> {
     let runtime = tokio::runtime::Builder::new_current_thread()
         .enable_all()
         .build()?;
     let server = server.clone();
     let open = async move {
-        match timeout(AT_START, Session::open(&server, false)).await {
+        match timeout(AT_START, Session::open(&server, &*memory, false)).await {
             Ok(opened) => opened.map(drop),
             Err(_) => Err(PostgresFault::told(
                 &server.to_string(),
@@ -164,7 +167,6 @@ impl Sink for PostgresSink {
 mod tests {
     use super::*;
     use std::sync::atomic::{AtomicUsize, Ordering::SeqCst};
-    use std::sync::Arc;
 
     /// Else requests of many slots would be called late by a server that was never asked, and wait all the longer.
     #[tokio::test]
@@ -186,6 +188,7 @@ mod tests {
         let sink = PostgresSink {
             name: server.to_string(),
             server,
+            memory: Arc::new(()),
             session: Mutex::new(None),
             was_there: AtomicBool::new(false),
             patience: Duration::from_millis(300),

@@ -1,6 +1,7 @@
 //! The schema `totxegun` of a database: a version in it, and the steps that lead from each version to the next.
 
 use super::fault::PostgresFault;
+use crate::sinks::Memory;
 use tokio_postgres::{Client, GenericClient};
 
 /// Step N leads from version N to version N+1. A step that was released is never changed.
@@ -8,6 +9,7 @@ const STEPS: &[&str] = &[
     include_str!("version1.sql"),
     include_str!("version2.sql"),
     include_str!("version3.sql"),
+    include_str!("version4.sql"),
 ];
 
 /// The version that this program writes.
@@ -22,12 +24,30 @@ struct Found {
     version: i32,
 }
 
-/// Brings the schema to the last version, or says why it must not be touched.
-pub(super) async fn migrate(client: &mut Client, server: &str, was_there: bool) -> Result<(), PostgresFault> {
-    let fault = |error| PostgresFault::of(server, &error);
-    if check(client, server).await?.version == KNOWN {
-        return Ok(());
+/// Brings the schema to the last version, or says why it must not be touched: also one that is not the one that is
+/// remembered.
+pub(super) async fn migrate(
+    client: &mut Client,
+    server: &str,
+    memory: &dyn Memory,
+    was_there: bool,
+) -> Result<(), PostgresFault> {
+    let found = check(client, server).await?.version;
+    // One that is gone in this run is told of, and made again.
+    let is_replaced = found == 0 && was_there;
+    if found != KNOWN {
+        memory.admit(None, is_replaced).map_err(PostgresFault::Another)?;
+        bring_up(client, server, was_there).await?;
     }
+    let row = client.query_one("select id from totxegun.sink", &[]).await;
+    let row = row.map_err(|error| PostgresFault::of(server, &error))?;
+    memory
+        .admit(Some(row.get(0)), is_replaced)
+        .map_err(PostgresFault::Another)
+}
+
+async fn bring_up(client: &mut Client, server: &str, was_there: bool) -> Result<(), PostgresFault> {
+    let fault = |error| PostgresFault::of(server, &error);
     let transaction = client.transaction().await.map_err(fault)?;
     transaction
         .execute("select pg_advisory_xact_lock($1)", &[&LOCK])

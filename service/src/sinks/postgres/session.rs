@@ -5,7 +5,7 @@ use super::fault::PostgresFault;
 use super::series::Seen;
 use super::tls::Tls;
 use super::{schema, statements};
-use crate::sinks::roots;
+use crate::sinks::{roots, Memory};
 use tokio::io::{AsyncRead, AsyncWrite};
 use tokio::task::JoinHandle;
 use tokio_postgres::{Client, Connection, NoTls, Statement};
@@ -46,10 +46,14 @@ pub(super) struct Statements {
 
 impl Session {
     /// `was_there` says that the schema has been seen before.
-    pub(super) async fn open(server: &Server, was_there: bool) -> Result<Session, PostgresFault> {
+    pub(super) async fn open(
+        server: &Server,
+        memory: &dyn Memory,
+        was_there: bool,
+    ) -> Result<Session, PostgresFault> {
         let name = server.to_string();
         let (mut client, connection) = connect(server).await?;
-        schema::migrate(&mut client, &name, was_there).await?;
+        schema::migrate(&mut client, &name, memory, was_there).await?;
         let fault = |error| PostgresFault::of(&name, &error);
         client.batch_execute(PLANS).await.map_err(fault)?;
         let statements = Statements::prepare(&client).await.map_err(fault)?;

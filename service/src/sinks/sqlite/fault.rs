@@ -11,6 +11,8 @@ pub enum SqliteFault {
     Later { path: PathBuf, found: i64, known: i64 },
     #[error("{path} is a database of another program: name another file")]
     Foreign { path: PathBuf },
+    #[error("{0}")]
+    Another(String),
     #[error("{path}: {what}")]
     File {
         path: PathBuf,
@@ -48,7 +50,10 @@ impl SqliteFault {
     pub(super) fn is_lasting(&self) -> bool {
         matches!(
             self,
-            SqliteFault::Later { .. } | SqliteFault::Foreign { .. } | SqliteFault::Thread { .. }
+            SqliteFault::Later { .. }
+                | SqliteFault::Foreign { .. }
+                | SqliteFault::Another(_)
+                | SqliteFault::Thread { .. }
         )
     }
 
@@ -85,7 +90,9 @@ fn what(code: ErrorCode, path: &Path) -> Option<String> {
             "its folder is missing (or hidden from a unit, as /home is): make it"
         }
         ErrorCode::CannotOpen => "it can't be opened: let the service's user write the file and its folder",
-        ErrorCode::DatabaseCorrupt => "it is damaged: put a copy back, or move it and its -wal away",
+        ErrorCode::DatabaseCorrupt => {
+            "it is damaged: put a copy back, or move it and its -wal away and start with --new-sink"
+        }
         ErrorCode::NotADatabase => "it is no SQLite database: name another file, or move it away",
         ErrorCode::SystemIoFailure => "reading or writing failed: look at the disk",
         _ => return None,

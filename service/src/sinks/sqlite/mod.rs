@@ -15,12 +15,13 @@ mod tests;
 pub use fault::SqliteFault;
 pub use whole::Exact;
 
-use super::{Fate, Forwarded, Keys, Sink};
+use super::{Fate, Forwarded, Keys, Memory, Sink};
 use fault::NotTaken;
 use std::future::Future;
 use std::path::{Path, PathBuf};
 use std::pin::Pin;
 use std::sync::mpsc::{self, RecvTimeoutError};
+use std::sync::Arc;
 use std::thread::JoinHandle;
 use std::time::Duration;
 use store::{Found, Store};
@@ -44,11 +45,13 @@ struct Job {
 
 impl SqliteSink {
     /// Opens the file, made where there is none. A file that can't be opened now is opened at a later delivery; one
-    /// that must not be written (of a later version, of another program) is an error.
-    pub fn open(path: &Path) -> Result<SqliteSink, SqliteFault> {
+    /// that must not be written (of a later version, of another program, another than is remembered) is an error.
+    pub fn open(path: &Path, memory: Arc<dyn Memory>) -> Result<SqliteSink, SqliteFault> {
         let mut writer = Writer {
             path: path.into(),
             store: None,
+            memory,
+            was_replaced: false,
             is_told: false,
         };
         if let Err(fault) = writer.store() {
@@ -130,6 +133,9 @@ impl Drop for SqliteSink {
 struct Writer {
     path: PathBuf,
     store: Option<Store>,
+    memory: Arc<dyn Memory>,
+    /// Whether the file that was open was found replaced, and none was opened since.
+    was_replaced: bool,
     /// Whether it was said that a log can't be saved.
     is_told: bool,
 }
@@ -142,8 +148,9 @@ impl Writer {
         };
         let store = match open {
             Some(store) => store,
-            None => Store::open(&self.path)?,
+            None => Store::open(&self.path, &|id| self.memory.admit(id, self.was_replaced))?,
         };
+        self.was_replaced = false;
         Ok(self.store.insert(store))
     }
 
@@ -153,9 +160,12 @@ impl Writer {
         let path = self.path.display();
         match store.found() {
             Found::Whole => return Ok(Some(store)),
-            Found::Gone => tracing::error!(
-                "{path} was deleted or replaced: the file of this name lacks what was delivered so far"
-            ),
+            Found::Gone => {
+                tracing::error!(
+                    "{path} was deleted or replaced: the file of this name lacks what was delivered so far"
+                );
+                self.was_replaced = true;
+            }
             Found::WithoutLog => match store.settle() {
                 Ok(()) => tracing::error!(
                     "{path}-wal or -shm was deleted or replaced: what it had was copied into the file"

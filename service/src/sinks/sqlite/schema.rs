@@ -8,7 +8,7 @@ use std::path::Path;
 const APPLICATION: i64 = 0x746f_7478;
 
 /// Step N leads from version N to version N+1. A step that was released is never changed.
-pub(super) const STEPS: &[&str] = &[include_str!("version1.sql")];
+pub(super) const STEPS: &[&str] = &[include_str!("version1.sql"), include_str!("version2.sql")];
 
 /// Brings a file to the last version, or says why it must not be touched.
 pub(super) fn migrate(connection: &mut Connection, path: &Path, steps: &[&str]) -> Result<(), SqliteFault> {
@@ -36,6 +36,13 @@ pub(super) fn migrate(connection: &mut Connection, path: &Path, steps: &[&str]) 
         tracing::info!("{} was brought from schema {version} to {known}", path.display());
     }
     Ok(())
+}
+
+/// What the last version keeps of a file.
+pub(super) fn id(connection: &Connection, path: &Path) -> Result<String, SqliteFault> {
+    connection
+        .query_row("select id from sink", [], |row| row.get(0))
+        .map_err(|error| SqliteFault::of(path, error))
 }
 
 /// The version of a file that is ours; 0 where it is empty.

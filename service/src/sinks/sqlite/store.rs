@@ -38,16 +38,28 @@ pub(super) struct Store {
 }
 
 impl Store {
-    pub(super) fn open(path: &Path) -> Result<Store, SqliteFault> {
+    /// `admit` is asked with the file's id, and before one is made that has none.
+    pub(super) fn open(
+        path: &Path,
+        admit: &dyn Fn(Option<&str>) -> Result<(), String>,
+    ) -> Result<Store, SqliteFault> {
         let fault = |error| SqliteFault::of(path, error);
         let flags = OpenFlags::SQLITE_OPEN_READ_WRITE
             | OpenFlags::SQLITE_OPEN_CREATE
             | OpenFlags::SQLITE_OPEN_NO_MUTEX;
+        if !path.exists() {
+            admit(None).map_err(SqliteFault::Another)?;
+        }
         make_private(path);
         let mut connection = Connection::open_with_flags(path, flags).map_err(fault)?;
         connection.busy_timeout(PATIENCE).map_err(fault)?;
         // Before anything is changed: the file may be another program's.
-        schema::check(&connection, path, STEPS.len() as i64)?;
+        let known = STEPS.len() as i64;
+        match schema::check(&connection, path, known)? == known {
+            true => admit(Some(&schema::id(&connection, path)?)),
+            false => admit(None),
+        }
+        .map_err(SqliteFault::Another)?;
         let mode: String = connection
             .query_row("pragma journal_mode = wal", [], |row| row.get(0))
             .map_err(fault)?;
@@ -62,6 +74,7 @@ impl Store {
             .map_err(fault)?;
         schema::migrate(&mut connection, path, STEPS)?;
         settle(&connection, path)?;
+        admit(Some(&schema::id(&connection, path)?)).map_err(SqliteFault::Another)?;
         let place =
             place(path).ok_or_else(|| SqliteFault::told(path, "it was deleted while it was opened"))?;
         Ok(Store {

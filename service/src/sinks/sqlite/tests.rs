@@ -121,6 +121,8 @@ fn writer(path: &Path) -> Writer {
     Writer {
         path: path.into(),
         store: None,
+        memory: Arc::new(()),
+        was_replaced: false,
         is_told: false,
     }
 }
@@ -335,7 +337,7 @@ fn series_differ_by_each_part() {
 async fn a_sink_has_a_thread_that_ends_with_it() {
     let folder = tempfile::tempdir().expect("a folder");
     let path = folder.path().join("totals.db");
-    let sink = SqliteSink::open(&path).expect("a sink");
+    let sink = SqliteSink::open(&path, Arc::new(())).expect("a sink");
     assert_eq!(sink.name(), format!("sqlite {}", path.display()));
     let bodies: Vec<Forwarded> = (1..=20)
         .map(|number| forwarded(number, sum("a", number, number + 1, 1)))

@@ -1,0 +1,110 @@
+//! The sink is the one that the folder remembers, or the operator says that it is a new one.
+
+use super::Ended;
+use crate::files::{Fault, Folder, KnownSink, Outbox};
+use crate::sinks::{self, Address, Memory, Sink};
+use anyhow::{anyhow, Context};
+use std::sync::atomic::{AtomicBool, Ordering::Relaxed};
+use std::sync::Arc;
+
+struct Remembered {
+    folder: Arc<Folder>,
+    /// The one of this start, so far without an id.
+    now: KnownSink,
+    /// Until it was taken.
+    takes_new: AtomicBool,
+    outboxes: Vec<Arc<Outbox>>,
+}
+
+/// Opens the sink. What waits in these outboxes goes into it.
+pub(super) fn open(
+    folder: &Arc<Folder>,
+    address: &Address,
+    takes_new: bool,
+    outboxes: Vec<Arc<Outbox>>,
+) -> Result<Arc<dyn Sink>, Ended> {
+    let memory = Arc::new(Remembered {
+        folder: folder.clone(),
+        now: address.known(),
+        takes_new: AtomicBool::new(takes_new),
+        outboxes,
+    });
+    memory.look_at_kind()?;
+    let sink = sinks::open(address, memory.clone()).context("the sink can't be opened")?;
+    memory.look_at_address()?;
+    Ok(sink)
+}
+
+impl Remembered {
+    /// Before anything is made in a place that is another kind's.
+    fn look_at_kind(&self) -> Result<(), Ended> {
+        match self.folder.sink() {
+            Some(known) if known.kind != self.now.kind && !self.takes_new.load(Relaxed) => {
+                Err(anyhow!(self.refusal(&known, &self.now)).into())
+            }
+            _ => Ok(()),
+        }
+    }
+
+    /// Of a sink whose id is not known yet, since it can't be reached or has none: it is known by its address. One that
+    /// was met is remembered by now.
+    fn look_at_address(&self) -> Result<(), Ended> {
+        let takes_new = self.takes_new.load(Relaxed);
+        match self.folder.sink() {
+            Some(known) if known == self.now || !takes_new && known.is_at(&self.now) => Ok(()),
+            Some(known) if !takes_new => Err(anyhow!(self.refusal(&known, &self.now)).into()),
+            known => Ok(self.remember(known, self.now.clone())?),
+        }
+    }
+
+    fn remember(&self, before: Option<KnownSink>, now: KnownSink) -> Result<(), Fault> {
+        self.folder.set_sink(now.clone())?;
+        match before {
+            Some(before) if self.takes_new.load(Relaxed) && !before.is(&now) => tracing::warn!(
+                "--new-sink: from here on all goes into {now}, also the requests that wait ({}); {before} keeps what \
+                 it has taken",
+                self.waiting()
+            ),
+            _ => {}
+        }
+        self.takes_new.store(false, Relaxed);
+        Ok(())
+    }
+
+    fn waiting(&self) -> u64 {
+        self.outboxes.iter().map(|outbox| outbox.waiting().0).sum()
+    }
+
+    fn refusal(&self, known: &KnownSink, now: &KnownSink) -> String {
+        let found = match (&known.id, &now.id) {
+            (Some(_), None) if known.is_at(now) => format!("{now}, which is empty or an older one"),
+            _ => now.to_string(),
+        };
+        format!(
+            "this folder delivers to {known}, and the sink is now {found}; requests that wait: {}. Set --sink (or \
+             TOTXEGUN_SINK) to the old one, or put it back; or give --new-sink for one start: what waits, and all after \
+             it, goes into the new one",
+            self.waiting()
+        )
+    }
+}
+
+impl Memory for Remembered {
+    fn admit(&self, id: Option<&str>, is_replaced: bool) -> Result<(), String> {
+        let now = self.now.with_id(id);
+        let known = self.folder.sink();
+        let may_be = is_replaced || self.takes_new.load(Relaxed);
+        match known {
+            Some(known) if known == now => {
+                self.takes_new.store(false, Relaxed);
+                Ok(())
+            }
+            Some(known) if !may_be && !known.is(&now) => Err(self.refusal(&known, &now)),
+            _ if id.is_none() => Ok(()), // one is made now
+            known => self.remember(known, now).map_err(|fault| fault.to_string()),
+        }
+    }
+}
+
+#[cfg(test)]
+mod tests;

@@ -1,0 +1,59 @@
+//! A database that is not the one that is remembered.
+
+use super::server::{sum, Server};
+use super::{again, taken};
+use std::sync::{Arc, Mutex};
+use totxegun::sinks::{self, Memory};
+
+/// Takes the first sink, and then no other.
+#[derive(Default)]
+struct First(Mutex<Option<String>>);
+
+impl Memory for First {
+    fn admit(&self, id: Option<&str>, is_replaced: bool) -> Result<(), String> {
+        let mut known = self.0.lock().unwrap();
+        match (&*known, id) {
+            (None, _) => *known = id.map(String::from),
+            (Some(known), id) if is_replaced || id == Some(known) => {}
+            _ => return Err("another sink".into()),
+        }
+        Ok(())
+    }
+}
+
+#[tokio::test(flavor = "multi_thread")]
+async fn a_database_is_known_by_its_id_once_it_is_reached() {
+    let Some(server) = Server::start() else { return };
+    let first = Arc::new(First::default());
+    let open = |database: &str| {
+        let address = server.by_socket(database).parse().unwrap();
+        sinks::open(&address, first.clone()).map_err(|error| error.to_string())
+    };
+    server.ask("create database one");
+    let one = open("one").ok().unwrap();
+    taken(&*one, 1, sum("a", 100, 200, 5)).await;
+    let id = first.0.lock().unwrap().clone();
+    assert_eq!(id, Some(server.ask_of("one", "select id from totxegun.sink")));
+    drop(one);
+    // Nothing is made in another.
+    server.ask("create database two");
+    assert_eq!(open("two").err().as_deref(), Some("another sink"));
+    assert_eq!(
+        server.ask_of(
+            "two",
+            "select count(*) from pg_namespace where nspname = 'totxegun'"
+        ),
+        "0"
+    );
+    // The same under another name.
+    server.ask("alter database one rename to three");
+    taken(&*open("three").ok().unwrap(), 2, sum("a", 200, 300, 5)).await;
+    // One that could not be reached at the start is met at the first delivery, which goes on where it is put back.
+    let late = open("late").ok().unwrap();
+    server.ask("create database late");
+    again(&*late, 3, sum("a", 300, 400, 5), "another sink").await;
+    server.ask("drop database late");
+    server.ask("alter database three rename to late");
+    taken(&*late, 3, sum("a", 300, 400, 5)).await;
+    assert_eq!(server.ask_of("late", "select total from totxegun.totals"), "15");
+}
