@@ -8,6 +8,7 @@ use serde_json::Value;
 use std::fs::File;
 use std::io::{ErrorKind, Read, Write};
 use std::os::unix::fs::OpenOptionsExt;
+use std::path::PathBuf;
 use std::process::Command;
 use std::time::{Duration, Instant};
 
@@ -153,27 +154,30 @@ fn copy_folder(place: &Place) {
     std::fs::rename(copy, data).unwrap();
 }
 
-/// A line of each level, beside its text.
-#[test]
-fn what_a_line_of_json_names_is_in_its_fields() {
-    let place = Place::new();
+/// What is told of a folder that was copied, and of a request that was changed: its file, and the lines.
+fn told_in_json(place: &Place) -> (PathBuf, Vec<Value>) {
     let service = place.serve_with(&["--sink", NO_SINK]);
     assert_eq!(service.post("A", &points(&["a"], 100, 5)).unwrap().0, 200);
     assert_eq!(service.order("/flush").0, 200);
     assert_eq!(service.end(), Some(0));
     std::fs::remove_file(place.folder.path().join("log.txt")).unwrap();
-    let file = change_request(&place).0;
-    copy_folder(&place);
+    let file = change_request(place).0;
+    copy_folder(place);
     let service = place.serve_with(&["--sink", NO_SINK, "--log-json"]);
     until("the delivery stops", || {
         !service.status()["slots"][0]["stuck"].is_null()
     });
     assert_eq!(service.end(), Some(0));
     let log = place.log();
-    let lines: Vec<Value> = log
-        .lines()
-        .map(|line| serde_json::from_str(line).unwrap())
-        .collect();
+    let lines = log.lines().map(|line| serde_json::from_str(line).unwrap());
+    (file, lines.collect())
+}
+
+/// A line of each level, beside its text.
+#[test]
+fn what_a_line_of_json_names_is_in_its_fields() {
+    let place = Place::new();
+    let (file, lines) = told_in_json(&place);
     let line = |part: &str| {
         lines
             .iter()
