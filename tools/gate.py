@@ -14,16 +14,18 @@ import subprocess
 import sys
 import time
 
-from build import SERVICE_MADE
+import prover
+from build import MOST_JOBS, SERVICE_MADE
 from crates import OUT, ROOT, content, read_crates
+from proved import write_proof
 from steps import Failed, Step, Steps, end_of, end_of_lines, locked, shown
 
 PLAY = "crates/play/out/play"
 GATEWAY = "crates/gateway/out/gateway"
 ALLOC_FAILURES = "crates/alloc_failures/out/alloc_failures"
 # What the service is linked with. The prover's part proves it, and leaves no library.
-BOOK = "crates/book_c"
-LIBRARY = f"{BOOK}/out/libbook_c.a"
+BOOK = "book_c"
+LIBRARY = f"crates/{BOOK}/out/lib{BOOK}.a"
 
 # Each is a script of tests/, the program that it runs, about how many seconds it takes, and whether it
 # measures time, so that nothing may run beside it. Those that take longest come first.
@@ -143,14 +145,17 @@ def has_tests(crate):
 
 
 def book_step():
-    """The step that builds the library of the book."""
+    """The step that builds the library of the book, over the libraries that the prover's part has left here."""
+    crate = read_crates()[BOOK]
 
     def work(step):
-        if step.run(["rt", "lib"], f"{ROOT}/{BOOK}") != 0:
-            raise Failed((end_of(step.log) or ["it printed nothing"])[-1])
+        for command in prover.Prover().build(crate, step.jobs, prover.room_of_gate):
+            if step.run(command, crate.folder) != 0:
+                raise Failed((end_of(step.log) or ["it printed nothing"])[-1])
+        write_proof(f"{ROOT}/{LIBRARY}")
         return LIBRARY
 
-    return Step("book_is_built", work, f"(cd {BOOK} && rt lib)")
+    return Step("book_is_built", work, f"tools/build.py {BOOK}", most_jobs=MOST_JOBS)
 
 
 def step_of(script, program, seconds, is_timed, before, of=""):

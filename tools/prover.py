@@ -17,11 +17,11 @@ class Prover:
 
     def check(self, crate, jobs, kept):
         """The command that checks a crate in its folder, over what an earlier check of it has kept."""
-        return [f"{self.kit}/bin/rattle", "check", *self.words(crate, jobs), "--incremental", kept]
+        return [f"{self.kit}/bin/rattle", "check", *self.words(crate, jobs, room_of), "--incremental", kept]
 
-    def build(self, crate, jobs):
-        """The commands that prove a crate in its folder and build it."""
-        proving = [f"{self.kit}/bin/rattle", "build", *self.words(crate, jobs)]
+    def build(self, crate, jobs, room=None):
+        """The commands that prove a crate in its folder and build it, over the libraries in these rooms of the crates below."""
+        proving = [f"{self.kit}/bin/rattle", "build", *self.words(crate, jobs, room or room_of)]
         tools = ["--toolchain", f"{self.kit}/toolchain"]
         if crate.is_static:
             return [[*proving, *tools, "-o", made_by(crate)]]
@@ -35,8 +35,8 @@ class Prover:
             [*linking, "-o", made_by(crate), module, *system],
         ]
 
-    def words(self, crate, jobs):
-        """What a check of a crate reads, with so many jobs."""
+    def words(self, crate, jobs, room):
+        """What a check of a crate reads, with so many jobs, where each library lies in its crate's room."""
         libraries = f"{self.kit}/rlibs"
         words = ["--crate-name", crate.name, f"src/{'main' if crate.is_program else 'lib'}.rt"]
         if crate.is_static:
@@ -44,8 +44,8 @@ class Prover:
         for use in ("std", *crate.uses()):
             words += ["--extern", f"{use}={libraries}/{use}.rlib"]
         for below in crate.below:
-            words += ["--extern", f"{below.name}={made_by(below)}"]
-        for folder in (libraries, *map(room_of, crate.all_below())):
+            words += ["--extern", f"{below.name}={room(below)}/{below.name}.rlib"]
+        for folder in (libraries, *map(room, crate.all_below())):
             words += ["-L", f"dependency={folder}"]
         words += ["--antt-project", f"{self.kit}/rattle/logic/antt-project.json"]
         words += ["--logic-built", f"{self.kit}/logic_built"]
@@ -55,6 +55,11 @@ class Prover:
 def room_of(crate):
     """The folder of a crate for what is built of it: the only one where `rt` lets a library lie."""
     return f"{crate.folder}/out/rlib/statements"
+
+
+def room_of_gate(crate):
+    """The folder of a crate where `rt ci` leaves the library that it has proved."""
+    return f"{crate.folder}/out/rlib"
 
 
 def made_by(crate):
