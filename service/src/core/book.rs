@@ -2,7 +2,7 @@
 //!
 //! What the library was proved to do holds while its caller does what stands here beside each call: one call of a
 //! handle at a time (`&mut self`), and only of one that was made and not freed yet (`Drop`); slices as they are; numbers
-//! in the ranges that the contracts have; declarations as `crates/book_c/src/lib.rt` and `shapes.rt` have them; and
+//! in the ranges that the contracts have; declarations as `crates/book_c/src/lib.rt` and `answers.rt` have them; and
 //! memory that nobody else writes to, which it gets by the three functions at the end.
 
 use super::memory;

@@ -1,5 +1,5 @@
-//! The book: proved, linked in, and asked by calls. `book` is the wrapper over its library, with all `unsafe` code of
-//! the service, `refusal` what it says no by, `memory` what it may have.
+//! The book: proved, linked in, and asked by calls. `book` is the wrapper over its library, the only file that calls what
+//! is not Rust, `refusal` what it says no by, `memory` what it may have.
 //!
 //! A post is read by a reader, which needs no lock. All else is asked of the one `Book` under the lock of `Core`: so
 //! there is one order of all that changes it, and what is put into the journal under that lock has the same.
