@@ -48,10 +48,10 @@ edits: ## tries all wrong code
 wrong: ## tries wrong copies of the service
 	@tools/wrong.py $(NAME)
 
-# With what make build has built, while it is killed.
-soak: ## the service under load for an hour
+# With what make build has built, while it is killed; as root with STALLS=1 also while its disk stands still now and then.
+soak: ## the service under load for an hour: STALLS=1
 	@[ -x bin/totxegun ] || { echo "there is no bin/totxegun: make build makes it" >&2; exit 1; }
-	@tests/service_load.py bin/totxegun 3600
+	@tests/service_load.py bin/totxegun 3600 $(if $(STALLS),--stalls)
 
 # DESTDIR, PREFIX (/usr/local), SYSCONFDIR (/etc) and UNITDIR (PREFIX/lib/systemd/system) say where.
 install: ## installs what make build has built: DESTDIR=, PREFIX=/usr/local

@@ -1,7 +1,7 @@
 #!/usr/bin/env python3
 """The service under load, while it is killed and stopped.
 
-    tests/service_load.py TOTXEGUN [SECONDS] [SEED] [--most-series N,..]
+    tests/service_load.py TOTXEGUN [SECONDS] [SEED] [--most-series N,..] [--stalls]
 
 Four runs of a quarter of the seconds each (60): durable `disk` and `process`, with a sink of OTLP and a SQLite file. Each
 start has another number of books now and then, by a --most-series of those that are named (8000, 30000 and 100000).
@@ -9,7 +9,9 @@ start has another number of books now and then, by a --most-series of those that
 Senders post sums and histograms, in JSON and protobuf, packed or not, on connections that they keep, and repeat each post
 until it is answered; now and then one posts to another's series, and is refused. Meanwhile the service is killed, also twice
 in a row; it is stopped and goes on; senders are quarantined and released; the sink of OTLP answers late, 503, 400, not at
-all, or takes a request and loses its answer.
+all, or takes a request and loses its answer. With --stalls, which needs root, its folder is on a file system of its own that
+is frozen for 1 to 30 seconds now and then: `/health` answers meanwhile, `/ready` says why no posts are taken, and sometimes
+the service is killed before the disk goes on.
 
 At the end a repeat of what was taken is refused, SIGTERM ends the service within ten seconds with status 0, while the sink
 does not answer; a second start brings all to the sink, what the sink had refused is sent again, and the sink has, series
@@ -26,8 +28,10 @@ import sys
 import tempfile
 import threading
 import time
+from contextlib import nullcontext
 
 from checks import Checks
+from own_disk import OwnDisk
 from service import (AGAIN, JSON, OUT_OF_ORDER, OtlpSink, Sender, Service, SqliteSink, add_points, ask, differences, in_json,
                      overlaps, told_to_all, wait_until)
 
@@ -35,12 +39,16 @@ SENDERS = 6
 SECONDS = 60
 MOODS = ["well"] * 6 + ["late", "busy", "silent", "lose", "refuse"]
 TIME_TO_END = 10
+STALLS = [1, 1, 3, 5, 10, 30]
+# A call has to be under way for two seconds, and a post or a mark comes first.
+SEEN_AFTER = 6
+NO_ANSWER = b"the disk does not answer"
 
 
 class Trouble:
     """What is done to the service while senders post: one event after another, drawn by chance."""
 
-    def __init__(self, service, senders, seed, most_series):
+    def __init__(self, service, senders, seed, most_series, disk):
         self.service = service
         self.senders = senders
         self.most_series = most_series
@@ -48,6 +56,10 @@ class Trouble:
         self.quarantined = set()
         self.counts = {}
         self.events = [self.kill_service, self.kill_twice, self.change_books, self.stop_service, self.flush, self.quarantine, self.lift]
+        self.disk = disk
+        self.silences = []  # what the service did not say while the disk stood still
+        if disk is not None:
+            self.events += [self.stall]
 
     def go_on(self, until):
         while time.monotonic() < until:
@@ -85,6 +97,32 @@ class Trouble:
         self.service.signal(signal.SIGSTOP)
         time.sleep(self.chance.choice([0.05, 0.3, 1.0]))
         self.service.signal(signal.SIGCONT)
+
+    def stall(self):
+        """The disk stands still for a while, also for a service that is killed meanwhile."""
+        is_serving = self.service.is_ready()
+        until = time.monotonic() + self.chance.choice(STALLS)
+        with self.disk.frozen():
+            begun = time.monotonic()
+            while time.monotonic() < until:
+                if is_serving:
+                    self.look(time.monotonic() - begun)
+                time.sleep(0.5)
+            is_killed = self.chance.random() < 0.3
+            if is_killed:
+                self.service.signal(signal.SIGKILL)
+        if is_killed:
+            self.kill_service()
+
+    def look(self, seconds):
+        """What must be said while the disk has been still for so long."""
+        status, _ = self.service.asked("GET", "/health", 2)
+        if status != 200:
+            self.silences.append(f"/health {status} after {seconds:.1f} s")
+        if seconds > SEEN_AFTER:
+            status, text = self.service.asked("GET", "/ready", 2)
+            if status != 503 or NO_ANSWER not in text:
+                self.silences.append(f"/ready {status} {text} after {seconds:.1f} s")
 
     def flush(self):
         self.service.order("/flush", 5)
@@ -135,19 +173,21 @@ def post_meanwhile(senders, is_over, between=lambda sender: None):
     return threads
 
 
-def load(checks, what, service, sink, seconds, seed, most_series):
+def load(checks, what, service, sink, seconds, seed, most_series, disk):
     """Senders and trouble at once; whether all senders were answered."""
     service.start()
     checks.true(f"{what}: it is ready", service.wait_ready(), service.last_lines())
     until = time.monotonic() + seconds
     senders = [Sender(service, number, seed) for number in range(SENDERS)]
-    trouble = Trouble(service, senders, seed, most_series)
+    trouble = Trouble(service, senders, seed, most_series, disk)
     threads = post_meanwhile(senders, lambda: time.monotonic() > until, lambda sender: intrude(sender, senders))
     sink.mood(MOODS)
     trouble.go_on(until)
     trouble.start()
     checks.true(f"{what}: it is ready again", service.wait_ready(), service.last_lines())
     checks.true(f"{what}: all senders are released", trouble.lift_all(), service.status())
+    if disk is not None:
+        checks.same(f"{what}: it answered while the disk stood still", [], trouble.silences[:3])
     for thread in threads:
         thread.join(SECONDS)
     checks.true(f"{what}: all posts are answered", not any(thread.is_alive() for thread in threads), service.last_lines())
@@ -211,14 +251,16 @@ def compare(checks, what, sink, senders):
     checks.same(f"{what}: the sink has what the senders were told, {len(wanted)} series", [], differences(wanted, found))
 
 
-def run(checks, program, durable, kind, seconds, seed, most_series):
+def run(checks, program, durable, kind, seconds, seed, most_series, stalls):
     what = f"{durable}, {kind}"
-    with tempfile.TemporaryDirectory(prefix="service-") as folder:
+    with tempfile.TemporaryDirectory(prefix="service-") as folder, OwnDisk(folder) if stalls else nullcontext() as disk:
         sink = OtlpSink(seed) if kind == "OTLP" else SqliteSink(f"{folder}/sink.db")
         words = ["--durable", durable, "--flush-every", "1s", "--most-series", str(most_series[0])]
-        service = Service(program, f"{folder}/data", sink.address, *words)
+        place = folder if disk is None else disk.folder
+        service = Service(program, f"{place}/data", sink.address, *words)
+        service.log = f"{folder}/log"
         try:
-            senders = load(checks, what, service, sink, seconds, seed, most_series)
+            senders = load(checks, what, service, sink, seconds, seed, most_series, disk)
             end(checks, what, service, sink, senders)
         finally:
             service.kill()
@@ -230,7 +272,7 @@ def main(arguments):
     print(f"note: seed {arguments.seed}", flush=True)
     for durable, kind in (("disk", "OTLP"), ("disk", "SQLite"), ("process", "OTLP"), ("process", "SQLite")):
         run(checks, arguments.totxegun, durable, kind, arguments.seconds / 4, f"{arguments.seed} {durable} {kind}",
-            arguments.most_series)
+            arguments.most_series, arguments.stalls)
     return checks.end()
 
 
@@ -240,4 +282,5 @@ if __name__ == "__main__":
     parser.add_argument("seconds", type=float, nargs="?", default=SECONDS)
     parser.add_argument("seed", nargs="?", default="1")
     parser.add_argument("--most-series", type=lambda text: [int(word) for word in text.split(",")], default=[8_000, 30_000, 100_000])
+    parser.add_argument("--stalls", action="store_true")
     sys.exit(main(parser.parse_args()))
