@@ -83,11 +83,6 @@ pub struct Prepared {
 }
 
 impl Prepared {
-    /// Of memory, until its post is answered.
-    pub fn bytes(&self) -> usize {
-        self.body.len() + self.rounded.bytes()
-    }
-
     fn as_it_is(body: Bytes) -> Prepared {
         Prepared {
             body,

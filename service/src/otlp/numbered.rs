@@ -11,6 +11,7 @@ mod levels;
 mod walk;
 
 use super::Reading;
+use crate::files::Points;
 use bytes::Bytes;
 use identity::{Learn, Learner};
 use levels::Levels;
@@ -29,12 +30,8 @@ pub enum Learnt {
 /// Points of a request.
 #[derive(Debug, Default, PartialEq, Eq)]
 pub struct Numbered {
-    /// Each is number, start, end, and what it says: of a sum its value, of a histogram count, whether there is a sum (0
-    /// or 1), the sum, and a bucket more than it has bounds.
-    pub words: Vec<u64>,
-    /// Where each ends there.
-    pub ends: Vec<usize>,
-    /// How many points have no place there, since they are outside the profile.
+    pub points: Points,
+    /// How many points are not among them, since they are outside the profile.
     pub foreign: u64,
 }
 

@@ -39,7 +39,7 @@ impl Find for Learner<'_> {
         }
         let text = self.written(&request(path, &field(1, &point(own))))?;
         self.fitting(|levels| levels.take_room(own.attributes, text.len()))?;
-        let number = match (self.learn)(text.into()).ok_or(Stop::Slow)? {
+        let number = match (self.learn)(text.into_boxed_slice().into()).ok_or(Stop::Slow)? {
             Learnt::Foreign => FOREIGN,
             Learnt::Number(number) => u32::try_from(number).map_err(|_| Stop::Slow)?,
         };

@@ -3,6 +3,7 @@
 
 use super::levels::{Level, Levels, FOREIGN, TOP};
 use super::Numbered;
+use crate::files::Points;
 use crate::otlp::number::whole_double;
 use crate::otlp::schema::{Message, METRIC, REQUEST, RESOURCE_METRICS, SCOPE_METRICS};
 use crate::otlp::wire::{Fields, Payload};
@@ -13,6 +14,10 @@ const SUM: u32 = 7;
 const HISTOGRAM: u32 = 9;
 /// The field of points in each of them.
 const POINTS: u8 = 1;
+
+/// What most requests have more of for a word that is read of them, and for a point.
+const BYTES_OF_A_WORD: usize = 16;
+const BYTES_OF_A_POINT: usize = 64;
 
 /// Why a request is not read here.
 #[derive(Clone, Copy, Debug, PartialEq, Eq)]
@@ -135,8 +140,7 @@ impl<'b, F: Find> Walk<'b, F> {
             key: Vec::new(),
             bounds: None,
             numbered: Numbered {
-                words: Vec::with_capacity(length / 16),
-                ends: Vec::with_capacity(length / 64),
+                points: Points::with_room(length / BYTES_OF_A_WORD, length / BYTES_OF_A_POINT),
                 foreign: 0,
             },
         }
@@ -238,9 +242,7 @@ impl<'b, F: Find> Walk<'b, F> {
         let number = self.series(level, own, &fields)?;
         match value {
             Some(value) if is_recorded(number, flags) => {
-                let words = [u64::from(number), start, end, value];
-                self.numbered.words.extend_from_slice(&words);
-                self.numbered.ends.push(self.numbered.words.len());
+                self.numbered.points.push(u64::from(number), start, end, [value]);
             }
             _ => self.numbered.foreign += 1,
         }
@@ -278,10 +280,9 @@ impl<'b, F: Find> Walk<'b, F> {
         };
         match sum {
             Some((has_sum, sum)) if is_recorded(number, flags) && buckets.len() == bound_count + 1 => {
-                let Numbered { words, ends, .. } = &mut self.numbered;
-                words.extend_from_slice(&[u64::from(number), start, end, count, has_sum, sum]);
-                words.extend(buckets.iter().map(|bucket| u64::from_le_bytes(*bucket)));
-                ends.push(words.len());
+                let buckets = buckets.iter().map(|bucket| u64::from_le_bytes(*bucket));
+                let says = [count, has_sum, sum].into_iter().chain(buckets);
+                self.numbered.points.push(u64::from(number), start, end, says);
             }
             _ => self.numbered.foreign += 1,
         }
