@@ -6,7 +6,7 @@
 use super::verdict::{Journalled, Taken};
 use super::{is_sender, Phase, Slot, NO_ROOM};
 use crate::core::{Read, Refused};
-use crate::files::Post;
+use crate::files::{Body, Post};
 use crate::otlp::Outcome;
 use crate::work::blocking;
 use bytes::Bytes;
@@ -64,7 +64,7 @@ impl Slot {
         let post = Post {
             sender: std::mem::take(&mut read.sender),
             foreign: read.foreign,
-            body: std::mem::take(&mut read.body),
+            body: Body::Text(std::mem::take(&mut read.body)),
         };
         self.count_post();
         // Under the lock: so the journal has the book's order, and a checkpoint finds the post in both or in neither.

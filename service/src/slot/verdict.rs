@@ -5,7 +5,7 @@
 //! of the first attempt, or the sender would drop a batch that a loss of power then takes.
 
 use crate::core::Refused;
-use crate::files::{Journal, Post, Ticket};
+use crate::files::{Journal, NoNames, Post, Ticket};
 use crate::otlp::Outcome;
 
 /// A post that the book took, and that is in no journal yet.
@@ -25,7 +25,7 @@ impl Taken<'_> {
     /// Puts the post into the journal: a short lock, and no wait for the disk.
     pub fn journal(self, journal: &Journal) -> Journalled {
         Journalled {
-            ticket: journal.append(self.post),
+            ticket: journal.append(self.post, &NoNames),
             outcome: Outcome::taken(self.post.foreign),
         }
     }
@@ -72,7 +72,7 @@ mod tests {
         let post = Post {
             sender: "A".into(),
             foreign: 0,
-            body: "{}".into(),
+            body: crate::files::Body::Text("{}".into()),
         };
         let late = Refused::OutOfOrder {
             point: 0,
