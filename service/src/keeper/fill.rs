@@ -131,7 +131,7 @@ impl<S: Fn() -> bool> Filling<'_, S> {
     fn put(&mut self, post: &Post) -> Result<u64, Refused> {
         let mut read = self.read(post)?;
         self.book.admit(&mut read)?;
-        Ok(read.foreign)
+        Ok(read.post.foreign)
     }
 
     fn read(&self, post: &Post) -> Result<Read, Refused> {

@@ -93,7 +93,9 @@ pub struct Walk<'b, F> {
     key: Vec<u8>,
     /// Of the last histogram's point its bounds, and their level within the metric's.
     bounds: Option<(Level, &'b [u8], Level)>,
-    numbered: Numbered,
+    words: Vec<u64>,
+    ends: Vec<usize>,
+    foreign: u64,
 }
 
 /// Gives each message of a list that is in another. Whatever else is there must say nothing.
@@ -139,16 +141,17 @@ impl<'b, F: Find> Walk<'b, F> {
             path: Path::default(),
             key: Vec::new(),
             bounds: None,
-            numbered: Numbered {
-                points: Points::with_room(length / BYTES_OF_A_WORD, length / BYTES_OF_A_POINT),
-                foreign: 0,
-            },
+            words: Vec::with_capacity(length / BYTES_OF_A_WORD),
+            ends: Vec::with_capacity(length / BYTES_OF_A_POINT),
+            foreign: 0,
         }
     }
 
     pub fn request(mut self, body: &'b [u8]) -> Result<Numbered, Stop> {
         each(&REQUEST, 1, Fields::of(body), |resource| self.resource(resource))?;
-        Ok(self.numbered)
+        let points = Points::new(self.words, self.ends).ok_or(Stop::Slow)?;
+        let foreign = self.foreign;
+        Ok(Numbered { points, foreign })
     }
 
     fn resource(&mut self, message: &'b [u8]) -> Result<(), Stop> {
@@ -219,7 +222,7 @@ impl<'b, F: Find> Walk<'b, F> {
                 SUM => self.sum(level, point)?,
                 HISTOGRAM => self.histogram(level, point)?,
                 // Of no other kind a point is taken.
-                _ if Fields::of(point).all(|field| field.is_ok()) => self.numbered.foreign += 1,
+                _ if Fields::of(point).all(|field| field.is_ok()) => self.foreign += 1,
                 _ => return Err(Stop::Slow),
             }
         }
@@ -242,9 +245,11 @@ impl<'b, F: Find> Walk<'b, F> {
         let number = self.series(level, own, &fields)?;
         match value {
             Some(value) if is_recorded(number, flags) => {
-                self.numbered.points.push(u64::from(number), start, end, [value]);
+                self.words
+                    .extend_from_slice(&[u64::from(number), start, end, value]);
+                self.ends.push(self.words.len());
             }
-            _ => self.numbered.foreign += 1,
+            _ => self.foreign += 1,
         }
         Ok(())
     }
@@ -280,11 +285,13 @@ impl<'b, F: Find> Walk<'b, F> {
         };
         match sum {
             Some((has_sum, sum)) if is_recorded(number, flags) && buckets.len() == bound_count + 1 => {
+                let before = [u64::from(number), start, end, count, has_sum, sum];
+                self.words.extend_from_slice(&before);
                 let buckets = buckets.iter().map(|bucket| u64::from_le_bytes(*bucket));
-                let says = [count, has_sum, sum].into_iter().chain(buckets);
-                self.numbered.points.push(u64::from(number), start, end, says);
+                self.words.extend(buckets);
+                self.ends.push(self.words.len());
             }
-            _ => self.numbered.foreign += 1,
+            _ => self.foreign += 1,
         }
         Ok(())
     }
