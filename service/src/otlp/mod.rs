@@ -177,6 +177,12 @@ pub(crate) fn a_request_of_test() -> Vec<u8> {
     tests::a_request()
 }
 
+/// Protobuf drawn at random, as senders post it one body after the other.
+#[cfg(test)]
+pub(crate) fn posts_of_test(seed: u64, many: usize) -> Vec<Vec<u8>> {
+    tests::posts(seed, many)
+}
+
 /// Requests drawn at random in the book's form, each as it comes of protobuf and of JSON.
 #[cfg(test)]
 pub(crate) fn requests_of_test(many: usize) -> Vec<[Bytes; 2]> {

@@ -142,10 +142,10 @@ impl Numbers {
     }
 }
 
-impl Slot {
-    /// The points of a request in protobuf by their numbers; none where it is to be read otherwise.
-    pub fn numbered(&self, body: &Bytes, reading: &Arc<Reading>) -> Option<ByNumber> {
-        let now = self.numbers.now(&self.core, reading)?;
+impl Numbers {
+    /// The points of a request in protobuf; none where it is to be read otherwise.
+    fn read(&self, core: &Core, body: &Bytes, reading: &Arc<Reading>) -> Option<ByNumber> {
+        let now = self.now(core, reading)?;
         if !Arc::ptr_eq(now.series.reading(), reading) {
             return None;
         }
@@ -161,3 +161,13 @@ impl Slot {
         })
     }
 }
+
+impl Slot {
+    /// The points of a request in protobuf by their numbers; none where it is to be read otherwise, which says nothing of it.
+    pub fn numbered(&self, body: &Bytes, reading: &Arc<Reading>) -> Option<ByNumber> {
+        self.numbers.read(&self.core, body, reading)
+    }
+}
+
+#[cfg(test)]
+mod tests;
