@@ -31,7 +31,7 @@ pub struct ByNumber {
     /// How many points are not among them, since they are outside the profile.
     pub foreign: u64,
     pub names: Arc<Names>,
-    source: Source,
+    pub source: Source,
 }
 
 /// A request for who reads it once more.

@@ -71,11 +71,19 @@ impl Slot {
     }
 }
 
-fn read(core: &Arc<Core>, sender: String, request: Request) -> Result<Read, Refused> {
-    match request {
-        Request::Text(body) => core.read(sender, body),
-        Request::Numbered(by) => core.read_points(sender, by.points, by.names, by.foreign),
+/// Reads a request. The journal has no point by number that the book does not take, since it says whose a series is: where
+/// the library finds one the request is read as its text.
+pub(super) fn read(core: &Arc<Core>, sender: String, request: Request) -> Result<Read, Refused> {
+    let by = match request {
+        Request::Text(body) => return core.read(sender, body),
+        Request::Numbered(by) => by,
+    };
+    let read = core.read_points(sender.clone(), by.points, by.names, by.foreign)?;
+    if read.post.foreign == by.foreign {
+        return Ok(read);
     }
+    let text = by.source.text().ok_or(Refused::NotJson)?; // it was one when it was read by number
+    core.read(sender, text)
 }
 
 #[cfg(test)]

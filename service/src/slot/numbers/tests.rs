@@ -2,7 +2,9 @@
 
 use super::*;
 use crate::core::Read;
+use crate::files::Body;
 use crate::otlp::{posts_of_test, Rule, Whole};
+use crate::slot::request::read;
 
 struct Both {
     slow: Arc<Core>,
@@ -29,31 +31,23 @@ impl Both {
 
     fn post(&mut self, sender: &str, body: Vec<u8>) {
         let body = Bytes::from(body);
-        let slow = admitted(&self.slow, self.as_text(&self.slow, sender, &body));
+        let slow = self
+            .text(&body)
+            .and_then(|text| admitted(&self.slow, sender, text));
         let by_number = self.numbers.read(&self.fast, &body, &self.reading);
         self.by_number += usize::from(by_number.is_some());
-        let fast = admitted(
-            &self.fast,
-            match by_number {
-                None => self.as_text(&self.fast, sender, &body),
-                Some(by) => {
-                    let read = self
-                        .fast
-                        .read_points(sender.into(), by.points, by.names, by.foreign);
-                    read.map_err(|refused| refused.to_string())
-                }
-            },
-        );
+        let request = by_number.map_or_else(|| self.text(&body), |by| Ok(Request::Numbered(by)));
+        let fast = request.and_then(|request| admitted(&self.fast, sender, request));
         assert_eq!(fast, slow, "{body:02x?}");
         if let Ok(foreign) = slow {
             (self.taken, self.foreign) = (self.taken + 1, self.foreign + foreign);
         }
     }
 
-    fn as_text(&self, core: &Arc<Core>, sender: &str, body: &Bytes) -> Result<Read, String> {
+    fn text(&self, body: &Bytes) -> Result<Request, String> {
         let prepared = prepare(Encoding::Protobuf, body.clone(), &self.reading);
-        let text = prepared.map_err(|refused| refused.to_string())?.body;
-        core.read(sender.into(), text)
+        prepared
+            .map(|prepared| Request::Text(prepared.body))
             .map_err(|refused| refused.to_string())
     }
 
@@ -72,11 +66,21 @@ impl Both {
 }
 
 /// How many points are foreign, or why it was refused.
-fn admitted(core: &Arc<Core>, read: Result<Read, String>) -> Result<u64, String> {
-    let mut read = read?;
-    let admitted = core.lock().admit(&mut read);
-    admitted.map_err(|refused| refused.to_string())?;
-    Ok(read.post.foreign)
+fn admitted(core: &Arc<Core>, sender: &str, request: Request) -> Result<u64, String> {
+    let admitted = read(core, sender.into(), request).and_then(|mut read| {
+        core.lock().admit(&mut read)?;
+        let is_sound = |points: &Points| points.each().all(|point| 0 < point[1] && point[1] < point[2]);
+        assert!(by_number(&read).is_none_or(is_sound), "it is in the journal");
+        Ok(read.post.foreign)
+    });
+    admitted.map_err(|refused| refused.to_string())
+}
+
+fn by_number(read: &Read) -> Option<&Points> {
+    match &read.post.body {
+        Body::Text(_) => None,
+        Body::Points(points) => Some(points),
+    }
 }
 
 fn rules(rules: &[&str]) -> Whole {
