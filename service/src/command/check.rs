@@ -4,7 +4,7 @@
 
 use super::table::Table;
 use super::{json, values, Failure, Form};
-use crate::files::{Dropped, Durability, Fault, Folder, FolderFault, Journal, Outbox};
+use crate::files::{Dropped, Durability, Fault, Folder, FolderFault, Journal, Outbox, Replayed};
 use crate::service::slot_of;
 use anyhow::{bail, Context};
 use clap::Args;
@@ -287,9 +287,9 @@ fn count_posts(
     senders: &mut HashSet<String>,
 ) -> Result<(), Fault> {
     let (end, _) = journal.turn();
-    journal.posts(outbox.journal(), end, |post| {
+    journal.posts(outbox.journal(), end, |Replayed { post, .. }| {
         found.posts += 1;
-        found.post_bytes += post.body.len() as u64;
+        found.post_bytes += post.body.bytes();
         senders.insert(post.sender);
         true
     })

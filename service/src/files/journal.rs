@@ -4,6 +4,10 @@
 //! |---|---|
 //! | 16 post, 17 copy (of 0.5.0) | seconds since 1970 (u64), foreign points (u64), length of the sender's name (u64), name, body |
 //! | 18 held | JSON: of each quarantined sender its name, how many of its posts are in its own file, and where they end there |
+//! | 19 name | number (u64), JSON: a request of one point, whose series has the number in this file from here on |
+//! | 20 points | as a post, but its numbers and its body are packed (`packed`) |
+//!
+//! A name is written with the first points of a segment that need it, by the same write.
 //!
 //! A record is written in place, under one short lock, so that the order in the file is the order of the calls. One
 //! thread syncs, once for all that wait; nobody who must wait for the disk holds the lock of those who write.
@@ -11,7 +15,11 @@
 mod found;
 mod held;
 mod open;
+mod packed;
+mod post;
 mod reading;
+mod record;
+mod said;
 mod sync;
 
 use super::disk::Disk;
@@ -19,8 +27,9 @@ use super::records::{self, Which};
 use super::room::Room;
 use super::segment::{self, Ahead, Dropped, Segment};
 use super::{lock, seconds, Durability, Fault};
-use bytes::Bytes;
 pub use held::Held;
+pub use post::{Body, Names, NoNames, Points, Post, Replayed};
+use said::Said;
 use std::collections::{BTreeMap, BTreeSet};
 use std::fs::File;
 use std::path::{Path, PathBuf};
@@ -32,23 +41,8 @@ use sync::Waiters;
 const POST: u8 = records::OWN;
 const COPY: u8 = records::OWN + 1;
 const HELD: u8 = records::OWN + 2;
-
-/// A post that the book took.
-#[derive(Clone, Debug, PartialEq, Eq)]
-pub struct Post {
-    pub sender: String,
-    /// How many of its points the book counted as foreign.
-    pub foreign: u64,
-    /// As the book was given it.
-    pub body: Bytes,
-}
-
-impl Post {
-    /// What is ahead of name and body in its record.
-    fn numbers(&self, since: u64) -> [[u8; 8]; 3] {
-        [since, self.foreign, self.sender.len() as u64].map(u64::to_le_bytes)
-    }
-}
+const NAME: u8 = records::OWN + 3;
+const POINTS: u8 = records::OWN + 4;
 
 /// A place in the journal: all that was appended before it.
 #[derive(Clone, Copy, Debug, PartialEq, Eq, PartialOrd, Ord)]
@@ -99,6 +93,8 @@ struct Place {
     /// Whether the segment's name is durable.
     named: bool,
     ticket: u64,
+    /// What the segment has named.
+    said: Said,
     /// Segments that were ended, and not synced since.
     ended: Vec<(Arc<File>, PathBuf)>,
     /// The ticket of the last turn, or note of what is held: earlier segments are not deleted before it is durable.
@@ -127,27 +123,27 @@ impl Expected {
 }
 
 impl Journal {
-    pub fn append(&self, post: &Post) -> Ticket {
+    /// Puts a post behind the others. `names` says what its numbers stand for, where the segment has not said that.
+    pub fn append(&self, post: &Post, names: &dyn Names) -> Ticket {
         let shared = &*self.shared;
         let now = seconds();
-        let name = post.sender.as_bytes();
-        let numbers = post.numbers(now);
-        let numbers = numbers.as_flattened();
-        let head = records::head(POST, &[numbers, name, &post.body]);
-        let length = (head.len() + numbers.len() + name.len() + post.body.len()) as u64;
-        shared.room.use_up(length);
-        let mut place = lock(&shared.place);
-        // In parts: a long body that is put together first costs as much as a part of its write.
-        if let Err(fault) = place.segment.put(&[&head, numbers, name, &post.body]) {
-            shared.disk.end(&fault);
+        match &post.body {
+            Body::Text(body) => {
+                let numbers = record::numbers(now, post);
+                let (numbers, sender) = (numbers.as_flattened(), post.sender.as_bytes());
+                let head = records::head(POST, &[numbers, sender, body]);
+                // In parts: a long body that is put together first costs as much as a part of its write.
+                let mut place = lock(&shared.place);
+                shared.put(&mut place, post, now, &[&head, numbers, sender, body])
+            }
+            Body::Points(points) => {
+                let mut record = Vec::new();
+                record::put(&mut record, now, post);
+                let mut place = lock(&shared.place);
+                let names = place.said.say(points, names);
+                shared.put(&mut place, post, now, &[&names, &record])
+            }
         }
-        place.ticket += 1;
-        place.moved.remove(&post.sender);
-        if let Some(size) = lock(&shared.sizes).last_mut() {
-            size.bytes += length;
-            size.first.get_or_insert(now);
-        }
-        Ticket(place.ticket)
     }
 
     /// Begins a segment: its number, and a ticket for all before it. Its name is durable with that ticket.
@@ -241,6 +237,21 @@ impl Journal {
 }
 
 impl Shared {
+    fn put<const N: usize>(&self, place: &mut Place, post: &Post, now: u64, parts: &[&[u8]; N]) -> Ticket {
+        let length = parts.iter().map(|part| part.len() as u64).sum();
+        self.room.use_up(length);
+        if let Err(fault) = place.segment.put(parts) {
+            self.disk.end(&fault);
+        }
+        place.ticket += 1;
+        place.moved.remove(&post.sender);
+        if let Some(size) = lock(&self.sizes).last_mut() {
+            size.bytes += length;
+            size.first.get_or_insert(now);
+        }
+        Ticket(place.ticket)
+    }
+
     fn begin(&self, place: &mut Place, number: u64) -> Result<(), Fault> {
         place.segment.end()?;
         let mut prepared = lock(&self.next);
@@ -264,6 +275,7 @@ impl Shared {
         let ended = std::mem::replace(&mut place.segment, next);
         place.ended.push((ended.file, ended.path));
         place.named = false;
+        place.said = Said::default();
         place.ticket += 1;
         place.kept = place.ticket;
         lock(&self.sizes).push(Size {

@@ -18,7 +18,7 @@ pub use dead::Dead;
 #[cfg(test)]
 pub(crate) use disk::{Call, Disk};
 pub use folder::{Folder, FolderFault, KnownSink, MOST_SLOTS};
-pub use journal::{Held, Journal, Post, Ticket};
+pub use journal::{Body, Held, Journal, Names, NoNames, Points, Post, Replayed, Ticket};
 pub use outbox::{Outbox, Series};
 pub use segment::Dropped;
 

@@ -6,9 +6,10 @@
 //! before. Then it gets the posts in the journal's order, which was the order of the book that is gone, but for those of
 //! quarantined senders, which come last.
 
+use super::numbers::Numbers;
 use super::Trouble;
 use crate::core::{Book, Refused};
-use crate::files::{Outbox, Post};
+use crate::files::{Body, Outbox, Post};
 use crate::otlp::series::{zeros, NotForwarded, SeriesKey};
 use crate::slot::Slot;
 use std::collections::{BTreeMap, BTreeSet};
@@ -38,6 +39,7 @@ pub(super) fn fill(
     let mut filling = Filling {
         slot,
         book,
+        numbers: Numbers::new(slot.core.clone()),
         filled: Filled::default(),
         shown: Instant::now(),
         stops,
@@ -60,6 +62,7 @@ pub(super) fn fill(
 struct Filling<'a, S> {
     slot: &'a Arc<Slot>,
     book: &'a mut Book,
+    numbers: Numbers,
     filled: Filled,
     shown: Instant,
     /// Whether it was told to stop.
@@ -85,12 +88,18 @@ impl<S: Fn() -> bool> Filling<'_, S> {
     fn replay(&mut self, is_wanted: impl Fn(&Post) -> bool) -> Result<(), Trouble> {
         let journal = self.slot.journal.clone();
         let mut ended = Ok(());
-        journal.posts(self.slot.outbox.journal(), u64::MAX, |post| {
-            if is_wanted(&post) {
-                ended = self.replay_one(&post);
-            }
-            ended.is_ok() && !(self.stops)()
-        })?;
+        journal.posts(
+            self.slot.outbox.journal(),
+            u64::MAX,
+            |read| {
+                // Also of a post that is not wanted: no later one says it again.
+                self.numbers.note(read.named);
+                if is_wanted(&read.post) {
+                    ended = self.replay_one(&read.post);
+                }
+                ended.is_ok() && !(self.stops)()
+            },
+        )?;
         ended
     }
 
@@ -125,9 +134,9 @@ impl<S: Fn() -> bool> Filling<'_, S> {
 
     /// How many points are foreign.
     fn put(&mut self, post: &Post) -> Result<u64, Refused> {
-        let mut read = self.slot.core.read(post.sender.clone(), post.body.clone())?;
+        let mut read = self.numbers.read(post)?;
         self.book.admit(&mut read)?;
-        Ok(read.foreign)
+        Ok(read.post.foreign)
     }
 
     /// A fresh book has a point more of each series than the one before, so a limit may be met a little sooner.
@@ -190,7 +199,7 @@ fn priming_posts(outbox: &Outbox) -> Result<Vec<Post>, NotForwarded> {
             posts.extend(zeros(part)?.into_iter().map(|body| Post {
                 sender: sender.clone(),
                 foreign: 0,
-                body: body.into(),
+                body: Body::Text(body.into()),
             }));
         }
     }

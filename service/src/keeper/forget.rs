@@ -5,6 +5,7 @@
 
 use super::checkpoint::{commit, flush_in_parts};
 use super::fill::fill;
+use super::series::SeriesOfPosts;
 use super::{Keeper, Trouble};
 use crate::files::Fault;
 use crate::slot::Slot;
@@ -82,9 +83,14 @@ fn stays(slot: &Slot, why: &dyn Display) {
 /// How many. By the clock, not by their points' times. A series with points in the journal that are in no group stays.
 fn forget_series(slot: &Slot, age: Duration) -> Result<u64, Fault> {
     let mut keep = HashSet::new();
+    let mut series = SeriesOfPosts::default();
     slot.journal.posts(slot.outbox.journal(), u64::MAX, |post| {
-        let posted = crate::otlp::series::posted(&post.body);
-        keep.extend(posted.into_iter().flat_map(|posted| posted.series.into_keys()));
+        keep.extend(
+            series
+                .of(&post)
+                .into_iter()
+                .flat_map(|posted| posted.series.into_keys()),
+        );
         true
     })?;
     Ok(slot.outbox.forget(age, &keep)?.len() as u64)

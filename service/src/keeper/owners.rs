@@ -2,9 +2,10 @@
 //!
 //! A post is read for this alone. The book's own count of foreign points shows whether it was read as the book reads it.
 
-use crate::files::{Fault, Post};
+use super::series::SeriesOfPosts;
+use crate::files::{Fault, Replayed};
 use crate::log::shown;
-use crate::otlp::series::{posted, SeriesKey};
+use crate::otlp::series::SeriesKey;
 use crate::remarks::SERIES_SHOWN;
 use crate::slot::Slot;
 use std::collections::{HashMap, HashSet};
@@ -31,6 +32,7 @@ fn find_in(slot: &Slot, ranges: impl Iterator<Item = (u64, u64)>) -> Result<(), 
         unknown: unknown.map(|(key, _)| key).collect(),
         owners: HashMap::new(),
         misread: 0,
+        series: SeriesOfPosts::default(),
     };
     if search.unknown.is_empty() {
         return Ok(());
@@ -74,12 +76,13 @@ struct Search {
     unknown: HashSet<SeriesKey>,
     owners: HashMap<SeriesKey, String>,
     misread: u64,
+    series: SeriesOfPosts,
 }
 
 impl Search {
     /// Whether to go on.
-    fn look_at(&mut self, post: &Post) -> bool {
-        let read = posted(&post.body);
+    fn look_at(&mut self, read: &Replayed) -> bool {
+        let (post, read) = (&read.post, self.series.of(read));
         if read.as_ref().map(|read| read.foreign) != Some(post.foreign) {
             self.misread += 1;
         }

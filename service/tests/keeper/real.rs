@@ -4,6 +4,7 @@ use crate::support::{all, message, point, sums, Place, Run};
 use bytes::Bytes;
 use std::sync::atomic::{AtomicBool, Ordering};
 use std::sync::Arc;
+use totxegun::files::{Body, NoNames, Post};
 use totxegun::keeper::{Done, Order};
 use totxegun::otlp::Outcome;
 
@@ -150,11 +151,12 @@ async fn a_replay_that_meets_a_limit_makes_room_and_goes_on() {
     let folder = totxegun::files::Folder::open(&place.data(), totxegun::files::Durability::Process);
     let (journal, outbox) = folder.unwrap().slot(0).unwrap();
     for (start, value) in [(20, 5), (30, -7)] {
-        journal.append(&totxegun::files::Post {
+        let post = Post {
             sender: "A".into(),
             foreign: 0,
-            body: point("a", start, start + 10, value),
-        });
+            body: Body::Text(point("a", start, start + 10, value)),
+        };
+        journal.append(&post, &NoNames);
     }
     drop((journal, outbox));
     let run = place.run().await;

@@ -4,7 +4,7 @@ mod damage;
 mod rights;
 
 use super::*;
-use crate::files::Post;
+use crate::files::{Body, NoNames, Post};
 use std::os::unix::fs::{MetadataExt, PermissionsExt};
 
 fn open(path: &Path) -> Result<Folder, FolderFault> {
@@ -59,11 +59,12 @@ fn all_of_it_is_its_owners_alone() {
     let path = place.path().join("new/folder");
     let folder = open(&path).unwrap();
     let (journal, _outbox) = folder.slot(0).unwrap();
-    journal.append(&Post {
+    let post = Post {
         sender: "s".into(),
         foreign: 0,
-        body: bytes::Bytes::from_static(b"{}"),
-    });
+        body: Body::Text(bytes::Bytes::from_static(b"{}")),
+    };
+    journal.append(&post, &NoNames);
     folder.dead().unwrap().keep("0-e-1", "400", b"{}").unwrap();
     let mut left = vec![path];
     let mut files = 0;

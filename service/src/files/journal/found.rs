@@ -1,10 +1,9 @@
 //! What the segments of an earlier run are, and what of them was changed since: a loss of power leaves only what was
 //! not durable otherwise than it was written.
 
-use super::reading::post_of;
-use super::{held, Expected, Size, COPY, HELD, POST};
+use super::{held, record, Expected, Size, HELD};
 use crate::files::judge::{is_torn, CHANGED};
-use crate::files::records::{Next, Reader, Which};
+use crate::files::records::{self, Next, Reader, Which};
 use crate::files::{segment, Fault};
 use std::path::{Path, PathBuf};
 
@@ -48,17 +47,16 @@ pub(super) fn find(folder: &Path, number: u64) -> Result<Found, Fault> {
             } => {
                 size.bytes += bytes.len() as u64;
                 let list = held::list_of(&bytes);
-                held = list.ok_or_else(|| reader.damaged(at, "is no list that was written here"))?;
+                held = list.ok_or_else(|| reader.damaged(at, held::NO_LIST))?;
             }
             Next::Record {
-                kind: POST | COPY,
-                bytes,
+                kind: records::HEADER,
                 ..
-            } => {
+            } => {}
+            Next::Record { kind, bytes, .. } => {
                 size.bytes += bytes.len() as u64;
-                size.first = size.first.or_else(|| Some(post_of(bytes)?.0));
+                size.first = size.first.or_else(|| record::since(kind, &bytes));
             }
-            Next::Record { .. } => {}
             Next::Closed | Next::Stop => {
                 return Ok(Found {
                     size,

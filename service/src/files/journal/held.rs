@@ -1,17 +1,19 @@
 //! Posts of quarantined senders: a checkpoint moves them out of the segments, each sender's into a file of its own,
 //! `SENDER.held`, once and as a stream.
 //!
-//! The file has a header and the posts as the journal had them. How much of it counts is said by the segment from which
+//! The file has a header, and the posts as the journal had them, with names of its own. How much of it counts is said by the segment from which
 //! posts are replayed, in one record: a move before a commit that does not come counts for nothing, since the segments
 //! still have these posts, and a sender whose points were flushed is in the next segment's record no more.
 
-use super::reading::post_of;
-use super::{lock, Journal, Post, Shared, HELD, POST};
+use super::record::{self, Posts};
+use super::said::put_name;
+use super::{lock, Journal, Post, Replayed, Shared, HELD};
 use crate::files::disk::io_fault;
 use crate::files::records::{self, Next, Reader, Which};
 use crate::files::Fault;
+use bytes::Bytes;
 use serde::{Deserialize, Serialize};
-use std::collections::{BTreeMap, BTreeSet};
+use std::collections::{BTreeMap, BTreeSet, HashMap};
 use std::fs::File;
 use std::io;
 use std::path::{Path, PathBuf};
@@ -32,6 +34,8 @@ pub struct Held {
     pub posts: u64,
     pub bytes: u64,
 }
+
+pub(super) const NO_LIST: &str = "is no list that was written here";
 
 /// Files that are written side by side, and bytes that wait for a write.
 const OPEN: usize = 64;
@@ -55,7 +59,8 @@ impl Journal {
         };
         if !due.is_empty() {
             let mut moving = Moving::new(shared, &mut list);
-            shared.posts(first, next, false, &mut |since, post| {
+            shared.posts(first, next, false, &mut |since, Replayed { post, named }| {
+                moving.names.extend(named);
                 if due.contains(&post.sender) {
                     moving.append(since, &post)?;
                 }
@@ -148,7 +153,7 @@ pub(super) fn list_of(bytes: &[u8]) -> Option<List> {
 pub(super) fn posts(
     folder: &Path,
     list: &List,
-    each: &mut impl FnMut(u64, Post) -> Result<bool, Fault>,
+    each: &mut impl FnMut(u64, Replayed) -> Result<bool, Fault>,
 ) -> Result<bool, Fault> {
     for (sender, part) in list {
         if !posts_of(folder, sender, part, each)? {
@@ -162,26 +167,25 @@ fn posts_of(
     folder: &Path,
     sender: &str,
     part: &Part,
-    each: &mut impl FnMut(u64, Post) -> Result<bool, Fault>,
+    each: &mut impl FnMut(u64, Replayed) -> Result<bool, Fault>,
 ) -> Result<bool, Fault> {
     let (mut reader, first) = Reader::open(&path(folder, sender), Which::Held, 0, Some(part.end))?;
-    let mut left = part.posts;
+    let (mut posts, mut left) = (Posts::default(), part.posts);
     let mut next = if first == Next::Stop {
         first
     } else {
         reader.next()?
     };
-    while let Next::Record {
-        at,
-        kind: POST,
-        bytes,
-    } = next
-    {
-        let read = post_of(bytes).filter(|(_, post)| post.sender == sender);
-        let (since, post) = read.ok_or_else(|| reader.damaged(at, "is no post of its sender"))?;
-        left = left.saturating_sub(1);
-        if !each(since, post)? {
-            return Ok(false);
+    while let Next::Record { at, kind, bytes } = next {
+        let read = posts.read(kind, bytes);
+        if let Some((since, post)) = read.map_err(|what| reader.damaged(at, what))? {
+            if post.post.sender != sender {
+                return Err(reader.damaged(at, "is no post of its sender"));
+            }
+            left = left.saturating_sub(1);
+            if !each(since, post)? {
+                return Ok(false);
+            }
         }
         next = reader.next()?;
     }
@@ -218,6 +222,8 @@ struct Moving<'a> {
     list: &'a mut List,
     open: BTreeMap<String, Writer>,
     is_new: bool,
+    /// What numbers stand for where it reads: a text of each series that was posted to since the last checkpoint.
+    names: HashMap<u64, Bytes>,
 }
 
 struct Writer {
@@ -225,6 +231,8 @@ struct Writer {
     path: PathBuf,
     at: u64,
     waiting: Vec<u8>,
+    /// What numbers stand for in what this one wrote.
+    said: HashMap<u64, Bytes>,
 }
 
 impl<'a> Moving<'a> {
@@ -234,6 +242,7 @@ impl<'a> Moving<'a> {
             list,
             open: BTreeMap::new(),
             is_new: false,
+            names: HashMap::new(),
         }
     }
 
@@ -248,10 +257,9 @@ impl<'a> Moving<'a> {
         let Some(writer) = self.open.get_mut(&post.sender) else {
             return Ok(());
         };
-        let numbers = post.numbers(since);
-        let parts = [numbers.as_flattened(), post.sender.as_bytes(), &post.body];
         let before = writer.waiting.len() as u64;
-        records::put(&mut writer.waiting, POST, &parts);
+        writer.say(post, &self.names);
+        record::put(&mut writer.waiting, since, post);
         let part = self.list.entry(post.sender.clone()).or_default();
         part.end = part.end.max(writer.at + before) + writer.waiting.len() as u64 - before;
         part.posts += 1;
@@ -289,6 +297,7 @@ impl<'a> Moving<'a> {
             path,
             at,
             waiting,
+            said: HashMap::new(),
         })
     }
 
@@ -310,6 +319,19 @@ impl<'a> Moving<'a> {
 }
 
 impl Writer {
+    /// Numbers may stand for others than they did in an earlier segment, or an earlier run.
+    fn say(&mut self, post: &Post, names: &HashMap<u64, Bytes>) {
+        for number in post.numbers() {
+            let Some(text) = names.get(&number) else {
+                continue; // what is read has names for all
+            };
+            if self.said.get(&number) != Some(text) {
+                put_name(&mut self.waiting, number, text);
+                self.said.insert(number, text.clone());
+            }
+        }
+    }
+
     fn write(&mut self, shared: &Shared) -> Result<(), Fault> {
         shared
             .disk

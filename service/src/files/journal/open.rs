@@ -1,7 +1,7 @@
 //! What an earlier run left in the journal.
 
 use super::found::{self, Found};
-use super::{name, prepare, Expected, Journal, Place, Shared, Size, Waiters};
+use super::{name, prepare, Expected, Journal, Place, Said, Shared, Size, Waiters};
 use crate::files::disk::{io_fault, Disk};
 use crate::files::judge::CHANGED;
 use crate::files::room::Room;
@@ -41,6 +41,7 @@ impl Journal {
         let place = Place {
             segment,
             named: false,
+            said: Said::default(),
             ticket: 1,
             ended: Vec::new(),
             kept: 1,

@@ -1,14 +1,14 @@
 //! The posts of the journal, in order.
 
-use super::{held, lock, Journal, Post, Shared, COPY, HELD, POST};
+use super::record::Posts;
+use super::{held, lock, Journal, Replayed, Shared, COPY, HELD};
 use crate::files::records::{self, Next, Reader, Which};
 use crate::files::{segment, Fault};
-use bytes::Bytes;
 
 impl Journal {
     /// Gives the posts of the segments from `first` to before `end` that count, in order, until `each` is false. Those of
     /// quarantined senders' own files are among them where the segment `first` is there and says so.
-    pub fn posts(&self, first: u64, end: u64, mut each: impl FnMut(Post) -> bool) -> Result<(), Fault> {
+    pub fn posts(&self, first: u64, end: u64, mut each: impl FnMut(Replayed) -> bool) -> Result<(), Fault> {
         self.shared.posts(first, end, true, &mut |_, post| Ok(each(post)))
     }
 }
@@ -20,7 +20,7 @@ impl Shared {
         first: u64,
         end: u64,
         with_held: bool,
-        each: &mut impl FnMut(u64, Post) -> Result<bool, Fault>,
+        each: &mut impl FnMut(u64, Replayed) -> Result<bool, Fault>,
     ) -> Result<(), Fault> {
         let (last, at) = {
             let place = lock(&self.place);
@@ -47,48 +47,45 @@ impl Shared {
     fn posts_of(
         &self,
         segment: Read,
-        each: &mut impl FnMut(u64, Post) -> Result<bool, Fault>,
+        each: &mut impl FnMut(u64, Replayed) -> Result<bool, Fault>,
     ) -> Result<bool, Fault> {
         let path = segment::path(&self.folder, segment.number);
         let (mut reader, mut next) = Reader::open(&path, Which::Journal, segment.number, segment.written)?;
+        let mut posts = Posts::default();
         loop {
             match next {
                 Next::Record {
-                    at,
-                    kind: kind @ (POST | COPY),
-                    bytes,
-                } => {
-                    let (since, post) = post_of(bytes).ok_or_else(|| reader.damaged(at, NO_POST))?;
-                    if (kind == POST || segment.is_first) && !each(since, post)? {
-                        return Ok(false);
-                    }
-                }
+                    kind: records::HEADER,
+                    ..
+                } => {}
                 Next::Record {
                     at,
                     kind: HELD,
                     bytes,
                 } => {
-                    let list = held::list_of(&bytes).ok_or_else(|| reader.damaged(at, NO_POST))?;
+                    let list = held::list_of(&bytes).ok_or_else(|| reader.damaged(at, held::NO_LIST))?;
                     if segment.is_first && segment.with_held && !held::posts(&self.folder, &list, each)? {
                         return Ok(false);
                     }
                 }
-                Next::Record {
-                    kind: records::HEADER,
-                    ..
-                } => {}
+                Next::Record { at, kind, bytes } => {
+                    let read = posts.read(kind, bytes);
+                    let read = read.map_err(|what| reader.damaged(at, what))?;
+                    let counts = kind != COPY || segment.is_first;
+                    if let Some((since, post)) = read.filter(|_| counts) {
+                        if !each(since, post)? {
+                            return Ok(false);
+                        }
+                    }
+                }
                 Next::Closed => return Ok(true),
                 Next::Stop if Some(reader.at) == segment.written => return Ok(true),
-                Next::Record { .. } | Next::Stop => {
-                    return Err(reader.damaged(reader.at, crate::files::judge::CHANGED))
-                }
+                Next::Stop => return Err(reader.damaged(reader.at, crate::files::judge::CHANGED)),
             }
             next = reader.next()?;
         }
     }
 }
-
-const NO_POST: &str = "is no post that was written here";
 
 /// A segment that is read.
 struct Read {
@@ -97,22 +94,4 @@ struct Read {
     written: Option<u64>,
     is_first: bool,
     with_held: bool,
-}
-
-/// When a post was appended, and the post.
-pub(super) fn post_of(bytes: Vec<u8>) -> Option<(u64, Post)> {
-    let mut rest = &bytes[..];
-    let since = records::take_number(&mut rest)?;
-    let foreign = records::take_number(&mut rest)?;
-    let length = usize::try_from(records::take_number(&mut rest)?).ok()?;
-    let sender = std::str::from_utf8(rest.get(..length)?).ok()?.to_string();
-    let begin = bytes.len() - rest.len() + length;
-    Some((
-        since,
-        Post {
-            sender,
-            foreign,
-            body: Bytes::from(bytes).slice(begin..),
-        },
-    ))
 }

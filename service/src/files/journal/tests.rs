@@ -9,6 +9,7 @@ mod syncs;
 use super::*;
 use crate::files::disk::{Call, FAILED};
 use crate::files::numbers::Numbers;
+use bytes::Bytes;
 use std::path::Path;
 use std::sync::atomic::{AtomicBool, AtomicUsize};
 use std::sync::mpsc;
@@ -42,20 +43,28 @@ fn post(text: &str) -> Post {
     Post {
         sender: format!("sender {}", text.len()),
         foreign: text.len() as u64,
-        body: Bytes::from(text.to_string()),
+        body: body(text),
     }
 }
 
-fn append(journal: &Journal, text: &str) {
-    journal.append(&post(text));
+fn body(text: &str) -> Body {
+    Body::Text(Bytes::from(text.to_string()))
+}
+
+fn append(journal: &Journal, text: &str) -> Ticket {
+    journal.append(&post(text), &NoNames)
 }
 
 /// As totxegun 0.5.0 wrote posts of quarantined senders into the next segment.
 fn append_copy(journal: &Journal, text: &str) {
     let post = post(text);
-    let (numbers, name) = (post.numbers(seconds()), post.sender.as_bytes());
+    let (numbers, name) = (record::numbers(seconds(), &post), post.sender.as_bytes());
     let mut record = Vec::new();
-    records::put(&mut record, COPY, &[numbers.as_flattened(), name, &post.body]);
+    records::put(
+        &mut record,
+        COPY,
+        &[numbers.as_flattened(), name, text.as_bytes()],
+    );
     let mut place = lock(&journal.shared.place);
     place.segment.put(&[&record]).unwrap();
     place.ticket += 1;
@@ -66,14 +75,21 @@ fn append_copy(journal: &Journal, text: &str) {
 
 fn texts(journal: &Journal, first: u64) -> Vec<String> {
     let mut texts = Vec::new();
-    let each = |found: Post| {
-        let text = String::from_utf8(found.body.to_vec()).unwrap();
-        assert_eq!(found, post(&text));
+    let each = |found: Replayed| {
+        let text = text(&found.post);
+        assert_eq!(found.post, post(&text));
         texts.push(text);
         true
     };
     journal.posts(first, u64::MAX, each).unwrap();
     texts
+}
+
+fn text(post: &Post) -> String {
+    match &post.body {
+        Body::Text(body) => String::from_utf8(body.to_vec()).unwrap(),
+        Body::Points(_) => panic!("{post:?}"),
+    }
 }
 
 /// As `kill -9` leaves it.
@@ -111,13 +127,13 @@ fn starts_that_end_at_once_leave_one_segment() {
 fn posts_come_back_in_order_and_copies_only_where_they_are_first() {
     let folder = tempfile::tempdir().unwrap();
     let journal = open(folder.path());
-    journal.append(&post("a"));
-    journal.append(&post("bb"));
+    append(&journal, "a");
+    append(&journal, "bb");
     let (second, before) = journal.turn();
     assert_eq!((second, journal.now()), (2, before));
     append_copy(&journal, "bb");
     assert!(journal.now() > before);
-    journal.append(&post("ccc"));
+    append(&journal, "ccc");
     let check = |journal: &Journal| {
         assert_eq!(texts(journal, 1), ["a", "bb", "ccc"]);
         assert_eq!(texts(journal, 2), ["bb", "ccc"]);
@@ -132,7 +148,7 @@ fn posts_come_back_in_order_and_copies_only_where_they_are_first() {
     let mut some = Vec::new();
     journal
         .posts(1, 2, |post| {
-            some.push(post.foreign);
+            some.push(post.post.foreign);
             false
         })
         .unwrap();
@@ -150,7 +166,7 @@ fn posts_come_back_in_order_and_copies_only_where_they_are_first() {
 fn a_segment_is_not_before_that_which_the_outbox_knows() {
     let folder = tempfile::tempdir().unwrap();
     let journal = open_from(&Disk::default(), folder.path(), Durability::Process, 7).unwrap();
-    journal.append(&post("a"));
+    append(&journal, "a");
     assert_eq!(texts(&journal, 7), ["a"]);
     journal.reach(7);
     assert_eq!(journal.turn().0, 8);
@@ -173,7 +189,7 @@ fn it_is_as_a_list_in_memory_over_any_calls_and_starts() {
             let text = format!("{step:>0width$}", width = numbers.below(900) as usize);
             match numbers.below(10) {
                 0..=3 => {
-                    journal.append(&post(&text));
+                    append(&journal, &text);
                     model.push((segment, false, text));
                 }
                 4 => {

@@ -1,7 +1,7 @@
 //! A folder of several slots becomes one of one slot, also where that is killed.
 
 use super::*;
-use crate::files::{Call, Disk, Durability, Post, Series};
+use crate::files::{Body, Call, Disk, Durability, NoNames, Post, Series};
 use crate::keeper::tests::settings;
 use crate::otlp::series::{forwarded, SeriesKey, Value};
 use std::collections::{BTreeMap, HashMap};
@@ -54,11 +54,13 @@ fn filled(path: &Path, slots: u16, posts: u64) {
         outbox.own(owners).unwrap();
         for sender in own {
             for number in 1..=posts {
-                journal.append(&Post {
-                    body: request(&sender, frontier(&sender, slots) + number).into(),
+                let body = request(&sender, frontier(&sender, slots) + number);
+                let post = Post {
+                    body: Body::Text(body.into()),
                     sender: sender.clone(),
                     foreign: 0,
-                });
+                };
+                journal.append(&post, &NoNames);
             }
         }
     }

@@ -45,7 +45,7 @@ fn post(text: &str) -> Post {
     Post {
         sender: "s".into(),
         foreign: 0,
-        body: text.to_string().into(),
+        body: Body::Text(text.to_string().into()),
     }
 }
 
@@ -63,11 +63,11 @@ fn with_three_commits(place: &Path) {
     let (journal, outbox) = folder.slot(0).unwrap();
     for number in 1..4 {
         copied(&place.join("slot-0"), &place.join(format!("copy-{number}")));
-        journal.append(&post("a"));
+        journal.append(&post("a"), &NoNames);
         let (next, _) = journal.turn();
         outbox.commit(&[], next).unwrap();
         journal.forget(next).unwrap();
-        journal.append(&post("b"));
+        journal.append(&post("b"), &NoNames);
     }
     drop((journal, outbox));
 }

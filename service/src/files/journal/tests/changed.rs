@@ -6,7 +6,9 @@ use crate::files::power::place;
 /// A segment with two posts, as a killed service leaves it once nothing was posted for a moment.
 fn killed(folder: &Path, durability: Durability) -> Vec<u8> {
     let journal = open_on(&Disk::default(), folder, durability).unwrap();
-    ["first", "second"].iter().for_each(|text| append(&journal, text));
+    for text in ["first", "second"] {
+        append(&journal, text);
+    }
     journal.shared.sync();
     while lock(&journal.shared.place).segment.needs_mark() {
         std::thread::sleep(Duration::from_millis(1));

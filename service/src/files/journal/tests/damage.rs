@@ -6,10 +6,12 @@ use super::*;
 fn a_torn_record_is_cut_wherever_it_was_torn() {
     let folder = tempfile::tempdir().unwrap();
     let journal = open(folder.path());
-    ["first", "second"].iter().for_each(|text| append(&journal, text));
+    for text in ["first", "second"] {
+        append(&journal, text);
+    }
     let path = segment::path(folder.path(), 1);
     let whole = bytes(&path).len();
-    journal.append(&post("the last one"));
+    append(&journal, "the last one");
     kill(journal);
     let all = bytes(&path);
     for cut in whole..all.len() {
@@ -19,7 +21,7 @@ fn a_torn_record_is_cut_wherever_it_was_torn() {
             std::fs::write(&path, [&all[..cut], &vec![0; zeros]].concat()).unwrap();
             let journal = open(torn.path());
             assert_eq!(texts(&journal, 1), ["first", "second"], "{cut} {zeros}");
-            journal.append(&post("another"));
+            append(&journal, "another");
             kill(journal);
             assert_eq!(
                 texts(&open(torn.path()), 1),
@@ -36,9 +38,9 @@ fn a_changed_byte_in_the_middle_is_named_and_nothing_is_deleted() {
     let journal = open(folder.path());
     let path = segment::path(folder.path(), 1);
     let header = bytes(&path).len();
-    journal.append(&post("first"));
+    append(&journal, "first");
     let first = bytes(&path).len();
-    journal.append(&post("second"));
+    append(&journal, "second");
     kill(journal);
     let sound = bytes(&path);
     for at in 0..first {
@@ -65,7 +67,9 @@ fn a_changed_byte_in_the_middle_is_named_and_nothing_is_deleted() {
 fn in_a_segment_that_was_ended_each_changed_or_missing_byte_is_named() {
     let folder = tempfile::tempdir().unwrap();
     let journal = open(folder.path());
-    ["first", "second"].iter().for_each(|text| append(&journal, text));
+    for text in ["first", "second"] {
+        append(&journal, text);
+    }
     drop(journal);
     let path = segment::path(folder.path(), 1);
     let sound = bytes(&path);
@@ -118,13 +122,15 @@ fn a_later_version_and_a_missing_segment_are_refused_by_name() {
 fn torn_before_its_last(folder: &Path, durable: bool) {
     let journal = open(folder);
     let held = lock(&journal.shared.syncing);
-    ["first", "second"].iter().for_each(|text| append(&journal, text));
+    for text in ["first", "second"] {
+        append(&journal, text);
+    }
     journal.turn();
-    journal.append(&post("third"));
+    append(&journal, "third");
     drop(held);
     if durable {
         journal.shared.sync();
-        journal.append(&post("fourth"));
+        append(&journal, "fourth");
     }
     kill(journal);
     let path = segment::path(folder, 1);

@@ -8,7 +8,7 @@ fn of(sender: &str, text: &str) -> Post {
     Post {
         sender: sender.into(),
         foreign: text.len() as u64,
-        body: Bytes::from(text.to_string()),
+        body: body(text),
     }
 }
 
@@ -16,7 +16,7 @@ fn all(journal: &Journal, first: u64) -> Vec<Post> {
     let mut all = Vec::new();
     journal
         .posts(first, u64::MAX, |post| {
-            all.push(post);
+            all.push(post.post);
             true
         })
         .unwrap();
@@ -53,9 +53,9 @@ fn posts_of_quarantined_senders_are_moved_once_and_are_there_until_they_are_flus
     let journal = open(1);
     let held = [of("a", "1"), of("a.held", "22"), of("a", "333")];
     for post in &held {
-        journal.append(post);
+        journal.append(post, &NoNames);
     }
-    journal.append(&of("b", "4444"));
+    journal.append(&of("b", "4444"), &NoNames);
     let quarantined = names(&["a", "a.held", "nobody"]);
     let mut first = 1;
     let expected = [&held[0], &held[2], &held[1]].map(Clone::clone);
@@ -66,7 +66,7 @@ fn posts_of_quarantined_senders_are_moved_once_and_are_there_until_they_are_flus
             .filter(|it| it.sender != "b")
             .collect();
         assert_eq!(before.len(), 3, "also before the commit, and once");
-        journal.append(&of("b", "5"));
+        journal.append(&of("b", "5"), &NoNames);
         journal.forget(next).unwrap();
         first = next;
         assert_eq!(all(&journal, first), [&expected[..], &[of("b", "5")]].concat());
@@ -84,7 +84,7 @@ fn posts_of_quarantined_senders_are_moved_once_and_are_there_until_they_are_flus
     let journal = open(first);
     assert_eq!(all(&journal, first), [&expected[..], &[of("b", "5")]].concat());
     // Released, and posts again; then quarantined anew.
-    journal.append(&of("a.held", "66"));
+    journal.append(&of("a.held", "66"), &NoNames);
     let next = checkpoint(&journal, &names(&["a"]), first);
     assert!(
         all(&journal, first).contains(&held[1]),
@@ -93,7 +93,7 @@ fn posts_of_quarantined_senders_are_moved_once_and_are_there_until_they_are_flus
     journal.forget(next).unwrap();
     assert_eq!(all(&journal, next), [held[0].clone(), held[2].clone()]);
     assert!(!file(folder.path(), "a.held").exists() && file(folder.path(), "a").exists());
-    journal.append(&of("a", "7777777"));
+    journal.append(&of("a", "7777777"), &NoNames);
     first = checkpoint(&journal, &quarantined, next);
     journal.forget(first).unwrap();
     assert_eq!(
@@ -113,11 +113,11 @@ fn more_senders_than_files_are_open_at_a_time_and_long_posts_are_moved() {
     let senders: Vec<String> = (0..150).map(|number| format!("s{number}")).collect();
     for round in 0..3 {
         for sender in &senders {
-            journal.append(&of(sender, &"x".repeat(round * 3000)));
+            journal.append(&of(sender, &"x".repeat(round * 3000)), &NoNames);
         }
     }
     let long = of("s7", &"y".repeat(1 << 20));
-    journal.append(&long);
+    journal.append(&long, &NoNames);
     let next = checkpoint(&journal, &senders.iter().cloned().collect(), 1);
     journal.forget(next).unwrap();
     kill(journal);
@@ -140,11 +140,11 @@ fn more_senders_than_files_are_open_at_a_time_and_long_posts_are_moved() {
 fn copies_in_a_folder_of_an_earlier_version_are_moved() {
     let folder = place();
     let journal = open(folder.path());
-    journal.append(&post("a"));
+    append(&journal, "a");
     let (first, _) = journal.turn();
     append_copy(&journal, "a");
     append_copy(&journal, "b");
-    journal.append(&of("other", "1"));
+    journal.append(&of("other", "1"), &NoNames);
     journal.forget(first).unwrap();
     kill(journal);
     let open = |reach| open_from(&Disk::default(), folder.path(), Durability::Process, reach).unwrap();
@@ -165,11 +165,11 @@ fn what_was_moved_before_a_commit_that_did_not_come_counts_once() {
     let folder = place();
     let journal = open(folder.path());
     let held = names(&["a"]);
-    journal.append(&of("a", "1"));
+    journal.append(&of("a", "1"), &NoNames);
     let first = checkpoint(&journal, &held, 1);
     journal.forget(first).unwrap();
     // It was released, and has posted again.
-    journal.append(&of("a", "22"));
+    journal.append(&of("a", "22"), &NoNames);
     checkpoint(&journal, &held, first);
     kill(journal);
     for _ in 0..2 {
@@ -186,7 +186,7 @@ fn a_file_of_a_sender_that_is_gone_cut_or_changed_is_named() {
     let folder = place();
     let journal = open(folder.path());
     for text in ["1", "22"] {
-        journal.append(&of("a", text));
+        journal.append(&of("a", text), &NoNames);
     }
     let first = checkpoint(&journal, &names(&["a"]), 1);
     journal.forget(first).unwrap();
@@ -223,7 +223,7 @@ type Queues = BTreeMap<String, Vec<String>>;
 fn queues(journal: &Journal, first: u64) -> Queues {
     let mut queues = Queues::new();
     for post in all(journal, first) {
-        let text = String::from_utf8(post.body.to_vec()).unwrap();
+        let text = text(&post);
         queues.entry(post.sender).or_default().push(text);
     }
     queues
@@ -252,7 +252,7 @@ fn run(folder: &Path, left: &Path, chance: &mut Numbers) -> (u64, Queues) {
                     "",
                     width = chance.below(1500) as usize
                 );
-                journal.append(&of(&sender, &text));
+                journal.append(&of(&sender, &text), &NoNames);
                 queues.entry(sender).or_default().push(text);
             }
         }
@@ -265,7 +265,7 @@ fn run(folder: &Path, left: &Path, chance: &mut Numbers) -> (u64, Queues) {
         journal.forget(first).unwrap();
     }
     let posted = of("d", "the last one");
-    journal.append(&posted);
+    journal.append(&posted, &NoNames);
     queues.entry("d".into()).or_default().push("the last one".into());
     journal.shared.sync();
     let next = journal.turn().0;

@@ -19,7 +19,7 @@ async fn one_sync_is_for_all_that_wait_and_nobody_is_told_before() {
     let journal = Arc::new(open_on(&disk, folder.path(), Durability::Disk).unwrap());
     open_gate.store(false, SeqCst);
     let before = syncs.load(SeqCst);
-    let posts: Vec<_> = (0..200).map(|_| journal.append(&post("one"))).collect();
+    let posts: Vec<_> = (0..200).map(|_| append(&journal, "one")).collect();
     let wait = |ticket| {
         let journal = journal.clone();
         tokio::spawn(async move { journal.durable(ticket).await })
@@ -47,7 +47,7 @@ async fn who_goes_away_leaves_nobody_waiting() {
             let journal = journal.clone();
             tokio::spawn(async move { journal.durable(ticket).await })
         };
-        let waiting: Vec<_> = (0..30).map(|_| wait(journal.append(&post("one")))).collect();
+        let waiting: Vec<_> = (0..30).map(|_| wait(append(&journal, "one"))).collect();
         tokio::time::sleep(Duration::from_millis(50)).await;
         // Those that go away before they are told, or while they are.
         let go = |waiting: &[tokio::task::JoinHandle<()>]| {
@@ -106,7 +106,7 @@ fn what_is_held_is_durable_before_it_counts_where_posts_are_only_written() {
     let folder = tempfile::tempdir().unwrap();
     let journal = open(folder.path());
     let durable = || journal.shared.durable.load(SeqCst);
-    let ticket = journal.append(&post("a"));
+    let ticket = append(&journal, "a");
     let (next, _) = journal.turn();
     assert!(durable() < ticket.0);
     journal.hold(&[post("a").sender].into(), 1, next).unwrap();
@@ -119,7 +119,7 @@ fn a_process_only_journal_waits_for_nothing() {
     let folder = tempfile::tempdir().unwrap();
     let journal = open(folder.path());
     let _held = lock(&journal.shared.syncing);
-    let ticket = journal.append(&post("a"));
+    let ticket = append(&journal, "a");
     let runtime = tokio::runtime::Builder::new_current_thread()
         .enable_time()
         .build()
@@ -141,7 +141,7 @@ async fn after_a_failed_sync_nobody_is_told_and_nothing_is_tried_again() {
     let disk = disk.ending(move |fault| tell.send(fault.to_string()).unwrap());
     let journal = open_on(&disk, folder.path(), Durability::Disk).unwrap();
     fails.store(true, SeqCst);
-    let ticket = journal.append(&post("a"));
+    let ticket = append(&journal, "a");
     assert!(
         tokio::time::timeout(Duration::from_millis(1500), journal.durable(ticket))
             .await
@@ -174,7 +174,7 @@ async fn after_a_failed_sync_of_what_is_held_nobody_is_told_either() {
     while fails.load(SeqCst) {
         tokio::time::sleep(Duration::from_millis(1)).await;
     }
-    let ticket = journal.append(&post("b"));
+    let ticket = append(&journal, "b");
     let durable = tokio::time::timeout(Duration::from_millis(1500), journal.durable(ticket));
     assert!(durable.await.is_err(), "who waits is told of what may be lost");
     assert!(told
@@ -199,7 +199,9 @@ fn ends_by_its_disk() {
         },
     );
     let journal = open_on(&disk, Path::new(&folder), Durability::Process).unwrap();
-    (0..100).for_each(|_| append(&journal, "a"));
+    for _ in 0..100 {
+        append(&journal, "a");
+    }
 }
 
 #[test]
@@ -232,7 +234,7 @@ fn what_is_held_is_durable_before_its_first_place_is_deleted() {
         Ok(())
     });
     let journal = open_on(&disk, folder.path(), Durability::Process).unwrap();
-    journal.append(&post("a"));
+    append(&journal, "a");
     journal.turn();
     journal.hold(&[post("a").sender].into(), 1, 2).unwrap();
     journal.forget(2).unwrap();

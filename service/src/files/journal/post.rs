@@ -1,0 +1,125 @@
+//! What the journal keeps: a post that the book took, as a text or as points by number.
+
+use super::packed;
+use bytes::Bytes;
+
+/// A post that the book took.
+#[derive(Clone, Debug, PartialEq, Eq)]
+pub struct Post {
+    pub sender: String,
+    /// How many of its points the book counted as foreign.
+    pub foreign: u64,
+    /// As the book was given it.
+    pub body: Body,
+}
+
+#[derive(Clone, Debug, PartialEq, Eq)]
+pub enum Body {
+    /// JSON.
+    Text(Bytes),
+    Points(Points),
+}
+
+impl Body {
+    /// What it takes in the journal.
+    pub fn bytes(&self) -> u64 {
+        match self {
+            Body::Text(body) => body.len() as u64,
+            Body::Points(points) => packed::of(points).len() as u64,
+        }
+    }
+}
+
+impl Post {
+    /// The numbers of series that it has.
+    pub fn numbers(&self) -> impl Iterator<Item = u64> + '_ {
+        let points = match &self.body {
+            Body::Text(_) => None,
+            Body::Points(points) => Some(points),
+        };
+        points.into_iter().flat_map(Points::numbers)
+    }
+}
+
+/// Points by number, one behind the other as the library takes them: each is the number of its series, its start and its
+/// end (nanoseconds since 1970), and what it says.
+#[derive(Clone, Debug, Default, PartialEq, Eq)]
+pub struct Points {
+    words: Vec<u64>,
+    /// Where each point ends.
+    ends: Vec<usize>,
+}
+
+/// Ahead of what a point says.
+const HEAD: usize = 3;
+
+/// Says what a number stands for.
+pub trait Names {
+    /// Which numbering this is: another one where numbers begin anew, for then the same number may be another series.
+    fn generation(&self) -> u64;
+
+    /// A JSON request of one point of the number's series.
+    fn text(&self, number: u64) -> Bytes;
+}
+
+/// What is read again. Numbers are those of the file, not of who reads.
+#[derive(Clone, Debug, PartialEq, Eq)]
+pub struct Replayed {
+    pub post: Post,
+    /// What numbers stand for from this post on, where that was said since the one before: each as a JSON request of one
+    /// point. A number of the post that is not among them is what it was said to be last.
+    pub named: Vec<(u64, Bytes)>,
+}
+
+impl Points {
+    /// Of words, and where each point ends in them; `None` where these are no points.
+    pub fn new(words: Vec<u64>, ends: Vec<usize>) -> Option<Points> {
+        let mut begin = 0;
+        let is_point = |end: &usize| *end >= std::mem::replace(&mut begin, *end) + HEAD;
+        let are_points = ends.iter().all(is_point) && begin == words.len();
+        are_points.then_some(Points { words, ends })
+    }
+
+    /// Puts a point behind the others; `says` is a sum's value, or a histogram's count, whether it has a sum, the sum, and
+    /// its buckets.
+    pub fn push(&mut self, number: u64, start: u64, end: u64, says: impl IntoIterator<Item = u64>) {
+        self.words.extend([number, start, end]);
+        self.words.extend(says);
+        self.ends.push(self.words.len());
+    }
+
+    /// All of them, as the library takes them.
+    pub fn words(&self) -> &[u64] {
+        &self.words
+    }
+
+    pub fn count(&self) -> usize {
+        self.ends.len()
+    }
+
+    /// The number of each one's series.
+    pub fn numbers(&self) -> impl Iterator<Item = u64> + '_ {
+        self.each().map(|point| point[0])
+    }
+
+    /// The words of each: number, start, end, and what it says.
+    pub fn each(&self) -> impl Iterator<Item = &[u64]> {
+        let begins = std::iter::once(&0).chain(&self.ends);
+        begins
+            .zip(&self.ends)
+            .map(|(begin, end)| &self.words[*begin..*end])
+    }
+}
+
+/// For posts that are texts.
+pub struct NoNames;
+
+impl Names for NoNames {
+    fn generation(&self) -> u64 {
+        0
+    }
+
+    fn text(&self, _: u64) -> Bytes {
+        Bytes::new()
+    }
+}

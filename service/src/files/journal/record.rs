@@ -1,0 +1,118 @@
+//! Posts as records, and records as posts.
+
+use super::post::{Body, Post, Replayed};
+use super::{packed, COPY, NAME, POINTS, POST};
+use crate::files::{judge, records};
+use bytes::Bytes;
+use std::collections::HashSet;
+
+const NO_POST: &str = "is no post that was written here";
+const NO_NAME: &str = "has points of a series that this file names nowhere before it";
+
+/// What is ahead of sender and body in the record of a text.
+pub(super) fn numbers(since: u64, post: &Post) -> [[u8; 8]; 3] {
+    [since, post.foreign, post.sender.len() as u64].map(u64::to_le_bytes)
+}
+
+/// Appends the record of a post, but not the names that it needs.
+pub(super) fn put(out: &mut Vec<u8>, since: u64, post: &Post) {
+    let sender = post.sender.as_bytes();
+    match &post.body {
+        Body::Text(body) => {
+            let numbers = numbers(since, post);
+            records::put(out, POST, &[numbers.as_flattened(), sender, body]);
+        }
+        Body::Points(points) => {
+            let mut head = Vec::new();
+            for number in [since, post.foreign, sender.len() as u64] {
+                packed::put_number(&mut head, number);
+            }
+            records::put(out, POINTS, &[&head, sender, &packed::of(points)]);
+        }
+    }
+}
+
+/// When a post was appended, by its record; `None` where it is none.
+pub(super) fn since(kind: u8, mut bytes: &[u8]) -> Option<u64> {
+    match kind {
+        POST | COPY => records::take_number(&mut bytes),
+        POINTS => packed::take_number(&mut bytes),
+        _ => None,
+    }
+}
+
+/// Reads the records of one file, one after the other: points need the names before them.
+#[derive(Default)]
+pub(super) struct Posts {
+    /// Said since the last post.
+    named: Vec<(u64, Bytes)>,
+    known: HashSet<u64>,
+}
+
+impl Posts {
+    /// The post of a record, and when it was appended; none where it says a name. The error is what is wrong with it.
+    pub fn read(&mut self, kind: u8, bytes: Vec<u8>) -> Result<Option<(u64, Replayed)>, &'static str> {
+        let bytes = Bytes::from(bytes);
+        let (since, post) = match kind {
+            NAME => {
+                let number = records::take_number(&mut &bytes[..]).ok_or(NO_POST)?;
+                self.known.insert(number);
+                self.named.push((number, bytes.slice(size_of::<u64>()..)));
+                return Ok(None);
+            }
+            POST | COPY => text(bytes).ok_or(NO_POST)?,
+            POINTS => self.points(bytes)?,
+            _ => return Err(judge::CHANGED),
+        };
+        let named = std::mem::take(&mut self.named);
+        Ok(Some((since, Replayed { post, named })))
+    }
+
+    fn points(&self, bytes: Bytes) -> Result<(u64, Post), &'static str> {
+        let (since, post) = points(&bytes).ok_or(NO_POST)?;
+        let is_unknown = |number: u64| !self.known.contains(&number);
+        if post.numbers().any(is_unknown) {
+            return Err(NO_NAME);
+        }
+        Ok((since, post))
+    }
+}
+
+fn text(bytes: Bytes) -> Option<(u64, Post)> {
+    let mut rest = &bytes[..];
+    let since = records::take_number(&mut rest)?;
+    let foreign = records::take_number(&mut rest)?;
+    let length = records::take_number(&mut rest)?;
+    let sender = take_text(&mut rest, length)?;
+    let body = Body::Text(bytes.slice_ref(rest));
+    Some((
+        since,
+        Post {
+            sender,
+            foreign,
+            body,
+        },
+    ))
+}
+
+fn points(mut rest: &[u8]) -> Option<(u64, Post)> {
+    let since = packed::take_number(&mut rest)?;
+    let foreign = packed::take_number(&mut rest)?;
+    let length = packed::take_number(&mut rest)?;
+    let sender = take_text(&mut rest, length)?;
+    let body = Body::Points(packed::read(rest)?);
+    Some((
+        since,
+        Post {
+            sender,
+            foreign,
+            body,
+        },
+    ))
+}
+
+fn take_text(bytes: &mut &[u8], length: u64) -> Option<String> {
+    let (text, rest) = bytes.split_at_checked(usize::try_from(length).ok()?)?;
+    *bytes = rest;
+    Some(std::str::from_utf8(text).ok()?.to_string())
+}
