@@ -37,8 +37,25 @@ extern "C" {
         body: *const u8,
         body_length: usize,
         books: usize,
+        from: u64,
+        until: u64,
         out: *mut Answer,
     );
+    fn reader_put(
+        reader: *mut Handle,
+        names: *mut Handle,
+        sender: *const u8,
+        sender_length: usize,
+        words: *const u64,
+        count: usize,
+        books: usize,
+        from: u64,
+        until: u64,
+        out: *mut Answer,
+    );
+    fn names_new(out: *mut Handle) -> bool;
+    fn names_free(names: *mut Handle);
+    fn names_learn(names: *mut Handle, body: *const u8, length: usize, out: *mut Answer);
     fn desk_new(books: usize, out: *mut Handle) -> bool;
     fn desk_free(desk: *mut Handle);
     fn desk_admit(desk: *mut Handle, reader: *mut Handle, out: *mut Answer);
@@ -47,7 +64,7 @@ extern "C" {
     fn desk_give_back(desk: *mut Handle, flushes: *mut Handle) -> u32;
     fn desk_quarantine(desk: *mut Handle, sender: *const u8, length: usize) -> u32;
     fn desk_lift(desk: *mut Handle, sender: *const u8, length: usize) -> u32;
-    fn desk_close_rounds(desk: *mut Handle, entries: usize) -> usize;
+    fn desk_close_round(desk: *mut Handle, book: usize, entries: usize) -> bool;
     fn desk_series(desk: *mut Handle) -> usize;
     fn desk_report(desk: *mut Handle, flushes: *mut Handle, book: usize, out: *mut Answer);
     fn flushes_new(out: *mut Handle) -> bool;
@@ -58,6 +75,8 @@ extern "C" {
 
 /// Reads posts: it has the one that was read last, split into a part for each book.
 pub(super) struct Reader(Handle);
+/// Series that have numbers, from 0 on.
+pub(super) struct Names(Handle);
 /// Books, each with the series that belong to it.
 pub(super) struct Desk(Handle);
 /// What was taken of all books, and the text that was written last.
@@ -65,6 +84,8 @@ pub(super) struct Flushes(Handle);
 
 // SAFETY: the library was proved to be usable from any thread (`may_cross`), by one call at a time: each takes `&mut self`.
 unsafe impl Send for Reader {}
+// SAFETY: as above.
+unsafe impl Send for Names {}
 // SAFETY: as above.
 unsafe impl Send for Desk {}
 // SAFETY: as above.
@@ -90,6 +111,29 @@ impl Reader {
                 body_at,
                 body.len(),
                 books.max(1),
+                0,
+                u64::MAX,
+                &mut answer,
+            )
+        };
+        answer
+    }
+
+    /// The same of points by number: each is its number, start, end, and what it says.
+    pub fn put(&mut self, names: &mut Names, sender: &[u8], words: &[u64], books: usize) -> Answer {
+        let mut answer = Answer::default();
+        // SAFETY: both handles are live and lent for this call alone; both slices and the answer are there through it.
+        unsafe {
+            reader_put(
+                &mut self.0,
+                &mut names.0,
+                sender.as_ptr(),
+                sender.len(),
+                words.as_ptr(),
+                words.len(),
+                books.max(1),
+                0,
+                u64::MAX,
                 &mut answer,
             )
         };
@@ -101,6 +145,30 @@ impl Drop for Reader {
     fn drop(&mut self) {
         // SAFETY: the handle is live, and nobody has it after this.
         unsafe { reader_free(&mut self.0) };
+    }
+}
+
+impl Names {
+    /// None where there is no memory.
+    pub fn new() -> Option<Names> {
+        let mut handle = Handle { at: null_mut() };
+        // SAFETY: as of a reader.
+        unsafe { names_new(&mut handle) }.then(|| Names(handle))
+    }
+
+    /// Gives the next number to the series of a request of one point.
+    pub fn learn(&mut self, request: &[u8]) -> Answer {
+        let mut answer = Answer::default();
+        // SAFETY: the handle is live and lent for this call alone; the slice and the answer are there through it.
+        unsafe { names_learn(&mut self.0, request.as_ptr(), request.len(), &mut answer) };
+        answer
+    }
+}
+
+impl Drop for Names {
+    fn drop(&mut self) {
+        // SAFETY: the handle is live, and nobody has it after this.
+        unsafe { names_free(&mut self.0) };
     }
 }
 
@@ -149,9 +217,10 @@ impl Desk {
         memory::forwarding(|| unsafe { desk_lift(&mut self.0, sender.as_ptr(), sender.len()) })
     }
 
-    pub fn close_rounds(&mut self, entries: usize) -> usize {
+    /// Whether the round of one book was closed: it has something, and nothing is open or live in it.
+    pub fn close_round(&mut self, book: usize) -> bool {
         // SAFETY: the handle is live and lent for this call alone.
-        memory::forwarding(|| unsafe { desk_close_rounds(&mut self.0, entries) })
+        memory::forwarding(|| unsafe { desk_close_round(&mut self.0, book, 1) })
     }
 
     pub fn series(&mut self) -> usize {

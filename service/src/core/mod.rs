@@ -7,29 +7,24 @@
 #[allow(unsafe_code)]
 mod book;
 mod memory;
+mod names;
 mod refusal;
+mod rounds;
 
 pub use memory::used as memory_used;
+pub use names::Names;
 pub use refusal::Refused;
 
+use crate::files::{self, Body, NoNames, Points, Post};
 use book::{Answer, Desk, Flushes, Reader, MOST_TAKEN};
 use bytes::Bytes;
 use refusal::check;
+use rounds::Rounds;
 use std::ops::{Deref, DerefMut};
 use std::sync::{Arc, Mutex, MutexGuard, PoisonError};
 
 /// A book takes 10,000 series, and a series goes to one by a hash: so many on average leave room for the uneven.
 const SERIES_OF_A_BOOK: usize = 8_000;
-/// Rounds are closed after so many posts, more where there are many series, since it takes some microseconds for each;
-/// but no more than a quarter of what a book has room for. And after so many points, since a round keeps them.
-const LEAST_POSTS: usize = 2_000;
-const MOST_POSTS: usize = 16_000;
-const SERIES_FOR_A_POST: usize = 5;
-const LEAST_POINTS: usize = 50_000;
-const POINTS_FOR_A_SERIES: usize = 20;
-/// While what was taken is live no round can be closed: it is tried again after so many posts.
-const POSTS_UNTIL_ANOTHER_TRY: u64 = 500;
-
 /// How many series of each book are taken at once where memory is short.
 const SMALL: usize = 10;
 /// What may be asked for.
@@ -46,24 +41,19 @@ pub struct Core {
 pub struct Book {
     desk: Desk,
     books: usize,
-    /// Since rounds were closed last: posts, and ends of what was taken.
-    entries: u64,
-    points: u64,
-    /// When rounds are closed.
-    most_entries: u64,
-    most_points: u64,
-    rounds_closed: usize,
+    rounds: Rounds,
 }
 
 /// A post that was read, and is in no book yet. Its reader is another's once this is dropped.
 pub struct Read {
     core: Arc<Core>,
     reader: Option<Reader>,
-    pub sender: String,
-    pub body: Bytes,
+    pub post: Post,
+    /// By which its points have numbers, where they have.
+    names: Option<Arc<Names>>,
     points: u64,
-    /// How many points are outside the profile.
-    pub foreign: u64,
+    /// How many points the library is not given, since they are outside the profile.
+    left_out: u64,
 }
 
 /// What was taken of the book: a request for each of these numbers, from 0. It is to be settled, or given back.
@@ -94,6 +84,11 @@ impl Core {
         self.books
     }
 
+    /// How many series it has room for, about.
+    pub fn most_series(&self) -> usize {
+        self.books * SERIES_OF_A_BOOK
+    }
+
     /// A book that has nothing yet, to be put in the place of this one.
     pub fn fresh(&self) -> Result<Book, Refused> {
         Book::new(self.books)
@@ -101,13 +96,38 @@ impl Core {
 
     /// Reads a post. JSON may nest to 127: the thread has 2 MiB of stack, as those of the runtimes have.
     pub fn read(self: &Arc<Core>, sender: String, body: Bytes) -> Result<Read, Refused> {
+        self.read_any(sender, Body::Text(body), None, 0)
+    }
+
+    /// The same of points that have numbers by these names. So many others are outside the profile.
+    pub fn read_points(
+        self: &Arc<Core>,
+        sender: String,
+        points: Points,
+        names: Arc<Names>,
+        left_out: u64,
+    ) -> Result<Read, Refused> {
+        self.read_any(sender, Body::Points(points), Some(names), left_out)
+    }
+
+    fn read_any(
+        self: &Arc<Core>,
+        sender: String,
+        body: Body,
+        names: Option<Arc<Names>>,
+        left_out: u64,
+    ) -> Result<Read, Refused> {
         let mut read = Read {
             reader: Some(self.reader()?),
             core: self.clone(),
-            sender,
-            body,
+            post: Post {
+                sender,
+                foreign: 0,
+                body,
+            },
+            names,
             points: 0,
-            foreign: 0,
+            left_out,
         };
         read.again()?;
         Ok(read)
@@ -133,9 +153,40 @@ impl Read {
     /// A reader has a post until the book was asked to take it, whatever that says.
     fn again(&mut self) -> Result<&mut Reader, Refused> {
         let reader = self.reader.as_mut().ok_or(Refused::NoMemory)?;
-        let answer = check(reader.read(self.sender.as_bytes(), &self.body, self.core.books))?;
-        (self.points, self.foreign) = (answer.number, answer.at);
+        let (sender, books) = (self.post.sender.as_bytes(), self.core.books);
+        let answer = match (&self.post.body, &self.names) {
+            (Body::Text(body), _) => reader.read(sender, body, books),
+            (Body::Points(points), Some(names)) => names.put(reader, sender, points.words(), books),
+            (Body::Points(_), None) => return Err(Refused::NoSuch),
+        };
+        let read = check(answer)?;
+        self.points = read.number;
+        self.post.foreign = self.left_out + read.at;
         Ok(reader)
+    }
+}
+
+/// How many bytes a word of a point may take in the journal.
+const BYTES_OF_A_WORD: usize = 10;
+
+impl Read {
+    /// Says what its numbers stand for.
+    pub fn names(&self) -> &dyn files::Names {
+        match &self.names {
+            Some(names) => &**names,
+            None => &NoNames,
+        }
+    }
+
+    /// How many bytes it may take in the journal.
+    pub fn bytes(&self) -> usize {
+        match (&self.post.body, &self.names) {
+            (Body::Text(body), _) => body.len(),
+            (Body::Points(points), None) => points.words().len() * BYTES_OF_A_WORD,
+            (Body::Points(points), Some(names)) => {
+                points.words().len() * BYTES_OF_A_WORD + names.length(points.numbers())
+            }
+        }
     }
 }
 
@@ -152,11 +203,7 @@ impl Book {
         Ok(Book {
             desk: Desk::new(books).ok_or(Refused::NoMemory)?,
             books,
-            entries: 0,
-            points: 0,
-            most_entries: LEAST_POSTS as u64,
-            most_points: LEAST_POINTS as u64,
-            rounds_closed: 0,
+            rounds: Rounds::new(books),
         })
     }
 
@@ -167,31 +214,30 @@ impl Book {
         }
         let reader = read.reader.as_mut().ok_or(Refused::Nothing)?;
         let mut admitted = check(self.desk.admit(reader));
-        if self.entries > 0 && admitted.is_err_and(|refused| refused.may_be_cured_by_a_round()) {
+        if self.rounds.have_entries() && admitted.is_err_and(|refused| refused.may_be_cured_by_a_round()) {
             self.close_rounds();
             admitted = read.again().and_then(|reader| check(self.desk.admit(reader)));
         }
         admitted?;
-        self.entries += 1;
-        self.points += read.points;
-        if self.entries >= self.most_entries || self.points >= self.most_points {
-            self.close_rounds();
-        }
+        self.rounds.count(read.points);
+        self.close_next_round();
         Ok(())
     }
 
-    /// What is over is forgotten, and sums begin at what they are.
-    fn close_rounds(&mut self) {
-        let closed = self.desk.close_rounds(1);
-        self.rounds_closed += closed;
-        let series = self.desk.series();
-        self.most_points = (POINTS_FOR_A_SERIES * series).max(LEAST_POINTS) as u64;
-        self.most_entries = (series / SERIES_FOR_A_POST).clamp(LEAST_POSTS, MOST_POSTS) as u64;
-        match closed {
-            0 => self.most_entries = self.entries + POSTS_UNTIL_ANOTHER_TRY,
-            _ => self.entries = 0,
+    /// Of one book, where one is to be closed: what is over is forgotten, and sums begin at what they are.
+    fn close_next_round(&mut self) {
+        if let Some(book) = self.rounds.next() {
+            let is_closed = self.desk.close_round(book);
+            self.rounds.note(is_closed, || self.desk.series());
         }
-        self.points = 0;
+    }
+
+    /// Of all books at once, since something finds no room.
+    fn close_rounds(&mut self) {
+        self.rounds.begin();
+        for _ in 0..self.books {
+            self.close_next_round();
+        }
     }
 
     /// Takes all that may be forwarded, or nothing. Until it is settled or given back no round can be closed.
@@ -257,7 +303,7 @@ impl Book {
             check(Answer::of_status(status)).map(drop)
         });
         let ended = ended.fold(Ok(()), Result::and);
-        self.entries += 1;
+        self.rounds.count(0);
         ended
     }
 
@@ -282,7 +328,7 @@ impl Book {
 
     /// How many rounds were closed since this was asked last.
     pub fn rounds_closed(&mut self) -> usize {
-        std::mem::take(&mut self.rounds_closed)
+        self.rounds.closed()
     }
 
     /// What each of its books has, one after the other.

@@ -36,13 +36,15 @@ pub enum Refused {
     NotQuarantined,
     #[error("not ended")]
     NotEnded,
+    #[error("not one point")]
+    NotOne,
     /// Of a library that is another than this was written for.
     #[error("the book answered {0}, which is no answer")]
     Unknown(u32),
 }
 
 /// By their numbers: what has no place or frontier stands here with none.
-const BY_NUMBER: [Option<Refused>; 16] = [
+const BY_NUMBER: [Option<Refused>; 17] = [
     None,
     Some(Refused::Quarantined),
     Some(Refused::Full),
@@ -62,6 +64,7 @@ const BY_NUMBER: [Option<Refused>; 16] = [
     Some(Refused::AlreadyQuarantined),
     Some(Refused::NotQuarantined),
     Some(Refused::NotEnded),
+    Some(Refused::NotOne),
 ];
 
 impl Answer {
@@ -93,6 +96,7 @@ impl Refused {
             Refused::Quarantined => 403,
             Refused::Full | Refused::TooManySeries | Refused::TooLarge | Refused::NoMemory => 503,
             Refused::Unknown(_) | Refused::Nothing | Refused::NoSuch | Refused::NotEnded => 503,
+            Refused::NotOne => 503,
             Refused::OtherWriter { .. } | Refused::OutOfOrder { .. } => 400,
             Refused::BadSender | Refused::NotJson | Refused::WrongShape => 400,
             Refused::AlreadyQuarantined | Refused::NotQuarantined => 400,
@@ -139,7 +143,8 @@ mod tests {
             (400, "already quarantined"),
             (400, "not quarantined"),
             (503, "not ended"),
-            (503, "the book answered 16, which is no answer"),
+            (503, "not one point"),
+            (503, "the book answered 17, which is no answer"),
         ];
         for (status, (http, text)) in (1..).zip(wanted) {
             assert_eq!(said(status), Err((http, text.to_string())), "{status}");

@@ -27,7 +27,7 @@ fn names(prefix: &str, count: usize) -> Vec<String> {
 fn post(core: &Arc<Core>, sender: &str, body: &str) -> Result<u64, Refused> {
     let mut read = core.read(sender.into(), body.to_string().into())?;
     core.lock().admit(&mut read)?;
-    Ok(read.foreign)
+    Ok(read.post.foreign)
 }
 
 /// By series what was taken, and in which spans.
@@ -285,7 +285,7 @@ fn posts_are_read_alike_on_both_sides() {
         for body in bodies {
             let read = core.read("A".into(), body.clone()).unwrap();
             let posted = crate::otlp::series::posted(&body).unwrap();
-            assert_eq!(read.foreign, posted.foreign, "{number}");
+            assert_eq!(read.post.foreign, posted.foreign, "{number}");
             let fresh = Core::new(8_000).unwrap();
             let mut read = fresh.read("A".into(), body).unwrap();
             // Random points are out of order, or too large, as a rule.

@@ -6,6 +6,7 @@ use crate::intake::connections::{spread, Limits, Shared};
 use crate::intake::{Budget, Threads};
 use crate::metrics::Metrics;
 use crate::otlp::{a_request_of_test, Reading};
+use crate::slot::Request as Posted;
 use bytes::Bytes;
 use flate2::{write::GzEncoder, Compression};
 use hyper::body::HttpBody;
@@ -27,7 +28,8 @@ struct Kept {
 }
 
 impl Taker for Kept {
-    fn post(self: &Arc<Self>, sender: String, body: Bytes) -> impl Future<Output = Outcome> + Send {
+    fn post(self: &Arc<Self>, sender: String, request: Posted) -> impl Future<Output = Outcome> + Send {
+        let body = request.source().text().unwrap();
         self.posts.lock().unwrap().push((sender, body));
         let outcome = self.outcome.clone();
         async move {

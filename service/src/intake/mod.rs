@@ -25,7 +25,7 @@ pub(crate) use weight::Hold;
 
 use crate::metrics::Metrics;
 use crate::otlp::{self, Encoding, Outcome, Reading, Rounded};
-use crate::slot::Slot;
+use crate::slot::{ByNumber, Request, Slot};
 use bytes::Bytes;
 use head::{Head, Packing};
 use refusal::Refusal;
@@ -56,13 +56,22 @@ const WHILE_READ_PROTOBUF: usize = 24;
 
 /// What takes posts. Each is whole even where the caller goes away.
 pub trait Taker: Send + Sync + 'static {
-    fn post(self: &Arc<Self>, sender: String, body: Bytes) -> impl Future<Output = Outcome> + Send;
+    /// The points of a request in protobuf by number; none where it is to be written in the book's form.
+    fn numbered(&self, _body: &Bytes, _reading: &Arc<Reading>) -> Option<ByNumber> {
+        None
+    }
+
+    fn post(self: &Arc<Self>, sender: String, request: Request) -> impl Future<Output = Outcome> + Send;
 }
 
 impl Taker for Slot {
-    fn post(self: &Arc<Self>, sender: String, body: Bytes) -> impl Future<Output = Outcome> + Send {
+    fn numbered(&self, body: &Bytes, reading: &Arc<Reading>) -> Option<ByNumber> {
+        Slot::numbered(self, body, reading)
+    }
+
+    fn post(self: &Arc<Self>, sender: String, request: Request) -> impl Future<Output = Outcome> + Send {
         let slot = self.clone();
-        async move { Slot::post(&slot, sender, body).await }
+        async move { slot.request(sender, request).await }
     }
 }
 
@@ -76,10 +85,10 @@ pub struct Intake<T> {
     patience: Duration,
 }
 
-/// A request that was read whole, in the book's form.
+/// A request that was read whole.
 struct Post {
     sender: String,
-    body: Bytes,
+    request: Request,
     rounded: Rounded,
     /// Of memory, until the post is answered.
     hold: Hold,
@@ -149,8 +158,8 @@ impl<T: Taker> Intake<T> {
 
     async fn prepared(&self, mut head: Head, mut body: Bytes, mut hold: Hold) -> Result<Post, Refusal> {
         let is_short = is_short(&mut head, &mut body, &mut hold)?;
-        let (reading, metrics) = (self.reading.clone(), self.metrics.clone());
-        let prepare = move || prepare(head, body, hold, &reading, &metrics);
+        let (taker, reading, metrics) = (self.taker.clone(), self.reading.clone(), self.metrics.clone());
+        let prepare = move || prepare(head, body, hold, &*taker, &reading, &metrics);
         if is_short {
             return prepare();
         }
@@ -180,7 +189,7 @@ impl<T: Taker> Intake<T> {
 
     /// The memory is held until the post is answered: a connection looks for its sender only then.
     async fn take(&self, post: Post) -> Outcome {
-        let outcome = self.taker.post(post.sender, post.body).await;
+        let outcome = self.taker.post(post.sender, post.request).await;
         drop(post.hold);
         if let Outcome::Taken { .. } = outcome {
             self.metrics.rounded(&post.rounded);
@@ -200,12 +209,13 @@ fn is_short(head: &mut Head, body: &mut Bytes, hold: &mut Hold) -> Result<bool, 
     Ok(head.packing == Packing::Plain && body.len() <= SHORT)
 }
 
-/// Unpacks a body and puts it into the book's form. The budget has room for both forms while both are there.
+/// Unpacks a body and puts it into the form in which it is taken. The budget has room for both forms while both are there.
 fn prepare(
     head: Head,
     packed: Bytes,
     mut hold: Hold,
-    reading: &Reading,
+    taker: &impl Taker,
+    reading: &Arc<Reading>,
     metrics: &Metrics,
 ) -> Result<Post, Refusal> {
     let plain = body::unpack(packed, head.packing, MOST, &mut hold)?;
@@ -217,12 +227,22 @@ fn prepare(
     let times = if reading.whole.is_empty() { 1 } else { 2 }; // it is written once more
     hold.set(times * grows * plain.len())?;
     let sender = otlp::sender(head.sender, head.encoding, &plain, reading)?;
-    let prepared = otlp::prepare(head.encoding, plain, reading)?;
-    hold.set(prepared.bytes())?;
+    let numbered = match head.encoding {
+        Encoding::Json => None,
+        Encoding::Protobuf => taker.numbered(&plain, reading),
+    };
+    let (request, rounded) = match numbered {
+        Some(points) => (Request::Numbered(points), Rounded::default()),
+        None => {
+            let prepared = otlp::prepare(head.encoding, plain, reading)?;
+            (Request::Text(prepared.body), prepared.rounded)
+        }
+    };
+    hold.set(request.bytes() + rounded.bytes())?;
     Ok(Post {
         sender,
-        body: prepared.body,
-        rounded: prepared.rounded,
+        request,
+        rounded,
         hold,
     })
 }

@@ -6,9 +6,10 @@
 //! before. Then it gets the posts in the journal's order, which was the order of the book that is gone, but for those of
 //! quarantined senders, which come last.
 
+use super::numbers::Numbers;
 use super::Trouble;
-use crate::core::{Book, Read, Refused};
-use crate::files::{Body, Outbox, Post, Replayed};
+use crate::core::{Book, Refused};
+use crate::files::{Body, Outbox, Post};
 use crate::otlp::series::{zeros, NotForwarded, SeriesKey};
 use crate::slot::Slot;
 use std::collections::{BTreeMap, BTreeSet};
@@ -38,6 +39,7 @@ pub(super) fn fill(
     let mut filling = Filling {
         slot,
         book,
+        numbers: Numbers::new(slot.core.clone()),
         filled: Filled::default(),
         shown: Instant::now(),
         stops,
@@ -60,6 +62,7 @@ pub(super) fn fill(
 struct Filling<'a, S> {
     slot: &'a Arc<Slot>,
     book: &'a mut Book,
+    numbers: Numbers,
     filled: Filled,
     shown: Instant,
     /// Whether it was told to stop.
@@ -88,9 +91,11 @@ impl<S: Fn() -> bool> Filling<'_, S> {
         journal.posts(
             self.slot.outbox.journal(),
             u64::MAX,
-            |Replayed { post, .. }| {
-                if is_wanted(&post) {
-                    ended = self.replay_one(&post);
+            |read| {
+                // Also of a post that is not wanted: no later one says it again.
+                self.numbers.note(read.named);
+                if is_wanted(&read.post) {
+                    ended = self.replay_one(&read.post);
                 }
                 ended.is_ok() && !(self.stops)()
             },
@@ -129,18 +134,9 @@ impl<S: Fn() -> bool> Filling<'_, S> {
 
     /// How many points are foreign.
     fn put(&mut self, post: &Post) -> Result<u64, Refused> {
-        let mut read = self.read(post)?;
+        let mut read = self.numbers.read(post)?;
         self.book.admit(&mut read)?;
-        Ok(read.foreign)
-    }
-
-    fn read(&self, post: &Post) -> Result<Read, Refused> {
-        let core = &self.slot.core;
-        match &post.body {
-            Body::Text(body) => core.read(post.sender.clone(), body.clone()),
-            // The seam for `Core::read_points`: no post has points by number yet.
-            Body::Points(_) => Err(Refused::NoSuch),
-        }
+        Ok(read.post.foreign)
     }
 
     /// A fresh book has a point more of each series than the one before, so a limit may be met a little sooner.

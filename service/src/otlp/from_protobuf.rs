@@ -21,7 +21,16 @@ const MAX_DEPTH: usize = 100;
 const COPIES: usize = 4;
 
 pub fn written(body: &[u8], reading: &Reading) -> Result<Written, Refused> {
-    let mut writer = Writer::new(Output::new(body.len() * 3 + 64, reading), body.len() * COPIES);
+    written_with(body, reading, body.len() * COPIES)
+}
+
+/// The same, but that a message which is there in parts is refused.
+pub fn written_plainly(body: &[u8], reading: &Reading) -> Result<Written, Refused> {
+    written_with(body, reading, 0)
+}
+
+fn written_with(body: &[u8], reading: &Reading, may_copy: usize) -> Result<Written, Refused> {
+    let mut writer = Writer::new(Output::new(body.len() * 3 + 64, reading), may_copy);
     writer.message(&REQUEST, body, 0)?;
     Ok(writer.out.written())
 }

@@ -2,6 +2,7 @@
 //!
 //! `prepare` writes a request of either encoding as the book reads it: `from_protobuf` and `from_json` go
 //! by the tables of `schema`, over the readers `wire` and `json`; `usual` sees at once most JSON that goes on as it came;
+//! `numbered` reads nearly all protobuf without that, by the numbers of series that are known;
 //! `whole` takes fractions as whole numbers of a finer unit. `series` reads bodies as the book does, and what it forwards.
 //! `answers` is what senders are answered.
 
@@ -12,6 +13,7 @@ mod from_protobuf;
 mod json;
 mod messages;
 mod number;
+mod numbered;
 mod output;
 mod schema;
 mod sender;
@@ -23,6 +25,7 @@ mod wire;
 pub(crate) use answers::partial_success;
 pub use explain::{explained, foreign_points, series_of_point, Explained};
 pub(crate) use messages::ExportMetricsServiceResponse;
+pub use numbered::{Learnt, Numbered, Series};
 pub use sender::{sender, NO_NAME};
 pub use whole::{Rounded, Rounding, Rule, Whole};
 
@@ -80,11 +83,6 @@ pub struct Prepared {
 }
 
 impl Prepared {
-    /// Of memory, until its post is answered.
-    pub fn bytes(&self) -> usize {
-        self.body.len() + self.rounded.bytes()
-    }
-
     fn as_it_is(body: Bytes) -> Prepared {
         Prepared {
             body,
@@ -177,6 +175,12 @@ pub fn protobuf_of_forwarded(body: &[u8]) -> Result<Vec<u8>, series::NotForwarde
 #[cfg(test)]
 pub(crate) fn a_request_of_test() -> Vec<u8> {
     tests::a_request()
+}
+
+/// Protobuf drawn at random, as senders post it one body after the other.
+#[cfg(test)]
+pub(crate) fn posts_of_test(seed: u64, many: usize) -> Vec<Vec<u8>> {
+    tests::posts(seed, many)
 }
 
 /// Requests drawn at random in the book's form, each as it comes of protobuf and of JSON.

@@ -14,6 +14,15 @@ pub struct Message {
     pub refused: &'static [RefusedField],
 }
 
+impl Message {
+    /// Whether a field of this number is passed over in protobuf, whatever it is.
+    pub fn says_nothing(&self, number: u32) -> bool {
+        let of_table = self.fields.iter().map(|field| u32::from(field.number));
+        let mut own = of_table.chain(self.refused.iter().map(|lost| lost.number));
+        !own.any(|own| own == number)
+    }
+}
+
 pub struct Field {
     /// The name that the book reads (lowerCamelCase).
     pub name: &'static str,
@@ -127,7 +136,7 @@ pub static REQUEST: Message = Message {
     ],
 };
 
-static RESOURCE_METRICS: Message = Message {
+pub static RESOURCE_METRICS: Message = Message {
     name: "ResourceMetrics",
     fields: &[
         field!("resource", "resource", 1, Kind::Message(&RESOURCE)),
@@ -160,7 +169,7 @@ pub static RESOURCE: Message = Message {
     refused: &[refused(&["labels"], 0, OLD)],
 };
 
-static SCOPE_METRICS: Message = Message {
+pub static SCOPE_METRICS: Message = Message {
     name: "ScopeMetrics",
     fields: &[
         field!("scope", "scope", 1, Kind::Message(&SCOPE)),
@@ -185,7 +194,7 @@ static SCOPE: Message = Message {
     refused: &[],
 };
 
-static METRIC: Message = Message {
+pub static METRIC: Message = Message {
     name: "Metric",
     fields: &[
         field!("name", "name", 1, Kind::Text),

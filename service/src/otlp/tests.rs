@@ -9,11 +9,13 @@ mod explain;
 mod long;
 mod mapping;
 mod points;
+mod posts;
 mod protobuf;
 mod random;
 mod refused;
 mod speed;
 
+pub(super) use posts::posts;
 pub(super) use random::requests;
 
 fn prepared(encoding: Encoding, body: impl Into<Bytes>) -> Result<Bytes, String> {

@@ -8,7 +8,8 @@ use crate::files::Outbox;
 use crate::intake::Taker;
 use crate::log::{all_shown, cut, shown};
 use crate::otlp::series::SeriesKey;
-use crate::otlp::{foreign_points, series_of_point, Explained, Outcome};
+use crate::otlp::{foreign_points, series_of_point, Explained, Outcome, Reading};
+use crate::slot::{ByNumber, Request, Source};
 use bytes::Bytes;
 use std::collections::{HashMap, HashSet};
 use std::future::Future;
@@ -103,11 +104,12 @@ impl<T: Taker> Remarks<T> {
         }
     }
 
-    fn tell(&self, remark: Remark, sender: &str, body: &Bytes) {
+    fn tell(&self, remark: Remark, sender: &str, source: Source) {
+        let Some(body) = source.text() else { return };
         match remark {
-            Remark::Foreign => self.tell_reasons(sender, body),
+            Remark::Foreign => self.tell_reasons(sender, &body),
             Remark::OtherWriter(place) => {
-                if let Some(series) = series_of_point(body, place) {
+                if let Some(series) = series_of_point(&body, place) {
                     self.tell_owner(sender, series);
                 }
             }
@@ -164,14 +166,19 @@ fn other_writer(sender: &str, owner: &str, series: &SeriesKey) -> String {
 }
 
 impl<T: Taker> Taker for Remarks<T> {
-    fn post(self: &Arc<Self>, sender: String, body: Bytes) -> impl Future<Output = Outcome> + Send {
+    fn numbered(&self, body: &Bytes, reading: &Arc<Reading>) -> Option<ByNumber> {
+        self.taker.numbered(body, reading)
+    }
+
+    fn post(self: &Arc<Self>, sender: String, request: Request) -> impl Future<Output = Outcome> + Send {
         let remarks = self.clone();
         async move {
-            let outcome = remarks.taker.post(sender.clone(), body.clone()).await;
+            let source = request.source();
+            let outcome = remarks.taker.post(sender.clone(), request).await;
             if let Some(remark) = remarks.remark(&sender, &outcome) {
                 if !remarks.is_reading.swap(true, Relaxed) {
                     tokio::task::spawn_blocking(move || {
-                        remarks.tell(remark, &sender, &body);
+                        remarks.tell(remark, &sender, source);
                         remarks.is_reading.store(false, Relaxed);
                     });
                 }

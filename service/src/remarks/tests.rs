@@ -7,7 +7,7 @@ use std::time::Duration;
 struct Answering(Outcome);
 
 impl Taker for Answering {
-    fn post(self: &Arc<Self>, _: String, _: Bytes) -> impl Future<Output = Outcome> + Send {
+    fn post(self: &Arc<Self>, _: String, _: Request) -> impl Future<Output = Outcome> + Send {
         std::future::ready(self.0.clone())
     }
 }
@@ -34,7 +34,7 @@ async fn told(
 ) -> (Vec<String>, usize, usize) {
     let remarks = Remarks::new(Arc::new(Answering(outcome.clone())), Owned(owner), log_foreign);
     for body in posts {
-        assert_eq!(remarks.post("a".into(), body.clone()).await, outcome);
+        assert_eq!(remarks.post("a".into(), body.clone().into()).await, outcome);
         while remarks.is_reading.load(Relaxed) {
             tokio::time::sleep(Duration::from_millis(1)).await;
         }

@@ -1,13 +1,15 @@
 //! The book with its journal and outbox, and the way of a post through them.
 //!
-//! `request` is that way, `verdict` what is said of a post and when, `phase` whether posts are taken, `disk` whether the
-//! disk answers.
+//! `request` is that way, `numbers` which series have numbers, `verdict` what is said of a post and when, `phase` whether
+//! posts are taken, `disk` whether the disk answers.
 
 mod disk;
+mod numbers;
 mod phase;
 mod request;
 mod verdict;
 
+pub use numbers::{ByNumber, Request, Source};
 pub(crate) use phase::Phase;
 
 use crate::core::{Core, Refused};
@@ -38,6 +40,7 @@ pub struct Slot {
     pub(crate) core: Arc<Core>,
     phases: Phases,
     readers: Semaphore,
+    numbers: numbers::Numbers,
     /// How many posts are in the journal, and in no group. It changes under the lock of the book, but for what the keeper
     /// takes off it.
     ungrouped: AtomicU64,
@@ -64,6 +67,7 @@ impl Slot {
             core,
             phases: Phases::new(),
             readers: Semaphore::new(READERS),
+            numbers: numbers::Numbers::default(),
             ungrouped: AtomicU64::new(0),
             crowded: Notify::new(),
             told: disk::Told::default(),
@@ -77,7 +81,7 @@ impl Slot {
     /// Puts a request into the book. What is taken is in the journal, as durably as was asked for, before this returns,
     /// and a refusal waits for the journal too.
     pub async fn post(&self, sender: String, body: Bytes) -> Outcome {
-        self.request(sender, body).await
+        self.request(sender, body.into()).await
     }
 
     /// Why each post is answered 503 now, in that answer's words.

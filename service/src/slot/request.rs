@@ -4,25 +4,25 @@
 //! or in neither, and one whose sender goes away is whole.
 
 use super::verdict::{Journalled, Taken};
-use super::{is_sender, Phase, Slot, NO_ROOM};
-use crate::core::{Read, Refused};
-use crate::files::{Body, Post};
+use super::{is_sender, Phase, Request, Slot, NO_ROOM};
+use crate::core::{Core, Read, Refused};
 use crate::otlp::Outcome;
 use crate::work::blocking;
-use bytes::Bytes;
+use std::sync::Arc;
 
-/// A body up to this long is read in place, a longer one on a thread beside the runtime's: no short post waits for it.
+/// What takes so much is read in place, what takes more on a thread beside the runtime's: no short post waits for it.
 const SHORT: usize = 64 << 10;
 
 impl Slot {
-    pub(super) async fn request(&self, sender: String, body: Bytes) -> Outcome {
+    /// As `post`, of a request in any form.
+    pub async fn request(&self, sender: String, request: Request) -> Outcome {
         if !is_sender(&sender) {
             return Refused::BadSender.into();
         }
         if let Some(why) = self.unavailable() {
             return unavailable(why);
         }
-        let said = match self.read(sender, body).await {
+        let said = match self.read(sender, request).await {
             Ok(read) => self.put(read),
             Err(refused) => Ok(Journalled::refused(refused, &self.journal)),
         };
@@ -32,19 +32,19 @@ impl Slot {
         }
     }
 
-    async fn read(&self, sender: String, body: Bytes) -> Result<Read, Refused> {
-        if body.len() <= SHORT {
-            return self.core.read(sender, body);
+    async fn read(&self, sender: String, request: Request) -> Result<Read, Refused> {
+        if request.bytes() <= SHORT {
+            return read(&self.core, sender, request);
         }
         let _turn = self.readers.acquire().await; // it is never closed
         let core = self.core.clone();
-        blocking(move || core.read(sender, body)).await
+        blocking(move || read(&core, sender, request)).await
     }
 
     /// Puts a post into the book and into the journal. The error is why the book was not asked.
     fn put(&self, mut read: Read) -> Result<Journalled, &'static str> {
         // Others may have come through the door at once.
-        let Some(_room) = self.folder.room_for(read.body.len()) else {
+        let Some(_room) = self.folder.room_for(read.bytes()) else {
             return Err(NO_ROOM);
         };
         let mut book = self.core.lock();
@@ -61,18 +61,29 @@ impl Slot {
             }
             return Ok(Journalled::refused(refused, &self.journal));
         }
-        let post = Post {
-            sender: std::mem::take(&mut read.sender),
-            foreign: read.foreign,
-            body: Body::Text(std::mem::take(&mut read.body)),
-        };
         self.count_post();
         // Under the lock: so the journal has the book's order, and a checkpoint finds the post in both or in neither.
-        let journalled = Taken { post: &post }.journal(&self.journal);
+        let (post, names) = (&read.post, read.names());
+        let journalled = Taken { post, names }.journal(&self.journal);
         drop(book);
-        self.metrics.foreign(&post.sender, post.foreign);
+        self.metrics.foreign(&read.post.sender, read.post.foreign);
         Ok(journalled)
     }
+}
+
+/// Reads a request. The journal has no point by number that the book does not take, since it says whose a series is: where
+/// the library finds one the request is read as its text.
+pub(super) fn read(core: &Arc<Core>, sender: String, request: Request) -> Result<Read, Refused> {
+    let by = match request {
+        Request::Text(body) => return core.read(sender, body),
+        Request::Numbered(by) => by,
+    };
+    let read = core.read_points(sender.clone(), by.points, by.names, by.foreign)?;
+    if read.post.foreign == by.foreign {
+        return Ok(read);
+    }
+    let text = by.source.text().ok_or(Refused::NotJson)?; // it was one when it was read by number
+    core.read(sender, text)
 }
 
 #[cfg(test)]

@@ -5,13 +5,14 @@
 //! of the first attempt, or the sender would drop a batch that a loss of power then takes.
 
 use crate::core::Refused;
-use crate::files::{Journal, NoNames, Post, Ticket};
+use crate::files::{Journal, Names, Post, Ticket};
 use crate::otlp::Outcome;
 
 /// A post that the book took, and that is in no journal yet.
 #[must_use = "what the book took has to be in the journal"]
 pub(super) struct Taken<'a> {
     pub post: &'a Post,
+    pub names: &'a dyn Names,
 }
 
 /// What may be said once the journal is durable up to a place.
@@ -25,7 +26,7 @@ impl Taken<'_> {
     /// Puts the post into the journal: a short lock, and no wait for the disk.
     pub fn journal(self, journal: &Journal) -> Journalled {
         Journalled {
-            ticket: journal.append(self.post, &NoNames),
+            ticket: journal.append(self.post, self.names),
             outcome: Outcome::taken(self.post.foreign),
         }
     }
@@ -59,6 +60,7 @@ impl From<Refused> for Outcome {
 #[cfg(test)]
 mod tests {
     use super::*;
+    use crate::files::{Body, NoNames};
     use std::sync::atomic::{AtomicBool, Ordering::SeqCst};
     use std::sync::Arc;
     use std::time::Duration;
@@ -72,14 +74,18 @@ mod tests {
         let post = Post {
             sender: "A".into(),
             foreign: 0,
-            body: crate::files::Body::Text("{}".into()),
+            body: Body::Text("{}".into()),
         };
         let late = Refused::OutOfOrder {
             point: 0,
             frontier: 5,
         };
         let both = [
-            Taken { post: &post }.journal(&journal),
+            Taken {
+                post: &post,
+                names: &NoNames,
+            }
+            .journal(&journal),
             Journalled::refused(late, &journal),
         ];
         let answers = both.map(|one| {

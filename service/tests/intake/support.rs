@@ -14,6 +14,7 @@ use totxegun::intake::front::connection;
 use totxegun::intake::{Budget, Intake, Limits, Taker, Threads};
 use totxegun::metrics::Metrics;
 use totxegun::otlp::{Outcome, Reading};
+use totxegun::slot::Request;
 
 pub const BODY: &str = r#"{"resourceMetrics":[]}"#;
 /// For tests of what is late; all others have time, also on a busy machine.
@@ -27,7 +28,8 @@ pub struct Kept {
 }
 
 impl Taker for Kept {
-    fn post(self: &Arc<Self>, sender: String, body: Bytes) -> impl Future<Output = Outcome> + Send {
+    fn post(self: &Arc<Self>, sender: String, request: Request) -> impl Future<Output = Outcome> + Send {
+        let body = request.source().text().unwrap();
         self.posts.lock().unwrap().push((sender, body));
         std::future::ready(self.outcome.clone())
     }

@@ -8,10 +8,10 @@ use crate::otlp::wire::{Fields, Payload};
 use std::collections::BTreeMap;
 
 /// xorshift64: the same draws in each run.
-struct Random(u64);
+pub struct Random(pub u64);
 
 impl Random {
-    fn below(&mut self, limit: u64) -> u64 {
+    pub fn below(&mut self, limit: u64) -> u64 {
         self.0 ^= self.0 << 13;
         self.0 ^= self.0 >> 7;
         self.0 ^= self.0 << 17;
@@ -155,7 +155,7 @@ impl Random {
         }
     }
 
-    fn request(&mut self) -> ExportMetricsServiceRequest {
+    pub fn request(&mut self) -> ExportMetricsServiceRequest {
         let resource_metrics = self.list(4, |random| ResourceMetrics {
             resource: (random.below(3) > 0).then(|| Resource {
                 attributes: random.attributes(0),

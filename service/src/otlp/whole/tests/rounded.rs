@@ -105,7 +105,7 @@ fn what_was_rounded_is_weighed() {
     let beside = |value: &str| {
         let body = request(&vec![point(value); 100]);
         let prepared = prepare(Encoding::Json, body.into(), &reading(&["s=us"])).unwrap();
-        prepared.bytes() - prepared.body.len()
+        prepared.rounded.bytes()
     };
     assert_eq!(beside("1"), 0);
     assert!(beside("0.00000125") > 100 * name.len());

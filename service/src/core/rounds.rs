@@ -1,0 +1,137 @@
+//! When the rounds of the books are closed. It takes a book up to some milliseconds, so it is done book by book, behind one
+//! post each: no post waits for two.
+
+/// Rounds are closed after so many posts, more where there are many series, since it takes some microseconds for each;
+/// but no more than a quarter of what a book has room for. And after so many points, since a round keeps them.
+const LEAST_POSTS: usize = 2_000;
+const MOST_POSTS: usize = 16_000;
+const SERIES_FOR_A_POST: usize = 5;
+const LEAST_POINTS: usize = 50_000;
+const POINTS_FOR_A_SERIES: usize = 20;
+/// While what was taken is live no round can be closed: it is tried again after so many posts.
+const POSTS_UNTIL_ANOTHER_TRY: u64 = 500;
+
+pub(super) struct Rounds {
+    books: usize,
+    /// Since it was begun to close them: posts, and ends of what was taken.
+    entries: u64,
+    points: u64,
+    /// When that is begun again.
+    most_entries: u64,
+    most_points: u64,
+    /// Of all books the one that comes next, where they are being closed, and whether one was closed yet.
+    next: Option<(usize, bool)>,
+    /// How many were closed, and nobody was told.
+    closed: usize,
+}
+
+impl Rounds {
+    pub fn new(books: usize) -> Rounds {
+        Rounds {
+            books,
+            entries: 0,
+            points: 0,
+            most_entries: LEAST_POSTS as u64,
+            most_points: LEAST_POINTS as u64,
+            next: None,
+            closed: 0,
+        }
+    }
+
+    /// Whether a round may have anything.
+    pub fn have_entries(&self) -> bool {
+        self.entries > 0
+    }
+
+    pub fn count(&mut self, points: u64) {
+        self.entries += 1;
+        self.points += points;
+    }
+
+    /// The book whose round is to be closed now.
+    pub fn next(&mut self) -> Option<usize> {
+        let is_due = self.entries >= self.most_entries || self.points >= self.most_points;
+        if self.next.is_none() && is_due {
+            self.begin();
+        }
+        self.next.map(|(book, _)| book)
+    }
+
+    /// All of them are to be closed, from the first one on.
+    pub fn begin(&mut self) {
+        self.next = Some((0, false));
+        (self.entries, self.points) = (0, 0);
+    }
+
+    /// Whether the one that was to be closed now is. There are so many series.
+    pub fn note(&mut self, is_closed: bool, series: impl FnOnce() -> usize) {
+        let Some((book, any)) = self.next else { return };
+        self.closed += usize::from(is_closed);
+        let any = any || is_closed;
+        if book + 1 < self.books {
+            self.next = Some((book + 1, any));
+            return;
+        }
+        self.next = None;
+        let series = series();
+        self.most_points = (POINTS_FOR_A_SERIES * series).max(LEAST_POINTS) as u64;
+        self.most_entries = match any {
+            true => (series / SERIES_FOR_A_POST).clamp(LEAST_POSTS, MOST_POSTS) as u64,
+            false => POSTS_UNTIL_ANOTHER_TRY,
+        };
+    }
+
+    /// How many were closed since this was asked last.
+    pub fn closed(&mut self) -> usize {
+        std::mem::take(&mut self.closed)
+    }
+}
+
+#[cfg(test)]
+mod tests {
+    use super::*;
+
+    /// Which books are closed behind each of so many posts of a point.
+    fn behind(rounds: &mut Rounds, posts: usize, is_closed: bool) -> Vec<(usize, usize)> {
+        let mut all = Vec::new();
+        for post in 1..=posts {
+            rounds.count(1);
+            if let Some(book) = rounds.next() {
+                rounds.note(is_closed, || 100_000);
+                all.push((post, book));
+            }
+        }
+        all
+    }
+
+    #[test]
+    fn no_post_waits_for_two_books() {
+        let mut rounds = Rounds::new(3);
+        let first = behind(&mut rounds, 2_100, true);
+        assert_eq!(first, [(2_000, 0), (2_001, 1), (2_002, 2)]);
+        assert_eq!((rounds.closed(), rounds.closed()), (3, 0));
+        // It counts from the post at which it was begun.
+        let next = behind(&mut rounds, 16_000, true);
+        assert_eq!(next, [(15_900, 0), (15_901, 1), (15_902, 2)]);
+    }
+
+    #[test]
+    fn where_none_can_be_closed_it_is_tried_again_soon() {
+        let mut rounds = Rounds::new(2);
+        let tries = behind(&mut rounds, 3_001, false);
+        assert_eq!(
+            tries,
+            [(2_000, 0), (2_001, 1), (2_500, 0), (2_501, 1), (3_000, 0), (3_001, 1)]
+        );
+        assert_eq!(rounds.closed(), 0);
+    }
+
+    #[test]
+    fn many_points_close_rounds_too() {
+        let mut rounds = Rounds::new(1);
+        rounds.count(49_999);
+        assert_eq!(rounds.next(), None);
+        rounds.count(1);
+        assert_eq!(rounds.next(), Some(0));
+    }
+}

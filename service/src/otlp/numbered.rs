@@ -1,0 +1,90 @@
+//! The points of a request in protobuf, by the numbers of their series: what nearly all requests have is read without a
+//! text of any of it.
+//!
+//! A series is known by the raw bytes of its resource, its scope, its metric without points, its bounds and its
+//! attributes, level by level (`levels`). What is not known yet is written as a request of one point by the reader for all
+//! requests (`identity`), and named. **So nothing of a rule is here**: what was read once as sound is as sound where the same
+//! bytes come again, and whatever is not plainly a whole number or a histogram is not read here at all (`walk`).
+
+mod identity;
+mod levels;
+mod walk;
+
+use super::Reading;
+use crate::files::Points;
+use bytes::Bytes;
+use identity::{Learn, Learner};
+use levels::Levels;
+use std::sync::atomic::{AtomicBool, Ordering::Relaxed};
+use std::sync::{Arc, PoisonError, RwLock};
+use walk::{Known, Stop, Walk};
+
+/// What naming a series said.
+#[derive(Clone, Copy, Debug, PartialEq, Eq)]
+pub enum Learnt {
+    Number(u64),
+    /// None of its points is taken, whatever it says.
+    Foreign,
+}
+
+/// Points of a request.
+#[derive(Debug, Default, PartialEq, Eq)]
+pub struct Numbered {
+    pub points: Points,
+    /// How many points are not among them, since they are outside the profile.
+    pub foreign: u64,
+}
+
+/// All that is known by its bytes, under one way of reading.
+pub struct Series {
+    reading: Arc<Reading>,
+    levels: RwLock<Levels>,
+    /// Something found no room.
+    is_full: AtomicBool,
+}
+
+impl Series {
+    /// It takes about so many bytes of memory at most.
+    pub fn new(reading: Arc<Reading>, most: usize) -> Series {
+        Series {
+            reading,
+            levels: RwLock::new(Levels::new(most)),
+            is_full: AtomicBool::new(false),
+        }
+    }
+
+    /// Of how requests are read, beside what they say themselves.
+    pub fn reading(&self) -> &Arc<Reading> {
+        &self.reading
+    }
+
+    pub fn is_full(&self) -> bool {
+        self.is_full.load(Relaxed)
+    }
+
+    /// The points of a request; none where it is to be read otherwise, which says nothing of it. What is not known yet
+    /// is given to `learn` as a request of one point: none where it can't be named now.
+    pub fn read(&self, body: &[u8], learn: impl Fn(Bytes) -> Option<Learnt>) -> Option<Numbered> {
+        if self.reading.whole.has_no_unit() {
+            return None; // all metrics have a unit of `--whole`
+        }
+        let known = {
+            let levels = self.levels.read().unwrap_or_else(PoisonError::into_inner); // each change of it is whole
+            Walk::new(Known(&levels), body.len()).request(body)
+        };
+        let read = match known {
+            Err(Stop::Unknown) => Walk::new(self.learner(&learn), body.len()).request(body),
+            known => known,
+        };
+        read.ok()
+    }
+
+    fn learner<'s>(&'s self, learn: &'s Learn<'s>) -> Learner<'s> {
+        Learner {
+            levels: &self.levels,
+            reading: &self.reading,
+            is_full: &self.is_full,
+            learn,
+        }
+    }
+}

@@ -1,0 +1,116 @@
+//! What is not known yet is read once by the reader for all requests: a request that has this alone.
+
+use super::levels::{Full, Level, Levels, FOREIGN};
+use super::walk::{Find, Own, Path, Stop};
+use super::Learnt;
+use crate::otlp::from_protobuf;
+use crate::otlp::Reading;
+use bytes::Bytes;
+use std::sync::atomic::{AtomicBool, Ordering::Relaxed};
+use std::sync::{PoisonError, RwLock, RwLockReadGuard};
+
+/// Names a series by a request of one point.
+pub type Learn<'s> = dyn Fn(Bytes) -> Option<Learnt> + 's;
+
+/// Who learns what is not known. No lock is held while something is read or named.
+pub struct Learner<'s> {
+    pub levels: &'s RwLock<Levels>,
+    pub reading: &'s Reading,
+    pub is_full: &'s AtomicBool,
+    pub learn: &'s Learn<'s>,
+}
+
+impl Find for Learner<'_> {
+    fn level(&mut self, path: &Path<'_>, within: Level, bytes: &[u8]) -> Result<Level, Stop> {
+        if let Some(level) = self.known().find(within, bytes) {
+            return Ok(level);
+        }
+        self.written(&request(path, &[]))?;
+        self.fitting(|levels| levels.level(within, bytes))
+    }
+
+    fn bounds(&mut self, within: Level, bounds: &[u8]) -> Result<Level, Stop> {
+        self.fitting(|levels| levels.level(within, bounds))
+    }
+
+    fn series(&mut self, path: &Path<'_>, within: Level, own: Own<'_>) -> Result<u32, Stop> {
+        if let Some(number) = self.known().find(within, own.attributes) {
+            return Ok(number);
+        }
+        let text = self.written(&request(path, &field(1, &point(own))))?;
+        self.fitting(|levels| levels.take_room(own.attributes, text.len()))?;
+        let number = match (self.learn)(text.into_boxed_slice().into()).ok_or(Stop::Slow)? {
+            Learnt::Foreign => FOREIGN,
+            Learnt::Number(number) => u32::try_from(number).map_err(|_| Stop::Slow)?,
+        };
+        self.fitting(|levels| Ok(levels.series(within, own.attributes, number)))
+    }
+}
+
+impl Learner<'_> {
+    fn known(&self) -> RwLockReadGuard<'_, Levels> {
+        self.levels.read().unwrap_or_else(PoisonError::into_inner) // each change of it is whole
+    }
+
+    fn fitting<T>(&self, change: impl FnOnce(&mut Levels) -> Result<T, Full>) -> Result<T, Stop> {
+        let mut levels =
+            self.levels.write().unwrap_or_else(PoisonError::into_inner);
+        change(&mut levels).map_err(|Full| {
+            self.is_full.store(true, Relaxed);
+            Stop::Slow
+        })
+    }
+
+    /// A request as it is written for the book, where there is nothing special about it.
+    fn written(&self, request: &[u8]) -> Result<Vec<u8>, Stop> {
+        match from_protobuf::written_plainly(request, self.reading) {
+            Ok(written) if !written.is_measured => Ok(written.text),
+            _ => Err(Stop::Slow),
+        }
+    }
+}
+
+/// A request of what is on a path, with these points.
+fn request(path: &Path<'_>, points: &[u8]) -> Vec<u8> {
+    let metric = path.head.map_or_else(Vec::new, |head| {
+        let data = match head.data {
+            0 => Vec::new(),
+            number => field(number as u8, &[points, head.tail].concat()),
+        };
+        field(2, &[head.before, &data].concat())
+    });
+    let scope = path.scope.map_or_else(Vec::new, |scope| {
+        field(2, &[&field(1, scope), &metric[..]].concat())
+    });
+    field(1, &[field(1, path.resource), scope].concat())
+}
+
+/// A point of a series that nothing is wrong with.
+fn point(own: Own<'_>) -> Vec<u8> {
+    let span = [fixed64(2, 1), fixed64(3, 2)].concat();
+    match own.bounds {
+        None => [&span, &fixed64(6, 0)[..], own.attributes].concat(),
+        Some(bounds) => {
+            let buckets = vec![0; bounds.len() + 8];
+            [&span, &field(6, &buckets)[..], &field(7, bounds), own.attributes].concat()
+        }
+    }
+}
+
+/// A field with a key of one byte that has a length.
+fn field(number: u8, bytes: &[u8]) -> Vec<u8> {
+    let mut out = Vec::with_capacity(bytes.len() + 6);
+    out.push(number << 3 | 2);
+    let mut length = bytes.len();
+    while length > 127 {
+        out.push(length as u8 | 128);
+        length >>= 7;
+    }
+    out.push(length as u8);
+    out.extend_from_slice(bytes);
+    out
+}
+
+fn fixed64(number: u8, bits: u64) -> Vec<u8> {
+    [&[number << 3 | 1][..], &bits.to_le_bytes()].concat()
+}

@@ -1,0 +1,75 @@
+//! What is known by its bytes: resources, in each its scopes, in each its metrics, in a histogram its bounds, and then the
+//! points' attributes, which have the number of their series.
+
+use ahash::RandomState;
+use std::collections::HashMap;
+
+/// The place of a level.
+pub type Level = u32;
+
+/// The level of resources.
+pub const TOP: Level = 0;
+/// In the place of a number: no point of the series is taken.
+pub const FOREIGN: u32 = u32::MAX;
+
+/// What an entry takes beside its bytes: its place in a table that is half full, its length, and what the allocator adds.
+const ENTRY: usize = 96;
+/// What a level takes that has nothing yet.
+const LEVEL: usize = 256;
+
+pub struct Levels {
+    /// By bytes a level, or a number. Nobody who posts can make two of them meet: the hash has a key of its own.
+    all: Vec<HashMap<Box<[u8]>, u32, RandomState>>,
+    hasher: RandomState,
+    left: usize,
+}
+
+/// There is no room.
+#[derive(Debug)]
+pub struct Full;
+
+impl Levels {
+    pub fn new(most: usize) -> Levels {
+        let hasher = RandomState::new();
+        Levels {
+            all: vec![HashMap::with_hasher(hasher.clone())],
+            hasher,
+            left: most,
+        }
+    }
+
+    #[inline]
+    pub fn find(&self, within: Level, bytes: &[u8]) -> Option<u32> {
+        self.all[within as usize].get(bytes).copied()
+    }
+
+    /// The level of these bytes, which is there from now on.
+    pub fn level(&mut self, within: Level, bytes: &[u8]) -> Result<Level, Full> {
+        if let Some(level) = self.find(within, bytes) {
+            return Ok(level);
+        }
+        let level = Level::try_from(self.all.len()).map_err(|_| Full)?;
+        self.put(within, bytes, level, LEVEL)?;
+        self.all.push(HashMap::with_hasher(self.hasher.clone()));
+        Ok(level)
+    }
+
+    /// Takes room for a series, before it is named. `text` is what its name takes elsewhere.
+    pub fn take_room(&mut self, bytes: &[u8], text: usize) -> Result<(), Full> {
+        let takes = ENTRY + bytes.len() + text;
+        self.left = self.left.checked_sub(takes).ok_or(Full)?;
+        Ok(())
+    }
+
+    /// The number of a series, which has this one from now on where another has not named it meanwhile.
+    pub fn series(&mut self, within: Level, bytes: &[u8], number: u32) -> u32 {
+        let known = self.all[within as usize].entry(bytes.into());
+        *known.or_insert(number)
+    }
+
+    fn put(&mut self, within: Level, bytes: &[u8], number: u32, more: usize) -> Result<(), Full> {
+        self.take_room(bytes, more)?;
+        self.series(within, bytes, number);
+        Ok(())
+    }
+}

@@ -1,0 +1,342 @@
+//! Looks a request through: its fields in the order in which nearly all encoders write them, each once. Of anything else
+//! it says `Slow`, and then the request is read as any other.
+
+use super::levels::{Level, Levels, FOREIGN, TOP};
+use super::Numbered;
+use crate::files::Points;
+use crate::otlp::number::whole_double;
+use crate::otlp::schema::{Message, METRIC, REQUEST, RESOURCE_METRICS, SCOPE_METRICS};
+use crate::otlp::wire::{Fields, Payload};
+
+/// The fields of a metric that have points.
+const DATA: [u32; 5] = [5, SUM, HISTOGRAM, 10, 11];
+const SUM: u32 = 7;
+const HISTOGRAM: u32 = 9;
+/// The field of points in each of them.
+const POINTS: u8 = 1;
+
+/// What most requests have more of for a word that is read of them, and for a point.
+const BYTES_OF_A_WORD: usize = 16;
+const BYTES_OF_A_POINT: usize = 64;
+
+/// Why a request is not read here.
+#[derive(Clone, Copy, Debug, PartialEq, Eq)]
+pub enum Stop {
+    /// It is to be read as any other.
+    Slow,
+    /// It has something that is not known yet.
+    Unknown,
+}
+
+/// Where in a request it is.
+#[derive(Clone, Copy, Default)]
+pub struct Path<'b> {
+    pub resource: &'b [u8],
+    pub scope: Option<&'b [u8]>,
+    pub head: Option<Head<'b>>,
+}
+
+/// A metric without its points.
+#[derive(Clone, Copy)]
+pub struct Head<'b> {
+    /// Its fields before its data.
+    pub before: &'b [u8],
+    /// The number of its data's field; 0 where it has none.
+    pub data: u32,
+    /// Of the data what follows its points.
+    pub tail: &'b [u8],
+}
+
+/// Of a point what identifies its series.
+#[derive(Clone, Copy)]
+pub struct Own<'b> {
+    /// Of a histogram.
+    pub bounds: Option<&'b [u8]>,
+    /// The fields of its attributes.
+    pub attributes: &'b [u8],
+}
+
+/// Who knows what is known.
+pub trait Find {
+    /// The level of these bytes, which are the last part of the path.
+    fn level(&mut self, path: &Path<'_>, within: Level, bytes: &[u8]) -> Result<Level, Stop>;
+    /// The level of a histogram's bounds.
+    fn bounds(&mut self, within: Level, bounds: &[u8]) -> Result<Level, Stop>;
+    /// The number of a series.
+    fn series(&mut self, path: &Path<'_>, within: Level, own: Own<'_>) -> Result<u32, Stop>;
+}
+
+/// Who learns nothing.
+pub struct Known<'l>(pub &'l Levels);
+
+impl Find for Known<'_> {
+    #[inline]
+    fn level(&mut self, _: &Path<'_>, within: Level, bytes: &[u8]) -> Result<Level, Stop> {
+        self.0.find(within, bytes).ok_or(Stop::Unknown)
+    }
+
+    #[inline]
+    fn bounds(&mut self, within: Level, bounds: &[u8]) -> Result<Level, Stop> {
+        self.0.find(within, bounds).ok_or(Stop::Unknown)
+    }
+
+    #[inline]
+    fn series(&mut self, _: &Path<'_>, within: Level, own: Own<'_>) -> Result<u32, Stop> {
+        self.0.find(within, own.attributes).ok_or(Stop::Unknown)
+    }
+}
+
+pub struct Walk<'b, F> {
+    find: F,
+    path: Path<'b>,
+    /// By which a metric is found.
+    key: Vec<u8>,
+    /// Of the last histogram's point its bounds, and their level within the metric's.
+    bounds: Option<(Level, &'b [u8], Level)>,
+    words: Vec<u64>,
+    ends: Vec<usize>,
+    foreign: u64,
+}
+
+/// Gives each message of a list that is in another. Whatever else is there must say nothing.
+#[inline]
+fn each<'b>(
+    of: &'static Message,
+    number: u8,
+    mut fields: Fields<'b>,
+    mut one: impl FnMut(&'b [u8]) -> Result<(), Stop>,
+) -> Result<(), Stop> {
+    loop {
+        while let Some(message) = fields.bytes(number) {
+            one(message)?;
+        }
+        if !pass(of, &mut fields)? {
+            return Ok(());
+        }
+    }
+}
+
+/// Passes a field that says nothing, if there is one more.
+fn pass(of: &'static Message, fields: &mut Fields<'_>) -> Result<bool, Stop> {
+    match fields.next() {
+        None => Ok(false),
+        Some(Ok((number, _))) if of.says_nothing(number) => Ok(true),
+        Some(_) => Err(Stop::Slow),
+    }
+}
+
+/// The fields of this number that come next, all in one.
+#[inline]
+fn run<'b>(fields: &mut Fields<'b>, number: u8) -> &'b [u8] {
+    let begin = fields.rest();
+    while fields.bytes(number).is_some() {}
+    &begin[..begin.len() - fields.rest().len()]
+}
+
+impl<'b, F: Find> Walk<'b, F> {
+    /// `length` is the request's.
+    pub fn new(find: F, length: usize) -> Walk<'b, F> {
+        Walk {
+            find,
+            path: Path::default(),
+            key: Vec::new(),
+            bounds: None,
+            words: Vec::with_capacity(length / BYTES_OF_A_WORD),
+            ends: Vec::with_capacity(length / BYTES_OF_A_POINT),
+            foreign: 0,
+        }
+    }
+
+    pub fn request(mut self, body: &'b [u8]) -> Result<Numbered, Stop> {
+        each(&REQUEST, 1, Fields::of(body), |resource| self.resource(resource))?;
+        let points = Points::new(self.words, self.ends).ok_or(Stop::Slow)?;
+        let foreign = self.foreign;
+        Ok(Numbered { points, foreign })
+    }
+
+    fn resource(&mut self, message: &'b [u8]) -> Result<(), Stop> {
+        let mut fields = Fields::of(message);
+        let resource = fields.bytes(1).unwrap_or_default();
+        self.path = Path {
+            resource,
+            ..Path::default()
+        };
+        let level = self.find.level(&self.path, TOP, resource)?;
+        each(&RESOURCE_METRICS, 2, fields, |scope| self.scope(level, scope))
+    }
+
+    fn scope(&mut self, resource: Level, message: &'b [u8]) -> Result<(), Stop> {
+        let mut fields = Fields::of(message);
+        let scope = fields.bytes(1).unwrap_or_default();
+        (self.path.scope, self.path.head) = (Some(scope), None);
+        let level = self.find.level(&self.path, resource, scope)?;
+        each(&SCOPE_METRICS, 2, fields, |metric| self.metric(level, metric))
+    }
+
+    fn metric(&mut self, scope: Level, metric: &'b [u8]) -> Result<(), Stop> {
+        let mut fields = Fields::of(metric);
+        let (mut before, mut number, mut data) = (metric, 0, &[][..]);
+        loop {
+            let here = fields.rest();
+            match fields.next() {
+                None => break,
+                Some(Ok((found, Payload::Bytes(bytes)))) if DATA.contains(&found) => {
+                    (before, number, data) = (&metric[..metric.len() - here.len()], found, bytes);
+                    while pass(&METRIC, &mut fields)? {}
+                    break;
+                }
+                Some(Ok(_)) => {} // it is looked at where the metric is not known yet
+                Some(Err(_)) => return Err(Stop::Slow),
+            }
+        }
+        let mut behind = Fields::of(data);
+        let points = run(&mut behind, POINTS);
+        let tail = behind.rest();
+        if !behind.all(|field| matches!(field, Ok((number, _)) if number != u32::from(POINTS))) {
+            return Err(Stop::Slow);
+        }
+        let head = Head {
+            before,
+            data: number,
+            tail,
+        };
+        let level = self.head(scope, head)?;
+        self.points(level, number, Fields::of(points))
+    }
+
+    /// The level of a metric.
+    fn head(&mut self, scope: Level, head: Head<'b>) -> Result<Level, Stop> {
+        self.key.clear();
+        // With the length no two metrics have the same key.
+        self.key.extend_from_slice(&head.before.len().to_le_bytes());
+        self.key.extend_from_slice(head.before);
+        self.key.push(head.data as u8);
+        self.key.extend_from_slice(head.tail);
+        self.path.head = Some(head);
+        self.find.level(&self.path, scope, &self.key)
+    }
+
+    fn points(&mut self, level: Level, data: u32, mut points: Fields<'b>) -> Result<(), Stop> {
+        while let Some(point) = points.bytes(POINTS) {
+            match data {
+                SUM => self.sum(level, point)?,
+                HISTOGRAM => self.histogram(level, point)?,
+                // Of no other kind a point is taken.
+                _ if Fields::of(point).all(|field| field.is_ok()) => self.foreign += 1,
+                _ => return Err(Stop::Slow),
+            }
+        }
+        Ok(())
+    }
+
+    fn sum(&mut self, level: Level, point: &'b [u8]) -> Result<(), Stop> {
+        let mut fields = Fields::of(point);
+        let start = fields.fixed64(2).unwrap_or(0);
+        let end = fields.fixed64(3).unwrap_or(0);
+        let early = whole(&mut fields);
+        let attributes = run(&mut fields, 7);
+        let flags = fields.number(8);
+        // Some encoders have it last.
+        let value = early.or_else(|| whole(&mut fields)).flatten();
+        let own = Own {
+            bounds: None,
+            attributes,
+        };
+        let number = self.series(level, own, &fields)?;
+        match value {
+            Some(value) if is_recorded(number, flags) => {
+                self.words
+                    .extend_from_slice(&[u64::from(number), start, end, value]);
+                self.ends.push(self.words.len());
+            }
+            _ => self.foreign += 1,
+        }
+        Ok(())
+    }
+
+    fn histogram(&mut self, level: Level, point: &'b [u8]) -> Result<(), Stop> {
+        let mut fields = Fields::of(point);
+        let start = fields.fixed64(2).unwrap_or(0);
+        let end = fields.fixed64(3).unwrap_or(0);
+        let count = fields.fixed64(4).unwrap_or(0);
+        let sum = fields.fixed64(5);
+        // The least and the largest value say nothing. One kind of encoder has them here, another at the end.
+        (fields.fixed64(11), fields.fixed64(12));
+        let buckets = eights(fields.bytes(6))?;
+        let bounds = fields.bytes(7).unwrap_or_default();
+        let bound_count = eights(Some(bounds))?.len();
+        let attributes = run(&mut fields, 9);
+        let flags = fields.number(10);
+        (fields.fixed64(11), fields.fixed64(12));
+        let level = self.level_of_bounds(level, bounds)?;
+        let own = Own {
+            bounds: Some(bounds),
+            attributes,
+        };
+        let number = self.series(level, own, &fields)?;
+        let whole = [count.to_le_bytes()];
+        let buckets = match buckets.is_empty() && bound_count == 0 {
+            true => &whole, // one bucket has all
+            false => buckets,
+        };
+        let sum = match sum {
+            None => Some((0, 0)),
+            Some(bits) => whole_double(f64::from_bits(bits)).and_then(|sum| Some((1, u64::try_from(sum).ok()?))),
+        };
+        match sum {
+            Some((has_sum, sum)) if is_recorded(number, flags) && buckets.len() == bound_count + 1 => {
+                let before = [u64::from(number), start, end, count, has_sum, sum];
+                self.words.extend_from_slice(&before);
+                let buckets = buckets.iter().map(|bucket| u64::from_le_bytes(*bucket));
+                self.words.extend(buckets);
+                self.ends.push(self.words.len());
+            }
+            _ => self.foreign += 1,
+        }
+        Ok(())
+    }
+
+    /// Most points have the bounds of the point before.
+    fn level_of_bounds(&mut self, within: Level, bounds: &'b [u8]) -> Result<Level, Stop> {
+        match self.bounds {
+            Some((level, same, known)) if level == within && same == bounds => Ok(known),
+            _ => {
+                let known = self.find.bounds(within, bounds)?;
+                self.bounds = Some((within, bounds, known));
+                Ok(known)
+            }
+        }
+    }
+
+    /// The number of a point's series, where nothing is left of the point.
+    #[inline]
+    fn series(&mut self, level: Level, own: Own<'b>, rest: &Fields<'b>) -> Result<u32, Stop> {
+        match rest.rest().is_empty() {
+            true => self.find.series(&self.path, level, own),
+            false => Err(Stop::Slow),
+        }
+    }
+}
+
+/// Passes the value of a sum's point, if it is next: none of a double, whose point is not taken.
+#[inline]
+fn whole(fields: &mut Fields<'_>) -> Option<Option<u64>> {
+    let value = fields.fixed64(6).map(Some);
+    value.or_else(|| fields.fixed64(4).map(|_| None))
+}
+
+/// Whether a point may be taken, by its series and its flags. Of these 32 bits are read, and the lowest is that nothing
+/// was recorded.
+#[inline]
+fn is_recorded(number: u32, flags: Option<u64>) -> bool {
+    number != FOREIGN && flags.unwrap_or(0) & 1 == 0
+}
+
+/// A list of eight bytes each; empty where it is not there.
+#[inline]
+fn eights(packed: Option<&[u8]>) -> Result<&[[u8; 8]], Stop> {
+    match packed.unwrap_or_default().as_chunks() {
+        (all, []) => Ok(all),
+        _ => Err(Stop::Slow),
+    }
+}

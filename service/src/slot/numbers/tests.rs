@@ -1,0 +1,125 @@
+//! Each request both ways, to two books: as JSON, and by number.
+
+use super::*;
+use crate::core::Read;
+use crate::files::Body;
+use crate::otlp::{posts_of_test, Rule, Whole};
+use crate::slot::request::read;
+
+struct Both {
+    slow: Arc<Core>,
+    fast: Arc<Core>,
+    numbers: Numbers,
+    reading: Arc<Reading>,
+    by_number: usize,
+    taken: usize,
+    foreign: u64,
+}
+
+impl Both {
+    fn new(reading: Reading) -> Both {
+        Both {
+            slow: Core::new(20_000).unwrap(),
+            fast: Core::new(20_000).unwrap(),
+            numbers: Numbers::default(),
+            reading: Arc::new(reading),
+            by_number: 0,
+            taken: 0,
+            foreign: 0,
+        }
+    }
+
+    fn post(&mut self, sender: &str, body: Vec<u8>) {
+        let body = Bytes::from(body);
+        let slow = self
+            .text(&body)
+            .and_then(|text| admitted(&self.slow, sender, text));
+        let by_number = self.numbers.read(&self.fast, &body, &self.reading);
+        self.by_number += usize::from(by_number.is_some());
+        let request = by_number.map_or_else(|| self.text(&body), |by| Ok(Request::Numbered(by)));
+        let fast = request.and_then(|request| admitted(&self.fast, sender, request));
+        assert_eq!(fast, slow, "{body:02x?}");
+        if let Ok(foreign) = slow {
+            (self.taken, self.foreign) = (self.taken + 1, self.foreign + foreign);
+        }
+    }
+
+    fn text(&self, body: &Bytes) -> Result<Request, String> {
+        let prepared = prepare(Encoding::Protobuf, body.clone(), &self.reading);
+        prepared
+            .map(|prepared| Request::Text(prepared.body))
+            .map_err(|refused| refused.to_string())
+    }
+
+    /// What both forward: it is the same to the byte, and so is their report.
+    fn flush(&self) -> usize {
+        let [slow, fast] = [&self.slow, &self.fast].map(|core| {
+            let mut flushed = core.lock().take_all().unwrap();
+            let texts = flushed.texts().unwrap();
+            core.lock().settle(flushed).unwrap();
+            (texts, String::from_utf8(core.lock().report().unwrap()).unwrap())
+        });
+        assert_eq!(fast.1, slow.1);
+        assert_eq!(fast.0, slow.0);
+        fast.0.len()
+    }
+}
+
+/// How many points are foreign, or why it was refused.
+fn admitted(core: &Arc<Core>, sender: &str, request: Request) -> Result<u64, String> {
+    let admitted = read(core, sender.into(), request).and_then(|mut read| {
+        core.lock().admit(&mut read)?;
+        let is_sound = |points: &Points| points.each().all(|point| 0 < point[1] && point[1] < point[2]);
+        assert!(by_number(&read).is_none_or(is_sound), "it is in the journal");
+        Ok(read.post.foreign)
+    });
+    admitted.map_err(|refused| refused.to_string())
+}
+
+fn by_number(read: &Read) -> Option<&Points> {
+    match &read.post.body {
+        Body::Text(_) => None,
+        Body::Points(points) => Some(points),
+    }
+}
+
+fn rules(rules: &[&str]) -> Whole {
+    let rules = rules.iter().map(|rule| rule.parse::<Rule>().unwrap());
+    Whole::new(rules).unwrap()
+}
+
+#[test]
+fn what_goes_by_number_is_what_its_json_says() {
+    let dropping = Reading {
+        dropped: vec!["a".into(), "long name".into()],
+        ..Reading::default()
+    };
+    let finer = Reading {
+        whole: rules(&["s=us", "a\"b=3:c"]),
+        ..Reading::default()
+    };
+    let all_finer = Reading {
+        whole: rules(&["=", "s"]),
+        ..Reading::default()
+    };
+    for (reading, seed, least) in [
+        (Reading::default(), 3, 0.5),
+        (Reading::default(), 4, 0.5),
+        (dropping, 5, 0.5),
+        (finer, 6, 0.05),
+        (all_finer, 7, 0.0),
+    ] {
+        const POSTS: usize = 3_000;
+        let (mut both, mut requests) = (Both::new(reading), 0);
+        for (number, body) in posts_of_test(seed, POSTS).into_iter().enumerate() {
+            both.post(["A", "B"][number / 7 % 2], body);
+            if number % 100 == 99 {
+                requests += both.flush();
+            }
+        }
+        let share = both.by_number as f64 / POSTS as f64;
+        eprintln!("{share} by number, {} taken, {} foreign, {requests} requests", both.taken, both.foreign);
+        assert!(share >= least && (least > 0.0 || both.by_number == 0), "{share}");
+        assert!(both.taken > POSTS / 4 && both.foreign > POSTS as u64 && requests > 20);
+    }
+}
