@@ -28,9 +28,6 @@ pub const MARK_LENGTHS: [usize; 2] = [HEAD + 8, HEAD + 24];
 /// The most bytes of a record: none is written that is longer, also of 10,000 series of the longest identities.
 pub const LARGEST: usize = 2 << 30;
 const MAGIC: &[u8; 8] = b"totxegun";
-/// Of the records and of what is in them.
-pub const VERSION: u16 = 1;
-
 /// Which file it is.
 #[derive(Clone, Copy, Debug, PartialEq, Eq)]
 pub enum Which {
@@ -38,6 +35,17 @@ pub enum Which {
     Outbox = 2,
     /// Of the journal, the posts of a quarantined sender.
     Held = 3,
+}
+
+impl Which {
+    /// Of the records and of what is in them. A journal of version 1 has no points by number, and totxegun up to 0.5.0
+    /// reads no other.
+    fn version(self) -> u16 {
+        match self {
+            Which::Outbox => 1,
+            Which::Journal | Which::Held => 2,
+        }
+    }
 }
 
 /// Appends a record made of parts.
@@ -65,7 +73,7 @@ pub fn header(which: Which, number: u64) -> Vec<u8> {
         HEADER,
         &[
             MAGIC,
-            &VERSION.to_le_bytes(),
+            &which.version().to_le_bytes(),
             &[which as u8],
             &number.to_le_bytes(),
         ],
@@ -154,9 +162,10 @@ impl Reader {
             return Err(self.damaged(0, "is not a file of totxegun; move it out of this folder"));
         }
         let version = u16::from_le_bytes([bytes[8], bytes[9]]);
-        if version > VERSION {
+        let latest = which.version();
+        if version > latest {
             let what = format!(
-                "is of format version {version}, and this totxegun reads up to {VERSION}: start the later totxegun that wrote it"
+                "is of format version {version}, and this totxegun reads up to {latest}: start the later totxegun that wrote it"
             );
             return Err(self.damaged(0, &what));
         }

@@ -124,3 +124,6 @@ impl Last {
 fn take_word(bytes: &mut &[u8]) -> Option<u64> {
     take_signed(bytes).filter(|word| *word != 0)
 }
+
+#[cfg(test)]
+mod tests;

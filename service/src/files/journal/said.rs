@@ -43,3 +43,18 @@ impl Said {
 pub(super) fn put_name(out: &mut Vec<u8>, number: u64, text: &[u8]) {
     records::put(out, NAME, &[&number.to_le_bytes(), text]);
 }
+
+#[cfg(test)]
+mod tests {
+    use super::*;
+    use crate::files::NoNames;
+
+    #[test]
+    fn a_million_names_that_were_said_take_an_eighth_of_a_byte_each() {
+        let (mut said, mut points) = (Said::default(), Points::default());
+        points.push(999_999, 0, 1, [7]);
+        assert!(!said.say(&points, &NoNames).is_empty());
+        assert!(said.say(&points, &NoNames).is_empty(), "once");
+        assert_eq!(said.numbers.len() * size_of::<u64>(), 125_000);
+    }
+}

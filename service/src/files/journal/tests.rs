@@ -3,6 +3,8 @@
 mod changed;
 mod damage;
 mod held;
+mod letters;
+mod points;
 mod power;
 mod syncs;
 
@@ -10,6 +12,7 @@ use super::*;
 use crate::files::disk::{Call, FAILED};
 use crate::files::numbers::Numbers;
 use bytes::Bytes;
+use letters::{body, Letters, Reading};
 use std::path::Path;
 use std::sync::atomic::{AtomicBool, AtomicUsize};
 use std::sync::mpsc;
@@ -47,12 +50,8 @@ fn post(text: &str) -> Post {
     }
 }
 
-fn body(text: &str) -> Body {
-    Body::Text(Bytes::from(text.to_string()))
-}
-
 fn append(journal: &Journal, text: &str) -> Ticket {
-    journal.append(&post(text), &NoNames)
+    journal.append(&post(text), &Letters::of(text))
 }
 
 /// As totxegun 0.5.0 wrote posts of quarantined senders into the next segment.
@@ -74,22 +73,19 @@ fn append_copy(journal: &Journal, text: &str) {
 }
 
 fn texts(journal: &Journal, first: u64) -> Vec<String> {
-    let mut texts = Vec::new();
+    let (mut texts, mut reading) = (Vec::new(), Reading::default());
     let each = |found: Replayed| {
-        let text = text(&found.post);
-        assert_eq!(found.post, post(&text));
+        let text = reading.text(&found);
+        let written = post(&text);
+        assert_eq!(
+            (found.post.sender, found.post.foreign),
+            (written.sender, written.foreign)
+        );
         texts.push(text);
         true
     };
     journal.posts(first, u64::MAX, each).unwrap();
     texts
-}
-
-fn text(post: &Post) -> String {
-    match &post.body {
-        Body::Text(body) => String::from_utf8(body.to_vec()).unwrap(),
-        Body::Points(_) => panic!("{post:?}"),
-    }
 }
 
 /// As `kill -9` leaves it.
@@ -186,7 +182,7 @@ fn it_is_as_a_list_in_memory_over_any_calls_and_starts() {
         // A last segment without a post makes room for the next one.
         let begun = |model: &[(u64, bool, String)], reach| model.last().map_or(1, |one| one.0 + 1).max(reach);
         for step in 0..60 {
-            let text = format!("{step:>0width$}", width = numbers.below(900) as usize);
+            let text = format!("{step:a>width$}", width = numbers.below(900) as usize);
             match numbers.below(10) {
                 0..=3 => {
                     append(&journal, &text);
@@ -212,7 +208,8 @@ fn it_is_as_a_list_in_memory_over_any_calls_and_starts() {
                     let at = lock(&journal.shared.place).segment.at;
                     kill(journal);
                     let mut torn = Vec::new();
-                    records::put(&mut torn, POST, &[&vec![7; numbers.below(2000) as usize]]);
+                    let kind = [POST, NAME, POINTS][numbers.below(3) as usize];
+                    records::put(&mut torn, kind, &[&vec![7; numbers.below(2000) as usize]]);
                     torn.truncate(numbers.below(torn.len() as u64) as usize);
                     let file = File::options()
                         .write(true)

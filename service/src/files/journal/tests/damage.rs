@@ -11,7 +11,7 @@ fn a_torn_record_is_cut_wherever_it_was_torn() {
     }
     let path = segment::path(folder.path(), 1);
     let whole = bytes(&path).len();
-    append(&journal, "the last one");
+    append(&journal, "the last post");
     kill(journal);
     let all = bytes(&path);
     for cut in whole..all.len() {
@@ -106,14 +106,17 @@ fn a_later_version_and_a_missing_segment_are_refused_by_name() {
     records::put(
         &mut later,
         records::HEADER,
-        &[b"totxegun", &2u16.to_le_bytes(), b"what comes"],
+        &[b"totxegun", &3u16.to_le_bytes(), b"what comes"],
     );
     std::fs::write(&path, &later).unwrap();
     let fault = open_on(&Disk::default(), folder.path(), Durability::Process)
         .err()
         .unwrap()
         .to_string();
-    assert!(fault.contains("format version 2"), "{fault}");
+    assert!(
+        fault.contains("format version 3, and this totxegun reads up to 2"),
+        "{fault}"
+    );
     std::fs::write(&path, &sound).unwrap();
     open(folder.path());
 }

@@ -12,11 +12,23 @@ fn of(sender: &str, text: &str) -> Post {
     }
 }
 
+pub fn append_of(journal: &Journal, sender: &str, text: &str) {
+    journal.append(&of(sender, text), &Letters::of(text));
+}
+
 fn all(journal: &Journal, first: u64) -> Vec<Post> {
-    let mut all = Vec::new();
+    let texts = all_texts(journal, first).into_iter();
+    texts.map(|(sender, text)| of(&sender, &text)).collect()
+}
+
+/// With their senders.
+pub fn all_texts(journal: &Journal, first: u64) -> Vec<(String, String)> {
+    let (mut all, mut reading) = (Vec::new(), Reading::default());
     journal
-        .posts(first, u64::MAX, |post| {
-            all.push(post.post);
+        .posts(first, u64::MAX, |found| {
+            let text = reading.text(&found);
+            assert_eq!(found.post, of(&found.post.sender, &text));
+            all.push((found.post.sender, text));
             true
         })
         .unwrap();
@@ -24,14 +36,14 @@ fn all(journal: &Journal, first: u64) -> Vec<Post> {
 }
 
 /// A checkpoint, as a keeper makes it: the first segment that counts after it.
-fn checkpoint(journal: &Journal, held: &BTreeSet<String>, first: u64) -> u64 {
+pub fn checkpoint(journal: &Journal, held: &BTreeSet<String>, first: u64) -> u64 {
     let (next, _) = journal.turn();
     journal.shared.sync();
     journal.hold(held, first, next).unwrap();
     next
 }
 
-fn names(senders: &[&str]) -> BTreeSet<String> {
+pub fn names(senders: &[&str]) -> BTreeSet<String> {
     senders.iter().map(|sender| sender.to_string()).collect()
 }
 
@@ -52,10 +64,10 @@ fn posts_of_quarantined_senders_are_moved_once_and_are_there_until_they_are_flus
     let open = |reach| open_begun(&disk, folder.path(), Durability::Process, reach, None).unwrap();
     let journal = open(1);
     let held = [of("a", "1"), of("a.held", "22"), of("a", "333")];
-    for post in &held {
-        journal.append(post, &NoNames);
+    for (post, text) in held.iter().zip(["1", "22", "333"]) {
+        append_of(&journal, &post.sender, text);
     }
-    journal.append(&of("b", "4444"), &NoNames);
+    append_of(&journal, "b", "4444");
     let quarantined = names(&["a", "a.held", "nobody"]);
     let mut first = 1;
     let expected = [&held[0], &held[2], &held[1]].map(Clone::clone);
@@ -66,7 +78,7 @@ fn posts_of_quarantined_senders_are_moved_once_and_are_there_until_they_are_flus
             .filter(|it| it.sender != "b")
             .collect();
         assert_eq!(before.len(), 3, "also before the commit, and once");
-        journal.append(&of("b", "5"), &NoNames);
+        append_of(&journal, "b", "5");
         journal.forget(next).unwrap();
         first = next;
         assert_eq!(all(&journal, first), [&expected[..], &[of("b", "5")]].concat());
@@ -84,7 +96,7 @@ fn posts_of_quarantined_senders_are_moved_once_and_are_there_until_they_are_flus
     let journal = open(first);
     assert_eq!(all(&journal, first), [&expected[..], &[of("b", "5")]].concat());
     // Released, and posts again; then quarantined anew.
-    journal.append(&of("a.held", "66"), &NoNames);
+    append_of(&journal, "a.held", "66");
     let next = checkpoint(&journal, &names(&["a"]), first);
     assert!(
         all(&journal, first).contains(&held[1]),
@@ -93,7 +105,7 @@ fn posts_of_quarantined_senders_are_moved_once_and_are_there_until_they_are_flus
     journal.forget(next).unwrap();
     assert_eq!(all(&journal, next), [held[0].clone(), held[2].clone()]);
     assert!(!file(folder.path(), "a.held").exists() && file(folder.path(), "a").exists());
-    journal.append(&of("a", "7777777"), &NoNames);
+    append_of(&journal, "a", "7777777");
     first = checkpoint(&journal, &quarantined, next);
     journal.forget(first).unwrap();
     assert_eq!(
@@ -113,11 +125,11 @@ fn more_senders_than_files_are_open_at_a_time_and_long_posts_are_moved() {
     let senders: Vec<String> = (0..150).map(|number| format!("s{number}")).collect();
     for round in 0..3 {
         for sender in &senders {
-            journal.append(&of(sender, &"x".repeat(round * 3000)), &NoNames);
+            append_of(&journal, sender, &"x".repeat(round * 3001));
         }
     }
-    let long = of("s7", &"y".repeat(1 << 20));
-    journal.append(&long, &NoNames);
+    let long = "y".repeat((1 << 20) + 1);
+    append_of(&journal, "s7", &long);
     let next = checkpoint(&journal, &senders.iter().cloned().collect(), 1);
     journal.forget(next).unwrap();
     kill(journal);
@@ -130,9 +142,9 @@ fn more_senders_than_files_are_open_at_a_time_and_long_posts_are_moved() {
             .filter(|it| it.sender == *sender)
             .map(|it| it.foreign)
             .collect();
-        assert_eq!(of_it[..3], [0, 3000, 6000], "{sender}");
+        assert_eq!(of_it[..3], [0, 3001, 6002], "{sender}");
     }
-    assert!(found.contains(&long) && journal.held().posts == 451);
+    assert!(found.contains(&of("s7", &long)) && journal.held().posts == 451);
 }
 
 /// 0.5.0 copied posts of quarantined senders into the next segment.
@@ -144,7 +156,7 @@ fn copies_in_a_folder_of_an_earlier_version_are_moved() {
     let (first, _) = journal.turn();
     append_copy(&journal, "a");
     append_copy(&journal, "b");
-    journal.append(&of("other", "1"), &NoNames);
+    append_of(&journal, "other", "1");
     journal.forget(first).unwrap();
     kill(journal);
     let open = |reach| open_from(&Disk::default(), folder.path(), Durability::Process, reach).unwrap();
@@ -165,11 +177,11 @@ fn what_was_moved_before_a_commit_that_did_not_come_counts_once() {
     let folder = place();
     let journal = open(folder.path());
     let held = names(&["a"]);
-    journal.append(&of("a", "1"), &NoNames);
+    append_of(&journal, "a", "1");
     let first = checkpoint(&journal, &held, 1);
     journal.forget(first).unwrap();
     // It was released, and has posted again.
-    journal.append(&of("a", "22"), &NoNames);
+    append_of(&journal, "a", "22");
     checkpoint(&journal, &held, first);
     kill(journal);
     for _ in 0..2 {
@@ -186,7 +198,7 @@ fn a_file_of_a_sender_that_is_gone_cut_or_changed_is_named() {
     let folder = place();
     let journal = open(folder.path());
     for text in ["1", "22"] {
-        journal.append(&of("a", text), &NoNames);
+        append_of(&journal, "a", text);
     }
     let first = checkpoint(&journal, &names(&["a"]), 1);
     journal.forget(first).unwrap();
@@ -222,9 +234,8 @@ type Queues = BTreeMap<String, Vec<String>>;
 
 fn queues(journal: &Journal, first: u64) -> Queues {
     let mut queues = Queues::new();
-    for post in all(journal, first) {
-        let text = text(&post);
-        queues.entry(post.sender).or_default().push(text);
+    for (sender, text) in all_texts(journal, first) {
+        queues.entry(sender).or_default().push(text);
     }
     queues
 }
@@ -252,7 +263,7 @@ fn run(folder: &Path, left: &Path, chance: &mut Numbers) -> (u64, Queues) {
                     "",
                     width = chance.below(1500) as usize
                 );
-                journal.append(&of(&sender, &text), &NoNames);
+                append_of(&journal, &sender, &text);
                 queues.entry(sender).or_default().push(text);
             }
         }
@@ -264,9 +275,8 @@ fn run(folder: &Path, left: &Path, chance: &mut Numbers) -> (u64, Queues) {
         queues.retain(|sender, _| held.contains(sender));
         journal.forget(first).unwrap();
     }
-    let posted = of("d", "the last one");
-    journal.append(&posted, &NoNames);
-    queues.entry("d".into()).or_default().push("the last one".into());
+    append_of(&journal, "d", "the last post");
+    queues.entry("d".into()).or_default().push("the last post".into());
     journal.shared.sync();
     let next = journal.turn().0;
     journal.shared.sync();

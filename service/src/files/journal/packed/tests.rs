@@ -1,0 +1,158 @@
+//! Points come back as they were, in few bytes; what is no points is refused.
+
+use super::*;
+use crate::files::numbers::Numbers;
+
+const MINUTE: u64 = 60_000_000_000;
+/// A time of 2026.
+const NOW: u64 = 1_795_000_000_000_000_000;
+
+/// Any 64 bits, more often small ones.
+fn any(chance: &mut Numbers) -> u64 {
+    let bits = chance.below(1 << 31) << 33 ^ chance.below(1 << 31) << 16 ^ chance.below(1 << 16);
+    match chance.below(4) {
+        0 => 0,
+        1 => chance.below(300),
+        2 => bits >> chance.below(64),
+        _ => bits.wrapping_neg(),
+    }
+}
+
+fn random(chance: &mut Numbers) -> Points {
+    let mut points = Points::default();
+    for _ in 0..chance.below(12) {
+        let says: Vec<u64> = (0..chance.below(25)).map(|_| any(chance)).collect();
+        points.push(any(chance), any(chance), any(chance), says);
+    }
+    points
+}
+
+#[test]
+fn the_bytes_are_those_of_the_table() {
+    let mut points = Points::default();
+    points.push(3, 70, 100, [5]);
+    points.push(4, 70, 100, [u64::MAX]);
+    points.push(2, 100, 130, [300, 0, 0, 0, 0, 0, 0, 0, 0, 1]);
+    let bytes = [
+        &[6, 0xc8, 1, 60, 1, 1, 10][..],
+        &[0, 0, 0, 1, 1, 1],
+        &[5, 60, 0, 10, 0b1, 0b10, 0xd8, 4, 2],
+    ];
+    assert_eq!(of(&points), bytes.concat());
+}
+
+#[test]
+fn random_points_come_back() {
+    let mut chance = Numbers(1);
+    for _ in 0..20_000 {
+        let points = random(&mut chance);
+        assert_eq!(read(&of(&points)), Some(points));
+    }
+}
+
+/// So a change is refused, or it is of other points; which it is not says the record's checksum.
+#[test]
+fn each_cut_and_each_flipped_byte_is_no_points_or_the_one_form_of_some() {
+    let mut chance = Numbers(2);
+    for _ in 0..300 {
+        let bytes = of(&random(&mut chance));
+        for at in 0..bytes.len() {
+            is_one_form(&bytes[..at]);
+            let mut flipped = bytes.clone();
+            flipped[at] ^= 1 << chance.below(8);
+            is_one_form(&flipped);
+        }
+    }
+}
+
+#[test]
+fn any_bytes_are_no_points_or_the_one_form_of_some() {
+    let mut chance = Numbers(3);
+    for _ in 0..100_000 {
+        let most = [3, 9, 256][chance.below(3) as usize];
+        let bytes: Vec<u8> = (0..chance.below(60)).map(|_| chance.below(most) as u8).collect();
+        is_one_form(&bytes);
+    }
+}
+
+fn is_one_form(bytes: &[u8]) {
+    if let Some(points) = read(bytes) {
+        assert_eq!(of(&points), bytes);
+        assert!(points.words().len() <= 8 * bytes.len(), "{bytes:?}");
+    }
+}
+
+#[test]
+fn a_number_that_is_read_is_no_length_of_anything() {
+    for count in [8, 1 << 20, 1 << 40, u64::MAX] {
+        let mut bytes = vec![0, 0, 0];
+        put_number(&mut bytes, count);
+        assert_eq!(read(&bytes), None, "{count}");
+    }
+}
+
+#[test]
+fn a_number_has_one_form() {
+    for bytes in [&[0x80, 0][..], &[0xff, 0x80, 0], &[0x80], &[0xff; 10], &[]] {
+        assert_eq!(take_number(&mut &bytes[..]), None, "{bytes:?}");
+    }
+    let most = [[0xff; 9].as_slice(), &[1]].concat();
+    assert_eq!(take_number(&mut &most[..]), Some(u64::MAX));
+}
+
+/// One of the SDKs' default bounds, which are 15.
+fn histogram(points: &mut Points, number: u64, end: u64, chance: &mut Numbers) {
+    let mut buckets = [0; 16];
+    let near = 2 + chance.below(8) as usize;
+    let counts = [0, 1, 2, 3, 4].map(|_| chance.below(40));
+    buckets[near..near + 5].copy_from_slice(&counts);
+    let count = buckets.iter().sum();
+    points.push(
+        number,
+        end - MINUTE,
+        end,
+        [count, 1, count * 37].into_iter().chain(buckets),
+    );
+}
+
+fn sum(points: &mut Points, number: u64, end: u64, chance: &mut Numbers) {
+    points.push(
+        number,
+        end - MINUTE - chance.below(2000),
+        end,
+        [chance.below(5000)],
+    );
+}
+
+/// As the SDKs send them: each instrument has been read a little later, and its series have the same times.
+fn usual(count: u64, histograms: impl Fn(u64) -> bool) -> Points {
+    let (mut points, mut chance, mut end) = (Points::default(), Numbers(4), NOW);
+    for number in 0..count {
+        if number % 4 == 0 {
+            end += 1000 + chance.below(100_000);
+        }
+        match histograms(number / 4) {
+            true => histogram(&mut points, 700 + number, end, &mut chance),
+            false => sum(&mut points, 700 + number, end, &mut chance),
+        }
+    }
+    points
+}
+
+#[test]
+fn a_usual_point_takes_at_most_20_bytes_and_a_histogram_at_most_40() {
+    type Kind = fn(u64) -> bool;
+    let kinds: [(&str, Kind, usize); 3] = [
+        ("sums", |_| false, 12),
+        ("sums, and a quarter histograms", |metric| metric % 4 == 3, 20),
+        ("histograms", |_| true, 40),
+    ];
+    for count in [20, 103] {
+        for (what, histograms, most) in kinds {
+            let points = usual(count, histograms);
+            let takes = of(&points).len().div_ceil(count as usize);
+            println!("{count} points, {what}: {takes} bytes a point");
+            assert!(takes <= most, "{count} points, {what}: {takes} bytes a point");
+        }
+    }
+}

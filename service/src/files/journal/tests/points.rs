@@ -1,0 +1,186 @@
+//! Points by number: each segment, and each sender's own file, says what its numbers stand for.
+
+use super::*;
+
+/// A segment's records, but marks and the header: kind and bytes.
+fn records_of(path: &Path) -> Vec<(u8, Vec<u8>)> {
+    let number = path.file_stem().and_then(|stem| stem.to_str()?.parse().ok());
+    let reader = records::Reader::open(path, Which::Journal, number.unwrap(), None);
+    let (mut reader, _) = reader.unwrap();
+    let mut found = Vec::new();
+    while let records::Next::Record { kind, bytes, .. } = reader.next().unwrap() {
+        found.push((kind, bytes));
+    }
+    found
+}
+
+fn kinds(path: &Path) -> Vec<u8> {
+    records_of(path).into_iter().map(|(kind, _)| kind).collect()
+}
+
+fn of_letters(letters: &[u8]) -> Post {
+    let mut points = Points::default();
+    for letter in letters {
+        points.push(u64::from(*letter), 5, 10, [7]);
+    }
+    Post {
+        sender: "s".into(),
+        foreign: 2,
+        body: Body::Points(points),
+    }
+}
+
+/// What is read of each post: its letters, and which of them were named with it.
+fn read(journal: &Journal, first: u64) -> Vec<(Post, Vec<(u64, Bytes)>)> {
+    let mut all = Vec::new();
+    let posts = journal.posts(first, u64::MAX, |Replayed { post, named }| {
+        all.push((post, named));
+        true
+    });
+    posts.unwrap();
+    all
+}
+
+fn names(numbers: &[u8], less: u8) -> Vec<(u64, Bytes)> {
+    let name = |number: &u8| (u64::from(*number), vec![number - less].into());
+    numbers.iter().map(name).collect()
+}
+
+#[test]
+fn a_segment_says_a_name_once_ahead_of_its_first_points_and_by_the_same_write() {
+    let folder = tempfile::tempdir().unwrap();
+    let is_alone = Arc::new(AtomicBool::new(false));
+    let sees = is_alone.clone();
+    let disk = Disk::failing(move |call, path| {
+        // So a kill ahead of this call would leave it.
+        let name = || kinds(path).last() == Some(&NAME);
+        sees.fetch_or(call == Call::Write && name(), SeqCst);
+        Ok(())
+    });
+    let journal = open_on(&disk, folder.path(), Durability::Process).unwrap();
+    for (letters, segment) in [(&b"abca"[..], 1), (b"cb", 1), (b"da", 1), (b"ab", 2), (b"ab", 2)] {
+        if lock(&journal.shared.place).segment.number < segment {
+            journal.turn();
+        }
+        journal.append(&of_letters(letters), &Letters::of(""));
+    }
+    let expected: [(&[u8], &[u8]); 5] = [
+        (b"abca", b"abc"),
+        (b"cb", b""),
+        (b"da", b"d"),
+        (b"ab", b"ab"),
+        (b"ab", b""),
+    ];
+    let expected = expected.map(|(letters, named)| (of_letters(letters), names(named, 0)));
+    assert_eq!(read(&journal, 1), expected);
+    assert_eq!(read(&journal, 2), expected[3..]);
+    kill(journal);
+    assert!(!is_alone.load(SeqCst));
+    assert_eq!(
+        kinds(&segment::path(folder.path(), 1)),
+        [NAME, NAME, NAME, POINTS, POINTS, NAME, POINTS]
+    );
+    assert_eq!(
+        kinds(&segment::path(folder.path(), 2)),
+        [NAME, NAME, POINTS, POINTS]
+    );
+    assert_eq!(
+        records_of(&segment::path(folder.path(), 1))[0].1,
+        [97, 0, 0, 0, 0, 0, 0, 0, b'a']
+    );
+}
+
+#[test]
+fn where_numbers_begin_anew_they_are_named_anew() {
+    let folder = tempfile::tempdir().unwrap();
+    let journal = open(folder.path());
+    let (first, later) = (Letters::of(""), Letters::of("123"));
+    let posts = [(b"ab", &first), (b"bc", &later), (b"ab", &first)];
+    for (numbers, letters) in posts {
+        journal.append(&of_letters(numbers), letters);
+    }
+    let expected = [(b"ab", 0), (b"bc", 1), (b"ab", 0)]
+        .map(|(numbers, less)| (of_letters(numbers), names(numbers, less)));
+    assert_eq!(read(&journal, 1), expected);
+}
+
+#[test]
+fn points_without_a_name_are_refused_by_name() {
+    let folder = tempfile::tempdir().unwrap();
+    let journal = open(folder.path());
+    journal.append(&of_letters(b"a"), &Letters::of(""));
+    journal.turn();
+    let mut record = Vec::new();
+    record::put(&mut record, 5, &of_letters(b"a"));
+    let at = lock(&journal.shared.place).segment.put(&[&record]).unwrap();
+    let fault = journal.posts(1, u64::MAX, |_| true).unwrap_err().to_string();
+    let place = format!("000000000002.seg, byte {at}: has points of a series");
+    assert!(fault.contains(&place), "{fault}");
+}
+
+/// Totxegun up to 0.5.0 looks at this number, and says that it is a later one's.
+#[test]
+fn a_journal_that_may_have_points_is_of_version_2() {
+    let folder = tempfile::tempdir().unwrap();
+    kill(open(folder.path()));
+    let found = bytes(&segment::path(folder.path(), 1));
+    let header = &found[records::MARK_LENGTHS[1]..];
+    assert_eq!(
+        header[8..19],
+        [1, b't', b'o', b't', b'x', b'e', b'g', b'u', b'n', 2, 0]
+    );
+}
+
+/// Byte by byte as 0.5.0 writes them.
+#[test]
+fn a_segment_and_a_file_of_a_sender_of_version_1_go_on() {
+    let folder = tempfile::tempdir().unwrap();
+    let header = |which: u8, number: u64| {
+        let mut header = Vec::new();
+        let number = number.to_le_bytes();
+        records::put(&mut header, 1, &[b"totxegun", &[1, 0, which], &number]);
+        header
+    };
+    let record = |kind: u8, sender: &str, text: &[u8]| {
+        let mut record = Vec::new();
+        let numbers = [7, text.len() as u64, sender.len() as u64].map(u64::to_le_bytes);
+        records::put(
+            &mut record,
+            kind,
+            &[numbers.as_flattened(), sender.as_bytes(), text],
+        );
+        record
+    };
+    let held = [header(3, 0), record(16, "a", b"1234")].concat();
+    let mut list = Vec::new();
+    records::put(
+        &mut list,
+        18,
+        &[format!(r#"[["a",1,{}]]"#, held.len()).as_bytes()],
+    );
+    let segment = [
+        header(1, 1),
+        list,
+        record(16, "b", b"12"),
+        record(17, "a", b"123456"),
+    ];
+    std::fs::write(segment::path(folder.path(), 1), segment.concat()).unwrap();
+    std::fs::write(folder.path().join("a.held"), held).unwrap();
+    let journal = open(folder.path());
+    held::append_of(&journal, "a", "points");
+    held::append_of(&journal, "a", "point");
+    let expected = [
+        ("a", "1234"),
+        ("b", "12"),
+        ("a", "123456"),
+        ("a", "points"),
+        ("a", "point"),
+    ];
+    let expected = expected.map(|(sender, text)| (sender.to_string(), text.to_string()));
+    assert_eq!(held::all_texts(&journal, 1), expected);
+    // Its file has points from now on.
+    let next = held::checkpoint(&journal, &held::names(&["a"]), 1);
+    journal.forget(next).unwrap();
+    let of_a = expected.into_iter().filter(|(sender, _)| sender == "a");
+    assert_eq!(held::all_texts(&journal, next), of_a.collect::<Vec<_>>());
+}
