@@ -37,7 +37,8 @@ impl SeriesOfPosts {
     }
 }
 
-fn only_series(text: &[u8]) -> Option<SeriesKey> {
+/// The series of a request of one point, by which the journal names it.
+pub(crate) fn only_series(text: &[u8]) -> Option<SeriesKey> {
     let mut series = posted(text)?.series.into_keys();
     series.next().filter(|_| series.next().is_none())
 }

@@ -53,8 +53,7 @@ impl Learner<'_> {
     }
 
     fn fitting<T>(&self, change: impl FnOnce(&mut Levels) -> Result<T, Full>) -> Result<T, Stop> {
-        let mut levels =
-            self.levels.write().unwrap_or_else(PoisonError::into_inner);
+        let mut levels = self.levels.write().unwrap_or_else(PoisonError::into_inner);
         change(&mut levels).map_err(|Full| {
             self.is_full.store(true, Relaxed);
             Stop::Slow

@@ -281,7 +281,9 @@ impl<'b, F: Find> Walk<'b, F> {
         };
         let sum = match sum {
             None => Some((0, 0)),
-            Some(bits) => whole_double(f64::from_bits(bits)).and_then(|sum| Some((1, u64::try_from(sum).ok()?))),
+            Some(bits) => {
+                whole_double(f64::from_bits(bits)).and_then(|sum| Some((1, u64::try_from(sum).ok()?)))
+            }
         };
         match sum {
             Some((has_sum, sum)) if is_recorded(number, flags) && buckets.len() == bound_count + 1 => {
