@@ -1,19 +1,23 @@
-//! Compares the version that Cargo.toml has with the one that holds for all, the file VERSION at the top; and links the
-//! proved book, the library that `tools/build.py` has built.
+//! Compares the version that Cargo.toml has with the one that holds for all, the file VERSION at the top; looks for the
+//! allocator, with which `core/book` links; and links the proved book, the library that `tools/build.py` has built.
 
 use sha2::{Digest, Sha256};
 use std::path::{Path, PathBuf};
+use std::process::Command;
 
 /// Where the library is, beside what was written of it when it was proved. `$TOTXEGUN_BOOK` is another folder.
 const FOLDER: &str = "../crates/book_c/out";
 const LIBRARY: &str = "libbook_c.a";
 const PROVED: &str = "libbook_c.a.proved";
+/// By the name that pkg-config has for it.
+const ALLOCATOR: &str = "libtcmalloc_minimal";
 
 fn main() {
     println!("cargo:rerun-if-changed=../VERSION");
     println!("cargo:rerun-if-changed=build.rs");
     println!("cargo:rerun-if-env-changed=TOTXEGUN_BOOK");
     compare_versions();
+    look_for_allocator();
     link_book();
 }
 
@@ -26,6 +30,13 @@ fn compare_versions() {
             text.trim()
         ),
         Err(error) => panic!("the file VERSION can't be read: {error}"),
+    }
+}
+
+fn look_for_allocator() {
+    let asked = Command::new("pkg-config").args(["--exists", ALLOCATOR]).status();
+    if !asked.is_ok_and(|status| status.success()) {
+        panic!("pkg-config finds no {ALLOCATOR}, the allocator: Debian's packages are pkg-config and libgoogle-perftools-dev");
     }
 }
 

@@ -152,8 +152,7 @@ def look_at_settings(checks, root, serve_help):
     text = content(f"{root}/etc/totxegun/totxegun.env")
     bare = [name for name in wanted if not re.search(rf"^# \S.*\n#{name}=", text, re.MULTILINE)]
     checks.same("each with a line of text", [], bare)
-    known = {*wanted, "MALLOC_TRIM_THRESHOLD_"}
-    checks.same("what the unit sets is there to be set", set(), set_by_unit(root).keys() - known)
+    checks.same("what the unit sets is there to be set", set(), set_by_unit(root).keys() - set(wanted))
 
 
 def options_of(page):
