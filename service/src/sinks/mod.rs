@@ -119,9 +119,9 @@ impl Memory for () {
 
 /// Opens a sink. What may mend itself (a file that is locked, a server that is down) is no fault here: deliveries
 /// are tried again until the sink takes them. What can't mend itself is one.
-pub fn open(address: &Address, _keep: Keep, memory: Arc<dyn Memory>) -> anyhow::Result<Arc<dyn Sink>> {
+pub fn open(address: &Address, keep: Keep, memory: Arc<dyn Memory>) -> anyhow::Result<Arc<dyn Sink>> {
     match address {
-        Address::Sqlite(path) => Ok(Arc::new(sqlite::SqliteSink::open(path, memory)?)),
+        Address::Sqlite(path) => Ok(Arc::new(sqlite::SqliteSink::open(path, keep, memory)?)),
         Address::Postgres(server) => Ok(Arc::new(postgres::PostgresSink::open(server, memory)?)),
         Address::Otlp {
             url,
