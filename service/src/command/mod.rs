@@ -6,6 +6,7 @@ mod ask;
 mod check;
 mod client;
 mod explain;
+mod keeping;
 mod letters;
 mod print;
 mod reading;

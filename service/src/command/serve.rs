@@ -1,5 +1,6 @@
 //! `totxegun serve`: its options, and its run.
 
+use super::keeping::OfKeeping;
 use super::reading::OfReading;
 use super::settings::Names;
 use super::values::{bytes_shown, place, size, time, time_or_never, MayBeNever};
@@ -98,6 +99,8 @@ pub struct Options {
     // What is behind a group stands under its heading: so the groups come last.
     #[command(flatten)]
     of_sink: OfSink,
+    #[command(flatten)]
+    of_keeping: OfKeeping,
     #[command(flatten)]
     of_reading: OfReading,
     #[command(flatten)]
@@ -269,12 +272,14 @@ impl Options {
             .sink
             .unwrap_or_else(|| Address::Sqlite(data.join("metrics.db")));
         let sink = self.of_sink.put_into(sink).map_err(Failure::Line)?;
+        let keep = self.of_keeping.keep(&sink).map_err(Failure::Line)?;
         Ok(Settings {
             data,
             listen: self.listen,
             listen_grpc: self.listen_grpc,
             operate: self.operate,
             sink,
+            keep,
             new_sink: self.new_sink,
             durability: self.durable,
             every: self.flush_every,

@@ -33,12 +33,24 @@ pub fn time(text: &str) -> Result<Duration, String> {
 pub struct MayBeNever(pub Option<Duration>);
 
 pub fn time_or_never(text: &str) -> Result<MayBeNever, String> {
-    if text == "never" {
-        return Ok(MayBeNever(None));
+    time_or("never", text).map(MayBeNever)
+}
+
+/// A time, or `forever`.
+#[derive(Clone, Copy, Debug, PartialEq, Eq)]
+pub struct MayBeForever(pub Option<Duration>);
+
+pub fn time_or_forever(text: &str) -> Result<MayBeForever, String> {
+    time_or("forever", text).map(MayBeForever)
+}
+
+fn time_or(word: &str, text: &str) -> Result<Option<Duration>, String> {
+    if text == word {
+        return Ok(None);
     }
     time(text)
-        .map(|time| MayBeNever(Some(time)))
-        .map_err(|error| format!("{error}, or never"))
+        .map(Some)
+        .map_err(|error| format!("{error}, or {word}"))
 }
 
 /// `256MiB`, `1G`, `1048576`: bytes.

@@ -16,7 +16,7 @@ use crate::files::{Durability, Fault, Folder, FolderFault};
 use crate::keeper::{Settings as Keeping, Trouble};
 use crate::metrics::Metrics;
 use crate::otlp::Reading;
-use crate::sinks::Address;
+use crate::sinks::{Address, Keep};
 use crate::slot::Slot;
 use anyhow::{anyhow, Context};
 use parts::Parts;
@@ -35,6 +35,8 @@ pub struct Settings {
     pub listen_grpc: Option<String>,
     pub operate: String,
     pub sink: Address,
+    /// How long the sink keeps what it has.
+    pub keep: Keep,
     /// It may be another than the folder has.
     pub new_sink: bool,
     pub durability: Durability,

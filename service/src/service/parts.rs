@@ -52,7 +52,13 @@ impl Parts {
         let outbox = Arc::new(outbox);
         let mut outboxes = vec![outbox.clone()];
         outboxes.extend(former.iter().map(|(_, outbox)| outbox.clone()));
-        let sink = super::sink::open(&folder, &settings.sink, settings.new_sink, outboxes)?;
+        let sink = super::sink::open(
+            &folder,
+            &settings.sink,
+            settings.keep,
+            settings.new_sink,
+            outboxes,
+        )?;
         let core = Core::new(settings.most_series).with_context(|| {
             format!(
                 "a book for --most-series {} can't be made: give a greater --book-memory, or a smaller --most-series",

@@ -2,7 +2,7 @@
 
 use super::Ended;
 use crate::files::{Fault, Folder, KnownSink, Outbox};
-use crate::sinks::{self, Address, Memory, Sink};
+use crate::sinks::{self, Address, Keep, Memory, Sink};
 use anyhow::{anyhow, Context};
 use std::sync::atomic::{AtomicBool, Ordering::Relaxed};
 use std::sync::Arc;
@@ -20,6 +20,7 @@ struct Remembered {
 pub(super) fn open(
     folder: &Arc<Folder>,
     address: &Address,
+    keep: Keep,
     takes_new: bool,
     outboxes: Vec<Arc<Outbox>>,
 ) -> Result<Arc<dyn Sink>, Ended> {
@@ -30,7 +31,7 @@ pub(super) fn open(
         outboxes,
     });
     memory.look_at_kind()?;
-    let sink = sinks::open(address, memory.clone()).context("the sink can't be opened")?;
+    let sink = sinks::open(address, keep, memory.clone()).context("the sink can't be opened")?;
     memory.look_at_address()?;
     Ok(sink)
 }

@@ -6,6 +6,7 @@ mod address;
 mod attributes;
 mod backoff;
 mod delivery;
+mod keep;
 mod keys;
 mod otlp;
 mod part;
@@ -15,6 +16,7 @@ pub mod sqlite;
 
 pub use address::{Address, BadAddress};
 pub use delivery::{deliver, of_part, Delivery};
+pub use keep::Keep;
 pub use keys::{Held, Keys};
 pub use otlp::header_of;
 
@@ -117,9 +119,9 @@ impl Memory for () {
 
 /// Opens a sink. What may mend itself (a file that is locked, a server that is down) is no fault here: deliveries
 /// are tried again until the sink takes them. What can't mend itself is one.
-pub fn open(address: &Address, memory: Arc<dyn Memory>) -> anyhow::Result<Arc<dyn Sink>> {
+pub fn open(address: &Address, keep: Keep, memory: Arc<dyn Memory>) -> anyhow::Result<Arc<dyn Sink>> {
     match address {
-        Address::Sqlite(path) => Ok(Arc::new(sqlite::SqliteSink::open(path, memory)?)),
+        Address::Sqlite(path) => Ok(Arc::new(sqlite::SqliteSink::open(path, keep, memory)?)),
         Address::Postgres(server) => Ok(Arc::new(postgres::PostgresSink::open(server, memory)?)),
         Address::Otlp {
             url,

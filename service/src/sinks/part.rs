@@ -28,6 +28,8 @@ pub(super) struct Left {
     pub(super) places: BTreeSet<usize>,
     /// Of the first of them.
     pub(super) reason: String,
+    /// How many more were left of which nobody can say any more which they are: spans that would say it are deleted.
+    pub(super) unnamed: usize,
 }
 
 impl Left {
@@ -38,7 +40,23 @@ impl Left {
         self.places.insert(place);
     }
 
+    pub(super) fn and_unnamed(mut self, unnamed: usize) -> Left {
+        if self.places.is_empty() {
+            self.reason =
+                "they overlapped when it was taken, and it can't be told any more which they are".into();
+        }
+        self.unnamed = unnamed;
+        self
+    }
+
     pub(super) fn fate(self, body: &[u8]) -> Fate {
+        if self.unnamed > 0 {
+            return Fate::TakenPartly {
+                rejected: (self.places.len() + self.unnamed) as u64,
+                reason: self.reason,
+                left: None,
+            };
+        }
         let Some(left) = part(body, &self.places) else {
             return Fate::again("a request that was read before can't be read again");
         };

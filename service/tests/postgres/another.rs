@@ -3,7 +3,7 @@
 use super::server::{sum, Server};
 use super::{again, taken};
 use std::sync::{Arc, Mutex};
-use totxegun::sinks::{self, Memory};
+use totxegun::sinks::{self, Keep, Memory};
 
 /// Takes the first sink, and then no other.
 #[derive(Default)]
@@ -27,7 +27,7 @@ async fn a_database_is_known_by_its_id_once_it_is_reached() {
     let first = Arc::new(First::default());
     let open = |database: &str| {
         let address = server.by_socket(database).parse().unwrap();
-        sinks::open(&address, first.clone()).map_err(|error| error.to_string())
+        sinks::open(&address, Keep::default(), first.clone()).map_err(|error| error.to_string())
     };
     server.ask("create database one");
     let one = open("one").ok().unwrap();

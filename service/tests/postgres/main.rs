@@ -9,7 +9,7 @@ mod versions;
 
 use server::{histogram, sum, sum_named, Server};
 use std::time::Duration;
-use totxegun::sinks::{self, Fate, Forwarded, Sink};
+use totxegun::sinks::{self, Fate, Forwarded, Keep, Sink};
 
 fn request(number: u64, body: String) -> Forwarded {
     Forwarded {
@@ -21,7 +21,12 @@ fn request(number: u64, body: String) -> Forwarded {
 }
 
 fn open(address: &str) -> std::sync::Arc<dyn Sink> {
-    sinks::open(&address.parse().expect(address), std::sync::Arc::new(())).expect(address)
+    sinks::open(
+        &address.parse().expect(address),
+        Keep::default(),
+        std::sync::Arc::new(()),
+    )
+    .expect(address)
 }
 
 async fn taken(sink: &dyn Sink, number: u64, body: String) {
@@ -221,7 +226,7 @@ async fn what_is_told() {
     again(&*open(&by_password("right", "d1")), 2, body(), "read-only").await;
     let refuses = |database: &str, part: &str| {
         let address = server.by_socket(database).parse().expect("an address");
-        let error = sinks::open(&address, std::sync::Arc::new(()))
+        let error = sinks::open(&address, Keep::default(), std::sync::Arc::new(()))
             .err()
             .expect("it is refused")
             .to_string();

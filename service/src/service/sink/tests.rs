@@ -38,7 +38,13 @@ impl Place {
             let request = br#"{"resourceMetrics":[]}"#.to_vec();
             outbox.commit(&[request], journal.turn().0).unwrap();
         }
-        let opened = open(&folder, &sink.parse().unwrap(), takes_new, vec![Arc::new(outbox)]);
+        let opened = open(
+            &folder,
+            &sink.parse().unwrap(),
+            Keep::default(),
+            takes_new,
+            vec![Arc::new(outbox)],
+        );
         opened.map_err(|ended| ended.to_string())
     }
 

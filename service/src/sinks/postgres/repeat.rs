@@ -46,6 +46,7 @@ impl Refused {
         Ok(Some(Left {
             places: places.map(|(place, _)| place).collect(),
             reason: self.reason,
+            ..Left::default()
         }))
     }
 }

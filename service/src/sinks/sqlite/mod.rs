@@ -4,9 +4,11 @@
 //! again after a fault, so whatever is wrong with the file is a reason to try again: no request is lost by it.
 
 mod fault;
+mod horizon;
 mod schema;
 mod store;
 pub mod totals;
+mod upkeep;
 mod whole;
 
 #[cfg(test)]
@@ -15,7 +17,7 @@ mod tests;
 pub use fault::SqliteFault;
 pub use whole::Exact;
 
-use super::{Fate, Forwarded, Keys, Memory, Sink};
+use super::{Fate, Forwarded, Keep, Keys, Memory, Sink};
 use fault::NotTaken;
 use std::future::Future;
 use std::path::{Path, PathBuf};
@@ -23,12 +25,15 @@ use std::pin::Pin;
 use std::sync::mpsc::{self, RecvTimeoutError};
 use std::sync::Arc;
 use std::thread::JoinHandle;
-use std::time::Duration;
+use std::time::{Duration, SystemTime, UNIX_EPOCH};
 use store::{Found, Store};
 use tokio::sync::oneshot;
+use upkeep::Upkeep;
 
 /// How often it is looked whether the log still is there, where nothing is written.
 const LOOK: Duration = Duration::from_secs(1);
+/// How long other processes may have the file between two steps of its upkeep.
+const PAUSE: Duration = Duration::from_millis(10);
 
 pub struct SqliteSink {
     path: PathBuf,
@@ -46,13 +51,15 @@ struct Job {
 impl SqliteSink {
     /// Opens the file, made where there is none. A file that can't be opened now is opened at a later delivery; one
     /// that must not be written (of a later version, of another program, another than is remembered) is an error.
-    pub fn open(path: &Path, memory: Arc<dyn Memory>) -> Result<SqliteSink, SqliteFault> {
+    pub fn open(path: &Path, keep: Keep, memory: Arc<dyn Memory>) -> Result<SqliteSink, SqliteFault> {
         let mut writer = Writer {
             path: path.into(),
             store: None,
             memory,
+            upkeep: Upkeep::new(keep),
             was_replaced: false,
             is_told: false,
+            is_kept: true,
         };
         if let Err(fault) = writer.store() {
             if fault.is_lasting() {
@@ -62,12 +69,16 @@ impl SqliteSink {
             tracing::warn!(reason, "{reason}; it is opened again at each delivery");
         }
         let (jobs, received) = mpsc::channel::<Job>();
-        let write = move || loop {
-            match received.recv_timeout(LOOK) {
-                // Nobody waits where the service ends. The key says the next time that it was taken.
-                Ok(job) => drop(job.done.send(writer.take(&job.request))),
-                Err(RecvTimeoutError::Timeout) => writer.look(),
-                Err(RecvTimeoutError::Disconnected) => return,
+        let write = move || {
+            let mut wait = LOOK;
+            loop {
+                match received.recv_timeout(wait) {
+                    // Nobody waits where the service ends. The key says the next time that it was taken.
+                    Ok(job) => drop(job.done.send(writer.take(&job.request))),
+                    Err(RecvTimeoutError::Timeout) => writer.look(),
+                    Err(RecvTimeoutError::Disconnected) => return,
+                }
+                wait = if writer.keep_up() { PAUSE } else { LOOK };
             }
         };
         let thread = std::thread::Builder::new()
@@ -134,10 +145,13 @@ struct Writer {
     path: PathBuf,
     store: Option<Store>,
     memory: Arc<dyn Memory>,
+    upkeep: Upkeep,
     /// Whether the file that was open was found replaced, and none was opened since.
     was_replaced: bool,
     /// Whether it was said that a log can't be saved.
     is_told: bool,
+    /// Whether the last step of the upkeep was done.
+    is_kept: bool,
 }
 
 impl Writer {
@@ -192,6 +206,42 @@ impl Writer {
         self.is_told = self.is(Found::WithoutLog);
     }
 
+    /// A step of what is to be done beside deliveries, in a file that is open. Whether there is another.
+    fn keep_up(&mut self) -> bool {
+        if !self.upkeep.is_due() || !self.is(Found::Whole) {
+            return false;
+        }
+        let now = SystemTime::now().duration_since(UNIX_EPOCH).unwrap_or_default();
+        let now = u64::try_from(now.as_nanos()).unwrap_or(u64::MAX);
+        match self.step(now) {
+            Ok(more) => {
+                self.is_kept = true;
+                more
+            }
+            Err(fault) => {
+                let reason = fault.to_string();
+                if std::mem::replace(&mut self.is_kept, false) {
+                    tracing::warn!(reason, "{reason}; what is too old there is deleted later");
+                }
+                self.close_after(&fault);
+                false
+            }
+        }
+    }
+
+    fn step(&mut self, now: u64) -> Result<bool, SqliteFault> {
+        match &mut self.store {
+            Some(store) => store.keep_up(&mut self.upkeep, now),
+            None => Ok(false),
+        }
+    }
+
+    fn close_after(&mut self, fault: &SqliteFault) {
+        if !fault.leaves_the_file_whole() && !self.is(Found::WithoutLog) {
+            self.store = None;
+        }
+    }
+
     fn is(&self, found: Found) -> bool {
         self.store.as_ref().is_some_and(|store| store.found() == found)
     }
@@ -211,9 +261,7 @@ impl Writer {
             Ok(Some(left)) => left.fate(&request.body),
             Err(NotTaken::Refused(reason)) => Fate::refused(reason),
             Err(NotTaken::Fault(fault)) => {
-                if !fault.leaves_the_file_whole() && !self.is(Found::WithoutLog) {
-                    self.store = None;
-                }
+                self.close_after(&fault);
                 Fate::again(fault.to_string())
             }
         }

@@ -8,7 +8,11 @@ use std::path::Path;
 const APPLICATION: i64 = 0x746f_7478;
 
 /// Step N leads from version N to version N+1. A step that was released is never changed.
-pub(super) const STEPS: &[&str] = &[include_str!("version1.sql"), include_str!("version2.sql")];
+pub(super) const STEPS: &[&str] = &[
+    include_str!("version1.sql"),
+    include_str!("version2.sql"),
+    include_str!("version3.sql"),
+];
 
 /// Brings a file to the last version, or says why it must not be touched.
 pub(super) fn migrate(connection: &mut Connection, path: &Path, steps: &[&str]) -> Result<(), SqliteFault> {

@@ -1,7 +1,9 @@
 //! The open file: one transaction a request, whole or not at all.
 
 use super::fault::{NotTaken, SqliteFault};
+use super::horizon::Horizon;
 use super::schema::{self, STEPS};
+use super::upkeep::Upkeep;
 use super::whole::Whole;
 use crate::otlp::series::{self, ForwardedPoint, SeriesKey};
 use crate::sinks::part::{shown, Left};
@@ -13,10 +15,15 @@ use std::os::unix::fs::{MetadataExt, OpenOptionsExt};
 use std::path::{Path, PathBuf};
 use std::time::Duration;
 
+mod hours;
 mod repeat;
 mod series_row;
+pub(super) mod sums;
 mod total;
+pub(super) mod utc;
 
+pub(super) use hours::Hours;
+pub(super) use series_row::Known;
 use total::Total;
 
 /// How long another process may keep the lock before a delivery is given up for this time.
@@ -32,7 +39,7 @@ pub(super) struct Store {
     /// and of those beside it that are there while it is open: its log, and what its readers share.
     beside: [Option<(u64, u64)>; 2],
     /// Row numbers of series. Only what is committed is in it.
-    series: HashMap<SeriesKey, i64>,
+    series: HashMap<SeriesKey, Known>,
     /// It changes when another process has written.
     data_version: i64,
 }
@@ -101,6 +108,12 @@ impl Store {
         settle(&self.connection, &self.path)
     }
 
+    /// A step of the upkeep, at this time. Whether another is to follow.
+    pub(super) fn keep_up(&mut self, upkeep: &mut Upkeep, now: u64) -> Result<bool, SqliteFault> {
+        let done = upkeep.go_on(&mut self.connection, now);
+        done.map_err(|error| SqliteFault::of(&self.path, error))
+    }
+
     /// Takes a request that is not taken yet, but for spans that overlap: these are left.
     pub(super) fn take(&mut self, request: &Forwarded) -> Result<Option<Left>, NotTaken> {
         let points = series::forwarded(&request.body)?;
@@ -118,11 +131,14 @@ impl Store {
             self.data_version = version;
         }
         let taken = repeat::find(&transaction, request).map_err(fault)?;
+        let horizon = Horizon::read(&transaction).map_err(fault)?;
         let mut writing = Writing {
             transaction,
             path: &self.path,
+            horizon,
             known: &self.series,
             new: HashMap::new(),
+            hours: Hours::default(),
         };
         if let Some(taken) = taken {
             return writing.left_of(&taken, &points);
@@ -189,6 +205,16 @@ fn not_taken(path: &Path, error: rusqlite::Error) -> NotTaken {
     }
 }
 
+/// Why a point is left of which nobody can say whether it was counted.
+fn untold(point: &ForwardedPoint, until: Whole) -> String {
+    format!(
+        "the span {} begins before {}, until when spans were deleted (--keep-spans, --keep-series): whether it was \
+         counted can't be told",
+        shown(point),
+        until.0
+    )
+}
+
 /// The earliest start and the latest end.
 fn time_of(points: &[ForwardedPoint]) -> (u64, u64) {
     let first = points.iter().map(|point| point.start).min().unwrap_or(0);
@@ -200,13 +226,16 @@ fn time_of(points: &[ForwardedPoint]) -> (u64, u64) {
 struct Writing<'a> {
     transaction: Transaction<'a>,
     path: &'a Path,
-    known: &'a HashMap<SeriesKey, i64>,
+    horizon: Horizon,
+    known: &'a HashMap<SeriesKey, Known>,
     /// Of no use to others until it is committed.
-    new: HashMap<SeriesKey, i64>,
+    new: HashMap<SeriesKey, Known>,
+    /// Of the points that were added so far.
+    hours: Hours,
 }
 
 impl Writing<'_> {
-    fn commit(self) -> rusqlite::Result<HashMap<SeriesKey, i64>> {
+    fn commit(self) -> rusqlite::Result<HashMap<SeriesKey, Known>> {
         self.transaction.commit().map(|()| self.new)
     }
 
@@ -234,52 +263,59 @@ impl Writing<'_> {
                 left.add(place, reason);
             }
         }
+        if left.places.len() == points.len() && !left.places.is_empty() {
+            return Err(NotTaken::Refused(left.reason));
+        }
+        let hours = std::mem::take(&mut self.hours);
+        self.of(|transaction| hours.write(transaction, self.horizon.hours_from))?;
         if left.places.is_empty() {
             return Ok(None);
-        }
-        if left.places.len() == points.len() {
-            return Err(NotTaken::Refused(left.reason));
         }
         self.of(|transaction| repeat::set_points(transaction, row, points.len() - left.places.len()))?;
         Ok(Some(left))
     }
 
-    /// Adds a point, or says why it overlaps.
+    /// Adds a point, or says why it overlaps, or may.
     fn point(&mut self, request: i64, point: &ForwardedPoint) -> Result<Option<String>, NotTaken> {
         if point.start >= point.end {
             return Err(NotTaken::Refused(format!("the span {} is empty", shown(point))));
         }
-        let (series, is_new) = self.series(&point.series)?;
+        let (known, is_new) = self.series(&point.series)?;
         let total = match is_new {
             true => None,
-            false => self.of(|transaction| Total::read(transaction, series))?,
+            false => self.of(|transaction| Total::read(transaction, known.series))?,
         };
-        // Behind all of its spans it overlaps none.
-        if total.as_ref().is_some_and(|total| point.start < total.last_end.0) {
-            if let Some(reason) = self.overlap(request, series, point)? {
+        if let Some(total) = total.as_ref().filter(|total| total.may_overlap(point)) {
+            if let Some(reason) = self.overlap(request, known.series, point)? {
                 return Ok(Some(reason));
             }
+            let until = total.deleted_until(self.horizon.spans_from);
+            if point.start < until.0 {
+                return Ok(Some(untold(point, until)));
+            }
         }
-        self.of(|transaction| total::insert_span(transaction, request, series, point))?;
+        self.of(|transaction| total::insert_span(transaction, request, known.series, point))?;
         let total = match total {
             None => Total::of(point),
-            Some(total) => total.and(point),
+            Some(total) => total
+                .and(point)
+                .map_err(|why| NotTaken::Refused(format!("{why}: {}", shown(point))))?,
         };
-        let total = total.map_err(|why| NotTaken::Refused(format!("{why}: {}", shown(point))))?;
-        self.of(|transaction| total.write(transaction, series))?;
+        self.of(|transaction| total.write(transaction, known.series))?;
+        self.hours.add(known, point.end, &point.value);
         Ok(None)
     }
 
-    /// The number of a series' row, and whether it was made by this call.
-    fn series(&mut self, key: &SeriesKey) -> Result<(i64, bool), NotTaken> {
+    /// A series' row, and whether it was made by this call.
+    fn series(&mut self, key: &SeriesKey) -> Result<(Known, bool), NotTaken> {
         if let Some(known) = self.known.get(key).or_else(|| self.new.get(key)) {
             return Ok((*known, false));
         }
         let parts = key.parts()?;
         let row = series_row::SeriesRow::of(&parts)?;
-        let (id, is_new) = self.of(|transaction| row.id(transaction))?;
-        self.new.insert(key.clone(), id);
-        Ok((id, is_new))
+        let (known, is_new) = self.of(|transaction| row.known(transaction))?;
+        self.new.insert(key.clone(), known);
+        Ok((known, is_new))
     }
 
     /// A span that overlaps one that is there was counted before, at least in part. Only requests whose own time
@@ -289,7 +325,7 @@ impl Writing<'_> {
             transaction
                 .prepare_cached(
                     "select span.start_ns, span.end_ns, span.request from request cross join span on span.request = request.id
-                     where request.last_end_ns > ?2 and request.first_start_ns < ?3
+                     where request.has_spans and request.last_end_ns > ?2 and request.first_start_ns < ?3
                      and span.series = ?1 and span.start_ns < ?3 and span.end_ns > ?2 limit 1",
                 )?
                 .query_row(params![series, Whole(point.start), Whole(point.end)], |row| {

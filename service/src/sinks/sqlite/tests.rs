@@ -1,8 +1,10 @@
 //! What the file has behind each request; what goes wrong around it is in `trouble`.
 
+mod hours;
 mod part;
 mod speed;
 mod trouble;
+mod upkeep;
 
 use super::totals::{read, Filter, SeriesTotal};
 use super::*;
@@ -122,8 +124,10 @@ fn writer(path: &Path) -> Writer {
         path: path.into(),
         store: None,
         memory: Arc::new(()),
+        upkeep: Upkeep::new(Keep::default()),
         was_replaced: false,
         is_told: false,
+        is_kept: true,
     }
 }
 
@@ -337,7 +341,7 @@ fn series_differ_by_each_part() {
 async fn a_sink_has_a_thread_that_ends_with_it() {
     let folder = tempfile::tempdir().expect("a folder");
     let path = folder.path().join("totals.db");
-    let sink = SqliteSink::open(&path, Arc::new(())).expect("a sink");
+    let sink = SqliteSink::open(&path, Keep::default(), Arc::new(())).expect("a sink");
     assert_eq!(sink.name(), format!("sqlite {}", path.display()));
     let bodies: Vec<Forwarded> = (1..=20)
         .map(|number| forwarded(number, sum("a", number, number + 1, 1)))

@@ -1,6 +1,6 @@
 //! A request whose key is taken: what was left of it then is left again.
 
-use super::{time_of, Whole, Writing};
+use super::{time_of, Total, Whole, Writing};
 use crate::otlp::series::ForwardedPoint;
 use crate::sinks::part::{Left, OTHER_REQUEST};
 use crate::sinks::sqlite::fault::NotTaken;
@@ -45,7 +45,7 @@ pub(super) fn set_points(transaction: &Transaction, row: i64, points: usize) -> 
 
 impl Writing<'_> {
     /// The points of a taken request that have no span of it. Nothing is written. Each of these was left for a span of
-    /// another request, which is there for ever; else it is another request that came under the key.
+    /// another request, or its own was deleted since; else it is another request that came under the key.
     pub(super) fn left_of(
         mut self,
         taken: &Taken,
@@ -53,21 +53,33 @@ impl Writing<'_> {
     ) -> Result<Option<Left>, NotTaken> {
         let other = || NotTaken::Refused(OTHER_REQUEST.into());
         let mut left = Left::default();
+        let mut deleted = Vec::new();
         for (place, point) in points.iter().enumerate() {
-            let (series, _) = self.series(&point.series)?;
-            if self.has_span(taken, series, point)? {
+            let (known, _) = self.series(&point.series)?;
+            if self.has_span(taken, known.series, point)? {
                 continue;
             }
-            match self.overlap(taken.row, series, point) {
+            match self.overlap(taken.row, known.series, point) {
                 Ok(Some(reason)) => left.add(place, reason),
+                Ok(None) if self.may_be_deleted(known.series, point)? => deleted.push(place),
                 Ok(None) | Err(NotTaken::Refused(_)) => return Err(other()),
                 Err(fault) => return Err(fault),
             }
         }
-        if taken.time != time_of(points) || taken.points + left.places.len() != points.len() {
+        if taken.time != time_of(points) {
             return Err(other());
         }
-        Ok((!left.places.is_empty()).then_some(left))
+        // So many were left, when it was taken, beside those that are known.
+        match (points.len() - left.places.len()).checked_sub(taken.points) {
+            Some(0) => Ok((!left.places.is_empty()).then_some(left)),
+            Some(more) if more <= deleted.len() => Ok(Some(left.and_unnamed(more))),
+            _ => Err(other()),
+        }
+    }
+
+    fn may_be_deleted(&self, series: i64, point: &ForwardedPoint) -> Result<bool, NotTaken> {
+        let total = self.of(|transaction| Total::read(transaction, series))?;
+        Ok(total.is_some_and(|total| point.start < total.deleted_until(self.horizon.spans_from).0))
     }
 
     fn has_span(&self, taken: &Taken, series: i64, point: &ForwardedPoint) -> Result<bool, NotTaken> {

@@ -6,6 +6,13 @@ use crate::sinks::attributes::object;
 use rusqlite::{params, Transaction};
 use serde_json::Value;
 
+/// The numbers of a series' row and of its metric's.
+#[derive(Clone, Copy, Debug, PartialEq, Eq)]
+pub(in super::super) struct Known {
+    pub(in super::super) series: i64,
+    pub(in super::super) metric: i64,
+}
+
 /// A series as its columns. Two series have the same columns only where they are the same.
 pub(super) struct SeriesRow<'a> {
     parts: &'a SeriesParts,
@@ -33,8 +40,28 @@ impl<'a> SeriesRow<'a> {
         })
     }
 
-    /// The number of its row, which is made where there is none, and whether it was.
-    pub(super) fn id(&self, transaction: &Transaction) -> rusqlite::Result<(i64, bool)> {
+    /// Its row, which is made where there is none, and whether it was.
+    pub(super) fn known(&self, transaction: &Transaction) -> rusqlite::Result<(Known, bool)> {
+        let (series, is_new) = self.id(transaction)?;
+        let metric = self.metric(transaction, is_new)?;
+        Ok((Known { series, metric }, is_new))
+    }
+
+    fn metric(&self, transaction: &Transaction, is_new: bool) -> rusqlite::Result<i64> {
+        let columns = params![self.parts.name, self.kind, self.parts.unit];
+        if is_new {
+            transaction
+                .prepare_cached(
+                    "insert into metric (name, kind, unit) values (?1, ?2, ?3) on conflict do nothing",
+                )?
+                .execute(columns)?;
+        }
+        transaction
+            .prepare_cached("select id from metric where name = ?1 and kind = ?2 and unit = ?3")?
+            .query_row(columns, |row| row.get(0))
+    }
+
+    fn id(&self, transaction: &Transaction) -> rusqlite::Result<(i64, bool)> {
         let columns = params![
             self.parts.name,
             self.attributes,

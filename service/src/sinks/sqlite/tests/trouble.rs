@@ -10,7 +10,7 @@ fn a_transaction_that_was_cut_is_not_there() {
     trial.taken(1, sum("a", 10, 20, 1));
     let other = Connection::open(trial.path()).expect("open");
     other
-        .execute_batch("begin immediate; insert into request values (99, 0, 'e', 2, 0, 1, 1, 2)")
+        .execute_batch("begin immediate; insert into request values (99, 0, 'e', 2, 0, 1, 1, 2, 1)")
         .expect("a row");
     drop(other);
     trial.taken(2, sum("a", 20, 30, 2));
@@ -173,7 +173,7 @@ fn a_damaged_file_is_told_and_waited_for() {
     .expect("a file");
     trial.again(1, sum("a", 10, 20, 1), "no SQLite database");
     assert!(
-        SqliteSink::open(&trial.path(), Arc::new(())).is_ok(),
+        SqliteSink::open(&trial.path(), Keep::default(), Arc::new(())).is_ok(),
         "the service starts all the same"
     );
     std::fs::remove_file(trial.path()).expect("away");
@@ -194,18 +194,18 @@ fn a_later_schema_is_refused_by_name_and_left_alone() {
     let mut trial = Trial::new();
     trial.taken(1, sum("a", 10, 20, 1));
     trial.writer.store = None;
-    trial.ask("pragma user_version = 3");
-    let error = SqliteSink::open(&trial.path(), Arc::new(()))
+    trial.ask("pragma user_version = 4");
+    let error = SqliteSink::open(&trial.path(), Keep::default(), Arc::new(()))
         .err()
         .expect("it is later")
         .to_string();
     assert!(
-        error.contains("later version") && error.contains("schema 3"),
+        error.contains("later version") && error.contains("schema 4"),
         "{error}"
     );
     trial.again(2, sum("a", 20, 30, 2), "later version");
     assert!(read(&trial.path(), &Filter::default()).is_err());
-    trial.ask("pragma user_version = 2");
+    trial.ask("pragma user_version = 3");
     trial.taken(2, sum("a", 20, 30, 2));
 }
 

@@ -1,0 +1,15 @@
+//! How long a database keeps what it has.
+
+use std::time::Duration;
+
+/// What ended longer ago is deleted in the background; what is `None` is kept for ever. What a series comes to, and the
+/// keys of requests, are always kept: so nothing that was deleted is counted again.
+#[derive(Clone, Copy, Debug, Default, PartialEq, Eq)]
+pub struct Keep {
+    /// Of spans.
+    pub spans: Option<Duration>,
+    /// Of rows of `hour`.
+    pub hours: Option<Duration>,
+    /// Of the spans of a series, by the last of them.
+    pub series: Option<Duration>,
+}

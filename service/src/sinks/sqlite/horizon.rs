@@ -1,0 +1,45 @@
+//! How far back the file goes.
+
+use super::whole::Whole;
+use rusqlite::{params, Transaction};
+
+#[derive(Clone, Copy, Debug, PartialEq, Eq)]
+pub(super) struct Horizon {
+    /// Spans that ended by then may be deleted.
+    pub(super) spans_from: Whole,
+    /// Hours, days and months that ended by this hour are deleted.
+    pub(super) hours_from: i64,
+    /// Requests of an older file that are in hours, by their ids,
+    pub(super) filled: i64,
+    /// and the last that is to be.
+    pub(super) fill_to: i64,
+}
+
+impl Horizon {
+    pub(super) fn read(transaction: &Transaction) -> rusqlite::Result<Horizon> {
+        transaction
+            .prepare_cached("select spans_from_ns, hours_from, filled, fill_to from horizon")?
+            .query_row([], |row| {
+                Ok(Horizon {
+                    spans_from: row.get(0)?,
+                    hours_from: row.get(1)?,
+                    filled: row.get(2)?,
+                    fill_to: row.get(3)?,
+                })
+            })
+    }
+
+    pub(super) fn write(&self, transaction: &Transaction) -> rusqlite::Result<()> {
+        transaction
+            .prepare_cached(
+                "update horizon set spans_from_ns = ?1, hours_from = ?2, filled = ?3, fill_to = ?4",
+            )?
+            .execute(params![
+                self.spans_from,
+                self.hours_from,
+                self.filled,
+                self.fill_to
+            ])
+            .map(drop)
+    }
+}

@@ -1,0 +1,46 @@
+//! Hours, days and months since 1970, in UTC.
+
+pub(in super::super) const HOUR_NS: u64 = 3_600_000_000_000;
+
+/// The hour in which a span counts that ends then: one that ends at a full hour, in the hour before.
+pub(in super::super) fn hour_of(end_ns: u64) -> i64 {
+    (end_ns.saturating_sub(1) / HOUR_NS) as i64
+}
+
+pub(in super::super) fn day_of(hour: i64) -> i64 {
+    hour / 24
+}
+
+/// By the days of 400 years, which begin in March: so a leap day is the last of its year.
+pub(in super::super) fn month_of(day: i64) -> i64 {
+    let day = day + 719_468; // since 0000-03-01
+    let of_era = day % 146_097;
+    let year = (of_era - of_era / 1460 + of_era / 36_524 - of_era / 146_096) / 365;
+    let of_year = of_era - (365 * year + year / 4 - year / 100);
+    let month = (5 * of_year + 2) / 153; // since March
+    (day / 146_097 * 400 + year) * 12 + month + 2 - 1970 * 12
+}
+
+#[cfg(test)]
+mod tests {
+    use super::*;
+
+    #[test]
+    fn a_full_hour_ends_the_hour_before() {
+        for (end, hour) in [(1, 0), (HOUR_NS, 0), (HOUR_NS + 1, 1), (u64::MAX, 5_124_095)] {
+            assert_eq!(hour_of(end), hour, "{end}");
+        }
+    }
+
+    #[test]
+    fn each_day_has_the_month_that_sqlite_says() {
+        let connection = rusqlite::Connection::open_in_memory().expect("memory");
+        let mut query = connection
+            .prepare("select strftime('%Y', ?1 * 86400, 'unixepoch') * 12 + strftime('%m', ?1 * 86400, 'unixepoch') - 1 - 1970 * 12")
+            .expect("a query");
+        for day in 0..=day_of(hour_of(u64::MAX)) {
+            let month: i64 = query.query_row([day], |row| row.get(0)).expect("a month");
+            assert_eq!(month_of(day), month, "{day}");
+        }
+    }
+}

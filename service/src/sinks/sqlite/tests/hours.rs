@@ -1,0 +1,288 @@
+//! Hours, days and months are the sums of spans: in the file, and as its views say them.
+
+use super::super::whole::Whole;
+use super::*;
+use rusqlite::Connection;
+use std::collections::BTreeMap;
+
+/// Of a time and series: points, total, count, buckets; the last two of a histogram.
+pub(super) type Rows = BTreeMap<(String, i64), (i64, String, Option<String>, Option<String>)>;
+
+const FORMATS: [(&str, &str); 3] = [
+    ("hour", "%Y-%m-%d %H:00"),
+    ("day", "%Y-%m-%d"),
+    ("month", "%Y-%m-01"),
+];
+
+/// xorshift64: the same draws in each run.
+struct Random(u64);
+
+impl Random {
+    fn below(&mut self, most: u64) -> u64 {
+        self.0 ^= self.0 << 13;
+        self.0 ^= self.0 >> 7;
+        self.0 ^= self.0 << 17;
+        self.0 % most
+    }
+}
+
+struct Span {
+    series: i64,
+    at: [String; 3],
+    value: Option<i64>,
+    count: Option<i128>,
+    sum: Option<i128>,
+    buckets: Option<Vec<i128>>,
+}
+
+/// Each span, with how SQLite writes the times in which it counts.
+fn spans(trial: &Trial) -> Vec<Span> {
+    let file = Connection::open(trial.path()).expect("a file");
+    let mut query = file
+        .prepare("select series, end_ns, value, cast(count as text), cast(sum as text), buckets from span")
+        .expect("a query");
+    let at = |end: Whole| {
+        let seconds = (end.0 - 1) / 1_000_000_000;
+        FORMATS.map(|(_, format)| {
+            file.query_row("select strftime(?1, ?2, 'unixepoch')", (format, seconds), |row| {
+                row.get(0)
+            })
+            .expect("a time")
+        })
+    };
+    let number = |text: Option<String>| text.map(|text| text.parse().expect("a number"));
+    query
+        .query_map([], |row| {
+            Ok(Span {
+                series: row.get(0)?,
+                at: at(row.get(1)?),
+                value: row.get(2)?,
+                count: number(row.get(3)?),
+                sum: number(row.get(4)?),
+                buckets: row
+                    .get::<_, Option<String>>(5)?
+                    .map(|text| serde_json::from_str(&text).expect("buckets")),
+            })
+        })
+        .and_then(Iterator::collect)
+        .expect("spans")
+}
+
+/// Plain sums of the spans that are in the file.
+pub(super) fn sums(trial: &Trial, unit: usize) -> Rows {
+    type Sums = (i64, i128, Option<i128>, Option<Vec<i128>>);
+    let mut all: BTreeMap<(String, i64), Sums> = BTreeMap::new();
+    for span in spans(trial) {
+        let row = all.entry((span.at[unit].clone(), span.series)).or_default();
+        row.0 += 1;
+        row.1 += span.value.map_or(span.sum.unwrap_or(0), i128::from);
+        if let (Some(count), Some(buckets)) = (span.count, span.buckets) {
+            *row.2.get_or_insert(0) += count;
+            let found = row.3.get_or_insert(vec![0; buckets.len()]);
+            found.iter_mut().zip(buckets).for_each(|(all, one)| *all += one);
+        }
+    }
+    let text = |buckets: Vec<i128>| format!("{buckets:?}").replace(' ', "");
+    all.into_iter()
+        .map(|(key, (points, total, count, buckets))| {
+            let count = count.map(|count| count.to_string());
+            (key, (points, total.to_string(), count, buckets.map(text)))
+        })
+        .collect()
+}
+
+/// What the view of a unit has.
+pub(super) fn view(trial: &Trial, unit: &str) -> Rows {
+    let file = Connection::open(trial.path()).expect("a file");
+    let query = format!(
+        "select {unit}, series, points, cast(total as text), cast(count as text), buckets from by_{unit}"
+    );
+    let mut query = file.prepare(&query).expect("a view");
+    query
+        .query_map([], |row| {
+            let sums = (row.get(2)?, row.get(3)?, row.get(4)?, row.get(5)?);
+            Ok(((row.get(0)?, row.get(1)?), sums))
+        })
+        .and_then(Iterator::collect)
+        .expect("rows")
+}
+
+/// Points, total and count of each hour and name, added up.
+fn names(trial: &Trial, view: &str) -> BTreeMap<(String, String), (i64, i128, i128)> {
+    let file = Connection::open(trial.path()).expect("a file");
+    let query = format!(
+        "select hour, name, points, cast(total as text), cast(coalesce(count, 0) as text) from {view}"
+    );
+    let mut query = file.prepare(&query).expect("a view");
+    let mut rows = query.query([]).expect("rows");
+    let mut all = BTreeMap::new();
+    while let Some(row) = rows.next().expect("a row") {
+        let number = |column| {
+            row.get::<_, String>(column)
+                .expect("a text")
+                .parse::<i128>()
+                .expect("a number")
+        };
+        let key = (row.get(0).expect("an hour"), row.get(1).expect("a name"));
+        let sums: &mut (i64, i128, i128) = all.entry(key).or_default();
+        sums.0 += row.get::<_, i64>(2).expect("points");
+        sums.1 += number(3);
+        sums.2 += number(4);
+    }
+    all
+}
+
+pub(super) fn agree(trial: &Trial) {
+    for (unit, (name, _)) in FORMATS.iter().enumerate() {
+        assert_eq!(view(trial, name), sums(trial, unit), "by_{name}");
+    }
+    assert_eq!(names(trial, "totals_by_hour"), names(trial, "by_hour"));
+    let without = |table: &str| trial.ask(&format!("select sum(without_sum) from {table}"));
+    for table in ["hour", "day", "month"] {
+        assert_eq!(without(table), without("series_total"), "{table}");
+    }
+}
+
+/// Around the end of a month, of a leap day and of a year, in and out of order, with ends at full hours: a point of each
+/// of some series.
+fn random_points(random: &mut Random) -> Vec<String> {
+    const MIDNIGHTS: [u64; 4] = [1_793_491_200, 1_709_164_800, 1_709_251_200, 1_798_761_600];
+    let mut points = Vec::new();
+    for (name, code) in [
+        ("orders", 1),
+        ("orders", 2),
+        ("visits", 1),
+        ("visits", 2),
+        ("wait", 0),
+    ] {
+        if random.below(2) == 0 {
+            continue;
+        }
+        let midnight = MIDNIGHTS[random.below(4) as usize] * 1_000_000_000;
+        let hour = 3_600_000_000_000;
+        let at = midnight - 2 * hour + random.below(16) * hour / 4;
+        let (start, end) = (at - random.below(5) * 7, at + hour / 4 - random.below(2) * 7);
+        points.push(match name {
+            "wait" => {
+                let buckets = [
+                    random.below(9),
+                    random.below(9),
+                    u64::MAX >> (random.below(60) + 2),
+                ];
+                let sum = (random.below(3) > 0).then(|| random.below(u64::MAX));
+                let whole = histogram(name, start, end, sum, buckets);
+                let begin = whole.find(r#""metrics":["#).expect("metrics") + 11;
+                whole[begin..whole.find(r#"],"scope""#).expect("a scope")].to_string()
+            }
+            name => {
+                let value = random.below(u64::MAX) as i64 >> random.below(60);
+                sum_of(name, &[sum_point(code, start, end, value)])
+            }
+        });
+    }
+    points
+}
+
+#[test]
+fn hours_days_and_months_are_the_sums_of_spans() {
+    for seed in 1..=6u64 {
+        let mut trial = Trial::new();
+        let mut random = Random(0x9e37_79b9_7f4a_7c15 ^ seed);
+        let mut taken = 0;
+        for number in 1..=60 {
+            let points = random_points(&mut random);
+            if points.is_empty() {
+                continue;
+            }
+            let body = metrics(&points.join(","));
+            let fate = trial.take(number, body.clone());
+            taken += u64::from(!matches!(fate, Fate::Refused { .. }));
+            for _ in 0..random.below(3) {
+                if random.below(4) == 0 {
+                    trial.reopen();
+                }
+                assert_eq!(trial.take(number, body.clone()), fate, "again");
+            }
+        }
+        assert!(taken > 20, "{taken}");
+        agree(&trial);
+    }
+}
+
+/// What a calendar says.
+#[test]
+fn a_span_counts_where_it_ends() {
+    let mut trial = Trial::new();
+    // 2024-02-29 00:00, 2026-11-01 00:00, 2027-01-01 00:00, 2100-03-01 00:00.
+    let midnights =
+        [1_709_164_800, 1_793_491_200, 1_798_761_600, 4_107_542_400].map(|at: u64| at * 1_000_000_000);
+    for (number, midnight) in (1..).zip(midnights) {
+        let name = format!("n{number}");
+        trial.taken(number * 2, sum(&name, midnight - 10, midnight, 1));
+        trial.taken(number * 2 + 1, sum(&name, midnight, midnight + 1, 2));
+    }
+    let rows = |unit: &str| {
+        trial.ask(&format!(
+            "select group_concat({unit} || ' ' || total, ', ') from by_{unit}"
+        ))
+    };
+    assert_eq!(
+        rows("hour"),
+        "2024-02-28 23:00 1, 2024-02-29 00:00 2, 2026-10-31 23:00 1, 2026-11-01 00:00 2, \
+         2026-12-31 23:00 1, 2027-01-01 00:00 2, 2100-02-28 23:00 1, 2100-03-01 00:00 2"
+    );
+    assert_eq!(
+        rows("day"),
+        "2024-02-28 1, 2024-02-29 2, 2026-10-31 1, 2026-11-01 2, 2026-12-31 1, 2027-01-01 2, 2100-02-28 1, 2100-03-01 2"
+    );
+    assert_eq!(
+        rows("month"),
+        "2024-02-01 3, 2026-10-01 1, 2026-11-01 2, 2026-12-01 1, 2027-01-01 2, 2100-02-01 1, 2100-03-01 2"
+    );
+}
+
+#[test]
+fn views_of_hours_are_exact_past_64_bits() {
+    let mut trial = Trial::new();
+    for number in 1..=5 {
+        trial.taken(number, sum("up", number * 10, number * 10 + 10, i64::MAX));
+        trial.taken(number + 10, sum("down", number * 10, number * 10 + 10, -i64::MAX));
+        trial.taken(
+            number + 20,
+            histogram(
+                "wait",
+                number * 10,
+                number * 10 + 10,
+                Some(u64::MAX),
+                [u64::MAX, 0, 0],
+            ),
+        );
+    }
+    let total = 5 * i128::from(i64::MAX);
+    let count = 5 * i128::from(u64::MAX);
+    for view in ["by_hour", "by_day", "by_month", "totals_by_hour"] {
+        assert_eq!(
+            trial.ask(&format!("select name, total, count from {view} order by name")),
+            format!("down|-{total}|\nup|{total}|\nwait|{count}|{count}"),
+            "{view}"
+        );
+    }
+    assert_eq!(
+        trial.ask(r#"select "from", up_to, count from buckets order by up_to is null, up_to"#),
+        format!("|-5|{count}\n-5|10|0\n10||0")
+    );
+}
+
+#[test]
+fn each_table_view_and_column_says_what_it_is() {
+    let mut trial = Trial::new();
+    trial.taken(1, sum("a", 1, 2, 3));
+    let unsaid = "select name, column from (
+        select name, '' as column from sqlite_schema where type in ('table', 'view') and name not like 'sqlite_%'
+        union all
+        select s.name, c.name from sqlite_schema s join pragma_table_info(s.name) c
+        where s.type in ('table', 'view') and s.name not like 'sqlite_%')";
+    let said = "select name, column from about where what <> ''";
+    assert_eq!(trial.ask(&format!("{unsaid} except {said}")), "");
+    assert_eq!(trial.ask(&format!("{said} except {unsaid}")), "");
+}

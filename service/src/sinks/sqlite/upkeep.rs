@@ -1,0 +1,141 @@
+//! What is done beside deliveries: hours of an older file are filled in, and what is too old is deleted. It goes in
+//! steps, each a short transaction of its own that is right by itself: so a delivery waits for one step at most, and a
+//! kill behind any of them leaves a file that the next start goes on with.
+
+mod ended;
+mod fill;
+
+use super::horizon::Horizon;
+use super::store::utc::{day_of, month_of, HOUR_NS};
+use super::whole::Whole;
+use crate::sinks::Keep;
+use ended::Ended;
+use rusqlite::{params, Connection, OptionalExtension, Transaction, TransactionBehavior};
+use std::time::{Duration, Instant};
+
+/// About how many rows a step changes: some milliseconds of work.
+const STEP: usize = 5000;
+/// How long until it is looked again whether something is too old.
+const EVERY: Duration = Duration::from_secs(10);
+
+pub(super) struct Upkeep {
+    keep: Keep,
+    /// So many.
+    pub(super) step: usize,
+    ended: Ended,
+    due: Instant,
+}
+
+impl Upkeep {
+    pub(super) fn new(keep: Keep) -> Upkeep {
+        Upkeep {
+            keep,
+            step: STEP,
+            ended: Ended::default(),
+            due: Instant::now(),
+        }
+    }
+
+    pub(super) fn is_due(&self) -> bool {
+        Instant::now() >= self.due
+    }
+
+    /// One step, at this time in nanoseconds since 1970. Whether another is to follow; else it is due some time later.
+    pub(super) fn go_on(&mut self, connection: &mut Connection, now: u64) -> rusqlite::Result<bool> {
+        let more = self.try_step(connection, now);
+        match more {
+            Ok(true) => self.due = Instant::now(),
+            Ok(false) => self.due = Instant::now() + EVERY,
+            Err(_) => {
+                self.due = Instant::now() + EVERY;
+                self.ended = Ended::default(); // the file is not where this is
+            }
+        }
+        more
+    }
+
+    fn try_step(&mut self, connection: &mut Connection, now: u64) -> rusqlite::Result<bool> {
+        let transaction = connection.transaction_with_behavior(TransactionBehavior::Immediate)?;
+        let more = self.of(&transaction, now)?;
+        transaction.commit()?;
+        Ok(more)
+    }
+
+    fn of(&mut self, transaction: &Transaction, now: u64) -> rusqlite::Result<bool> {
+        let horizon = Horizon::read(transaction)?;
+        if horizon.filled < horizon.fill_to {
+            fill::step(transaction, horizon, self.step)?;
+            return Ok(true);
+        }
+        let ago = |time: Duration| now.saturating_sub(u64::try_from(time.as_nanos()).unwrap_or(u64::MAX));
+        if let Some(time) = self.keep.spans {
+            if spans(transaction, horizon, ago(time), self.step)? {
+                return Ok(true);
+            }
+        }
+        if let Some(time) = self.keep.hours {
+            if hours(transaction, horizon, ago(time), self.step)? {
+                return Ok(true);
+            }
+        }
+        match self.keep.series {
+            Some(time) => self.ended.step(transaction, horizon, ago(time), self.step),
+            None => Ok(false),
+        }
+    }
+}
+
+/// Deletes the spans of requests all of whose spans ended by then. The requests' keys stay.
+fn spans(transaction: &Transaction, mut horizon: Horizon, until: u64, step: usize) -> rusqlite::Result<bool> {
+    let mut next = transaction.prepare_cached(
+        "select id, last_end_ns from request where has_spans and last_end_ns <= ?1 order by last_end_ns limit 1",
+    )?;
+    let mut delete = transaction.prepare_cached("delete from span where request = ?1")?;
+    let mut note = transaction.prepare_cached("update request set has_spans = 0 where id = ?1")?;
+    let mut done = 0;
+    while done < step {
+        let found: Option<(i64, Whole)> = next
+            .query_row([Whole(until)], |row| Ok((row.get(0)?, row.get(1)?)))
+            .optional()?;
+        let Some((id, end)) = found else { break };
+        done += delete.execute([id])? + note.execute([id])?;
+        horizon.spans_from = horizon.spans_from.max(end);
+    }
+    if done > 0 {
+        horizon.write(transaction)?;
+    }
+    Ok(done > 0)
+}
+
+const BY_TIME: [&str; 4] = [
+    "delete from hour where (hour, series) in
+     (select hour, series from hour where hour < ?1 order by hour, series limit ?2)",
+    "delete from metric_hour where (hour, metric) in
+     (select hour, metric from metric_hour where hour < ?1 order by hour, metric limit ?2)",
+    "delete from day where (day, series) in
+     (select day, series from day where day < ?1 order by day, series limit ?2)",
+    "delete from month where (month, series) in
+     (select month, series from month where month < ?1 order by month, series limit ?2)",
+];
+
+/// Deletes hours, days and months that ended by then: at first from the views, then their rows.
+fn hours(transaction: &Transaction, mut horizon: Horizon, until: u64, step: usize) -> rusqlite::Result<bool> {
+    let from = (until / HOUR_NS) as i64;
+    if from > horizon.hours_from {
+        horizon.hours_from = from;
+        horizon.write(transaction)?;
+        let (day, month) = (day_of(from), month_of(day_of(from)));
+        transaction.execute("delete from utc_hour where hour < ?1", [from])?;
+        transaction.execute("delete from utc_day where day < ?1", [day])?;
+        transaction.execute("delete from utc_month where month < ?1", [month])?;
+    }
+    let from = horizon.hours_from;
+    let (day, month) = (day_of(from), month_of(day_of(from)));
+    for (delete, before) in BY_TIME.into_iter().zip([from, from, day, month]) {
+        let few = params![before, step as i64];
+        if transaction.prepare_cached(delete)?.execute(few)? > 0 {
+            return Ok(true);
+        }
+    }
+    Ok(false)
+}

@@ -1,0 +1,62 @@
+//! Hours of a file that a version without them wrote.
+
+use super::super::horizon::Horizon;
+use super::super::store::sums;
+use super::super::store::{Hours, Known};
+use super::super::whole::Whole;
+use crate::otlp::series::Value;
+use rusqlite::{Row, Transaction};
+
+/// Adds the spans of some requests, each of them whole: those of later requests are in hours since they were taken.
+pub(super) fn step(transaction: &Transaction, mut horizon: Horizon, step: usize) -> rusqlite::Result<()> {
+    let mut next = transaction.prepare_cached("select min(id) from request where id > ?1 and id <= ?2")?;
+    let mut hours = Hours::default();
+    let mut done = 0;
+    while done < step {
+        let request: Option<i64> = next.query_row([horizon.filled, horizon.fill_to], |row| row.get(0))?;
+        let Some(request) = request else {
+            horizon.filled = horizon.fill_to;
+            break;
+        };
+        done += 1 + add(transaction, request, &mut hours)?;
+        horizon.filled = request;
+    }
+    hours.write(transaction, horizon.hours_from)?;
+    horizon.write(transaction)?;
+    if horizon.filled == horizon.fill_to {
+        tracing::info!("the hours of all spans that the sink's file had are filled in");
+    }
+    Ok(())
+}
+
+fn add(transaction: &Transaction, request: i64, hours: &mut Hours) -> rusqlite::Result<usize> {
+    let mut query = transaction.prepare_cached(
+        "select span.series, metric.id, span.end_ns, span.value, span.count, span.sum, span.buckets from span
+         join series on series.id = span.series
+         join metric on metric.name = series.name and metric.kind = series.kind and metric.unit = series.unit
+         where span.request = ?1",
+    )?;
+    let mut rows = query.query([request])?;
+    let mut count = 0;
+    while let Some(row) = rows.next()? {
+        let known = Known {
+            series: row.get(0)?,
+            metric: row.get(1)?,
+        };
+        let end: Whole = row.get(2)?;
+        hours.add(known, end.0, &value(row)?);
+        count += 1;
+    }
+    Ok(count)
+}
+
+fn value(row: &Row) -> rusqlite::Result<Value> {
+    if let Some(value) = row.get(3)? {
+        return Ok(Value::Sum(value));
+    }
+    Ok(Value::Histogram {
+        count: row.get::<_, Whole>(4)?.0,
+        sum: row.get::<_, Option<Whole>>(5)?.map(|sum| sum.0),
+        buckets: sums::buckets(row, 6)?.unwrap_or_default(),
+    })
+}
