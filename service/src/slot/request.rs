@@ -70,7 +70,6 @@ impl Slot {
         // Under the lock: so the journal has the book's order, and a checkpoint finds the post in both or in neither.
         let journalled = Taken { post: &post }.journal(&self.journal);
         drop(book);
-        self.metrics.foreign(&post.sender, post.foreign);
         Ok(journalled)
     }
 }
