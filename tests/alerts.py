@@ -39,7 +39,7 @@ SERIES = 20
 # The alert on series fires over so many of them; one book takes 10,000.
 MOST_SERIES, TAKES = 1_000, 10_000
 TOO_MANY = in_json([(f"more.{number}", 10, 20, 1) for number in range(TAKES + 1)])
-SHORT = ((r"for: \d+[mh]", "for: 1s"), (r"\[\d+[mh]\]", "[6s]"), (r"offset 1h", "offset 6s"), (r"> 300", "> 3"),
+SHORT = ((r"for: \d+[mh]", "for: 1s"), (r"\[\d+[mhd]\]", "[6s]"), (r"offset 1[hd]", "offset 6s"), (r"> 300", "> 3"),
          (r"> 0\.9", f"> {SERIES / MOST_SERIES}"))
 SCRAPES = """\
 global: {{scrape_interval: 500ms, scrape_timeout: 500ms, evaluation_interval: 500ms}}

@@ -57,7 +57,7 @@ def metrics(service):
 
 def accepted(service):
     """How many posts it has answered 200."""
-    return metrics(service)['totxegun_posts_total{status="200"}']
+    return metrics(service)['totxegun_posts_total{reason="",status="200"}']
 
 
 def is_settled(service):
@@ -103,7 +103,7 @@ def alone(checks, service, sink, folder, stack):
 
 
 def turned_away(service):
-    return metrics(service).get('totxegun_posts_total{status="503"}', 0)
+    return sum(count for name, count in metrics(service).items() if re.match(r'totxegun_posts_total.*status="503"', name))
 
 
 def read(ways):
@@ -203,7 +203,7 @@ def compare(checks, totxegun, service, sink, ways, of_wrk):
     checks.same("the sink has what each way has counted", [], differences({way.series: way.sum for way in ways}, of_ways))
     compare_wrk(checks, "wrk", of_wrk, found, accepted(service) - sum(way.taken for way in ways))
     checks.same("kept connections are kept", {}, {way.series: way.connections for way in ways if way.connections > 1})
-    others = {name: count for name, count in metrics(service).items() if re.match(r'totxegun_posts_total\{status="(?!200|503)', name)}
+    others = {name: count for name, count in metrics(service).items() if re.match(r'totxegun_posts_total.*status="(?!200|503)', name)}
     checks.same("no post was answered otherwise than 200 and 503", {}, others)
     checks.same("the service found nothing that must not be", [], service.faults())
     compare_rounding(checks, totxegun, service, [way for way in ways if isinstance(way, InSeconds)], found)

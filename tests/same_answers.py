@@ -6,12 +6,12 @@
 So many posts (10,000) of a few senders go to a bare gateway and to two services, one of a single book and one of many. They
 are drawn by chance: sums and histograms of many identities, points in and out of order, repeats, others' series, foreign
 points of each kind, containers of another type, what is no JSON, deep nesting, names that are none; and now and then a
-sender is quarantined or released, and all are flushed. Each answer has to have the same status and the same text, with the
+sender is quarantined or released, and all are flushed. Each answer has to have the same status, the gateway's text, and the
 same count of foreign points; what each flush forwards has to have the same points, of a single book in the same bytes; at the
 end the reports have the same series, owners, frontiers and pending sums. A last part has more series than a book takes.
 
-Where the service reads JSON by the protobuf mapping, its text says more than the gateway's (`wrong shape`, `not JSON`): of
-these the status alone is compared.
+The service's texts may go on where the gateway's end: with the causes of foreign points, with a series, with a limit. Where it
+reads JSON by the protobuf mapping, its text is another (`wrong shape`, `not JSON`): of these the status alone is compared.
 
 Each line is one check; the last line counts those that passed and failed, and the status is 0 where none failed.
 """
@@ -222,11 +222,19 @@ class Served:
 
 
 def is_same(wanted, found):
-    """Of a refusal the service's answer has a code beside the message."""
-    if wanted[0] != found[0] or wanted[0] == 200:
+    """Of a refusal the service's answer has a code beside the message; a text that goes on does so after a colon."""
+    if wanted[0] != found[0] or wanted[1] == b"{}":
         return wanted == found
-    message = json.loads(wanted[1])["message"]
-    return message == json.loads(found[1])["message"] or (wanted[0] == 400 and message in OWN_TEXTS)
+    here, there = (json.loads(answer[1]) for answer in (wanted, found))
+    if wanted[0] == 200:
+        here, there = here["partialSuccess"], there["partialSuccess"]
+        return here["rejectedDataPoints"] == there["rejectedDataPoints"] and goes_on(here["errorMessage"], there["errorMessage"])
+    message = here["message"]
+    return goes_on(message, there["message"]) or (wanted[0] == 400 and message in OWN_TEXTS)
+
+
+def goes_on(text, longer):
+    return longer == text or longer.startswith(f"{text}: ")
 
 
 def points_of(bodies):

@@ -4,6 +4,7 @@ use super::reading::OfReading;
 use super::table::Table;
 use super::values::counted;
 use super::{json, Failure, Form};
+use crate::intake::refusal::Refusal;
 use crate::otlp::{self, Encoding, Explained, Reading, Refused, Rounding};
 use anyhow::{anyhow, Context};
 use clap::Args;
@@ -110,7 +111,7 @@ fn refused(refused: Refused) -> anyhow::Error {
 
 fn not_too_long(body: Vec<u8>) -> anyhow::Result<Vec<u8>> {
     match body.len() as u64 > MOST {
-        true => Err(anyhow!("refused with 413: body too long")),
+        true => Err(anyhow!("refused with 413: {}", Refusal::TooLong)),
         false => Ok(body),
     }
 }
@@ -235,7 +236,7 @@ mod tests {
         long.resize(MOST as usize + 1, 0);
         let error = found(long, &Reading::default()).unwrap_err().to_string();
         assert_eq!(
-            error, "refused with 413: body too long",
+            error, "refused with 413: body too long: over 4194304 bytes, packed or unpacked: post fewer points at a time",
             "also where it is packed"
         );
         for (body, why) in [

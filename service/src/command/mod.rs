@@ -15,7 +15,7 @@ mod settings;
 mod status;
 mod table;
 mod totals;
-mod values;
+pub(crate) mod values;
 mod version;
 
 use crate::files::Fault;
@@ -257,6 +257,7 @@ mod tests {
             ("dead resend", "<KEY>"),
             ("dead resend 0-a-1 --all", "--all"),
             ("serve --data d --log-json=x", "--log-json"),
+            ("serve --data d --expect-foreign gauge,gouge", "up-down-counter"),
         ] {
             let error =
                 Line::try_parse_from([&["totxegun"], &words.split(' ').collect::<Vec<_>>()[..]].concat());

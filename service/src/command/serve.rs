@@ -10,6 +10,8 @@ use crate::core;
 use crate::files::Durability;
 use crate::log;
 use crate::metrics::Metrics;
+use crate::otlp::Cause;
+use crate::remarks::Telling;
 use crate::service::{self, init, Settings};
 use crate::sinks::{header_of, Address};
 use anyhow::{anyhow, bail, Context};
@@ -84,6 +86,15 @@ pub struct Options {
     /// Writes the first N reasons why points are foreign to the log, for each sender
     #[arg(long, env = "TOTXEGUN_LOG_FOREIGN", value_name = "N", default_value_t = 0, value_parser = value_parser!(u32).range(..=1000))]
     log_foreign: u32,
+    /// What is meant to be left out, and so is counted by itself and not alerted on
+    #[arg(
+        long,
+        env = "TOTXEGUN_EXPECT_FOREIGN",
+        value_name = "CAUSE",
+        value_delimiter = ',',
+        value_enum
+    )]
+    expect_foreign: Vec<Cause>,
     /// Writes each line of the log as a JSON object, with `time`, `level`, `text` and what it is about
     #[arg(long, env = "TOTXEGUN_LOG_JSON")]
     log_json: bool,
@@ -285,7 +296,10 @@ impl Options {
             every: self.flush_every,
             forget: self.forget_series.0,
             reading: self.of_reading.reading().map_err(Failure::Line)?,
-            log_foreign: self.log_foreign as usize,
+            telling: Telling {
+                log_foreign: self.log_foreign as usize,
+                expected: self.expect_foreign,
+            },
             most_bytes: usize::try_from(self.most_bytes).unwrap_or(usize::MAX),
             most_connections,
             threads: usize::from(self.threads),

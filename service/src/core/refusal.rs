@@ -20,7 +20,7 @@ pub enum Refused {
     TooLarge,
     #[error("no memory")]
     NoMemory,
-    #[error("bad sender")]
+    #[error("bad sender: a name has 1 to 64 bytes of A-Z a-z 0-9 . _ -")]
     BadSender,
     #[error("not JSON")]
     NotJson,
@@ -135,7 +135,7 @@ mod tests {
             (503, "too many series"),
             (503, "too large"),
             (503, "no memory"),
-            (400, "bad sender"),
+            (400, "bad sender: a name has 1 to 64 bytes of A-Z a-z 0-9 . _ -"),
             (400, "not JSON"),
             (400, "wrong shape"),
             (503, "nothing"),

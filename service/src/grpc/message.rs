@@ -83,6 +83,9 @@ mod tests {
     use super::*;
     use crate::intake::Budget;
 
+    const TOO_LONG: &str =
+        "body too long: over 4194304 bytes, packed or unpacked: post fewer points at a time";
+
     /// What is received where the body comes in these parts.
     async fn received(parts: Vec<Vec<u8>>) -> Result<Message, String> {
         let budget = Budget::new(64 << 20);
@@ -126,8 +129,8 @@ mod tests {
             (vec![0, 0, 0, 0, 1, 1, 2], "malformed request"),
             (vec![0, 0, 0, 0, 0, 0, 0, 0, 0, 0], "malformed request"),
             (vec![2, 0, 0, 0, 1, 1], "malformed request"),
-            (vec![0, 0, 0x40, 0, 1], "body too long"),
-            (vec![0, 255, 255, 255, 255, 1], "body too long"),
+            (vec![0, 0, 0x40, 0, 1], TOO_LONG),
+            (vec![0, 255, 255, 255, 255, 1], TOO_LONG),
         ] {
             assert_eq!(
                 received(vec![body.clone()]).await,

@@ -14,6 +14,7 @@ mod timeout;
 pub use connections::connection;
 
 use crate::intake::head::{Head, Packing};
+use crate::intake::refusal::Refusal;
 use crate::intake::{Intake, Taker};
 use crate::otlp::{Encoding, Outcome, NO_NAME};
 use crate::slot::is_sender;
@@ -57,7 +58,7 @@ async fn answer<T: Taker>(intake: Arc<Intake<T>>, request: Request<Body>) -> Res
     if outcome.status() != LATE && !body.is_end_stream() {
         message::throw_away(&mut body).await;
     }
-    intake.ended(outcome.status());
+    intake.ended(&outcome);
     reply::response(&outcome)
 }
 
@@ -80,7 +81,7 @@ fn call(parts: &Parts) -> Result<Head, Outcome> {
     if parts.uri.path() != METHOD || parts.method != Method::POST {
         return Err(refused(404, "no such method"));
     }
-    let sender = sender(&parts.headers).ok_or_else(|| refused(400, "bad sender"))?;
+    let sender = sender(&parts.headers).ok_or_else(|| Outcome::from(&Refusal::BadSender))?;
     let packing = match parts.headers.get(&ENCODING).map(|value| value.as_bytes()) {
         None | Some(b"identity") => Packing::Plain,
         Some(b"gzip") => Packing::Gzip,
@@ -106,7 +107,7 @@ fn sender(headers: &HeaderMap) -> Option<String> {
 async fn take<T: Taker>(intake: &Arc<Intake<T>>, mut head: Head, body: &mut Body) -> Outcome {
     let mut hold = intake.hold();
     match message::receive(body, &mut hold).await {
-        Err(refusal) => Outcome::from(&refusal),
+        Err(refusal) => intake.refused(&head.sender, &refusal),
         Ok(message) if message.is_packed && head.packing == Packing::Plain => {
             refused(400, "the message is packed, and grpc-encoding does not say how")
         }

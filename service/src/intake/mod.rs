@@ -62,6 +62,9 @@ pub trait Taker: Send + Sync + 'static {
     }
 
     fn post(self: &Arc<Self>, sender: String, request: Request) -> impl Future<Output = Outcome> + Send;
+
+    /// Hears of what was answered without asking it.
+    fn turned_away(&self, _sender: &str, _outcome: &Outcome) {}
 }
 
 impl Taker for Slot {
@@ -119,6 +122,9 @@ impl<T: Taker> Intake<T> {
         head: Result<Head, Refusal>,
         wire: &mut Wire<S>,
     ) -> Outcome {
+        let sender = head
+            .as_ref()
+            .map_or_else(|_| otlp::NO_NAME.to_string(), |head| head.sender.clone());
         let read = match head {
             Ok(head) => self.read(head, wire).await,
             Err(refusal) => Err(refusal),
@@ -129,16 +135,23 @@ impl<T: Taker> Intake<T> {
                 if refusal.leaves_a_body() && !wire.is_not_called_for() {
                     body::throw_away(wire).await;
                 }
-                Outcome::from(&refusal)
+                self.refused(&sender, &refusal)
             }
         };
-        self.metrics.post_ended(outcome.status());
+        self.metrics.post_ended(&outcome);
+        outcome
+    }
+
+    /// What is answered without asking the taker.
+    pub(crate) fn refused(&self, sender: &str, refusal: &Refusal) -> Outcome {
+        let outcome = Outcome::from(refusal);
+        self.taker.turned_away(sender, &outcome);
         outcome
     }
 
     /// Counts a request whose head could not be read.
     fn count(&self, refusal: &Refusal) {
-        self.metrics.post_ended(refusal.status());
+        self.metrics.post_ended(&self.refused(otlp::NO_NAME, refusal));
     }
 
     async fn read<S: AsyncRead + AsyncWrite + Unpin>(
@@ -176,15 +189,16 @@ impl<T: Taker> Intake<T> {
 
     /// Takes a body that came another way.
     pub(crate) async fn put(&self, head: Head, packed: Bytes, hold: Hold) -> Outcome {
+        let sender = head.sender.clone();
         match self.prepared(head, packed, hold).await {
             Ok(post) => self.take(post).await,
-            Err(refusal) => Outcome::from(&refusal),
+            Err(refusal) => self.refused(&sender, &refusal),
         }
     }
 
     /// Counts an answer.
-    pub(crate) fn ended(&self, status: u16) {
-        self.metrics.post_ended(status);
+    pub(crate) fn ended(&self, outcome: &Outcome) {
+        self.metrics.post_ended(outcome);
     }
 
     /// The memory is held until the post is answered: a connection looks for its sender only then.

@@ -1,15 +1,17 @@
 //! Why the intake answers a request itself, before the book is asked.
 
+use super::wire::{HEADERS, READ_AHEAD};
+use super::MOST;
 use crate::otlp::{Outcome, Refused};
 
 /// Its text is the answer's message.
 #[derive(Debug, thiserror::Error)]
 pub enum Refusal {
-    #[error("no such path")]
+    #[error("no such path: metrics are posted to /v1/metrics, without a slash behind it")]
     NoSuchPath,
     #[error("wrong method")]
     WrongMethod,
-    #[error("bad sender")]
+    #[error("bad sender: x-sender is there once, with 1 to 64 bytes of A-Z a-z 0-9 . _ -")]
     BadSender,
     #[error("only application/json or application/x-protobuf")]
     ContentType,
@@ -26,11 +28,11 @@ pub enum Refusal {
     #[error("malformed request")]
     Malformed,
     /// Its end is too far away, or it says too much.
-    #[error("head too long")]
+    #[error("head too long: over {READ_AHEAD} bytes or {HEADERS} fields")]
     HeadTooLong,
     #[error("bad gzip")]
     BadGzip,
-    #[error("body too long")]
+    #[error("body too long: over {MOST} bytes, packed or unpacked: post fewer points at a time")]
     TooLong,
     /// It would be refused again, since all posts together may not have what it takes to read it.
     #[error("body too long for the memory that posts may take: --most-bytes")]

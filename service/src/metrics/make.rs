@@ -10,7 +10,12 @@ use std::collections::HashSet;
 use std::sync::Mutex;
 
 /// Kinds of what must never be.
-const FAULTS: [&str; 4] = ["reading", "owner", "replay", "points_rejected_by_sink"];
+const FAULTS: [&[&str]; 4] = [
+    &["reading"],
+    &["owner"],
+    &["replay"],
+    &["points_rejected_by_sink"],
+];
 
 const SECONDS: [f64; 10] = [0.001, 0.003, 0.01, 0.03, 0.1, 0.3, 1.0, 3.0, 10.0, 30.0];
 
@@ -19,24 +24,30 @@ pub fn metrics() -> Result<Metrics> {
     maker.build_info()?;
     let posts = maker.counters(
         "posts_total",
-        "Posts by the status of their answer",
-        "status",
-        &["200"],
+        "Posts by the status of their answer, and by the reason of a refusal",
+        &["status", "reason"],
+        &[&["200", ""]],
     )?;
     Ok(Metrics {
-        taken_posts: posts.with_label_values(&["200"]),
+        taken_posts: posts.with_label_values(&["200", ""]),
         posts,
         post_bytes: maker.counter("post_bytes_total", "Bytes of posts, unpacked")?,
         foreign_points: maker.counters(
             "foreign_points_total",
-            "Points that were not taken, of posts that were",
-            "sender",
+            "Points that were not taken, of posts that were, but for those of --expect-foreign",
+            &["sender", "cause"],
+            &[],
+        )?,
+        expected_foreign_points: maker.counters(
+            "expected_foreign_points_total",
+            "Points that were not taken, as --expect-foreign says",
+            &["cause"],
             &[],
         )?,
         rounded_values: maker.counters(
             "rounded_values_total",
             "Values of posts that were taken that `--whole` has rounded, by its rule",
-            "whole",
+            &["whole"],
             &[],
         )?,
         rounding: maker.rounding()?,
@@ -45,16 +56,16 @@ pub fn metrics() -> Result<Metrics> {
         checkpoints: maker.counters(
             "checkpoints_total",
             "Checkpoints by how they ended",
-            "outcome",
-            &["done", "failed"],
+            &["outcome"],
+            &[&["done"], &["failed"]],
         )?,
         rounds_closed: maker.counter("rounds_closed_total", "Rounds of a book that were closed")?,
         forwarded_requests: maker.counter("forwarded_requests_total", "Requests put into the outbox")?,
         deliveries: maker.counters(
             "deliveries_total",
             "Tries to deliver, by outcome",
-            "outcome",
-            &["taken", "partial", "again", "denied", "refused"],
+            &["outcome"],
+            &[&["taken"], &["partial"], &["again"], &["denied"], &["refused"]],
         )?,
         forgotten_series: maker.counter(
             "forgotten_series_total",
@@ -67,7 +78,7 @@ pub fn metrics() -> Result<Metrics> {
         faults: maker.counters(
             "faults_total",
             "Points that the sink rejected, and faults of the program",
-            "kind",
+            &["kind"],
             &FAULTS,
         )?,
         checkpoint_pause_seconds: maker
@@ -139,10 +150,10 @@ impl Maker {
         Ok(made)
     }
 
-    fn counters(&self, name: &str, help: &str, label: &str, known: &[&str]) -> Result<IntCounterVec> {
-        let made = IntCounterVec::new(Opts::new(format!("totxegun_{name}"), help), &[label])?;
-        for value in known {
-            made.with_label_values(&[value]);
+    fn counters(&self, name: &str, help: &str, labels: &[&str], known: &[&[&str]]) -> Result<IntCounterVec> {
+        let made = IntCounterVec::new(Opts::new(format!("totxegun_{name}"), help), labels)?;
+        for values in known {
+            made.with_label_values(values);
         }
         self.0.register(Box::new(made.clone()))?;
         Ok(made)

@@ -1,11 +1,13 @@
 //! Counters and gauges of the service, and the page that Prometheus scrapes.
 
 mod make;
+mod reasons;
 mod rounding;
 
+pub use reasons::{of as reason_of, to_do};
 pub use rounding::{RoundedSeries, SeriesOfRule};
 
-use crate::otlp::{Rounded, Rounding};
+use crate::otlp::{Cause, Causes, Outcome, Rounded, Rounding};
 use prometheus::core::Collector;
 use prometheus::{
     CounterVec, Encoder, Gauge, GaugeVec, IntCounter, IntCounterVec, IntGauge, Registry, TextEncoder,
@@ -20,11 +22,13 @@ const SENDERS: usize = 64;
 /// One for the process. Counters begin with it.
 pub struct Metrics {
     pub registry: Registry,
-    /// By `status`.
+    /// By `status` and, of a refusal, `reason`.
     pub posts: IntCounterVec,
     pub post_bytes: IntCounter,
-    /// Points outside the profile, by `sender`. Counted by `foreign`, which bounds the senders.
+    /// Points outside the profile, by `sender` and `cause`. Counted by `foreign`, which bounds the senders.
     pub foreign_points: IntCounterVec,
+    /// The same that are meant to be left out, by `cause`.
+    pub expected_foreign_points: IntCounterVec,
     /// By `whole`, the rule: values that were not whole, and what they were rounded by together.
     pub rounded_values: IntCounterVec,
     pub rounding: CounterVec,
@@ -85,20 +89,53 @@ impl Metrics {
     }
 
     /// Counts an answer to a sender.
-    pub fn post_ended(&self, status: u16) {
-        match status {
-            200 => self.taken_posts.inc(),
-            other => self.posts.with_label_values(&[&other.to_string()]).inc(),
+    pub fn post_ended(&self, outcome: &Outcome) {
+        match reason_of(outcome) {
+            None => self.taken_posts.inc(),
+            Some(reason) => {
+                let status = outcome.status().to_string();
+                self.posts.with_label_values(&[&status, reason]).inc();
+            }
         }
     }
 
     /// Counts points outside the profile. Names of senders come from outside: their number is bounded here.
-    pub fn foreign(&self, sender: &str, points: u64) {
-        if points == 0 {
-            return;
+    pub fn foreign(&self, sender: &str, causes: &Causes, expected: &[Cause]) {
+        for (cause, points) in causes.iter() {
+            let name = cause.name();
+            if expected.contains(&cause) {
+                self.expected_foreign_points
+                    .with_label_values(&[&name])
+                    .inc_by(points);
+            } else {
+                let label = if self.has_label(sender) { sender } else { "other" };
+                self.foreign_points
+                    .with_label_values(&[label, &name])
+                    .inc_by(points);
+            }
         }
-        let label = if self.has_label(sender) { sender } else { "other" };
-        self.foreign_points.with_label_values(&[label]).inc_by(points);
+    }
+
+    /// By sender and cause, how many points were foreign since the start.
+    pub fn all_foreign(&self) -> Vec<(String, String, u64)> {
+        let families = self.foreign_points.collect();
+        let rows = families.iter().flat_map(|family| family.get_metric());
+        rows.map(|row| {
+            let label = |name: &str| row.get_label().iter().find(|label| label.get_name() == name);
+            let [sender, cause] = ["sender", "cause"]
+                .map(|name| label(name).map_or_else(String::new, |label| label.get_value().to_string()));
+            (sender, cause, row.get_counter().get_value() as u64)
+        })
+        .collect()
+    }
+
+    /// Posts since the start: those that were taken, and the others.
+    pub fn posts_ended(&self) -> (u64, u64) {
+        let families = self.posts.collect();
+        let rows = families.iter().flat_map(|family| family.get_metric());
+        let all: f64 = rows.map(|row| row.get_counter().get_value()).sum();
+        let taken = self.taken_posts.get();
+        (taken, (all as u64).saturating_sub(taken))
     }
 
     /// Counts what was rounded of a post that was taken.
@@ -166,19 +203,21 @@ mod tests {
     #[test]
     fn names_of_senders_are_bounded() {
         let metrics = Metrics::new().unwrap();
+        let other = |points| Causes::of(b"", points);
         for sender in 0..1000 {
-            metrics.foreign(&format!("sender{sender}"), 2);
+            metrics.foreign(&format!("sender{sender}"), &other(2), &[]);
         }
-        metrics.foreign("sender0", 1);
-        metrics.foreign("unseen", 0);
+        metrics.foreign("sender0", &other(1), &[]);
+        metrics.foreign("unseen", &other(0), &[]);
+        metrics.foreign("unseen", &other(5), &[Cause::Other]);
         let page = page(&metrics);
         let lines: Vec<&str> = page
             .lines()
             .filter(|line| line.starts_with("totxegun_foreign_points_total{"))
             .collect();
         assert_eq!(lines.len(), SENDERS + 1);
-        assert!(lines.contains(&"totxegun_foreign_points_total{sender=\"sender0\"} 3"));
-        assert!(lines.contains(&"totxegun_foreign_points_total{sender=\"other\"} 1872"));
+        assert!(lines.contains(&"totxegun_foreign_points_total{cause=\"other\",sender=\"sender0\"} 3"));
+        assert!(lines.contains(&"totxegun_foreign_points_total{cause=\"other\",sender=\"other\"} 1872"));
     }
 
     #[test]
@@ -213,12 +252,16 @@ mod tests {
     #[test]
     fn the_page_names_what_there_is_from_the_start() {
         let metrics = Metrics::new().unwrap();
-        metrics.post_ended(200);
-        metrics.post_ended(503);
+        metrics.post_ended(&Outcome::taken(0));
+        metrics.post_ended(&Outcome::taken(5));
+        metrics.post_ended(&Outcome::Refused {
+            status: 400,
+            message: "out of order: point 5, frontier 7".into(),
+        });
         let page = page(&metrics);
         for line in [
-            "totxegun_posts_total{status=\"200\"} 1",
-            "totxegun_posts_total{status=\"503\"} 1",
+            "totxegun_posts_total{reason=\"\",status=\"200\"} 2",
+            "totxegun_posts_total{reason=\"out of order\",status=\"400\"} 1",
             "totxegun_deliveries_total{outcome=\"taken\"} 0",
             "totxegun_deliveries_total{outcome=\"partial\"} 0",
             "totxegun_deliveries_total{outcome=\"denied\"} 0",

@@ -3,11 +3,16 @@
 use super::json::{write_text, Document, Value};
 use super::messages::{ExportMetricsPartialSuccess, ExportMetricsServiceResponse, Status};
 use super::number::mapped_whole;
-use super::{Encoding, Outcome};
+use super::{Causes, Encoding, Outcome};
 use prost::Message;
 
 /// What is said of points that the book did not take.
 pub(super) const OUTSIDE: &str = "points outside the profile";
+
+/// The same, by cause, and where its sender's owner reads on.
+pub(super) fn outside(causes: &Causes) -> String {
+    format!("{OUTSIDE}: {causes}: see docs/OPERATING.md, \"Senders\"")
+}
 
 /// What a receiver's answer in JSON says beside its success, by either name of a field; null is nothing.
 pub fn partial_success(answer: &[u8]) -> Option<ExportMetricsPartialSuccess> {

@@ -1,12 +1,17 @@
 //! What becomes of each point of a request in the book's form, in words.
 
+use super::causes::{is_monotonic, Cause};
 use super::json::{Document, Value};
-use super::series::{visit, Seen, SeriesKey};
+use super::series::{visit, Seen, SeriesKey, What};
 use serde::Serialize;
 use std::sync::Arc;
 
 /// How much of an attribute's value is shown.
 const SHOWN: usize = 60;
+
+/// What is said of a sum that may go down: no preference makes it delta.
+const UP_DOWN: &str = "it is cumulative, as an UpDownCounter is also with the temporality preference delta: use two Counters, one of \
+                       what comes and one of what goes, or leave it out by a view";
 
 /// One point.
 #[derive(Clone, Debug, PartialEq, Eq, Serialize)]
@@ -18,6 +23,9 @@ pub struct Explained {
     pub attributes: String,
     /// Why it is not taken; nothing where it is.
     pub foreign: Option<String>,
+    /// The same as it is counted.
+    #[serde(skip)]
+    pub cause: Option<Cause>,
 }
 
 /// The points of a body, in order; `None` where the book refuses it whole.
@@ -41,14 +49,14 @@ pub fn foreign_points(body: &[u8], mut is_enough: impl FnMut(Explained) -> bool)
     });
 }
 
-/// The series of a point that the book would take, counted from 0 among these alone.
-pub fn series_of_point(body: &[u8], place: u64) -> Option<SeriesKey> {
+/// A point that the book would take, counted from 0 among these alone, and its series.
+pub fn point_at(body: &[u8], place: u64) -> Option<(Explained, SeriesKey)> {
     let document = Document::parse(body).ok()?;
     let (mut taken, mut series) = (0, None);
     visit(&document, |seen| {
         if seen.found.is_ok() {
             if taken == place {
-                series = Some(SeriesKey(Arc::from(seen.key)));
+                series = Some((of(&seen), SeriesKey(Arc::from(seen.key))));
             }
             taken += 1;
         }
@@ -62,7 +70,11 @@ fn of(seen: &Seen<'_, '_>) -> Explained {
         metric: name.unwrap_or_default().into_owned(),
         kind: seen.kind,
         attributes: attributes(seen.point),
-        foreign: seen.found.err().map(|why| why.to_string()),
+        foreign: seen.found.err().map(|why| match why.what {
+            What::Cumulative if seen.kind == "sum" && !is_monotonic(seen.metric) => UP_DOWN.to_string(),
+            _ => why.to_string(),
+        }),
+        cause: Cause::of(seen),
     }
 }
 

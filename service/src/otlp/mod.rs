@@ -7,6 +7,7 @@
 //! `answers` is what senders are answered.
 
 mod answers;
+mod causes;
 mod explain;
 mod from_json;
 mod from_protobuf;
@@ -23,7 +24,8 @@ mod whole;
 mod wire;
 
 pub(crate) use answers::partial_success;
-pub use explain::{explained, foreign_points, series_of_point, Explained};
+pub use causes::{Cause, Causes};
+pub use explain::{explained, foreign_points, point_at, Explained};
 pub(crate) use messages::ExportMetricsServiceResponse;
 pub use numbered::{Learnt, Numbered, Series};
 pub use sender::{sender, NO_NAME};
@@ -136,17 +138,23 @@ impl Outcome {
         }
     }
 
+    /// The same, and how many points are outside the profile by which cause.
+    pub fn with_causes(self, causes: &Causes) -> Outcome {
+        match self {
+            Outcome::Taken { rejected, .. } if rejected > 0 => Outcome::Taken {
+                rejected,
+                message: Some(answers::outside(causes)),
+            },
+            other => other,
+        }
+    }
+
     /// The same, and why points are outside the profile that were to be taken in a finer unit.
     pub fn with(self, rounded: &Rounded) -> Outcome {
         match (self, &rounded.unfit) {
-            (
-                Outcome::Taken {
-                    rejected,
-                    message: None,
-                },
-                Some(unfit),
-            ) if rejected > 0 => {
-                let message = Some(format!("{}: {unfit}", answers::OUTSIDE));
+            (Outcome::Taken { rejected, message }, Some(unfit)) if rejected > 0 => {
+                let before = message.unwrap_or_else(|| answers::OUTSIDE.to_string());
+                let message = Some(format!("{before}: {unfit}"));
                 Outcome::Taken { rejected, message }
             }
             (other, _) => other,

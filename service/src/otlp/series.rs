@@ -11,6 +11,7 @@ pub use forwarded::forwarded;
 pub(super) use forwarded::protobuf_of_forwarded;
 pub use posted::posted;
 pub(super) use posted::{visit, Seen};
+pub(super) use why::What;
 pub use zeros::zeros;
 
 use super::json::{Document, Value as Json};

@@ -5,6 +5,7 @@ use super::series::posted;
 use super::*;
 use prost::Message;
 
+mod causes;
 mod explain;
 mod long;
 mod mapping;

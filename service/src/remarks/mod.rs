@@ -1,27 +1,46 @@
-//! What is told in the log of posts, beside their answers: why points are foreign, and who posts to whose series.
+//! What is told of posts that were not taken, or not wholly: in their answers, in the log, and to operators.
 //!
-//! It stands before what takes posts, and changes nothing of them. It reads a post that is worth a remark once more,
-//! one at a time and beside the runtime's threads; one that comes meanwhile is passed over, since its sender comes
-//! again.
+//! It stands before what takes posts, and changes nothing of them but the text of their answers. Of a post with points
+//! that were not taken it reads the body once more, for the answer; `heard` is who has posted. For the log it reads
+//! one post at a time and beside the runtime's threads; one that comes meanwhile is passed over, since its sender
+//! comes again.
+
+mod heard;
+
+pub use heard::{Heard, OfReason, OfSender};
 
 use crate::files::Outbox;
 use crate::intake::Taker;
 use crate::log::{all_shown, cut, shown};
+use crate::metrics::Metrics;
 use crate::otlp::series::SeriesKey;
-use crate::otlp::{foreign_points, series_of_point, Explained, Outcome, Reading};
+use crate::otlp::{foreign_points, point_at, Cause, Causes, Explained, Outcome, Reading};
 use crate::slot::{ByNumber, Request, Source};
+use crate::work::blocking;
 use bytes::Bytes;
 use std::collections::{HashMap, HashSet};
 use std::future::Future;
 use std::sync::atomic::{AtomicBool, Ordering::Relaxed};
 use std::sync::{Arc, Mutex, PoisonError};
+use tokio::sync::Semaphore;
 
-/// How many senders and series are remembered as told.
+/// How many senders, series and refusals are remembered as told.
 const REMEMBERED: usize = 1000;
+
+/// A body up to this long is read in place, a longer one on a thread beside the runtime's: no short post waits for it.
+const SHORT: usize = 64 << 10;
+/// How many long bodies are read at a time: while it is read, one takes several times its length.
+const READERS: usize = 2;
+
+/// What an answer begins with to a post to another's series; the place of its point follows.
+const OTHER_WRITER: &str = "other writer: point ";
 
 /// How much of a metric's name is told, and of all that identifies a series, in characters.
 const NAME_SHOWN: usize = 100;
 pub(crate) const SERIES_SHOWN: usize = 2000;
+/// The same of a point's attributes in an answer, and of an answer in the log.
+const ATTRIBUTES_SHOWN: usize = 300;
+const ANSWER_SHOWN: usize = 600;
 
 /// How many posts of a sender are read for reasons that are new.
 const MOST_READ: usize = 100;
@@ -29,9 +48,21 @@ const MOST_READ: usize = 100;
 pub struct Remarks<T> {
     taker: Arc<T>,
     owners: Box<dyn Owners>,
-    log_foreign: usize,
+    telling: Telling,
+    metrics: Arc<Metrics>,
+    heard: Arc<Heard>,
+    readers: Semaphore,
     is_reading: AtomicBool,
     told: Mutex<Told>,
+}
+
+/// What is told of foreign points.
+#[derive(Clone, Debug, Default)]
+pub struct Telling {
+    /// How many reasons of each sender are in the log.
+    pub log_foreign: usize,
+    /// What is meant to be left out: it is counted by itself, and not told.
+    pub expected: Vec<Cause>,
 }
 
 /// Who knows the owner of a series.
@@ -49,12 +80,13 @@ impl Owners for Arc<Outbox> {
 /// What is in the log already.
 #[derive(Default)]
 struct Told {
-    foreign: HashMap<String, OfSender>,
+    foreign: HashMap<String, ToldOf>,
     series: HashSet<SeriesKey>,
+    refusals: usize,
 }
 
 #[derive(Default)]
-struct OfSender {
+struct ToldOf {
     read: usize,
     reasons: HashSet<String>,
 }
@@ -67,12 +99,21 @@ enum Remark {
 }
 
 impl<T: Taker> Remarks<T> {
-    /// `log_foreign` reasons are told of each sender.
-    pub fn new(taker: Arc<T>, owners: impl Owners, log_foreign: usize) -> Arc<Remarks<T>> {
+    /// `heard` is noted of each post.
+    pub fn new(
+        taker: Arc<T>,
+        owners: impl Owners,
+        telling: Telling,
+        metrics: Arc<Metrics>,
+        heard: Arc<Heard>,
+    ) -> Arc<Remarks<T>> {
         Arc::new(Remarks {
             taker,
             owners: Box::new(owners),
-            log_foreign,
+            telling,
+            metrics,
+            heard,
+            readers: Semaphore::new(READERS),
             is_reading: AtomicBool::new(false),
             told: Mutex::new(Told::default()),
         })
@@ -82,10 +123,63 @@ impl<T: Taker> Remarks<T> {
         match outcome {
             Outcome::Taken { rejected: 0, .. } => None,
             Outcome::Taken { .. } => self.may_tell_more(sender).then_some(Remark::Foreign),
-            Outcome::Refused { message, .. } => {
-                let place = message.strip_prefix("other writer: point ")?;
-                Some(Remark::OtherWriter(place.parse().ok()?))
+            Outcome::Refused { message, .. } => place_of(message).map(Remark::OtherWriter),
+        }
+    }
+
+    /// The answer, with what its sender's owner needs to know. What is wholly taken is answered as it is.
+    async fn in_words(&self, sender: &str, source: &Source, outcome: Outcome) -> Outcome {
+        match outcome {
+            Outcome::Taken { rejected: 0, .. } => outcome,
+            Outcome::Taken { rejected, .. } => {
+                let causes = self.read(source, move |body| Causes::of(body, rejected)).await;
+                let causes = causes.unwrap_or_else(|| Causes::of(b"", rejected));
+                self.metrics.foreign(sender, &causes, &self.telling.expected);
+                outcome.with_causes(&causes)
             }
+            Outcome::Refused { status, message } => {
+                let Some(place) = place_of(&message) else {
+                    return Outcome::Refused { status, message };
+                };
+                let said = self.read(source, move |body| of_other_writer(body, place)).await;
+                let message = message + &said.flatten().unwrap_or_default();
+                Outcome::Refused { status, message }
+            }
+        }
+    }
+
+    async fn read<R: Send + 'static>(
+        &self,
+        source: &Source,
+        read: impl FnOnce(&[u8]) -> R + Send + 'static,
+    ) -> Option<R> {
+        let source = source.clone();
+        if source.len() <= SHORT {
+            return source.text().map(|body| read(&body));
+        }
+        let _turn = self.readers.acquire().await; // it is never closed
+        blocking(move || source.text().map(|body| read(&body))).await
+    }
+
+    /// Notes an answer. The first refusal of a sender for each reason is in the log; those that the service itself is
+    /// the reason of have a line of their own.
+    fn note(&self, sender: &str, outcome: &Outcome) {
+        let (Some(reason), Outcome::Refused { status, message }) =
+            (self.heard.note(sender, outcome), outcome)
+        else {
+            return;
+        };
+        let mut told = self.told();
+        if *status < 500 && told.refusals < REMEMBERED {
+            told.refusals += 1;
+            drop(told);
+            let answer = shown(message, ANSWER_SHOWN);
+            tracing::warn!(
+                sender,
+                reason,
+                status,
+                "a post of {sender} is refused with {status}: {answer}"
+            );
         }
     }
 
@@ -94,13 +188,13 @@ impl<T: Taker> Remarks<T> {
     }
 
     fn may_tell_more(&self, sender: &str) -> bool {
-        if self.log_foreign == 0 {
+        if self.telling.log_foreign == 0 {
             return false;
         }
         let told = self.told();
         match told.foreign.get(sender) {
             None => told.foreign.len() < REMEMBERED,
-            Some(of) => of.reasons.len() < self.log_foreign && of.read < MOST_READ,
+            Some(of) => of.reasons.len() < self.telling.log_foreign && of.read < MOST_READ,
         }
     }
 
@@ -109,7 +203,7 @@ impl<T: Taker> Remarks<T> {
         match remark {
             Remark::Foreign => self.tell_reasons(sender, &body),
             Remark::OtherWriter(place) => {
-                if let Some(series) = series_of_point(&body, place) {
+                if let Some((_, series)) = point_at(&body, place) {
                     self.tell_owner(sender, series);
                 }
             }
@@ -121,11 +215,17 @@ impl<T: Taker> Remarks<T> {
         let known = |told: &Told| told.foreign.get(sender).map(|of| of.reasons.clone());
         let mut reasons = known(&self.told()).unwrap_or_default();
         foreign_points(body, |point| {
+            if point
+                .cause
+                .is_some_and(|cause| self.telling.expected.contains(&cause))
+            {
+                return false;
+            }
             let reason = reason(&point);
             if reasons.insert(reason.clone()) {
                 tracing::warn!(sender, reason, "points of {sender} are not taken: {reason}");
             }
-            reasons.len() >= self.log_foreign
+            reasons.len() >= self.telling.log_foreign
         });
         let mut told = self.told();
         let of = told.foreign.entry(sender.to_string()).or_default();
@@ -156,6 +256,21 @@ fn reason(point: &Explained) -> String {
     all_shown(&format!("{} `{name}`: {why}", point.kind))
 }
 
+/// The place of the point that another's series is met by.
+fn place_of(message: &str) -> Option<u64> {
+    message.strip_prefix(OTHER_WRITER)?.parse().ok()
+}
+
+/// What the answer to a post to another's series says beside the place: that series and what to do.
+fn of_other_writer(body: &[u8], place: u64) -> Option<String> {
+    let (point, _) = point_at(body, place)?;
+    let name = shown(&point.metric, NAME_SHOWN);
+    let attributes = shown(&point.attributes, ATTRIBUTES_SHOWN);
+    Some(format!(
+        ": `{name}` {{{attributes}}} is another sender's: give each process its own service.instance.id"
+    ))
+}
+
 /// That a sender posts to another's series: one line as well.
 fn other_writer(sender: &str, owner: &str, series: &SeriesKey) -> String {
     let series = shown(&series.0, SERIES_SHOWN);
@@ -175,7 +290,10 @@ impl<T: Taker> Taker for Remarks<T> {
         async move {
             let source = request.source();
             let outcome = remarks.taker.post(sender.clone(), request).await;
-            if let Some(remark) = remarks.remark(&sender, &outcome) {
+            let remark = remarks.remark(&sender, &outcome);
+            let outcome = remarks.in_words(&sender, &source, outcome).await;
+            remarks.note(&sender, &outcome);
+            if let Some(remark) = remark {
                 if !remarks.is_reading.swap(true, Relaxed) {
                     tokio::task::spawn_blocking(move || {
                         remarks.tell(remark, &sender, source);
@@ -185,6 +303,10 @@ impl<T: Taker> Taker for Remarks<T> {
             }
             outcome
         }
+    }
+
+    fn turned_away(&self, sender: &str, outcome: &Outcome) {
+        self.note(sender, outcome);
     }
 }
 

@@ -21,6 +21,17 @@ impl Owners for Owned {
     }
 }
 
+fn remarks(outcome: Outcome, owner: Option<&'static str>, telling: Telling) -> Arc<Remarks<Answering>> {
+    let metrics = Arc::new(Metrics::new().unwrap());
+    Remarks::new(
+        Arc::new(Answering(outcome)),
+        Owned(owner),
+        telling,
+        metrics,
+        Arc::default(),
+    )
+}
+
 fn body(metrics: &str) -> Bytes {
     format!(r#"{{"resourceMetrics":[{{"scopeMetrics":[{{"metrics":[{metrics}]}}]}}]}}"#).into()
 }
@@ -32,9 +43,16 @@ async fn told(
     log_foreign: usize,
     posts: &[Bytes],
 ) -> (Vec<String>, usize, usize) {
-    let remarks = Remarks::new(Arc::new(Answering(outcome.clone())), Owned(owner), log_foreign);
+    let telling = Telling {
+        log_foreign,
+        expected: Vec::new(),
+    };
+    let remarks = remarks(outcome.clone(), owner, telling);
     for body in posts {
-        assert_eq!(remarks.post("a".into(), body.clone().into()).await, outcome);
+        assert_eq!(
+            remarks.post("a".into(), body.clone().into()).await.status(),
+            outcome.status()
+        );
         while remarks.is_reading.load(Relaxed) {
             tokio::time::sleep(Duration::from_millis(1)).await;
         }
@@ -120,4 +138,134 @@ async fn a_series_of_another_is_told_once_it_is_known() {
         series(refused("out of order: point 0, frontier 5"), Some("b")).await,
         0
     );
+}
+
+const SPAN: &str = r#""startTimeUnixNano":"1","timeUnixNano":"2""#;
+
+/// What a post is answered whose points are not taken.
+async fn answered(remarks: &Arc<Remarks<Answering>>, metrics: &str) -> String {
+    match remarks.post("a".into(), body(metrics)).await {
+        Outcome::Taken { message, .. } => message.unwrap_or_default(),
+        Outcome::Refused { message, .. } => message,
+    }
+}
+
+#[tokio::test]
+async fn a_sender_is_told_what_is_not_taken() {
+    let counter = |name: &str, more: &str| {
+        format!(
+            r#"{{"name":"{name}","sum":{{"aggregationTemporality":2,"dataPoints":[{{{SPAN},"asInt":"1"}}]{more}}}}}"#
+        )
+    };
+    let taken = format!(
+        r#"{{"name":"t","sum":{{"aggregationTemporality":1,"dataPoints":[{{{SPAN},"asInt":"1"}}]}}}}"#
+    );
+    let metrics = [
+        GAUGES,
+        &counter("c", r#","isMonotonic":true"#),
+        &counter("u", ""),
+        &counter("v", ""),
+        &taken,
+    ]
+    .join(",");
+    let telling = Telling {
+        expected: vec![Cause::Gauge],
+        ..Telling::default()
+    };
+    let all = remarks(Outcome::taken(6), None, telling);
+    assert_eq!(
+        answered(&all, &metrics).await,
+        "points outside the profile: 3 gauges, 2 UpDownCounters, 1 cumulative sum: see docs/OPERATING.md, \"Senders\""
+    );
+    let page = String::from_utf8(all.metrics.page()).unwrap();
+    for line in [
+        "totxegun_foreign_points_total{cause=\"up-down-counter\",sender=\"a\"} 2",
+        "totxegun_foreign_points_total{cause=\"cumulative-sum\",sender=\"a\"} 1",
+        "totxegun_expected_foreign_points_total{cause=\"gauge\"} 3",
+    ] {
+        assert!(page.lines().any(|found| found == line), "{line} in\n{page}");
+    }
+    assert!(
+        !page.contains("totxegun_foreign_points_total{cause=\"gauge\""),
+        "{page}"
+    );
+    // A long body is read beside, to the same answer; and the book alone says how many points it did not take.
+    let long = format!(r#"{{"name":"{}"}},{metrics}"#, "x".repeat(SHORT));
+    let answer = answered(&all, &long).await;
+    assert!(
+        answer.contains(": 3 gauges, 2 UpDownCounters, 1 cumulative sum: "),
+        "{answer}"
+    );
+    let more = remarks(Outcome::taken(9), None, Telling::default());
+    let answer = answered(&more, &metrics).await;
+    assert!(answer.contains("3 points of another form"), "{answer}");
+    let all_taken = remarks(Outcome::taken(0), None, Telling::default());
+    assert_eq!(
+        all_taken.post("a".into(), body(&metrics)).await,
+        Outcome::taken(0)
+    );
+}
+
+#[tokio::test]
+async fn who_posts_to_another_s_series_is_told_which_it_is() {
+    let point = |more: &str| format!(r#"{{{SPAN},"asInt":"1"{more}}}"#);
+    let route = r#","attributes":[{"key":"route","value":{"stringValue":"/"}}]"#;
+    let metric = format!(
+        r#"{{"name":"m","sum":{{"aggregationTemporality":1,"dataPoints":[{},{{}},{}]}}}}"#,
+        point(""),
+        point(route)
+    );
+    let refused = |message: &str| Outcome::Refused {
+        status: 400,
+        message: message.into(),
+    };
+    let second = remarks(refused("other writer: point 1"), None, Telling::default());
+    assert_eq!(
+        answered(&second, &metric).await,
+        "other writer: point 1: `m` {route=/} is another sender's: give each process its own service.instance.id"
+    );
+    let none = remarks(refused("other writer: point 2"), None, Telling::default());
+    assert_eq!(answered(&none, &metric).await, "other writer: point 2");
+    let hostile = metric.replace(r#""m""#, &format!(r#""\u001b[2J{}""#, "x".repeat(9000)));
+    let answer = answered(&second, &hostile).await;
+    assert!(
+        answer.len() < 700 && !answer.contains(char::is_control),
+        "{answer}"
+    );
+}
+
+/// What is expected is not told; and what is refused is noted, once for the log.
+#[tokio::test]
+async fn refusals_are_noted() {
+    let telling = Telling {
+        log_foreign: 9,
+        expected: vec![Cause::Gauge],
+    };
+    let expected = remarks(Outcome::taken(3), None, telling);
+    answered(&expected, GAUGES).await;
+    while expected.is_reading.load(Relaxed) {
+        tokio::time::sleep(Duration::from_millis(1)).await;
+    }
+    assert!(expected.told().foreign["a"].reasons.is_empty());
+    let late = Outcome::Refused {
+        status: 400,
+        message: "out of order: point 0, frontier 5".into(),
+    };
+    let busy = Outcome::Refused {
+        status: 503,
+        message: "too many bytes in flight".into(),
+    };
+    let refused = remarks(late, None, Telling::default());
+    answered(&refused, GAUGES).await;
+    answered(&refused, GAUGES).await;
+    refused.turned_away("b", &busy);
+    assert_eq!(refused.told().refusals, 1, "503 is not the sender's");
+    let of_a = &refused
+        .heard
+        .last(9)
+        .into_iter()
+        .find(|(name, _)| name == "a")
+        .unwrap()
+        .1;
+    assert_eq!((of_a.taken, of_a.refused["out of order"].posts), (0, 2));
 }

@@ -16,6 +16,7 @@ use crate::files::{Durability, Fault, Folder, FolderFault};
 use crate::keeper::{Settings as Keeping, Trouble};
 use crate::metrics::Metrics;
 use crate::otlp::Reading;
+use crate::remarks::Telling;
 use crate::sinks::{Address, Keep};
 use crate::slot::Slot;
 use anyhow::{anyhow, Context};
@@ -43,8 +44,7 @@ pub struct Settings {
     pub every: Duration,
     pub forget: Option<Duration>,
     pub reading: Reading,
-    /// How many reasons of foreign points are logged for each sender.
-    pub log_foreign: usize,
+    pub telling: Telling,
     pub most_bytes: usize,
     pub most_connections: usize,
     /// How many serve senders.

@@ -120,7 +120,13 @@ impl Parts {
             ..limits.clone()
         };
         let intake = Intake::new(
-            Remarks::new(slot.clone(), slot.outbox.clone(), settings.log_foreign),
+            Remarks::new(
+                slot.clone(),
+                slot.outbox.clone(),
+                settings.telling.clone(),
+                self.metrics.clone(),
+                Arc::default(),
+            ),
             settings.reading.clone(),
             self.budget.clone(),
             self.metrics.clone(),

@@ -78,14 +78,18 @@ impl Request {
 impl ByNumber {
     fn bytes(&self) -> usize {
         let words = self.points.words().len() + self.points.count();
-        let came = match &self.source {
-            Source::Text(body) | Source::Protobuf { body, .. } => body.len(),
-        };
-        2 * size_of::<u64>() * words + came // a list that grows has room for twice what it has
+        2 * size_of::<u64>() * words + self.source.len() // a list that grows has room for twice what it has
     }
 }
 
 impl Source {
+    /// Of the request as it came.
+    pub fn len(&self) -> usize {
+        match self {
+            Source::Text(body) | Source::Protobuf { body, .. } => body.len(),
+        }
+    }
+
     /// In the book's form.
     pub fn text(self) -> Option<Bytes> {
         match self {

@@ -66,7 +66,6 @@ impl Slot {
         let (post, names) = (&read.post, read.names());
         let journalled = Taken { post, names }.journal(&self.journal);
         drop(book);
-        self.metrics.foreign(&read.post.sender, read.post.foreign);
         Ok(journalled)
     }
 }

@@ -6,6 +6,8 @@ use tokio::io::AsyncWriteExt;
 use tokio::net::TcpStream;
 use totxegun::otlp::Outcome;
 
+const TOO_LONG: &str = "body too long: over 4194304 bytes, packed or unpacked: post fewer points at a time";
+
 #[tokio::test]
 async fn a_bomb_ends_at_the_limit() {
     let served = Served::start().await;
@@ -16,7 +18,7 @@ async fn a_bomb_ends_at_the_limit() {
             &bomb,
         ))
         .await;
-    assert_eq!((answer.status, answer.message().as_str()), (413, "body too long"));
+    assert_eq!((answer.status, answer.message().as_str()), (413, TOO_LONG));
     assert_eq!(served.budget.used(), 0);
     assert!(served.bodies().is_empty());
 }
@@ -27,7 +29,7 @@ async fn a_body_over_the_limit_is_answered_and_its_rest_thrown_away() {
     let mut client = served.client().await;
     client.write(&json(&vec![b' '; (4 << 20) + 1])).await;
     let answer = client.answer().await;
-    assert_eq!((answer.status, answer.message().as_str()), (413, "body too long"));
+    assert_eq!((answer.status, answer.message().as_str()), (413, TOO_LONG));
     client.write(&json(BODY.as_bytes())).await;
     assert_eq!(client.answer().await.status, 200);
 }

@@ -40,11 +40,11 @@ async fn a_kept_connection_serves_many_posts() {
     assert_eq!(senders, ["A", "B", "C"]);
     assert_eq!(served.bodies(), vec![Bytes::from(BODY); 3]);
     assert_eq!(served.budget.used(), 0);
-    assert!(served
-        .metrics
-        .page()
-        .windows(36)
-        .any(|part| part == b"totxegun_posts_total{status=\"200\"} 3"));
+    let page = String::from_utf8(served.metrics.page()).unwrap();
+    assert!(
+        page.contains("totxegun_posts_total{reason=\"\",status=\"200\"} 3\n"),
+        "{page}"
+    );
 }
 
 #[tokio::test]
@@ -188,7 +188,10 @@ async fn names_of_senders_are_the_books() {
             .await;
         assert_eq!(
             (answer.status, answer.message().as_str()),
-            (400, "bad sender"),
+            (
+                400,
+                "bad sender: x-sender is there once, with 1 to 64 bytes of A-Z a-z 0-9 . _ -"
+            ),
             "{sender}"
         );
     }

@@ -41,7 +41,10 @@ fn owners_and_frontiers_outlive_kills_and_other_numbers_of_books() {
             let other = service
                 .post("other", &points(&["free", sender], end + 10, 1))
                 .unwrap();
-            assert_eq!(other, refused("other writer: point 1"));
+            let wanted = format!(
+                "other writer: point 1: `{sender}` {{}} is another sender's: give each process its own service.instance.id"
+            );
+            assert_eq!(other, refused(&wanted));
         }
         if run % 2 == 0 {
             service.drain();

@@ -219,7 +219,7 @@ fn a_point_that_the_book_counts_is_found_again() {
     let body = request(&format!(
         r#"{{"name":"m","sum":{{"aggregationTemporality":1,"dataPoints":[{{{SPAN},"asInt":1}},{{}},{{{SPAN},"asInt":1,"attributes":[{{"key":"k"}}]}}]}}}}"#
     ));
-    let key = |place| series_of_point(body.as_bytes(), place).map(|key| key.0.to_string());
+    let key = |place| point_at(body.as_bytes(), place).map(|(_, key)| key.0.to_string());
     assert_eq!(
         key(1).unwrap(),
         r#"[[],"","",[],"m","","sum",[{"key":"k","value":{}}]]"#

@@ -1,0 +1,178 @@
+//! Why posts are refused, as it is counted: a label has one of these values, whatever an answer's text goes on with.
+
+use crate::otlp::Outcome;
+
+/// Of texts that are not listed, as those of what can't be read.
+const UNREADABLE: &str = "unreadable";
+
+/// What an answer's text begins with, and what is to be done.
+const REASONS: [(&str, &str); 28] = [
+    (
+        "out of order",
+        "right for a repeat: it was taken before. If each post of a sender gets it, its clock was set back",
+    ),
+    (
+        "other writer",
+        "OTEL_RESOURCE_ATTRIBUTES=service.instance.id=NAME, another name for each process",
+    ),
+    ("quarantined", "totxegun lift NAME once the sender is repaired"),
+    (
+        "wrong shape",
+        "the sender writes what is no OTLP: totxegun explain FILE on a captured body",
+    ),
+    (
+        "not JSON",
+        "the sender writes what is no JSON, or names protobuf as JSON",
+    ),
+    (
+        "bad sender",
+        "OTEL_EXPORTER_OTLP_METRICS_HEADERS=x-sender=NAME, one name",
+    ),
+    (
+        "no sender",
+        "give the resource the attribute of --sender-from, or the post an x-sender",
+    ),
+    (
+        "no such path",
+        "OTEL_EXPORTER_OTLP_METRICS_ENDPOINT=http://HOST:PORT/v1/metrics",
+    ),
+    (
+        "no such method",
+        "MetricsService/Export is all that is called here",
+    ),
+    ("wrong method", "metrics are posted"),
+    (
+        CONTENT,
+        "set the exporter's protocol to http/protobuf or http/json",
+    ),
+    (PACKING, "set the exporter's compression to gzip or none"),
+    (
+        "no length of the body",
+        "the sender gives neither Content-Length nor chunks",
+    ),
+    (
+        "malformed request",
+        "what came is no request of HTTP, or its connection ended within it",
+    ),
+    ("head too long", "the sender has too many headers"),
+    ("bad gzip", "the sender says gzip, and packs otherwise"),
+    (
+        "body too long",
+        "have the sender post fewer points at a time (a Collector: send_batch_max_size)",
+    ),
+    ("the deadline has passed", "give the exporter a longer timeout"),
+    (
+        "the request did not come whole",
+        "the network or the sender is slow",
+    ),
+    ("too many bytes in flight", "raise --most-bytes, if this stays"),
+    ("recovering", "a start is putting in what the journal has: wait"),
+    ("stopping", "the service ends"),
+    ("no room for the journal", "make room on the disk"),
+    (
+        "the disk does not answer",
+        "look at the disk, its controller or its network (dmesg)",
+    ),
+    (
+        "too many series",
+        "shorten --forget-series, drop an attribute, or raise --most-series",
+    ),
+    (
+        "too large",
+        "this ends by itself; where it stays, one request is over the limits of README",
+    ),
+    ("no memory", "raise --book-memory"),
+    (
+        "full",
+        "this ends by itself once what is being flushed is written",
+    ),
+];
+const CONTENT: &str = "only application/json or application/x-protobuf";
+const PACKING: &str = "only gzip or identity";
+
+/// The reason of an answer: none where points were taken.
+pub fn of(outcome: &Outcome) -> Option<&'static str> {
+    match outcome {
+        Outcome::Taken { .. } => None,
+        Outcome::Refused { message, .. } => {
+            let found = REASONS.iter().find(|(reason, _)| begins(message, reason));
+            Some(found.map_or(UNREADABLE, |(reason, _)| reason))
+        }
+    }
+}
+
+/// Whether a text is a reason, or one with more behind it.
+fn begins(message: &str, reason: &str) -> bool {
+    let rest = message.strip_prefix(reason);
+    rest.is_some_and(|rest| rest.is_empty() || rest.starts_with([':', ' ']))
+}
+
+/// What an operator does about a reason.
+pub fn to_do(reason: &str) -> &'static str {
+    let found = REASONS.iter().find(|(listed, _)| *listed == reason);
+    found.map_or(
+        "the text says what can't be read: totxegun explain FILE on a captured body",
+        |(_, to_do)| to_do,
+    )
+}
+
+#[cfg(test)]
+mod tests {
+    use super::*;
+    use crate::core::Refused;
+    use crate::intake::refusal::Refusal;
+    use crate::slot::{NO_ANSWER, NO_ROOM};
+
+    fn said(message: impl ToString) -> Option<&'static str> {
+        of(&Outcome::Refused {
+            status: 400,
+            message: message.to_string(),
+        })
+    }
+
+    /// Else a text that is changed would be counted as one that nobody can read.
+    #[test]
+    fn each_refusal_has_a_reason_of_its_own() {
+        let (point, frontier) = (5, 7);
+        let of_book = [
+            Refused::Quarantined,
+            Refused::Full,
+            Refused::OtherWriter { point },
+            Refused::OutOfOrder { point, frontier },
+            Refused::TooManySeries,
+            Refused::TooLarge,
+            Refused::NoMemory,
+            Refused::NotJson,
+            Refused::WrongShape,
+        ];
+        let of_intake = [
+            Refusal::NoSuchPath,
+            Refusal::WrongMethod,
+            Refusal::BadSender,
+            Refusal::ContentType,
+            Refusal::ContentEncoding,
+            Refusal::NoLength,
+            Refusal::Late,
+            Refusal::Malformed,
+            Refusal::HeadTooLong,
+            Refusal::BadGzip,
+            Refusal::TooLong,
+            Refusal::TooManyBytes,
+        ];
+        let of_slot = [NO_ANSWER, NO_ROOM, "recovering", "stopping"];
+        let texts = of_book.iter().map(ToString::to_string);
+        let texts = texts.chain(of_intake.iter().map(ToString::to_string));
+        let texts: Vec<String> = texts.chain(of_slot.map(String::from)).collect();
+        let reasons: std::collections::BTreeSet<_> = texts.iter().map(said).collect();
+        assert_eq!(reasons.len(), texts.len(), "{reasons:?}");
+        assert!(!reasons.contains(&Some(UNREADABLE)), "{reasons:?}");
+        assert_eq!(said(Refused::BadSender), said(Refusal::BadSender));
+        assert_eq!(said(Refusal::TooLongForMemory), said(Refusal::TooLong));
+        assert_eq!(
+            said(Refusal::Unreadable("resourceMetrics is twice".into())),
+            Some(UNREADABLE)
+        );
+        assert_eq!(said("fuller"), Some(UNREADABLE));
+        assert_eq!(of(&Outcome::taken(5)), None);
+    }
+}

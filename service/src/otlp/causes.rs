@@ -1,0 +1,157 @@
+//! Why points of a request are foreign, counted by cause: what a sender is told in one line, and what is counted.
+
+use super::json::{Document, Value};
+use super::series::{visit, Seen, What};
+use std::collections::BTreeMap;
+use std::fmt;
+
+/// Why a point is not taken, as far as it is counted. Its name is a label, and a value of `--expect-foreign`.
+#[derive(Clone, Copy, Debug, PartialEq, Eq, PartialOrd, Ord, Hash, clap::ValueEnum)]
+pub enum Cause {
+    Gauge,
+    Summary,
+    ExponentialHistogram,
+    /// Of a sum that only goes up.
+    CumulativeSum,
+    CumulativeHistogram,
+    /// A cumulative sum that may go down.
+    UpDownCounter,
+    /// A number that no rule of `--whole` takes.
+    Double,
+    /// A histogram with a bound or a sum that is not whole.
+    Fraction,
+    /// Its own, its scope's or its resource's are not those of a series.
+    Attribute,
+    /// It has no start, or no end after it.
+    Span,
+    NoValue,
+    Other,
+}
+
+/// By cause, how many points of a request are foreign.
+#[derive(Clone, Debug, Default, PartialEq, Eq)]
+pub struct Causes(BTreeMap<Cause, u64>);
+
+impl Causes {
+    /// Of a body, of which the book did not take so many points: where this says more or less than the book, the rest is `Other`.
+    pub fn of(body: &[u8], foreign: u64) -> Causes {
+        let mut causes = Causes::default();
+        if let Ok(document) = Document::parse(body) {
+            let _ = visit(&document, |seen| {
+                if let Some(cause) = Cause::of(&seen) {
+                    causes.add(cause, 1);
+                }
+            });
+        }
+        match foreign.checked_sub(causes.0.values().sum()) {
+            Some(0) => {}
+            Some(unknown) => causes.add(Cause::Other, unknown),
+            None => causes = Causes([(Cause::Other, foreign)].into()),
+        }
+        causes
+    }
+
+    fn add(&mut self, cause: Cause, points: u64) {
+        *self.0.entry(cause).or_default() += points;
+    }
+
+    pub fn iter(&self) -> impl Iterator<Item = (Cause, u64)> + '_ {
+        self.0.iter().map(|(cause, points)| (*cause, *points))
+    }
+}
+
+impl fmt::Display for Causes {
+    /// `3 gauges, 1 cumulative sum`: what is most first.
+    fn fmt(&self, out: &mut fmt::Formatter<'_>) -> fmt::Result {
+        let mut all: Vec<(Cause, u64)> = self.iter().collect();
+        all.sort_by_key(|(_, points)| std::cmp::Reverse(*points));
+        for (place, (cause, points)) in all.into_iter().enumerate() {
+            let [one, many] = cause.nouns();
+            let comma = if place > 0 { ", " } else { "" };
+            write!(out, "{comma}{points} {}", if points == 1 { one } else { many })?;
+        }
+        Ok(())
+    }
+}
+
+impl Cause {
+    /// Of a point; none where it is taken.
+    pub(super) fn of(seen: &Seen<'_, '_>) -> Option<Cause> {
+        let why = seen.found.err()?;
+        Some(match why.what {
+            What::OtherKind => match seen.kind {
+                "gauge" => Cause::Gauge,
+                "summary" => Cause::Summary,
+                _ => Cause::ExponentialHistogram,
+            },
+            What::Cumulative if seen.kind == "histogram" => Cause::CumulativeHistogram,
+            What::Cumulative if is_monotonic(seen.metric) => Cause::CumulativeSum,
+            What::Cumulative => Cause::UpDownCounter,
+            What::Double => Cause::Double,
+            What::NotWhole if ["a bound", "sum"].contains(&why.field) => Cause::Fraction,
+            What::NoAttributes | What::ManyAttributes | What::SameKeys | What::DoubleValue => {
+                Cause::Attribute
+            }
+            What::BytesValue | What::MapValue | What::ListInList | What::LongList => Cause::Attribute,
+            What::SeveralValues | What::WrongValue => Cause::Attribute,
+            What::NoStart | What::EmptySpan => Cause::Span,
+            What::NotRecorded | What::NoNumber => Cause::NoValue,
+            _ => Cause::Other,
+        })
+    }
+
+    /// As it is written in labels and options.
+    pub fn name(self) -> String {
+        let value = clap::ValueEnum::to_possible_value(&self);
+        value.map_or_else(String::new, |value| value.get_name().to_string())
+    }
+
+    pub fn named(name: &str) -> Option<Cause> {
+        clap::ValueEnum::from_str(name, false).ok()
+    }
+
+    /// One point, and several.
+    fn nouns(self) -> [&'static str; 2] {
+        match self {
+            Cause::Gauge => ["gauge", "gauges"],
+            Cause::Summary => ["summary", "summaries"],
+            Cause::ExponentialHistogram => ["exponential histogram", "exponential histograms"],
+            Cause::CumulativeSum => ["cumulative sum", "cumulative sums"],
+            Cause::CumulativeHistogram => ["cumulative histogram", "cumulative histograms"],
+            Cause::UpDownCounter => ["UpDownCounter", "UpDownCounters"],
+            Cause::Double => ["double", "doubles"],
+            Cause::Fraction => ["histogram with a fraction", "histograms with fractions"],
+            Cause::Attribute => ["point with bad attributes", "points with bad attributes"],
+            Cause::Span => ["point without a span", "points without a span"],
+            Cause::NoValue => ["point without a value", "points without a value"],
+            Cause::Other => ["point of another form", "points of another form"],
+        }
+    }
+
+    /// What is to be done so that such points are taken, or are no more sent.
+    pub fn to_do(self) -> &'static str {
+        match self {
+            Cause::Gauge | Cause::Summary | Cause::ExponentialHistogram => {
+                "these are not added up: send them elsewhere, or name them by --expect-foreign"
+            }
+            Cause::CumulativeSum | Cause::CumulativeHistogram => "set the sender's temporality preference to delta",
+            Cause::UpDownCounter => {
+                "these are cumulative also with the preference delta: use two Counters, or name them by --expect-foreign"
+            }
+            Cause::Double => "use an instrument of whole numbers, or serve with --whole",
+            Cause::Fraction => "use whole bounds in a finer unit, or serve with --whole",
+            Cause::Attribute => "use texts, whole numbers, truths and lists of them, each key once, or --drop-attribute",
+            Cause::Span => "each point has to say where it starts, and end after it",
+            Cause::NoValue | Cause::Other => "`totxegun explain FILE` says of each point of a captured body why",
+        }
+    }
+}
+
+/// Whether the sum of a metric only goes up.
+pub(super) fn is_monotonic(metric: Value<'_>) -> bool {
+    let sum = metric.named(["sum"]).and_then(|[sum]| sum);
+    let found = sum
+        .and_then(|sum| sum.named(["isMonotonic"]))
+        .and_then(|[found]| found);
+    found.and_then(Value::truth) == Some(true)
+}

@@ -1,0 +1,179 @@
+//! Who has posted, when last, and what was refused of whom: what an operator is shown, since the start.
+
+use crate::log::shown;
+use crate::metrics::reason_of;
+use crate::otlp::Outcome;
+use std::collections::{BTreeMap, HashMap};
+use std::sync::{Mutex, PoisonError};
+use std::time::{SystemTime, UNIX_EPOCH};
+
+/// So many senders are known. Where there is another one, those that posted last are kept, so many.
+const MOST: usize = 1000;
+const KEPT: usize = 900;
+
+/// How much of an answer's text is kept, in characters.
+const TEXT: usize = 300;
+
+/// All senders, by name.
+#[derive(Default)]
+pub struct Heard(Mutex<HashMap<String, OfSender>>);
+
+/// Of one sender.
+#[derive(Clone, Debug, Default, PartialEq, Eq)]
+pub struct OfSender {
+    /// Posts that were taken.
+    pub taken: u64,
+    /// When it posted last, in seconds since 1970.
+    pub last: u64,
+    /// By reason.
+    pub refused: BTreeMap<&'static str, OfReason>,
+}
+
+/// What was refused of a sender for one reason.
+#[derive(Clone, Debug, Default, PartialEq, Eq)]
+pub struct OfReason {
+    pub status: u16,
+    pub posts: u64,
+    /// In seconds since 1970.
+    pub last: u64,
+    /// The last answer's.
+    pub text: String,
+}
+
+impl Heard {
+    /// Notes an answer. The reason of a refusal that is the first of its sender and reason.
+    pub fn note(&self, sender: &str, outcome: &Outcome) -> Option<&'static str> {
+        self.note_at(sender, outcome, now())
+    }
+
+    fn note_at(&self, sender: &str, outcome: &Outcome, now: u64) -> Option<&'static str> {
+        let mut all = self.lock();
+        if !all.contains_key(sender) {
+            make_room(&mut all);
+            all.insert(sender.to_string(), OfSender::default());
+        }
+        let of = all.get_mut(sender)?;
+        of.last = now;
+        let Some(reason) = reason_of(outcome) else {
+            of.taken += 1;
+            return None;
+        };
+        let of_reason = of.refused.entry(reason).or_default();
+        of_reason.posts += 1;
+        of_reason.last = now;
+        if let Outcome::Refused { status, message } = outcome {
+            (of_reason.status, of_reason.text) = (*status, shown(message, TEXT));
+        }
+        (of_reason.posts == 1).then_some(reason)
+    }
+
+    /// Those that posted last, the last one first.
+    pub fn last(&self, most: usize) -> Vec<(String, OfSender)> {
+        let all = self.lock();
+        let mut last: Vec<(&String, &OfSender)> = all.iter().collect();
+        last.sort_by(|(a, of_a), (b, of_b)| of_b.last.cmp(&of_a.last).then(a.cmp(b)));
+        last.truncate(most);
+        last.into_iter()
+            .map(|(name, of)| (name.clone(), of.clone()))
+            .collect()
+    }
+
+    /// How many senders are known.
+    pub fn count(&self) -> usize {
+        self.lock().len()
+    }
+
+    fn lock(&self) -> std::sync::MutexGuard<'_, HashMap<String, OfSender>> {
+        self.0.lock().unwrap_or_else(PoisonError::into_inner) // counts are sound at any time
+    }
+}
+
+/// Names come from outside: who posted longest ago is forgotten where there are too many, several at a time.
+fn make_room(all: &mut HashMap<String, OfSender>) {
+    if all.len() < MOST {
+        return;
+    }
+    let mut times: Vec<u64> = all.values().map(|of| of.last).collect();
+    let (_, least, _) = times.select_nth_unstable(MOST - KEPT);
+    let least = *least;
+    let mut left = all.len() - KEPT;
+    all.retain(|_, of| {
+        let goes = left > 0 && of.last <= least;
+        left -= usize::from(goes);
+        !goes
+    });
+}
+
+fn now() -> u64 {
+    SystemTime::now()
+        .duration_since(UNIX_EPOCH)
+        .map_or(0, |since| since.as_secs())
+}
+
+#[cfg(test)]
+mod tests {
+    use super::*;
+
+    fn refused(message: &str) -> Outcome {
+        Outcome::Refused {
+            status: 400,
+            message: message.into(),
+        }
+    }
+
+    #[test]
+    fn a_sender_s_posts_and_refusals_are_noted() {
+        let heard = Heard::default();
+        assert_eq!(heard.note_at("A", &Outcome::taken(2), 5), None);
+        let first = heard.note_at("A", &refused("out of order: point 0, frontier 5"), 6);
+        assert_eq!(first, Some("out of order"));
+        assert_eq!(
+            heard.note_at("A", &refused("out of order: point 9, frontier 7"), 7),
+            None
+        );
+        assert_eq!(
+            heard.note_at("B", &refused("out of order: point 9, frontier 7"), 6),
+            Some("out of order")
+        );
+        let last = heard.last(9);
+        assert_eq!(
+            last.iter().map(|(name, _)| &**name).collect::<Vec<_>>(),
+            ["A", "B"]
+        );
+        let wanted = OfReason {
+            status: 400,
+            posts: 2,
+            last: 7,
+            text: "out of order: point 9, frontier 7".into(),
+        };
+        assert_eq!(
+            (
+                last[0].1.taken,
+                last[0].1.last,
+                &last[0].1.refused["out of order"]
+            ),
+            (1, 7, &wanted)
+        );
+    }
+
+    /// Else names that somebody makes up would fill the memory, or push out who posts.
+    #[test]
+    fn who_posted_last_is_kept() {
+        let heard = Heard::default();
+        for number in 0..5000u64 {
+            heard.note_at("A", &Outcome::taken(0), number);
+            heard.note_at(&format!("made-up-{number}"), &refused(&"x".repeat(5000)), number);
+        }
+        let last = heard.last(10_000);
+        assert!(heard.count() <= MOST && last.len() >= KEPT, "{}", last.len());
+        let of_a = last.iter().find(|(name, _)| name == "A").map(|(_, of)| of.taken);
+        assert_eq!((of_a, &*last[1].0), (Some(5000), "made-up-4999"));
+        assert!(last[1].1.refused["unreadable"].text.len() <= TEXT);
+        heard.note_at("B", &Outcome::taken(0), 0); // all at one time
+        let alike = Heard::default();
+        for number in 0..5000 {
+            alike.note_at(&number.to_string(), &Outcome::taken(0), 7);
+        }
+        assert!((KEPT..=MOST).contains(&alike.count()), "{}", alike.count());
+    }
+}
