@@ -1,5 +1,6 @@
 //! Why the intake answers a request itself, before the book is asked.
 
+use crate::identity::Stranger;
 use crate::otlp::{Outcome, Refused};
 
 /// Its text is the answer's message.
@@ -11,6 +12,8 @@ pub enum Refusal {
     WrongMethod,
     #[error("bad sender")]
     BadSender,
+    #[error("{0}")]
+    Stranger(#[from] Stranger),
     #[error("only application/json or application/x-protobuf")]
     ContentType,
     #[error("only gzip or identity")]
@@ -46,6 +49,7 @@ impl Refusal {
     pub fn status(&self) -> u16 {
         match self {
             Refusal::NoSuchPath => 404,
+            Refusal::Stranger(stranger) => stranger.status(),
             Refusal::WrongMethod => 405,
             Refusal::ContentType | Refusal::ContentEncoding => 415,
             Refusal::NoLength => 411,

@@ -189,7 +189,8 @@ impl<S: AsyncRead + AsyncWrite + Unpin> Wire<S> {
     }
 
     pub async fn send(&mut self, bytes: &[u8]) -> Result<()> {
-        self.stream.write_all(bytes).await
+        self.stream.write_all(bytes).await?;
+        self.stream.flush().await // TLS may have a part of it still
     }
 
     /// Sends one answer with one write: what `write` puts into the buffer.
@@ -197,6 +198,7 @@ impl<S: AsyncRead + AsyncWrite + Unpin> Wire<S> {
         self.output.clear();
         write(&mut self.output);
         self.stream.write_all(&self.output).await?;
+        self.stream.flush().await?; // TLS may have a part of it still
         self.output.shrink_to(KEPT);
         Ok(())
     }

@@ -23,7 +23,7 @@ mod wire;
 pub(crate) use answers::partial_success;
 pub use explain::{explained, foreign_points, series_of_point, Explained};
 pub(crate) use messages::ExportMetricsServiceResponse;
-pub use sender::{sender, NO_NAME};
+pub use sender::{legal, sender, NO_NAME};
 pub use whole::{Rounded, Rounding, Rule, Whole};
 
 use bytes::Bytes;
