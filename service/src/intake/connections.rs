@@ -218,10 +218,12 @@ async fn over_tls<P: Protocol, T: Taker>(
     tls: Arc<Tls>,
     held: Held,
 ) {
-    let handshake = tls.handshake(stream, P::OVER_TLS, || shared.room.is_full());
-    let Some(shaken) = handshake.await else {
-        return;
+    let mut stop = shared.stop.clone();
+    let shaken = tokio::select! {
+        shaken = tls.handshake(stream, P::OVER_TLS, || shared.room.is_full()) => shaken,
+        _ = stop.wait_true() => None, // nothing is owed to it
     };
+    let Some(shaken) = shaken else { return };
     let (thread, place) = threads.place();
     let serving = thread.spawn(async move {
         let who = shared.door.who(Some(&shaken));

@@ -232,3 +232,24 @@ impl From<Error> for Refusal {
         Refusal::Malformed
     }
 }
+
+#[cfg(test)]
+mod tests {
+    use super::*;
+    use std::time::Duration;
+    use tokio::io::{duplex, BufStream};
+
+    /// TLS keeps what its socket had no room for, as such a stream does.
+    #[tokio::test]
+    async fn what_is_sent_does_not_stay_in_the_stream() {
+        let (mut sender, stream) = duplex(1024);
+        let mut wire = Wire::new(BufStream::new(stream));
+        let mut read = [0; 4];
+        wire.send(b"wait").await.unwrap();
+        let reading = tokio::time::timeout(Duration::from_secs(5), sender.read_exact(&mut read));
+        assert!(reading.await.is_ok());
+        wire.answer(|out| out.extend_from_slice(b"done")).await.unwrap();
+        let reading = tokio::time::timeout(Duration::from_secs(5), sender.read_exact(&mut read));
+        assert!(reading.await.is_ok() && &read == b"done");
+    }
+}

@@ -119,7 +119,11 @@ fn a_chain_is_believed_by_its_root_alone() {
     };
     let (ours, own) = (of("ours", Some("ca")), of("own", None));
     let contexts = tls(at.path(), Some(WithoutCertificate::Refused)).contexts();
-    assert!(contexts.believes(&[ours.clone()]) && !contexts.believes(&[own]) && !contexts.believes(&[]));
+    assert!(
+        contexts.believes(std::slice::from_ref(&ours))
+            && !contexts.believes(&[own])
+            && !contexts.believes(&[])
+    );
     assert!(!tls(at.path(), None).contexts().believes(&[ours]));
 }
 

@@ -151,7 +151,7 @@ async fn posts_go_on_while_handshakes_stall() {
     let at = folder();
     let served = Served::behind_with(door(at.path(), None, None), with_places(256)).await;
     let mut kept = served.secure(client(at.path(), "ca", None)).await.unwrap();
-    let _stalled = stalled(&served, 200).await;
+    let stalled = stalled(&served, 200).await;
     let begun = Instant::now();
     let mut longest = Duration::ZERO;
     while begun.elapsed() < Duration::from_secs(2) {
@@ -168,6 +168,13 @@ async fn posts_go_on_while_handshakes_stall() {
         longest = longest.max(before.elapsed());
     }
     assert!(longest < Duration::from_secs(1), "{longest:?}");
+    drop(kept);
+    served.stop.send_replace(true);
+    let ended = tokio::time::timeout(Duration::from_secs(1), served.task).await;
+    assert!(
+        ended.is_ok() && stalled.len() == 200,
+        "an end waits for no handshake"
+    );
 }
 
 #[tokio::test]
@@ -195,7 +202,8 @@ async fn a_handshake_has_ten_seconds() {
     let begun = Instant::now();
     let mut stalled = stalled(&served, 2).await;
     for stream in &mut stalled {
-        let ending = tokio::time::timeout(Duration::from_secs(30), stream.read(&mut [0; 64]));
+        let mut alert = [0; 64];
+        let ending = tokio::time::timeout(Duration::from_secs(30), stream.read(&mut alert));
         assert!(matches!(ending.await.expect("it ends"), Ok(0) | Err(_)));
     }
     assert!(begun.elapsed() > Duration::from_secs(8));
